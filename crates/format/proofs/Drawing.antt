@@ -1,0 +1,71 @@
+-- The laws of drawing.
+-- Assumes nothing.
+use mathlib.Core.Path.{_≡_, _∙_, ap, sym, subst}
+use mathlib.Core.Bool.{Bool}
+use Prim.Native.Nat.{ℕ, zero, suc, _+_, _-_, _*_, _/_, _%_, _^_, _<_, _≤_}
+use native.Mathlib.Nat.{mul-le-mul-left, mul-assoc, add-comm, le-of-suc-le-suc}
+use native.Mathlib.Omega.{arith}
+use lib.Dec.{T, eqb, eqb→eq}
+use lib.Arith.{sub-sub-self}
+use lib.Bits.{bitOr, or-shifted}
+use lib.Pow.{shl-exact, shl-lt, shr-lt}
+use Rattle.laws.specs.Tables.{below}
+use Rattle.laws.proofs.Tests.{at}
+use Rattle.format.specs.Drawing.{drawn, promoted, weightOf, weights}
+
+-- a weighted mean of two bytes, not yet divided, fits sixteen bits
+pub mean : (a b x y : ℕ) → a + b ≡ 256 → x < 256 → y < 256 → a * x + b * y ≤ 65280
+mean a b x y e hx hy =
+    let p : a * x ≤ a * 255 = mul-le-mul-left a (le-of-suc-le-suc hx) in
+    let q : b * y ≤ b * 255 = mul-le-mul-left b (le-of-suc-le-suc hy) in
+    omega arith
+
+-- the Rust's numbers, four times the format's, give the format's channel
+pub scaled : (v e0 e1 : ℕ) → v ≤ 64 → ((256 - 4 * v) * e0 + 4 * v * e1 + 128) / 256 ≡ drawn e0 e1 v
+unfolding drawn
+scaled v e0 e1 h =
+    let p : (256 - 4 * v) * e0 ≡ 4 * ((64 - v) * e0) = ap (λ (n : ℕ). n * e0) (let z : 256 - 4 * v ≡ 4 * (64 - v) = omega arith in z) ∙ mul-assoc 4 (64 - v) e0 in
+    let q : 4 * v * e1 ≡ 4 * (v * e1) = mul-assoc 4 v e1 in
+    omega arith
+
+-- the endpoints exchanged and the weight turned draw the same
+pub turned-drawn : (v e0 e1 : ℕ) → v ≤ 64 → drawn e1 e0 (64 - v) ≡ drawn e0 e1 v
+unfolding drawn
+turned-drawn v e0 e1 h =
+    let p : (64 - (64 - v)) * e1 ≡ v * e1 = ap (λ (n : ℕ). n * e1) (sub-sub-self h) in
+    omega arith
+
+-- the weights of i and of last - i sum to 64, at each width
+sums : ℕ → Bool
+sums b = below (2 ^ b) (λ i. eqb (weightOf b i + weightOf b ((2 ^ b - 1) - i)) 64)
+
+sums-hold : (b : ℕ) → 2 ≤ b → b ≤ 4 → T (sums b)
+unfolding sums weightOf weights
+sums-hold zero h l = absurd (let z : ⊥ = omega arith in z)
+sums-hold (suc zero) h l = absurd (let z : ⊥ = omega arith in z)
+sums-hold (suc (suc zero)) h l = tt
+sums-hold (suc (suc (suc zero))) h l = tt
+sums-hold (suc (suc (suc (suc zero)))) h l = tt
+sums-hold (suc (suc (suc (suc (suc b))))) h l = absurd (let z : ⊥ = omega arith in z)
+
+pub opposite : (b i : ℕ) → 2 ≤ b → b ≤ 4 → i < 2 ^ b → weightOf b i + weightOf b ((2 ^ b - 1) - i) ≡ 64
+unfolding sums
+opposite b i h l p = eqb→eq _ 64 (at (2 ^ b) (λ i. eqb (weightOf b i + weightOf b ((2 ^ b - 1) - i)) 64) (sums-hold b h l) i p)
+
+pub weight-le : (b i : ℕ) → 2 ≤ b → b ≤ 4 → i < 2 ^ b → weightOf b i ≤ 64
+weight-le b i h l p = omega (arith, opposite b i h l p)
+
+-- the symmetric law: the endpoints exchanged and the index turned draw the same channel
+pub symmetric : (b i e0 e1 : ℕ) → 2 ≤ b → b ≤ 4 → i < 2 ^ b → drawn e1 e0 (weightOf b ((2 ^ b - 1) - i)) ≡ drawn e0 e1 (weightOf b i)
+symmetric b i e0 e1 h l p =
+    let e : weightOf b ((2 ^ b - 1) - i) ≡ 64 - weightOf b i = omega (arith, opposite b i h l p) in
+    ap (drawn e1 e0) e ∙ turned-drawn (weightOf b i) e0 e1 (weight-le b i h l p)
+
+-- the shifted value and its own top do not overlap
+pub widened : (b x : ℕ) → 4 ≤ b → b ≤ 8 → x < 2 ^ b → bitOr (x * 2 ^ (8 - b) % 2 ^ 8) (x * 2 ^ (8 - b) % 2 ^ 8 / 2 ^ b) ≡ promoted b x
+unfolding promoted
+widened b x h l p =
+    let e : b + (8 - b) ≡ 8 = omega arith in
+    let exact : x * 2 ^ (8 - b) % 2 ^ 8 ≡ x * 2 ^ (8 - b) = shl-exact b (8 - b) 8 p (omega arith) in
+    let top : x * 2 ^ (8 - b) < 2 ^ ((8 - b) + b) = subst (λ (n : ℕ). x * 2 ^ (8 - b) < 2 ^ n) (add-comm b (8 - b)) (shl-lt b (8 - b) p) in
+    ap (λ (n : ℕ). bitOr n (n / 2 ^ b)) exact ∙ or-shifted x (8 - b) (x * 2 ^ (8 - b) / 2 ^ b) (shr-lt (8 - b) b top)

@@ -1,0 +1,10 @@
+pub mod Drawing
+pub mod Anchors
+pub mod Places
+pub mod Opening
+pub mod Modes
+pub mod Starts
+pub mod Lens
+pub mod Subsets
+pub mod Meaning
+pub mod Direct

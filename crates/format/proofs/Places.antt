@@ -1,0 +1,126 @@
+-- The places and their stored order, and the total width.
+-- Assumes nothing.
+use mathlib.Core.Path.{_≡_, refl, sym, ap, ap₂, _∙_}
+use mathlib.Core.List.{List}
+use Prim.Native.Nat.{ℕ, zero, suc, _+_, _-_, _*_, _/_, _%_, _^_, _<_}
+use native.Mathlib.Omega.{arith}
+use borrow.Author.Tests.{lt-ltb, le-ltb}
+use lib.Dec.{T, eqb, eqb→eq, ltb, ltb→lt}
+use lib.ListN.{length, getD}
+use lib.Seq.{ext-getD}
+use Rattle.format.specs.declared.Split.{Split}
+use Rattle.format.specs.declared.Split.the-variants.{Whole, Two, Three, Vector}
+use Rattle.laws.specs.Digits.{Fit, more, none, total}
+use Rattle.laws.specs.Tables.{below, table, tableFrom}
+use Rattle.laws.proofs.Part.{getD-table, length-table}
+use Rattle.laws.proofs.Tests.{at, both-left, both-right}
+use Rattle.format.specs.Modes.{endpointCount, kindOfMode, modeRow, partitionBits}
+use Rattle.format.specs.Partitions.{anchors2, anchors3, digits, marks, strings2, strings3}
+use Rattle.format.specs.Places.{Place, head, index, inside, listOf, pbit, placeAt, pos, value, width, widths}
+use Rattle.format.specs.Splits.{anchors, indexMode, kindOf, ofKind, partition, rotation}
+
+pub pos-lt : (x : Place) → T (inside x) → pos x < 66
+unfolding pos
+pos-lt (head k) h = omega (arith, ltb→lt k 4 h)
+pos-lt (value c e) h = omega (arith, ltb→lt c 4 (both-left (ltb c 4) (ltb e 6) h), ltb→lt e 6 (both-right (ltb c 4) (ltb e 6) h))
+pos-lt (pbit k) h = omega (arith, ltb→lt k 6 h)
+pos-lt (index a q) h = omega (arith, ltb→lt a 2 (both-left (ltb a 2) (ltb q 16) h), ltb→lt q 16 (both-right (ltb a 2) (ltb q 16) h))
+
+pub placeAt-pos : (x : Place) → T (inside x) → placeAt (pos x) ≡ x
+unfolding pos placeAt
+placeAt-pos (head k) h = rw (lt-ltb k 4 (ltb→lt k 4 h))
+placeAt-pos (value c e) h =
+    let hc : c < 4 = ltb→lt c 4 (both-left (ltb c 4) (ltb e 6) h) in
+    let he : e < 6 = ltb→lt e 6 (both-right (ltb c 4) (ltb e 6) h) in
+    let i : ℕ = 4 + (6 * c + e) in
+    rw (le-ltb (4 + (6 * c + e)) 4 (omega arith), lt-ltb (4 + (6 * c + e)) 28 (omega arith))
+    (ap₂ value (let z : (4 + (6 * c + e) - 4) / 6 ≡ c = omega arith in z) (let z : (4 + (6 * c + e) - 4) % 6 ≡ e = omega arith in z))
+placeAt-pos (pbit k) h =
+    let hk : k < 6 = ltb→lt k 6 h in
+    rw (le-ltb (28 + k) 4 (omega arith), le-ltb (28 + k) 28 (omega arith), lt-ltb (28 + k) 34 (omega arith))
+    (ap pbit (let z : 28 + k - 28 ≡ k = omega arith in z))
+placeAt-pos (index a q) h =
+    let ha : a < 2 = ltb→lt a 2 (both-left (ltb a 2) (ltb q 16) h) in
+    let hq : q < 16 = ltb→lt q 16 (both-right (ltb a 2) (ltb q 16) h) in
+    rw (le-ltb (34 + (16 * a + q)) 4 (omega arith), le-ltb (34 + (16 * a + q)) 28 (omega arith), le-ltb (34 + (16 * a + q)) 34 (omega arith))
+    (ap₂ index (let z : (34 + (16 * a + q) - 34) / 16 ≡ a = omega arith in z) (let z : (34 + (16 * a + q) - 34) % 16 ≡ q = omega arith in z))
+
+pub pos-placeAt : (i : ℕ) → i < 66 → pos (placeAt i) ≡ i
+unfolding pos placeAt
+pos-placeAt i h = eqb→eq _ i (at 66 (λ i. eqb (pos (placeAt i)) i) tt i h)
+
+pub inside-placeAt : (i : ℕ) → i < 66 → T (inside (placeAt i))
+unfolding placeAt
+inside-placeAt i h = at 66 (λ i. inside (placeAt i)) tt i h
+
+-- a list by its places, and back
+pub at-list : (f : Place → ℕ) (x : Place) → T (inside x) → getD (listOf f) (pos x) 0 ≡ f x
+unfolding listOf
+at-list f x h = getD-table 66 (λ i. f (placeAt i)) 0 (pos x) (pos-lt x h) ∙ ap f (placeAt-pos x h)
+
+pub list-ext : (f g : Place → ℕ) → ((x : Place) → T (inside x) → f x ≡ g x) → listOf f ≡ listOf g
+unfolding listOf
+list-ext f g h =
+    ext-getD 0 _ _ (length-table 66 (λ i. f (placeAt i)) ∙ sym (length-table 66 (λ i. g (placeAt i)))) (λ i l.
+    let l' : i < 66 = rw (length-table 66 (λ i. f (placeAt i))) at l in
+    getD-table 66 (λ i. f (placeAt i)) 0 i l' ∙ h (placeAt i) (inside-placeAt i l') ∙ sym (getD-table 66 (λ i. g (placeAt i)) 0 i l'))
+
+pub list-at : (vs : List ℕ) → length vs ≡ 66 → listOf (λ x. getD vs (pos x) 0) ≡ vs
+unfolding listOf
+list-at vs e =
+    ext-getD 0 _ vs (length-table 66 (λ i. getD vs (pos (placeAt i)) 0) ∙ sym e) (λ i l.
+    let l' : i < 66 = rw (length-table 66 (λ i. getD vs (pos (placeAt i)) 0)) at l in
+    getD-table 66 (λ i. getD vs (pos (placeAt i)) 0) 0 i l' ∙ ap (λ (j : ℕ). getD vs j 0) (pos-placeAt i l'))
+
+-- fitting, place by place
+fit-from : (i n : ℕ) (w f : ℕ → ℕ) → ((k : ℕ) → k < i + n → f k < 2 ^ w k) → Fit (tableFrom i n w) (tableFrom i n f)
+unfolding tableFrom
+fit-from i zero w f h = none
+fit-from i (suc n) w f h = more (h i (omega arith)) (fit-from (suc i) n w f (λ k l. h k (omega arith)))
+
+pub fit-list : (m : ℕ) (s : Split) (f : Place → ℕ) → ((x : Place) → T (inside x) → f x < 2 ^ width m (anchors s) x) → Fit (widths m s) (listOf f)
+unfolding widths listOf table
+fit-list m s f h = fit-from 0 66 _ _ (λ k l. h (placeAt k) (inside-placeAt k (omega arith)))
+
+fit-getD : {ws vs : List ℕ} → Fit ws vs → (i : ℕ) → getD vs i 0 < 2 ^ getD ws i 0
+fit-getD none i = lit
+  where
+    lit : 0 < 2 ^ 0
+    lit = omega arith
+fit-getD (more h f) zero = h
+fit-getD (more h f) (suc i) = fit-getD f i
+
+pub fit-at : (m : ℕ) (s : Split) (vs : List ℕ) → Fit (widths m s) vs → (x : Place) → T (inside x) → getD vs (pos x) 0 < 2 ^ width m (anchors s) x
+unfolding widths
+fit-at m s vs f x h = rw (getD-table 66 (λ i. width m (anchors s) (placeAt i)) 0 (pos x) (pos-lt x h), placeAt-pos x h) at (fit-getD f (pos x))
+
+pub length-widths : (m : ℕ) (s : Split) → length (widths m s) ≡ 66
+unfolding widths
+length-widths m s = length-table 66 _
+
+-- the total
+all-128 : T (below 8 (λ m. below (2 ^ partitionBits m) (λ a. eqb (total (widths m (ofKind (kindOfMode m) a 0 0))) 128)))
+unfolding widths table tableFrom placeAt width digits marks strings2 strings3 anchors2 anchors3 modeRow kindOfMode endpointCount
+all-128 = tt
+
+same-anchors : (k a r i : ℕ) → anchors (ofKind k a r i) ≡ anchors (ofKind k a 0 0)
+same-anchors zero a r i = refl
+same-anchors (suc zero) a r i = refl
+same-anchors (suc (suc zero)) a r i = refl
+same-anchors (suc (suc (suc k))) a r i = refl
+
+pub split-of-kind : (s : Split) → s ≡ ofKind (kindOf s) (partition s) (rotation s) (indexMode s)
+split-of-kind Whole = refl
+split-of-kind (Two a) = refl
+split-of-kind (Three a) = refl
+split-of-kind (Vector r i) = refl
+
+-- every block has 128 bits
+pub total-128 : (m : ℕ) (s : Split) → m < 8 → kindOf s ≡ kindOfMode m → partition s < 2 ^ partitionBits m → total (widths m s) ≡ 128
+unfolding widths
+total-128 m s hm hk hp =
+    let e : anchors s ≡ anchors (ofKind (kindOfMode m) (partition s) 0 0) =
+    ap anchors (split-of-kind s) ∙ same-anchors (kindOf s) (partition s) (rotation s) (indexMode s) ∙ ap (λ (k : ℕ). anchors (ofKind k (partition s) 0 0)) hk in
+    ap (λ (an : List ℕ). total (table 66 (λ i. width m an (placeAt i)))) e
+    ∙ eqb→eq _ 128 (at (2 ^ partitionBits m) (λ a. eqb (total (widths m (ofKind (kindOfMode m) a 0 0))) 128)
+    (at 8 (λ m. below (2 ^ partitionBits m) (λ a. eqb (total (widths m (ofKind (kindOfMode m) a 0 0))) 128)) all-128 m hm) (partition s) hp)

@@ -1,0 +1,96 @@
+-- That the statements are not empty: bytes of an array fit, every channel has a line of the mode, every line has its anchor.
+-- Assumes nothing.
+use mathlib.Core.Path.{_≡_, refl, sym, ap, _∙_, subst}
+use mathlib.Core.Bool.{Bool, true, false}
+use mathlib.Core.List.{List, [], _∷_}
+use Prim.Native.Nat.{ℕ, zero, suc, _<_}
+use native.Mathlib.Omega.{arith}
+use lib.Dec.{T, eqb, eqb→eq, ltb, ltb→lt, lit<}
+use lib.ListN.{length, getD, replicate}
+use Rattle.format.specs.declared.Split.{Split}
+use Rattle.format.specs.declared.Split.the-variants.{Whole, Two, Three, Vector}
+use Rattle.laws.specs.Digits.{Fit, more, none}
+use Rattle.laws.specs.Tables.{below, both, pick}
+use Rattle.laws.proofs.Tests.{at, both-left, both-right}
+use Rattle.format.specs.Block.{eights}
+use Rattle.format.specs.Lines.{anchorOf, firstIn, lineAt}
+use Rattle.format.specs.Modes.{kindOfMode, lines, modeRow}
+use Rattle.format.specs.Partitions.{among, anchors2, anchors3, digits, marks, strings2, strings3, subset2, subset3}
+use Rattle.format.specs.Places.{Place}
+use Rattle.format.specs.Splits.{anchors, isVector, kindOf, partition, subset}
+use Rattle.format.specs.WellFormed.{WellFormed}
+use Rattle.format.proofs.Modes.{good-64}
+use Rattle.format.proofs.Opening.{good-kind}
+
+-- an array of sixteen bytes
+fit-bytes : (n : ℕ) (bs : List ℕ) → length bs ≡ n → ((i : ℕ) → i < n → getD bs i 0 < 256) → Fit (replicate n 8) bs
+fit-bytes zero [] e h = none
+fit-bytes zero (b ∷ bs) e h = absurd (let z : ⊥ = omega arith in z)
+fit-bytes (suc n) [] e h = absurd (let z : ⊥ = omega arith in z)
+fit-bytes (suc n) (b ∷ bs) e h = more (h 0 (omega arith)) (fit-bytes n bs (omega arith) (λ i l. h (suc i) (omega arith)))
+
+pub sixteen-bytes : (bs : List ℕ) → length bs ≡ 16 → ((i : ℕ) → i < 16 → getD bs i 0 < 256) → Fit eights bs
+sixteen-bytes bs e h = fit-bytes 16 bs e h
+
+-- the number of lines of each kind
+kind-lines : (m : ℕ) → m < 8 → lines m ≡ getD (1 ∷ 2 ∷ 3 ∷ 2 ∷ []) (kindOfMode m) 0
+unfolding modeRow kindOfMode
+kind-lines m h = eqb→eq _ _ (at 8 (λ m. eqb (lines m) (getD (1 ∷ 2 ∷ 3 ∷ 2 ∷ []) (kindOfMode m) 0)) tt m h)
+
+-- a test of each partition and pixel
+two-below : T (below 64 (λ a. below 16 (λ q. ltb (subset2 a q) 2)))
+unfolding digits strings2 subset2
+two-below = tt
+
+three-below : T (below 64 (λ a. below 16 (λ q. ltb (subset3 a q) 3)))
+unfolding digits strings3 subset3
+three-below = tt
+
+subset-below : (s : Split) (q : ℕ) → partition s < 64 → q < 16 → subset s q < getD (1 ∷ 2 ∷ 3 ∷ 2 ∷ []) (kindOf s) 0
+subset-below Whole q ha hq = lit< tt
+subset-below (Two a) q ha hq = ltb→lt (subset2 a q) 2 (at 16 (λ q. ltb (subset2 a q) 2) (at 64 (λ a. below 16 (λ q. ltb (subset2 a q) 2)) two-below a ha) q hq)
+subset-below (Three a) q ha hq = ltb→lt (subset3 a q) 3 (at 16 (λ q. ltb (subset3 a q) 3) (at 64 (λ a. below 16 (λ q. ltb (subset3 a q) 3)) three-below a ha) q hq)
+subset-below (Vector r i) q ha hq = lit< tt
+
+module _ {m : ℕ} {s : Split} {f : Place → ℕ} (g : WellFormed m s f) where
+  good-lines : lines m ≡ getD (1 ∷ 2 ∷ 3 ∷ 2 ∷ []) (kindOf s) 0
+  good-lines = kind-lines m (g .mode) ∙ ap (λ (k : ℕ). getD (1 ∷ 2 ∷ 3 ∷ 2 ∷ []) k 0) (sym (good-kind g))
+
+  -- every channel of every pixel is of a line of the mode
+  pub line-below : (q d : ℕ) → q < 16 → lineAt s q d < lines m
+  unfolding lineAt
+  line-below q d hq = rw good-lines (go s (subset-below s q (good-64 g) hq))
+    where
+      first : (b : Bool) → pick b 1 0 < 2
+      first true = lit< tt
+      first false = lit< tt
+
+      go : (s : Split) → subset s q < getD (1 ∷ 2 ∷ 3 ∷ 2 ∷ []) (kindOf s) 0 → pick (isVector s) (pick (eqb d 3) 1 0) (subset s q) < getD (1 ∷ 2 ∷ 3 ∷ 2 ∷ []) (kindOf s) 0
+      go Whole h = h
+      go (Two a) h = h
+      go (Three a) h = h
+      go (Vector r i) h = first (eqb d 3)
+
+-- the anchor of a line is an anchor, and in its line
+abbrev holds : (ℕ → ℕ) → List ℕ → ℕ → Bool
+holds sub an k = both (among (firstIn sub k an) an) (eqb (sub (firstIn sub k an)) k)
+
+two-hold : T (below 64 (λ a. below 2 (λ k. holds (subset2 a) (anchors2 a) k)))
+unfolding digits marks strings2 subset2 anchors2
+two-hold = tt
+
+three-hold : T (below 64 (λ a. below 3 (λ k. holds (subset3 a) (anchors3 a) k)))
+unfolding digits marks strings3 subset3 anchors3
+three-hold = tt
+
+pub anchor-in-line : (s : Split) (l : ℕ) → partition s < 64 → isVector s ≡ false → l < getD (1 ∷ 2 ∷ 3 ∷ 2 ∷ []) (kindOf s) 0 → T (among (anchorOf s l) (anchors s)) × (subset s (anchorOf s l) ≡ l)
+unfolding anchorOf
+anchor-in-line Whole zero ha v h = (tt, refl)
+anchor-in-line Whole (suc l) ha v h = absurd (let z : ⊥ = omega arith in z)
+anchor-in-line (Two a) l ha v h =
+    let t = at 2 (λ k. holds (subset2 a) (anchors2 a) k) (at 64 (λ a. below 2 (λ k. holds (subset2 a) (anchors2 a) k)) two-hold a ha) l h in
+    (both-left (among (firstIn (subset2 a) l (anchors2 a)) (anchors2 a)) _ t, eqb→eq _ l (both-right (among (firstIn (subset2 a) l (anchors2 a)) (anchors2 a)) _ t))
+anchor-in-line (Three a) l ha v h =
+    let t = at 3 (λ k. holds (subset3 a) (anchors3 a) k) (at 64 (λ a. below 3 (λ k. holds (subset3 a) (anchors3 a) k)) three-hold a ha) l h in
+    (both-left (among (firstIn (subset3 a) l (anchors3 a)) (anchors3 a)) _ t, eqb→eq _ l (both-right (among (firstIn (subset3 a) l (anchors3 a)) (anchors3 a)) _ t))
+anchor-in-line (Vector r i) l ha v h = absurd (subst T v tt)

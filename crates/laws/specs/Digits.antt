@@ -1,0 +1,25 @@
+-- A number as a row of digits of any widths in bits, the lowest first. A width may be 0.
+-- Assumes nothing.
+use mathlib.Core.List.{List, [], _∷_}
+use Prim.Native.Nat.{ℕ, _+_, _*_, _/_, _%_, _^_, _<_}
+
+-- how many bits the widths have together
+abbrev pub total : List ℕ → ℕ
+total [] = 0
+total (w ∷ ws) = total ws + w
+
+-- the digits of n at these widths
+abbrev pub split : List ℕ → ℕ → List ℕ
+split [] n = []
+split (w ∷ ws) n = n % 2 ^ w ∷ split ws (n / 2 ^ w)
+
+-- the number whose digits these are
+abbrev pub join : List ℕ → List ℕ → ℕ
+join [] vs = 0
+join (w ∷ ws) [] = 0
+join (w ∷ ws) (v ∷ vs) = join ws vs * 2 ^ w + v
+
+-- as many values as widths, each within its width
+pub data Fit : List ℕ → List ℕ → Type 0 where
+  none : Fit [] []
+  more : {w v : ℕ} {ws vs : List ℕ} → v < 2 ^ w → Fit ws vs → Fit (w ∷ ws) (v ∷ vs)

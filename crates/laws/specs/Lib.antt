@@ -1,0 +1,4 @@
+-- Definitions that are about numbers and lists alone.
+pub mod Tables
+pub mod Digits
+pub mod Refusals
