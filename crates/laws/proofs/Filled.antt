@@ -1,0 +1,23 @@
+-- A loop that fills a list of n elements from the first to the last: after i turns its first i elements are f 0, .., f (i - 1).
+-- Assumes nothing.
+use mathlib.Core.Path.{_≡_}
+use mathlib.Core.List.{List}
+use Prim.Native.Nat.{ℕ, _+_, _<_, _≤_}
+use native.Mathlib.Nat.{not-suc-le-zero, lt-of-lt-of-le}
+use native.Mathlib.Omega.{arith}
+use lib.ListN.{length, set}
+use Rattle.laws.specs.Tables.{table}
+use Rattle.laws.proofs.Part.{Part, part-all, part-none, part-set}
+
+abbrev pub Filled : {A : Type 0} → ℕ → A → (ℕ → A) → ℕ → List A → Type 0
+Filled n d f i out = Part n d f (λ k. k < i) out
+
+module _ {A : Type 0} {n : ℕ} {d : A} {f : ℕ → A} where
+  pub filled-none : {out : List A} → length out ≡ n → Filled n d f 0 out
+  filled-none e = part-none e (λ k h. not-suc-le-zero h)
+
+  pub filled-next : {out : List A} (i : ℕ) (v : A) → Filled n d f i out → i < n → v ≡ f i → Filled n d f (i + 1) (set out i v)
+  filled-next i v h l e = part-set i v h l e (λ k lk q ne. omega arith)
+
+  pub filled-all : {out : List A} {i : ℕ} → Filled n d f i out → n ≤ i → out ≡ table n f
+  filled-all h l = part-all h (λ k lk. lt-of-lt-of-le lk l)
