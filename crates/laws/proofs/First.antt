@@ -21,6 +21,12 @@ unfolding first
 first-here zero rs ne = absurd (ne refl)
 first-here (suc r) rs ne = refl
 
+-- the last is given where it is reached
+pub first-last : (r : ℕ) → first (r ∷ []) ≡ r
+unfolding first
+first-last zero = refl
+first-last (suc r) = refl
+
 -- none is given: the first is not, and no later one
 pub first-zero : (r : ℕ) (rs : List ℕ) → first (r ∷ rs) ≡ 0 → (r ≡ 0) × (first rs ≡ 0)
 unfolding first

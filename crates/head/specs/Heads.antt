@@ -1,0 +1,86 @@
+-- The head of a sheet: form, width, height.
+-- Assumes nothing.
+use Prim.Native.Nat.{ℕ, _+_, _-_, _≤_}
+use mathlib.Core.Bool.{Bool, not}
+use mathlib.Core.List.{List, [], _∷_, _++_}
+use lib.Dec.{eqb, leb}
+use lib.ListN.{length, replicate, set}
+use Rattle.head.specs.declared.Number.{Number}
+use Rattle.head.specs.declared.Head.{Head}
+use Rattle.head.specs.declared.HeadBytes.{HeadBytes}
+use Rattle.laws.specs.Refusals.{first, refuse}
+use Rattle.laws.specs.Tables.{both, pick}
+use Rattle.head.specs.Numbers.{numberBytes, readNumber}
+
+-- the form of a sheet, and the largest width and height
+abbrev pub form : ℕ
+form = 1
+
+abbrev pub limit : ℕ
+limit = 4096
+
+-- is n a width or a height
+abbrev pub side : ℕ → Bool
+side n = both (leb 1 n) (leb n limit)
+
+unfoldable pub sizeRefusal : ℕ → ℕ → ℕ
+sizeRefusal w h = refuse 9 (not (both (side w) (side h)))
+
+pub record Sized (w h : ℕ) : Type 0 where
+  pub wide : 1 ≤ w
+  pub within-wide : w ≤ limit
+  pub high : 1 ≤ h
+  pub within-high : h ≤ limit
+
+-- the three numbers of a head
+unfoldable pub formIn : List ℕ → Number
+formIn s = readNumber s 0
+
+unfoldable pub widthIn : List ℕ → Number
+widthIn s = readNumber s (formIn s .next)
+
+unfoldable pub heightIn : List ℕ → Number
+heightIn s = readNumber s (widthIn s .next)
+
+-- 7 and 8 on the form, 7 on width and height, then 9
+unfoldable pub headRefusal : List ℕ → ℕ
+headRefusal s =
+    first
+    (formIn s .refusal
+    ∷ refuse 8 (not (eqb (formIn s .value) form))
+    ∷ widthIn s .refusal
+    ∷ heightIn s .refusal
+    ∷ sizeRefusal (widthIn s .value) (heightIn s .value) ∷ [])
+
+abbrev pub headOf : ℕ → ℕ → ℕ → ℕ → Head
+headOf r w h start = record { refusal = r; width = w; height = h; start = start }
+
+-- reading a head
+unfoldable pub readHead : List ℕ → Head
+readHead s =
+    pick (eqb (headRefusal s) 0)
+    (headOf 0 (widthIn s .value) (heightIn s .value) (heightIn s .next))
+    (headOf (headRefusal s) 0 0 0)
+
+-- the bytes of a head
+unfoldable pub headBytes : ℕ → ℕ → List ℕ
+headBytes w h = numberBytes form ++ (numberBytes w ++ numberBytes h)
+
+-- bytes with zeros behind, seven in all
+unfoldable pub padded : List ℕ → HeadBytes
+padded bs = record { refusal = 0; bytes = bs ++ replicate (7 - length bs) 0; count = length bs }
+
+abbrev pub noBytes : ℕ → HeadBytes
+noBytes r = record { refusal = r; bytes = replicate 7 0; count = 0 }
+
+-- writing a head
+unfoldable pub writeHead : ℕ → ℕ → HeadBytes
+writeHead w h = pick (eqb (sizeRefusal w h) 0) (padded (headBytes w h)) (noBytes (sizeRefusal w h))
+
+-- one byte more, and several
+abbrev pub pushed : HeadBytes → ℕ → HeadBytes
+pushed h b = record { refusal = h .refusal; bytes = set (h .bytes) (h .count) b; count = h .count + 1 }
+
+unfoldable pub pushAll : HeadBytes → List ℕ → HeadBytes
+pushAll h [] = h
+pushAll h (b ∷ bs) = pushAll (pushed h b) bs
