@@ -48,7 +48,7 @@ means-ext m s l a b q c ev ep ei =
     ∙ ap (λ (i : ℕ). drawn (eight m c (b .value 0 c) (b .p 0)) (eight m c (b .value 1 c) (b .p 1)) (weightOf (lineBits m s l) i)) ei
 
 -- what a line has for its own places
-laid-value : (m : ℕ) (s : Split) (l : ℕ) (o : Line) (k c : ℕ) → k < 2 → laid m o (valuePlace s l k c) ≡ o .value k c
+pub laid-value : (m : ℕ) (s : Split) (l : ℕ) (o : Line) (k c : ℕ) → k < 2 → laid m o (valuePlace s l k c) ≡ o .value k c
 unfolding laid valuePlace
 laid-value m s l o k c hk = go (isVector s)
   where
@@ -56,7 +56,7 @@ laid-value m s l o k c hk = go (isVector s)
     go true = ap (λ (j : ℕ). o .value j c) (let z : k % 2 ≡ k = omega arith in z)
     go false = ap (λ (j : ℕ). o .value j c) (let z : (2 * l + k) % 2 ≡ k = omega arith in z)
 
-laid-p : (m l : ℕ) (o : Line) (k : ℕ) → k < 2 → (m ≡ 1 → o .p 0 ≡ o .p 1) → laid m o (pPlace m l k) ≡ o .p k
+pub laid-p : (m l : ℕ) (o : Line) (k : ℕ) → k < 2 → (m ≡ 1 → o .p 0 ≡ o .p 1) → laid m o (pPlace m l k) ≡ o .p k
 unfolding laid pPlace
 laid-p m l o k hk same = go (eqb m 1) refl
   where
@@ -69,7 +69,7 @@ laid-p m l o k hk same = go (eqb m 1) refl
     go true e = either k hk (same (eqb-true m 1 e))
     go false e = ap (λ (j : ℕ). o .p j) (let z : (2 * l + k) % 2 ≡ k = omega arith in z)
 
-laid-index : (m : ℕ) (s : Split) (l : ℕ) (o : Line) (q : ℕ) → laid m o (indexPlace s l q) ≡ o .index q
+pub laid-index : (m : ℕ) (s : Split) (l : ℕ) (o : Line) (q : ℕ) → laid m o (indexPlace s l q) ≡ o .index q
 unfolding laid indexPlace
 laid-index m s l o q = refl
 

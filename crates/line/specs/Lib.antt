@@ -1,0 +1,4 @@
+-- Replacing a line, to be read in this order.
+pub mod Replace
+pub mod Calls
+pub mod Acceptable
