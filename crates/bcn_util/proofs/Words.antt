@@ -8,7 +8,6 @@ use lib.Dec.{lit<}
 use lib.Arith.{digits-lt}
 use lib.Pow.{pow-pos, pow-add, shl-exact, shr-lt, shl-lt, mod-mod-pow, low, high, shr-shr, pow-mono}
 use lib.Bits.{bitOr, or-shifted-r}
-use Rattle.laws.proofs.Tests.{at}
 
 -- `1 << l` at 64 bits
 pub one-shl : (l : ℕ) → l < 64 → (1 * 2 ^ l) % 2 ^ 64 ≡ 2 ^ l

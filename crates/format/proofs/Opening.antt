@@ -1,8 +1,8 @@
 -- A block opened and shut: blocks of mode m and split s are the functions that are WellFormed.
 -- Assumes nothing.
 use mathlib.Core.Path.{_≡_, refl, sym, ap, _∙_, subst}
-use mathlib.Core.List.{List, [], _∷_}
-use Prim.Native.Nat.{ℕ, zero, suc, _+_, _-_, _/_, _%_, _^_, _≤_, _<_}
+use mathlib.Core.List.{List}
+use Prim.Native.Nat.{ℕ, zero, suc, _+_, _-_, _%_, _^_, _≤_, _<_}
 use native.Mathlib.Nat.{mod-lt}
 use native.Mathlib.Omega.{arith}
 use lib.Dec.{T, eqb, eqb→eq, ltb, ltb→lt, lt→ltb, lit<}
@@ -12,6 +12,7 @@ use Rattle.format.specs.declared.Split.{Split}
 use Rattle.laws.specs.Digits.{Fit, join, more, split, total}
 use Rattle.laws.specs.Tables.{below, implies, table, tableFrom}
 use Rattle.laws.proofs.Digits.{join-lt, join-split, split-fits, split-join}
+use Rattle.laws.proofs.Rows.{length-split}
 use Rattle.laws.proofs.Tests.{at, eqb-of, implied}
 use Rattle.format.specs.Block.{bytesOf, eights, modeOf, number, trailing}
 use Rattle.format.specs.Modes.{kindOfMode, modeRow, partitionBits}
@@ -132,10 +133,6 @@ module _ {m : ℕ} {s : Split} {f : Place → ℕ} (g : WellFormed m s f) where
 pub block-ext : (m : ℕ) (s : Split) (f g : Place → ℕ) → ((x : Place) → T (inside x) → f x ≡ g x) → blockOf m s f ≡ blockOf m s g
 unfolding blockOf
 block-ext m s f g h = ap (λ (l : List ℕ). bytesOf (join (widths m s) l)) (list-ext f g h)
-
-length-split : (ws : List ℕ) (n : ℕ) → length (split ws n) ≡ length ws
-length-split [] n = refl
-length-split (w ∷ ws) n = ap suc (length-split ws (n / 2 ^ w))
 
 byte-0 : (bs : List ℕ) → Fit eights bs → (number bs % 2 ^ 8 ≡ getD bs 0 0) × (getD bs 0 0 < 256)
 unfolding number

@@ -13,6 +13,7 @@ use Rattle.format.specs.declared.Split.the-variants.{Whole, Two, Three, 
 use Rattle.laws.specs.Digits.{Fit, more, none, total}
 use Rattle.laws.specs.Tables.{below, table, tableFrom}
 use Rattle.laws.proofs.Part.{getD-table, length-table}
+use Rattle.laws.proofs.Rows.{fit-table}
 use Rattle.laws.proofs.Tests.{at, both-left, both-right}
 use Rattle.format.specs.Modes.{endpointCount, kindOfMode, modeRow, partitionBits}
 use Rattle.format.specs.Partitions.{anchors2, anchors3, digits, marks, strings2, strings3}
@@ -73,14 +74,9 @@ list-at vs e =
     getD-table 66 (λ i. getD vs (pos (placeAt i)) 0) 0 i l' ∙ ap (λ (j : ℕ). getD vs j 0) (pos-placeAt i l'))
 
 -- fitting, place by place
-fit-from : (i n : ℕ) (w f : ℕ → ℕ) → ((k : ℕ) → k < i + n → f k < 2 ^ w k) → Fit (tableFrom i n w) (tableFrom i n f)
-unfolding tableFrom
-fit-from i zero w f h = none
-fit-from i (suc n) w f h = more (h i (omega arith)) (fit-from (suc i) n w f (λ k l. h k (omega arith)))
-
 pub fit-list : (m : ℕ) (s : Split) (f : Place → ℕ) → ((x : Place) → T (inside x) → f x < 2 ^ width m (anchors s) x) → Fit (widths m s) (listOf f)
 unfolding widths listOf table
-fit-list m s f h = fit-from 0 66 _ _ (λ k l. h (placeAt k) (inside-placeAt k (omega arith)))
+fit-list m s f h = fit-table 66 _ _ (λ k l. h (placeAt k) (inside-placeAt k l))
 
 fit-getD : {ws vs : List ℕ} → Fit ws vs → (i : ℕ) → getD vs i 0 < 2 ^ getD ws i 0
 fit-getD none i = lit

@@ -6,3 +6,4 @@ pub mod Over
 pub mod Joining
 pub mod First
 pub mod Digits
+pub mod Rows

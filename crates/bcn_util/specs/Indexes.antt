@@ -1,0 +1,34 @@
+-- Sixteen indexes of one width, and how they are stored where the anchors have a bit less.
+-- Assumes nothing.
+use mathlib.Core.Path.{_≡_}
+use mathlib.Core.List.{List, []}
+use Prim.Native.Nat.{ℕ, _+_, _-_, _*_, _/_, _%_, _^_}
+use Rattle.bcn_util.specs.declared.indexes.Indexes.{Indexes}
+use Rattle.laws.specs.Digits.{join, split}
+use Rattle.laws.specs.Tables.{pick, table}
+use Rattle.format.specs.Partitions.{among}
+
+-- how many bits the index of pixel i has, of indexes of w bits with these anchors
+abbrev pub indexWidth : ℕ → List ℕ → ℕ → ℕ
+indexWidth w an i = pick (among i an) (w - 1) w
+
+unfoldable pub indexWidths : ℕ → List ℕ → List ℕ
+indexWidths w an = table 16 (indexWidth w an)
+
+-- the indexes that stand in n at these widths, at w bits each: an anchor's top bit is zero
+unfoldable pub expanded : ℕ → List ℕ → ℕ → ℕ
+expanded w an n = join (indexWidths w []) (split (indexWidths w an) n)
+
+abbrev pub Expanded : ℕ → List ℕ → ℕ → ℕ → Type 0
+Expanded w an n x = x ≡ expanded w an n
+
+abbrev pub indexesOf : ℕ → List ℕ → ℕ → Indexes
+indexesOf w an n = record { uncompressed = expanded w an n; bits = w }
+
+-- part i of a number of parts of w bits
+unfoldable pub part : ℕ → ℕ → ℕ → ℕ
+part x w i = x / 2 ^ (i * w) % 2 ^ w
+
+-- a zero put in at bit p
+unfoldable pub inserted : ℕ → ℕ → ℕ
+inserted n p = n / 2 ^ p * 2 ^ (p + 1) + n % 2 ^ p
