@@ -13,7 +13,6 @@ use Rattle.laws.specs.Digits.{Fit, join, more, none, split, total}
 use Rattle.laws.specs.Tables.{table, tableFrom}
 use Rattle.laws.proofs.Digits.{join-append, split-at-place, total-append}
 use Rattle.laws.proofs.Part.{getD-table, length-table}
-use Rattle.laws.proofs.Tests.{at}
 
 module _ {A : Type 0} where
   shift-from : (i n : ℕ) (f : ℕ → A) → tableFrom (suc i) n f ≡ tableFrom i n (λ k. f (suc k))
