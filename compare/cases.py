@@ -1,0 +1,218 @@
+"""Inputs for the calls, made with Dice: blocks, records, replacements, heads, rows and sheets, right ones and ones
+that are wrong in one or two places. Used by make_list.py for the fixed list and by run for comparison at scale."""
+import model
+import protocol
+
+# Line, block and size numbers that a call must not shorten to fewer bits or multiply into an overflow.
+LARGE = (255, 256, 257, 65535, 65536, 65537, 1 << 27, 1 << 28, (1 << 28) + 1, 1 << 31, (1 << 32) - 1)
+
+
+# ---------------------------------------------------------------------------------------------------------------------
+# Blocks.
+BIT_STYLES = ("random", "random", "random", "sparse", "dense", "one set", "one clear", "zeros", "ones")
+
+
+def bits_of_style(dice, style):
+    if style == "random":
+        return dice.number(128)
+    if style == "sparse":
+        return dice.number(128) & dice.number(128) & dice.number(128)
+    if style == "dense":
+        return dice.number(128) | dice.number(128) | dice.number(128)
+    if style == "one set":
+        return 1 << dice.below(128)
+    if style == "one clear":
+        return (1 << 128) - 1 ^ 1 << dice.below(128)
+    return 0 if style == "zeros" else (1 << 128) - 1
+
+
+def block_of(mode, split, rest):
+    """The block of that mode and split whose other bits are those of the number `rest`."""
+    if mode == model.RESERVED:
+        return (rest >> 8 << 8).to_bytes(16, "little")
+    above, number = mode + 1, 1 << mode
+    for width, value in zip(model.MODES[mode].split_bits, split[1:]):
+        number |= value << above
+        above += width
+    return (number | rest >> above << above).to_bytes(16, "little")
+
+
+def some_split(dice, mode):
+    return ("whole",) if mode == model.RESERVED else dice.one_of(model.splits(mode))
+
+
+def some_block(dice, reserved_percent=3):
+    mode = model.RESERVED if dice.chance(reserved_percent) else dice.below(8)
+    return block_of(mode, some_split(dice, mode), bits_of_style(dice, dice.one_of(BIT_STYLES)))
+
+
+# ---------------------------------------------------------------------------------------------------------------------
+# Records.
+def some_record(dice):
+    """66 bytes: well-formed, nearly so, or anything."""
+    sort = dice.below(10)
+    if sort == 0:
+        return bytes((dice.below(10), dice.below(4))) + dice.bytes(64)
+    record = model.take_apart(some_block(dice, reserved_percent=0))
+    if sort < 4:
+        # Every value drawn within its full width, so that anchors have their top bit set more often than not.
+        values = tuple(dice.below(1 << width) for width in model.full_widths(record.mode))
+        record = record._replace(values=values)
+    if sort in (1, 2):
+        cleared = list(record.values)
+        for place in model.anchor_places(record.mode, record.split):
+            cleared[place] &= (1 << model.full_widths(record.mode)[place] - 1) - 1
+        record = record._replace(values=tuple(cleared))
+    if sort >= 6:
+        for _ in range(dice.within(1, 2)):
+            record = spoiled_record(dice, record)
+    return protocol.record_bytes(record, tuple(dice.bytes(2)))
+
+
+def spoiled_record(dice, record):
+    """One thing of a record changed, most often so that it is refused."""
+    mode, split, values = record
+    what = dice.below(12)
+    if what == 0:
+        return record._replace(mode=dice.one_of((8, 9, 16, 128, 255)))
+    if what == 1:
+        return record._replace(mode=dice.below(8))
+    if what == 2:
+        kind = dice.one_of(protocol.KINDS)
+        return record._replace(split=(kind, *dice.bytes({"whole": 0, "vector": 2}.get(kind, 1))))
+    if what == 3 and len(split) > 1:
+        return record._replace(split=(split[0], *(dice.one_of((value, 1, 4, 16, 64, 255)) for value in split[1:])))
+    changed = list(values)
+    if what < 8 and mode < 8 and split in model.splits(mode):
+        place = dice.one_of(sorted(model.anchor_places(mode, split)))
+        changed[place] |= 1 << model.full_widths(mode)[place] - 1
+    else:
+        place = dice.below(model.VALUES)
+        width = model.full_widths(mode)[place] if mode < 8 else 4
+        changed[place] = dice.one_of((1 << width, (1 << width) - 1, 255, dice.below(256))) & 255
+    return record._replace(values=tuple(changed))
+
+
+# ---------------------------------------------------------------------------------------------------------------------
+# Replacements.
+def fitting_replacement(dice, mode, split, number, anchor_top=None, equal_ends=False):
+    """Every value within its width; the anchor's top bit as asked, or by chance."""
+    widths = model.replacement_widths(mode, split, number)
+    extreme = dice.below(8)
+    new = [((1 << width) - 1) * (extreme & 1) if extreme < 2 else dice.below(1 << width) for width in widths]
+    line = model.lines(mode, split)[number]
+    if equal_ends:
+        new[4:8], new[9] = new[0:4], new[8]
+    if mode == 1:
+        new[9] = new[8]
+    if anchor_top is not None:
+        top = 1 << line.index_width - 1
+        new[10 + line.anchor] = new[10 + line.anchor] & ~top | top * anchor_top
+    return new
+
+
+def some_replacement(dice, block, wrong_percent=30):
+    """(line, 26 bytes) for the block, mostly accepted."""
+    mode = model.mode_of(block)
+    if mode == model.RESERVED:
+        return dice.one_of((0, 1, 2, 3, *LARGE)), bytes(26) if dice.chance(50) else dice.bytes(26)
+    split = model.split_of(mode, int.from_bytes(block, "little"))
+    count = model.MODES[mode].lines
+    number = dice.below(count)
+    new = fitting_replacement(dice, mode, split, number, equal_ends=dice.chance(10))
+    wrong = dice.below(100)
+    if wrong < wrong_percent:
+        if wrong % 3 == 0:
+            number = dice.one_of((count, count + 1, 3, *LARGE))
+        if wrong % 3 < 2:
+            place = dice.below(26)
+            widths = model.replacement_widths(mode, split, min(number, count - 1))
+            new[place] = dice.one_of((1 << widths[place], 255)) & 255
+        if wrong % 2 == 0:
+            new[8], new[9] = dice.below(2), dice.below(2)
+    elif mode == 1 and wrong >= 85:
+        new[9] = 1 - new[8]
+    return number, bytes(new)
+
+
+# ---------------------------------------------------------------------------------------------------------------------
+# Heads, rows and sheets.
+SIDES = (*range(1, 10), 127, 128, 129, 4092, 4093, 4094, 4095, 4096)
+WRONG_SIDES = (0, 4097, 4098, 8192, 16383, 16384, (1 << 21) - 1)
+
+
+def some_number_bytes(dice, value):
+    """A number's bytes, now and then wrong: with a needless group, cut off, or with too many groups."""
+    right = model.write_number(value)
+    wrong = dice.below(24)
+    if wrong == 0:
+        return right[:-1] + bytes([right[-1] | 128, 0])
+    if wrong == 1:
+        return right[:-1]
+    if wrong == 2:
+        return right[:-1] + bytes([right[-1] | 128]) + dice.bytes(dice.below(4))
+    if wrong == 3:
+        return bytes(byte | 128 for byte in dice.bytes(dice.within(1, 3))) + dice.bytes(1)
+    return right
+
+
+def some_head(dice):
+    form = 1 if dice.chance(92) else dice.one_of((0, 2, 3, 127, 128, 129, 257, 16385))
+    sides = [dice.one_of(SIDES) if dice.chance(85) else dice.one_of(WRONG_SIDES) for _ in range(2)]
+    if dice.chance(30):
+        sides = [dice.within(0, 4200) for _ in range(2)]
+    head = b"".join(some_number_bytes(dice, value) for value in (form, *sides))
+    if dice.chance(8):
+        head = head[: dice.below(len(head) + 1)]
+    if dice.chance(5):
+        head = dice.bytes(dice.below(12))
+    return (head + dice.bytes(dice.below(20)))[:255]
+
+
+def near(dice, right, wrong_percent=8):
+    """A length: the right one, or one beside it."""
+    if dice.chance(wrong_percent):
+        return max(0, right + dice.one_of((-17, -16, -15, -4, -1, 1, 4, 15, 16, 17, -right)))
+    return right
+
+
+def some_row(dice, largest=40):
+    """The arguments of row decoding."""
+    width, height = dice.within(1, largest), dice.within(1, largest)
+    if dice.chance(20):
+        width = largest
+    row = dice.below(model.in_blocks(height))
+    blocks = near(dice, 16 * model.in_blocks(width))
+    out = near(dice, 4 * width * min(4, height - 4 * row))
+    if dice.chance(6):
+        row = dice.one_of((model.in_blocks(height), model.in_blocks(height) + 1, *LARGE))
+    if dice.chance(4):
+        width = dice.one_of((0, 4097, *LARGE))
+    if dice.chance(4):
+        height = dice.one_of((0, 4097, *LARGE))
+    data = b"".join(some_block(dice) for _ in range(blocks // 16)) + dice.bytes(blocks % 16)
+    return width, height, row, data, dice.bytes(min(out, protocol.LARGEST_LENGTH))
+
+
+def some_sheet(dice, largest=20):
+    width, height = dice.within(1, largest), dice.within(1, largest)
+    count = model.in_blocks(width) * model.in_blocks(height)
+    head = model.write_head(width, height)[1]
+    return head, b"".join(some_block(dice) for _ in range(count))
+
+
+def some_sheet_call(dice, largest=20):
+    """The arguments of replacement in a sheet."""
+    head, blocks = some_sheet(dice, largest)
+    count = len(blocks) // 16
+    block = dice.below(count)
+    line, new = some_replacement(dice, blocks[16 * block : 16 * block + 16])
+    wrong = dice.below(100)
+    if wrong < 6:
+        block = dice.one_of((count, count + 1, *LARGE))
+    if wrong % 20 == 3:
+        head = some_head(dice)
+    if wrong % 20 == 4:
+        length = near(dice, len(blocks), 100)
+        blocks = blocks[:length] + dice.bytes(max(0, length - len(blocks)))
+    return head + blocks, block, line, new

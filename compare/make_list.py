@@ -1,0 +1,434 @@
+#!/usr/bin/env python3
+"""make_list.py LETTERS.. OUT [--shared DIR]: writes OUT/stdin and OUT/stdout, the fixed list of calls of the program
+`replay` and its answers. LETTERS are the calls to include, as `D` or `D UP R HWOS`.
+
+The list is the same each time (dice.py with a fixed seed for each letter). Its answers are the model's; those of D are
+the Rust's, and the model must agree with each. Every call is there for a reason: the functions below say which."""
+import sys
+
+sys.dont_write_bytecode = True  # the folder is under version control
+
+import argparse
+from collections import Counter
+from pathlib import Path
+
+import document_01
+import model
+import protocol
+import tools
+from cases import (
+    LARGE,
+    bits_of_style,
+    block_of,
+    fitting_replacement,
+    some_block,
+    some_head,
+    some_record,
+    some_replacement,
+    some_row,
+    some_sheet,
+    some_sheet_call,
+)
+from dice import Dice
+
+SEED = 0xBC7
+STYLES = ("random", "random", "sparse", "dense", "one set", "zeros", "ones")
+
+
+def all_splits():
+    return [(mode, split) for mode in range(8) for split in model.splits(mode)]
+
+
+def outside(shared, every):
+    """The eight piglit blocks and every so many-th block of each outside file."""
+    piglit = (shared / "outside/piglit/bc7_blocks.bin").read_bytes()
+    blocks = [piglit[at : at + 16] for at in range(0, len(piglit), 16)]
+    for path in sorted((shared / "outside/bc7").glob("*.dds")):
+        data = tools.outside_blocks(path)[2]
+        blocks += [data[at : at + 16] for at in range(0, len(data), 16 * every)]
+    return blocks
+
+
+def document_calls(letter):
+    return [call for call, _, _ in document_01.calls() if call[0] == letter]
+
+
+# ---------------------------------------------------------------------------------------------------------------------
+def decoding(dice, shared):
+    """Every mode with every split, with random and extreme bits; modes with few splits more often; reserved blocks."""
+    calls = document_calls("D")
+    for mode, split in all_splits():
+        again = max(1, 16 // len(model.splits(mode)))
+        for style in STYLES * again:
+            calls.append(("D", block_of(mode, split, bits_of_style(dice, style))))
+    for style in STYLES:
+        calls.append(("D", block_of(model.RESERVED, None, bits_of_style(dice, style))))
+    return calls + [("D", block) for block in outside(shared, 24)]
+
+
+# ---------------------------------------------------------------------------------------------------------------------
+def taking_apart(dice, shared):
+    """Every mode with every split; reserved blocks; the outside blocks."""
+    calls = document_calls("U") + [("U", block) for block, _, _ in document_01.DRAWN]
+    for style in STYLES:
+        calls.append(("U", block_of(model.RESERVED, None, bits_of_style(dice, style))))
+    for mode, split in all_splits():
+        calls.append(("U", block_of(mode, split, bits_of_style(dice, "random"))))
+    for mode in range(8):
+        for style in STYLES:
+            calls.append(("U", block_of(mode, dice.one_of(model.splits(mode)), bits_of_style(dice, style))))
+    return calls + [("U", block) for block in outside(shared, 120)]
+
+
+def with_value(record, place, value):
+    values = list(record.values)
+    values[place] = value
+    return record._replace(values=tuple(values))
+
+
+def packing(dice, shared):
+    records = [model.ZERO_RECORD]
+    # What taking apart answers, for every split; and the same with the top bit of each anchor set (refusal 6).
+    for mode, split in all_splits():
+        record = model.take_apart(block_of(mode, split, bits_of_style(dice, "random")))
+        records.append(record)
+        widths = model.full_widths(mode)
+        anchors = sorted(model.anchor_places(mode, split))
+        if mode in (0, 2, 7) or len(model.splits(mode)) < 10:
+            for place in anchors:
+                records.append(with_value(record, place, record.values[place] | 1 << widths[place] - 1))
+    records += [model.take_apart(block) for block in outside(shared, 120)]
+    for mode in range(8):
+        m, widths = model.MODES[mode], model.full_widths(mode)
+        split = dice.one_of(model.splits(mode))
+        anchors = model.anchor_places(mode, split)
+        zero = model.Record(mode, split, (0,) * model.VALUES)
+        full = zero._replace(values=tuple((1 << w - (i in anchors)) - 1 for i, w in enumerate(widths)))
+        records += [zero, full]
+        # Each value at its largest (for an anchor's index that is refusal 6) and one above, alone in a zero record or
+        # with all others at their largest. What the mode hasn't got has 0 for its largest.
+        for place, width in enumerate(widths):
+            base = dice.one_of((zero, full))
+            records.append(with_value(base, place, (1 << width) - 1))
+            records.append(with_value(base, place, (1 << width) & 255 or 255))
+            if width == 0:
+                records.append(with_value(base, place, 255))
+        # The split's values at their largest and one above; mode 5 has no index mode.
+        for position, width in enumerate(m.split_bits):
+            for value in ((1 << width) - 1, 1 << width, 1 << width | 1, 255):
+                changed = list(zero.split)
+                changed[1 + position] = value
+                records.append(zero._replace(split=tuple(changed)))
+        # Every kind, those of other modes among them, with each pair of refusals that can meet.
+        wide = dice.below(8)
+        top = sorted(anchors)[-1]
+        for kind in protocol.KINDS:
+            for values in ((0,) * (1 if kind in ("two", "three") else 2), (200, 200)):
+                split_given = (kind, *values[: {"whole": 0, "vector": 2}.get(kind, 1)])
+                other = zero._replace(split=split_given)
+                both = with_value(other, top, 1 << widths[top] - 1)
+                records += [other, with_value(other, wide, 255), both, with_value(both, wide, 255)]
+        for top in sorted(anchors):
+            turned = with_value(full, top, 1 << widths[top] - 1)
+            records += [turned, with_value(turned, model.P_BITS + 5, 2), with_value(turned, wide, 255)]
+        # Both anchors at once.
+        both = full
+        for place in anchors:
+            both = with_value(both, place, 1 << widths[place] - 1)
+        records.append(both)
+    # Modes above 7 (5), with every kind, and with values that would be refusal 3.
+    for mode in (8, 9, 15, 16, 128, 255):
+        for kind in protocol.KINDS:
+            split = (kind, *(0,) * {"whole": 0, "vector": 2}.get(kind, 1))
+            records += [model.Record(mode, split, (value,) * model.VALUES) for value in (0, 255)]
+    calls = [("P", protocol.record_bytes(record)) for record in records]
+    # Bytes that a kind hasn't got are ignored.
+    for mode in (0, 1, 2, 3, 6, 7):
+        record = model.take_apart(block_of(mode, dice.one_of(model.splits(mode)), bits_of_style(dice, "random")))
+        calls += [("P", protocol.record_bytes(record, spare)) for spare in ((1, 1), (255, 255), (64, 2))]
+    return calls + [("P", some_record(dice)) for _ in range(150)]
+
+
+# ---------------------------------------------------------------------------------------------------------------------
+def replacing(dice, shared):
+    calls = document_calls("R")
+    # Every mode, split and line, with the anchor's top bit clear and set: among them the three-subset partitions whose
+    # anchors stand in the other order (2, 3, 6, 7, ..).
+    for mode, split in all_splits():
+        block = block_of(mode, split, bits_of_style(dice, "random"))
+        for line in range(model.MODES[mode].lines):
+            for top in (0, 1):
+                calls.append(("R", block, line, bytes(fitting_replacement(dice, mode, split, line, top))))
+    for mode in range(8):
+        count = model.MODES[mode].lines
+        for line in range(count):
+            split = dice.one_of(model.splits(mode))
+            block = block_of(mode, split, bits_of_style(dice, "random"))
+            widths = model.replacement_widths(mode, split, line)
+            # Equal endpoints are turned as others are.
+            for top in (0, 1, 0, 1):
+                calls.append(("R", block, line, bytes(fitting_replacement(dice, mode, split, line, top, True))))
+            # Each value at its largest and one above; in mode 1 a p bit alone at 1 is refusal 4.
+            for place, width in enumerate(widths):
+                for value in ((1 << width) - 1, (1 << width) & 255 or 255):
+                    new = [0] * 26
+                    new[place] = value
+                    calls.append(("R", block, line, bytes(new)))
+            calls.append(("R", block, line, bytes((1 << width) - 1 for width in widths)))
+            calls.append(("R", block, line, bytes(26)))
+            # p bits that differ: refusal 4 in mode 1, accepted where a line has two, 3 where it has none.
+            for p in ((0, 1), (1, 0), (1, 1), (2, 2), (2, 3), (0, 2), (255, 0)):
+                new = fitting_replacement(dice, mode, split, line)
+                new[8], new[9] = p
+                calls.append(("R", block, line, bytes(new)))
+        # Line numbers from the mode's count on, with all else right (2), with a value too large (2 before 3), with
+        # p bits that differ (2 before 4), and with both.
+        for number in (*range(count, 5), *LARGE):
+            right = fitting_replacement(dice, mode, split, 0)
+            calls.append(("R", block, number, bytes(right)))
+        for number in (count, 3, 256, (1 << 32) - 1):
+            for p in ((0, 0), (0, 1)):
+                for red in (0, 255):
+                    new = [red] + [0] * 7 + list(p) + [0] * 16
+                    calls.append(("R", block, number, bytes(new)))
+                    # A value too large comes before p bits that differ (3 before 4).
+                    calls.append(("R", block, 0, bytes(new)))
+    # A reserved block is refusal 1 whatever else is wrong.
+    for style in ("zeros", "random", "ones"):
+        block = block_of(model.RESERVED, None, bits_of_style(dice, style))
+        for number in (0, 1, 3, (1 << 32) - 1):
+            for p in ((0, 0), (0, 1)):
+                for red in (0, 255):
+                    calls.append(("R", block, number, bytes([red] + [0] * 7 + list(p) + [0] * 16)))
+    # Sequences on one block: each call is given the block that the one before answers.
+    for mode in range(8):
+        block = block_of(mode, dice.one_of(model.splits(mode)), bits_of_style(dice, "random"))
+        for _ in range(20):
+            number, new = some_replacement(dice, block)
+            calls.append(("R", block, number, new))
+            block = model.replace(block, number, new)[1]
+    for block in outside(shared, 240):
+        calls.append(("R", block, *some_replacement(dice, block, wrong_percent=0)))
+    return calls
+
+
+# ---------------------------------------------------------------------------------------------------------------------
+WIDE_SIDES = (0, *range(1, 10), 127, 128, 129, 4095, 4096, 4097, 16383, 16384, (1 << 21) - 1)
+# Not numbers: a needless last group, a cut-off group, too many groups.
+NOT_NUMBERS = ("8000", "8100", "808000", "818000", "80", "8080", "ff", "80808000", "80808001", "ffffff7f", "81808000")
+
+
+def reading_heads(dice, shared):
+    del shared
+    calls = document_calls("H")
+    for width in WIDE_SIDES:
+        for height in (1, 4, 128, 4095, 4096, 4097, 0):
+            calls.append(("H", b"\x01" + model.write_number(width) + model.write_number(height)))
+    for height in WIDE_SIDES:
+        calls.append(("H", b"\x01\x05" + model.write_number(height) + dice.bytes(16)))
+    # Every beginning of a head, each number cut off among them.
+    for head in ("010504", "0180018001", "0180208020", "01ff7fff7f", "01ffff7fffff7f"):
+        head = bytes.fromhex(head)
+        calls += [("H", head[:count]) for count in range(len(head) + 1)]
+    # Forms: only 1, and 7 before 8 only on the form itself.
+    for form in (0, 2, 3, 127, 128, 129, 257, 16384, 16385, (1 << 21) - 1):
+        for rest in ("", "0504", "80", "0004", "05", "808080", "050480"):
+            calls.append(("H", model.write_number(form) + bytes.fromhex(rest)))
+    # Wrong numbers at each place, alone and beside a side of 0 or above 4,096 (7 before 9).
+    for wrong in map(bytes.fromhex, NOT_NUMBERS):
+        for head in (wrong, wrong + b"\x05\x04", b"\x01" + wrong, b"\x01" + wrong + b"\x04", b"\x01\x05" + wrong):
+            calls.append(("H", head))
+        for side in (0, 4097):
+            calls.append(("H", b"\x01" + model.write_number(side) + wrong))
+            calls.append(("H", b"\x01" + wrong + model.write_number(side)))
+    calls.append(("H", (b"\x01\x05\x04" + dice.bytes(252))))
+    calls.append(("H", b"\xff" * 255))
+    return calls + [("H", some_head(dice)) for _ in range(60)]
+
+
+def writing_heads(dice, shared):
+    del dice, shared
+    calls = document_calls("W")
+    sides = (0, *range(1, 10), 127, 128, 129, 4095, 4096, 4097, 16384, 65536, 65537, 1 << 31, (1 << 32) - 1)
+    return calls + [("W", width, height) for width in sides for height in sides]
+
+
+def blocks_for(dice, length):
+    return b"".join(some_block(dice) for _ in range(length // 16)) + dice.bytes(length % 16)
+
+
+def decoding_rows(dice, shared):
+    del shared
+    calls = []
+
+    def add(width, height, row, blocks, out):
+        calls.append(("O", width, height, row, blocks_for(dice, blocks), dice.bytes(out)))
+
+    def right(width, height, row):
+        return 16 * model.in_blocks(width), 4 * width * min(4, height - 4 * row)
+
+    # Every width and height from 1 to 9, every row of blocks, and the first row beyond.
+    for width in range(1, 10):
+        for height in range(1, 10):
+            rows = model.in_blocks(height)
+            for row in range(rows):
+                add(width, height, row, *right(width, height, row))
+            if width in (1, 4, 9) or height in (1, 4, 8):
+                add(width, height, rows, *right(width, height, rows - 1))
+    # Block bytes and output beside the right length, one at a time and both (10 before 11).
+    for width, height, row in ((1, 1, 0), (4, 4, 0), (5, 6, 1), (8, 8, 1), (9, 3, 0)):
+        blocks, out = right(width, height, row)
+        for more in (-16, -15, -1, 1, 15, 16, -blocks):
+            if blocks + more >= 0:
+                add(width, height, row, blocks + more, out)
+        for more in (-out, -4 * width, -4, -1, 1, 4, 4 * width, 16):
+            if out + more >= 0:
+                add(width, height, row, blocks, out + more)
+        for more in (-1, 1):
+            add(width, height, row, blocks + more, out + more)
+        add(width, height, row, 0, 0)
+    # Sizes refused (9), with a row beyond, block bytes or an output that would be refused too.
+    for width, height in ((0, 1), (1, 0), (0, 0), (4097, 1), (1, 4097), (4097, 4097), (65536, 1), (1, 1 << 31)):
+        for row in (0, 2000):
+            for blocks, out in ((16, 16), (0, 16), (16, 0), (0, 0)):
+                add(width, height, row, blocks, out)
+    # Rows beyond the sheet (12), with block bytes or an output that would be refused too.
+    for height, rows in ((1, (1, 2)), (4, (1,)), (5, (2,)), (4096, (1024, 1025)), (4093, (1024,))):
+        for row in (*rows, 65536, 1 << 30, (1 << 32) - 1):
+            for blocks, out in ((16, 16), (0, 16), (16, 0), (0, 0)):
+                add(3, height, row, blocks, out)
+    # Each pair in its order once more at the largest sizes; the last rows of the tallest sheets.
+    for height in (4095, 4096, 4094, 4093, 4092):
+        row = model.in_blocks(height) - 1
+        add(2, height, row, *right(2, height, row))
+        add(2, height, row, right(2, height, row)[0], right(2, height, row)[1] + 8)
+        add(7, height, 0, *right(7, height, 0))
+    for width in (4095, 4096):
+        add(width, 4093, 1023, *right(width, 4093, 1023))
+        add(width, 1, 0, 16 * 1024 - 16, 4)
+    return calls + [("O", *some_row(dice, 12)) for _ in range(40)]
+
+
+def replacing_in_sheets(dice, shared):
+    del shared
+    calls = document_calls("S")
+    no_change = bytes(26)
+
+    def accepted(sheet, start, block):
+        """A line and a replacement that the block accepts, where it isn't reserved."""
+        at = start + 16 * block
+        return some_replacement(dice, sheet[at : at + 16], wrong_percent=0)
+
+    # Each block of sheets of every width, and the first numbers beyond.
+    for width in range(1, 10):
+        for height in (1, 4, 5, 9) if width in (4, 5, 9) else (3,):
+            head = model.write_head(width, height)[1]
+            count = model.in_blocks(width) * model.in_blocks(height)
+            sheet = head + b"".join(some_block(dice) for _ in range(count))
+            for block in range(count):
+                calls.append(("S", sheet, block, *accepted(sheet, len(head), block)))
+            for block in (count, count + 1):
+                calls.append(("S", sheet, block, 0, no_change))
+    # Block numbers that wrap when multiplied by sixteen, and every refusal of a block, alone and behind the sheet's.
+    head = model.write_head(6, 7)[1]
+    four = (document_01.C, bytes(16), block_of(1, ("two", 13), bits_of_style(dice, "random")), document_01.D)
+    sheet = head + b"".join(four)
+    wrong_value = bytes([255] + [0] * 25)
+    wrong_p = bytes([0] * 8 + [0, 1] + [0] * 16)
+    for block in (0, 1, 2, 3, 4, 5, *LARGE):
+        for line in (0, 1, 2, (1 << 32) - 1):
+            for new in (no_change, wrong_value, wrong_p):
+                if block < 4 or line in (0, 2):
+                    calls.append(("S", sheet, block, line, new))
+    calls.append(("S", sheet, 0, 0, document_01.C_NEW))
+    # Block bytes missing and surplus (10), with a block number beyond (10 before 12) and a refused replacement.
+    for more in (-64, -63, -17, -16, -15, -1, 1, 15, 16, 17, 64):
+        changed = sheet[: len(sheet) + more] if more < 0 else sheet + dice.bytes(more)
+        for block, line, new in ((0, 0, no_change), (4, 0, no_change), (1, 0, wrong_value), (3, 9, no_change)):
+            calls.append(("S", changed, block, line, new))
+    # Every length of a sheet of one block.
+    one = b"\x01\x01\x01" + document_01.C
+    for length in range(len(one) + 1):
+        calls.append(("S", one[:length], 0, 0, document_01.C_NEW))
+    calls.append(("S", one + b"\0", 0, 0, document_01.C_NEW))
+    # Heads refused (7, 8, 9) before too few block bytes and a number beyond.
+    heads = ["", "01", "0105", "018000", "8000", "81000504", "018080800004", "02", "020504", "000504", "020004", "8101"]
+    heads += ["0280", "010004", "010400", "01812004", "01048120", "0100", "01008000", "010080", "01812080"]
+    for head in heads:
+        head = bytes.fromhex(head)
+        for rest in (b"", document_01.C, document_01.C + document_01.D):
+            calls.append(("S", head + rest, 0, 0, document_01.C_NEW))
+            calls.append(("S", head + rest, 9, 9, wrong_value))
+    # The largest sides: too few bytes for 4,096 by 4,096, a whole sheet one block high.
+    calls.append(("S", model.write_head(4096, 4096)[1] + document_01.C, 0, 0, document_01.C_NEW))
+    calls.append(("S", model.write_head(4096, 4)[1] + document_01.C * 1023, 0, 0, document_01.C_NEW))
+    long = model.write_head(4095, 4)[1] + document_01.C * 1024
+    calls.append(("S", long, 1023, 0, document_01.C_NEW))
+    # A sequence on one sheet.
+    head, blocks = some_sheet(dice, 9)
+    sheet = head + blocks
+    for _ in range(30):
+        block = dice.below(len(blocks) // 16)
+        call = ("S", sheet, block, *accepted(sheet, len(head), block))
+        calls.append(call)
+        sheet = model.replace_in_sheet(*call[1:])[1]
+    return calls + [("S", *some_sheet_call(dice, 9)) for _ in range(80)]
+
+
+MAKERS = {
+    "D": decoding,
+    "U": taking_apart,
+    "P": packing,
+    "R": replacing,
+    "H": reading_heads,
+    "W": writing_heads,
+    "O": decoding_rows,
+    "S": replacing_in_sheets,
+}
+
+
+def made(letter, shared):
+    """The fixed calls of a letter. Each letter has its own dice, so that adding one leaves the others as they are."""
+    return MAKERS[letter](Dice(SEED * 256 + ord(letter)), shared)
+
+
+def answers(letter, calls, oracle):
+    found = [protocol.model_answer(call) for call in calls]
+    if letter == "D":
+        pixels = tools.through(oracle, b"".join(call[1] for call in calls))
+        for number, call in enumerate(calls):
+            drawn = pixels[64 * number : 64 * number + 64]
+            assert drawn == found[number], "the Rust and the model differ: " + call[1].hex()
+    return found
+
+
+def main():
+    words = argparse.ArgumentParser(description=__doc__.split("\n\n")[0])
+    words.add_argument("letters", nargs="+", help="calls to include, of " + protocol.LETTERS)
+    words.add_argument("out", help="the folder that gets stdin and stdout, as crates/replay")
+    words.add_argument("--shared", help="folder with docs/ and outside/ (default: $SHARED, or ../shared)")
+    given = words.parse_args()
+    asked = set("".join(given.letters).upper())
+    if not asked <= set(protocol.LETTERS):
+        sys.exit("letters are of %s; the last argument is the folder" % protocol.LETTERS)
+    shared = tools.shared_folder(given.shared)
+    oracle = tools.build_oracle(shared / "docs/src") if "D" in asked else None
+    stdin, stdout = [], []
+    for letter in protocol.LETTERS:
+        if letter in asked:
+            calls = made(letter, shared)
+            replies = answers(letter, calls, oracle)
+            stdin += map(protocol.call_bytes, calls)
+            stdout += replies
+            counts = Counter(0 if letter == "D" else reply[0] for reply in replies)
+            tally = ["%s %d" % ("refusal %d:" % n if n else "accepted:", counts[n]) for n in sorted(counts)]
+            print("%s: %d calls; %s" % (letter, len(calls), "; ".join(tally)))
+    out = Path(given.out)
+    out.mkdir(parents=True, exist_ok=True)
+    (out / "stdin").write_bytes(b"".join(stdin))
+    (out / "stdout").write_bytes(b"".join(stdout))
+    print("%d calls, %d bytes in, %d bytes out" % (len(stdin), sum(map(len, stdin)), sum(map(len, stdout))))
+
+
+if __name__ == "__main__":
+    main()

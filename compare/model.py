@@ -1,0 +1,411 @@
+"""Document 01 read a second time, in Python and for clarity: what every public call answers.
+
+A block is one number of 128 bits, byte 0 lowest. For a mode and its split, each stored value has a first bit and a
+width; a record is the list of these values; a line is the part of the record that one endpoint pair draws with. All
+else follows from those three tables. Nothing here is taken from the code that it is compared with.
+
+Values are plain integers and tuples:
+  split        ("whole",), ("two", partition), ("three", partition) or ("vector", rotation, index mode)
+  record       Record(mode, split, values), 62 values: 24 endpoint values (endpoint 0 red green blue alpha, endpoint 1,
+               ..), 6 p bits, 16 first indexes, 16 second indexes
+  replacement  26 values: 8 endpoint values, 2 p bits, 16 indexes
+  pixels       64 bytes, red green blue alpha of the pixels 0 to 15
+"""
+from collections import namedtuple
+from functools import lru_cache
+
+import partitions
+
+# ---------------------------------------------------------------------------------------------------------------------
+# The mode table: the kind of split, its bits, the widths of a colour and an alpha value, how many p bits, and the
+# widths of the two index sets.
+Mode = namedtuple("Mode", "kind lines split_bits colour alpha p index_widths")
+MODES = (
+    Mode("three", 3, (4,), 4, 0, 6, (3, 0)),
+    Mode("two", 2, (6,), 6, 0, 2, (3, 0)),
+    Mode("three", 3, (6,), 5, 0, 0, (2, 0)),
+    Mode("two", 2, (6,), 7, 0, 4, (2, 0)),
+    Mode("vector", 2, (2, 1), 5, 6, 0, (2, 3)),
+    Mode("vector", 2, (2, 0), 7, 8, 0, (2, 2)),
+    Mode("whole", 1, (), 7, 7, 2, (4, 0)),
+    Mode("two", 2, (6,), 5, 5, 4, (2, 0)),
+)
+RESERVED = 8
+
+# The format's own weights, of 64.
+WEIGHTS = {
+    2: (0, 21, 43, 64),
+    3: (0, 9, 18, 27, 37, 46, 55, 64),
+    4: (0, 4, 9, 13, 17, 21, 26, 30, 34, 38, 43, 47, 51, 55, 60, 64),
+}
+
+Record = namedtuple("Record", "mode split values")
+P_BITS, FIRST, SECOND, VALUES = 24, 30, 46, 62  # where the parts of a record's values begin, and how many there are
+ZERO_RECORD = Record(0, ("whole",), (0,) * VALUES)
+ZERO_BLOCK = bytes(16)
+ZERO_PIXELS = bytes(64)
+
+
+def mode_of(block):
+    """The trailing zero bits of byte 0: 8 where it is zero."""
+    return next((bit for bit in range(8) if block[0] >> bit & 1), RESERVED)
+
+
+def splits(mode):
+    """Every split that a mode can store."""
+    kind, bits = MODES[mode].kind, MODES[mode].split_bits
+    if kind == "whole":
+        return [("whole",)]
+    if kind == "vector":
+        return [(kind, rotation, index_mode) for rotation in range(4) for index_mode in range(1 << bits[1])]
+    return [(kind, partition) for partition in range(1 << bits[0])]
+
+
+# ---------------------------------------------------------------------------------------------------------------------
+# Lines: which endpoints, channels, p bits, indexes and pixels one line has, and which pixel is its anchor.
+Line = namedtuple("Line", "ends channels p indexes index_width pixels anchor")
+
+
+@lru_cache(None)
+def lines(mode, split):
+    m = MODES[mode]
+    everything = tuple(range(16))
+    if m.kind == "vector":
+        # The 2-bit set of mode 4 is stored first; it is the vector's under index mode 0, the scalar's under 1.
+        vector, scalar = (1, 0) if split[2] == 1 else (0, 1)
+        starts = (FIRST, SECOND)
+        return (
+            Line((0, 1), (0, 1, 2), None, starts[vector], m.index_widths[vector], everything, 0),
+            Line((0, 1), (3,), None, starts[scalar], m.index_widths[scalar], everything, 0),
+        )
+    if m.kind == "whole":
+        subset_of, anchors = (0,) * 16, (0,)
+    else:
+        subset_of, anchors = partitions.subsets(m.kind, split[1]), partitions.anchors(m.kind, split[1])
+    channels = (0, 1, 2, 3) if m.alpha else (0, 1, 2)
+    found = []
+    for subset in range(m.lines):
+        ends = (2 * subset, 2 * subset + 1)
+        if m.p == 0:
+            p = None
+        elif mode == 1:  # one p bit serves both endpoints of a subset
+            p = (P_BITS + subset, P_BITS + subset)
+        else:
+            p = (P_BITS + ends[0], P_BITS + ends[1])
+        pixels = tuple(pixel for pixel in range(16) if subset_of[pixel] == subset)
+        found.append(Line(ends, channels, p, FIRST, m.index_widths[0], pixels, anchors[subset]))
+    return tuple(found)
+
+
+def channel_width(mode, channel):
+    return MODES[mode].alpha if channel == 3 else MODES[mode].colour
+
+
+# ---------------------------------------------------------------------------------------------------------------------
+# Where the values of a record stand in a block.
+@lru_cache(None)
+def full_widths(mode):
+    """The width of each of the 62 values, anchors not yet considered; 0 for what the mode doesn't use."""
+    m = MODES[mode]
+    endpoints = 2 if m.kind == "vector" else 2 * m.lines
+    widths = [channel_width(mode, channel) if end < endpoints else 0 for end in range(6) for channel in range(4)]
+    widths += [1 if number < m.p else 0 for number in range(6)]
+    widths += [m.index_widths[0]] * 16 + [m.index_widths[1]] * 16
+    return tuple(widths)
+
+
+@lru_cache(None)
+def anchor_places(mode, split):
+    """The values of a record that are an anchor's index."""
+    return frozenset(line.indexes + line.anchor for line in lines(mode, split))
+
+
+@lru_cache(None)
+def layout(mode, split):
+    """(value's number, first bit, width) of every stored value after the split, in stored order."""
+    order = [4 * end + channel for channel in range(4) for end in range(6)] + list(range(P_BITS, VALUES))
+    bit = mode + 1 + sum(MODES[mode].split_bits)
+    found = []
+    for number in order:
+        width = full_widths(mode)[number] - (number in anchor_places(mode, split))
+        if width > 0:
+            found.append((number, bit, width))
+            bit += width
+    assert bit == 128, (mode, split, bit)
+    return tuple(found)
+
+
+def field(number, bit, width):
+    return number >> bit & ((1 << width) - 1)
+
+
+def split_of(mode, number):
+    kind, bits = MODES[mode].kind, MODES[mode].split_bits
+    stored, bit = [], mode + 1
+    for width in bits:
+        stored.append(field(number, bit, width))
+        bit += width
+    return (kind, *stored)
+
+
+def take_apart(block):
+    """The record of a block whose first byte isn't zero."""
+    mode, number = mode_of(block), int.from_bytes(block, "little")
+    split = split_of(mode, number)
+    values = [0] * VALUES
+    for place, bit, width in layout(mode, split):
+        values[place] = field(number, bit, width)
+    return Record(mode, split, tuple(values))
+
+
+def put_together(record):
+    """The block of a well-formed record."""
+    number, bit = 1 << record.mode, record.mode + 1
+    for width, value in zip(MODES[record.mode].split_bits, record.split[1:]):
+        number |= value << bit
+        bit += width
+    for place, bit, _ in layout(record.mode, record.split):
+        number |= record.values[place] << bit
+    return number.to_bytes(16, "little")
+
+
+def unpack(block):
+    if mode_of(block) == RESERVED:
+        return 1, ZERO_RECORD
+    return 0, take_apart(block)
+
+
+def pack(record):
+    if record.mode > 7 or record.split[0] != MODES[record.mode].kind:
+        return 5, ZERO_BLOCK
+    widths = MODES[record.mode].split_bits + full_widths(record.mode)
+    if any(value >> width for value, width in zip(record.split[1:] + tuple(record.values), widths)):
+        return 3, ZERO_BLOCK
+    full = full_widths(record.mode)
+    if any(record.values[place] >> full[place] - 1 for place in anchor_places(record.mode, record.split)):
+        return 6, ZERO_BLOCK
+    return 0, put_together(record)
+
+
+# ---------------------------------------------------------------------------------------------------------------------
+# Drawing.
+def eight_bits(value, width):
+    """Shifted to the top, and filled from its own top."""
+    return value << (8 - width) | value >> (2 * width - 8)
+
+
+def line_of(record, line):
+    """What a line holds, in the form of a replacement."""
+    values = record.values
+    held = [0] * 26
+    for end in range(2):
+        for channel in line.channels:
+            held[4 * end + channel] = values[4 * line.ends[end] + channel]
+        if line.p:
+            held[8 + end] = values[line.p[end]]
+    for pixel in line.pixels:
+        held[10 + pixel] = values[line.indexes + pixel]
+    return held
+
+
+def paint(pixels, mode, split, line, held):
+    """Draws what the 26 values `held` mean as that line, with full indexes, over `pixels` (a bytearray of 64)."""
+    weights = WEIGHTS[line.index_width]
+    for channel in line.channels:
+        width, ends = channel_width(mode, channel), [held[channel], held[4 + channel]]
+        if line.p:
+            width, ends = width + 1, [2 * ends[0] + held[8], 2 * ends[1] + held[9]]
+        first, second = eight_bits(ends[0], width), eight_bits(ends[1], width)
+        drawn = [((64 - weight) * first + weight * second + 32) // 64 for weight in weights]
+        shown = rotated(split, channel)
+        for pixel in line.pixels:
+            pixels[4 * pixel + shown] = drawn[held[10 + pixel]]
+
+
+def rotated(split, channel):
+    """Where a channel is shown: rotation 1, 2, 3 swaps alpha with red, green, blue."""
+    if split[0] == "vector" and split[1] > 0:
+        swapped = split[1] - 1
+        return {swapped: 3, 3: swapped}.get(channel, channel)
+    return channel
+
+
+def draw(record):
+    pixels = bytearray(b"\0\0\0\xff" * 16)  # modes 0 to 3 have alpha 255, the others draw over it
+    for line in lines(record.mode, record.split):
+        paint(pixels, record.mode, record.split, line, line_of(record, line))
+    return bytes(pixels)
+
+
+def decode(block):
+    return ZERO_PIXELS if mode_of(block) == RESERVED else draw(take_apart(block))
+
+
+# ---------------------------------------------------------------------------------------------------------------------
+# Replacing a line.
+@lru_cache(None)
+def replacement_widths(mode, split, number):
+    """The width of each of a replacement's 26 values in that line; 0 for what the line hasn't got."""
+    line = lines(mode, split)[number]
+    widths = [channel_width(mode, channel) if channel in line.channels else 0 for channel in range(4)] * 2
+    widths += [1 if line.p else 0] * 2
+    return tuple(widths + [line.index_width if pixel in line.pixels else 0 for pixel in range(16)])
+
+
+def replacement_refusal(block, number, new):
+    if mode_of(block) == RESERVED:
+        return 1
+    mode, split = mode_of(block), split_of(mode_of(block), int.from_bytes(block, "little"))
+    if number >= MODES[mode].lines:
+        return 2
+    if any(value >> width for value, width in zip(new, replacement_widths(mode, split, number))):
+        return 3
+    if mode == 1 and new[8] != new[9]:
+        return 4
+    return 0
+
+
+def turned(line, new):
+    """Endpoints and p bits exchanged, each index of the line counted from the other end."""
+    last = (1 << line.index_width) - 1
+    indexes = [last - new[10 + pixel] if pixel in line.pixels else 0 for pixel in range(16)]
+    return [*new[4:8], *new[0:4], new[9], new[8], *indexes]
+
+
+def replace(block, number, new):
+    refusal = replacement_refusal(block, number, new)
+    if refusal:
+        return refusal, bytes(block)
+    record = take_apart(block)
+    line = lines(record.mode, record.split)[number]
+    if new[10 + line.anchor] >> line.index_width - 1:
+        new = turned(line, new)
+    values = list(record.values)
+    for end in range(2):
+        for channel in line.channels:
+            values[4 * line.ends[end] + channel] = new[4 * end + channel]
+        if line.p:
+            values[line.p[end]] = new[8 + end]
+    for pixel in line.pixels:
+        values[line.indexes + pixel] = new[10 + pixel]
+    refusal, changed = pack(record._replace(values=tuple(values)))
+    assert refusal == 0  # the anchor's top bit is clear now, and all else was within its width
+    return 0, changed
+
+
+# ---------------------------------------------------------------------------------------------------------------------
+# The sheet.
+FORM, LARGEST_SIDE, GROUPS = 1, 4096, 3
+
+
+def write_number(value):
+    groups = []
+    while value > 127:
+        groups.append(value & 127 | 128)
+        value >>= 7
+    return bytes(groups + [value])
+
+
+def read_number(data, at):
+    """(value, where it ends), or None: cut off, not shortest, or over three groups."""
+    value = 0
+    for group in range(GROUPS):
+        if at + group >= len(data):
+            return None
+        byte = data[at + group]
+        value |= (byte & 127) << 7 * group
+        if byte < 128:
+            shortest = byte > 0 or group == 0
+            return (value, at + group + 1) if shortest else None
+    return None
+
+
+def size_fits(width, height):
+    return 1 <= width <= LARGEST_SIDE and 1 <= height <= LARGEST_SIDE
+
+
+def read_head(data):
+    """refusal, width, height, where the blocks start"""
+    form = read_number(data, 0)
+    if form is None:
+        return 7, 0, 0, 0
+    if form[0] != FORM:
+        return 8, 0, 0, 0
+    width = read_number(data, form[1])
+    height = read_number(data, width[1]) if width else None
+    if height is None:
+        return 7, 0, 0, 0
+    if not size_fits(width[0], height[0]):
+        return 9, 0, 0, 0
+    return 0, width[0], height[0], height[1]
+
+
+def write_head(width, height):
+    """refusal, the head's bytes (the call answers them with their count)"""
+    if not size_fits(width, height):
+        return 9, b""
+    return 0, write_number(FORM) + write_number(width) + write_number(height)
+
+
+def in_blocks(side):
+    """Columns or rows of blocks, rounded up."""
+    return (side + 3) // 4
+
+
+def decode_row(width, height, row, blocks, out):
+    """refusal, the output afterwards"""
+    if not size_fits(width, height):
+        return 9, bytes(out)
+    if row >= in_blocks(height):
+        return 12, bytes(out)
+    if len(blocks) != 16 * in_blocks(width):
+        return 10, bytes(out)
+    pixel_rows = min(4, height - 4 * row)
+    if len(out) != pixel_rows * width * 4:
+        return 11, bytes(out)
+    drawn = [decode(blocks[at : at + 16]) for at in range(0, len(blocks), 16)]
+    shown = []
+    for y in range(pixel_rows):
+        line = b"".join(pixels[16 * y : 16 * y + 16] for pixels in drawn)
+        shown.append(line[: 4 * width])
+    return 0, b"".join(shown)
+
+
+def replace_in_sheet(sheet, block, line, new):
+    """refusal, the sheet afterwards"""
+    sheet = bytes(sheet)
+    refusal, width, height, start = read_head(sheet)
+    if refusal:
+        return refusal, sheet
+    count = in_blocks(width) * in_blocks(height)
+    if len(sheet) - start != 16 * count:
+        return 10, sheet
+    if block >= count:
+        return 12, sheet
+    at = start + 16 * block
+    refusal, changed = replace(sheet[at : at + 16], line, new)
+    return refusal, sheet[:at] + changed + sheet[at + 16 :]
+
+
+# ---------------------------------------------------------------------------------------------------------------------
+# The listing.
+@lru_cache(100_000)
+def listed(block):
+    """A block's line without its number."""
+    mode = mode_of(block)
+    return "%d %d %d %d %d %s" % (mode, *decode(block)[:4], "o" if mode <= 3 else "-")
+
+
+def listing(data):
+    refusal, width, height, start = read_head(data)
+    if refusal:
+        return "refused %d\n" % refusal
+    declared = in_blocks(width) * in_blocks(height)
+    present = min(declared, (len(data) - start) // 16)
+    text = ["sheet %d %d\n" % (width, height)]
+    for number in range(present):
+        at = start + 16 * number
+        text.append("%d %s\n" % (number, listed(bytes(data[at : at + 16]))))
+    if len(data) - start != 16 * declared:
+        text.append("refused 10\n")
+    return "".join(text)
