@@ -3,6 +3,7 @@
 use mathlib.Core.Path.{_≡_, ap, ap₂}
 use Prim.Native.Nat.{ℕ, _+_, _*_, _≤_, _<_, _^_}
 use native.Mathlib.Nat.{mod-lt, lt-of-lt-of-le}
+use native.Mathlib.Numerals.{add-one}
 use native.Mathlib.Omega.{arith}
 use lib.Pow.{pow-pos, pow-mono}
 use Rattle.bcn_util.specs.declared.stream.BitStream.{BitStream}
@@ -10,6 +11,9 @@ use Rattle.bcn_util.specs.declared.stream.Bits8.{Bits8}
 use Rattle.bcn_util.specs.declared.stream.Bits64.{Bits64}
 use Rattle.bcn_util.specs.declared.stream.Values2.{Values2}
 use Rattle.bcn_util.specs.declared.stream.Values4.{Values4}
+use Rattle.laws.specs.Digits.{split, total}
+use Rattle.laws.specs.Tables.{table}
+use Rattle.laws.proofs.Rows.{split-table, table-none, total-more}
 use Rattle.format.specs.Block.{field}
 use Rattle.bcn_util.specs.Stream.{consumed2, consumed4, consumed64, consumed8, held, skipped}
 
@@ -86,3 +90,16 @@ module _ {n a : ℕ} {s : BitStream} (o : On n a s) (w : ℕ) where
 
   pub four-on : {r : Values4} → r ≡ consumed4 s w → On n (a + 4 * w) (r .stream)
   four-on e = rw e (on-skipped o (4 * w))
+
+-- a loop that reads values of the widths f 0, f 1, .., from the start of n: after i turns it stands at the total of the first i
+module _ (f : ℕ → ℕ) {n : ℕ} {s : BitStream} where
+  pub row-start : On n 0 s → On n (total (table 0 f)) s
+  row-start o = rw (table-none f) o
+
+  pub row-next : (i : ℕ) {r : Bits64} → On n (total (table i f)) s → r ≡ consumed64 s (f i) → On n (total (table (i + 1) f)) (r .stream)
+  row-next i o e = rw (add-one, total-more i f) (got-on o (f i) e)
+
+-- and the values that it has read are the digits of n
+pub split-fields : (k : ℕ) (f : ℕ → ℕ) (n : ℕ) → split (table k f) n ≡ table k (λ i. field n (total (table i f)) (f i))
+unfolding field
+split-fields k f n = split-table k f n

@@ -4,9 +4,12 @@ use mathlib.Core.Path.{_≡_}
 use mathlib.Core.List.{List, []}
 use Prim.Native.Nat.{ℕ, _+_, _-_, _*_, _/_, _%_, _^_}
 use Rattle.bcn_util.specs.declared.indexes.Indexes.{Indexes}
+use Rattle.bcn_util.specs.declared.indexes.NewIndexes.{NewIndexes}
+use Rattle.bcn_util.specs.declared.stream.BitStream.{BitStream}
 use Rattle.laws.specs.Digits.{join, split}
 use Rattle.laws.specs.Tables.{pick, table}
 use Rattle.format.specs.Partitions.{among}
+use Rattle.bcn_util.specs.Stream.{nextBits, skipped}
 
 -- how many bits the index of pixel i has, of indexes of w bits with these anchors
 abbrev pub indexWidth : ℕ → List ℕ → ℕ → ℕ
@@ -24,6 +27,10 @@ Expanded w an n x = x ≡ expanded w an n
 
 abbrev pub indexesOf : ℕ → List ℕ → ℕ → Indexes
 indexesOf w an n = record { uncompressed = expanded w an n; bits = w }
+
+-- the indexes that stand in the next t bits of a stream
+abbrev pub newIndexes : ℕ → List ℕ → BitStream → ℕ → NewIndexes
+newIndexes w an s t = record { indexes = indexesOf w an (nextBits s t); stream = skipped s t }
 
 -- part i of a number of parts of w bits
 unfoldable pub part : ℕ → ℕ → ℕ → ℕ

@@ -1,3 +1,4 @@
 -- The definitions that the contracts cite.
 pub mod Stream
 pub mod Indexes
+pub mod Writer

@@ -3,13 +3,18 @@
 ghost use mathlib.Core.Path.{_≡_};
 ghost use mathlib.Core.List.{[], _∷_};
 ghost use Prim.Native.Nat.{ℕ, _+_, _-_, _*_, _^_, _≤_, _<_};
-ghost use Rattle.bcn_util.specs.Stream.{nextBits, skipped};
-ghost use Rattle.bcn_util.specs.Indexes.{indexesOf, inserted, part};
+ghost use Rattle.bcn_util.specs.Indexes.{indexesOf, inserted, newIndexes, part};
 use crate::stream::BitStream;
 
 pub struct Indexes {
     pub uncompressed: u64,
     pub bits: u32,
+}
+
+// Indexes read from a stream, and the stream past them.
+pub struct NewIndexes {
+    pub indexes: Indexes,
+    pub stream: BitStream,
 }
 
 // A zero put in at the top of an index, where every anchor below has its own already. What is above moves up a bit.
@@ -22,6 +27,45 @@ fn decompress_single_index(bits: u32, compressed: u64, index: u32) -> u64
 }
 
 impl Indexes {
+    pub fn new_p1(bits: u32, stream: BitStream) -> NewIndexes
+        requires { ⌜ (0 < bits) × (bits ≤ 4) × (stream .at + (16 * bits - 1) < 2 ^ 32) ⌝ }
+        ensures { λ r. ⌜ r ≡ newIndexes bits (0 ∷ []) stream (16 * bits - 1) ⌝ }
+    {
+        let compressed = stream.consume_bits_64(16 * bits - 1);
+        let indexes = Indexes::from_compressed_p1(bits, compressed.value);
+        let rest = compressed.stream;
+        NewIndexes {
+            indexes: indexes,
+            stream: rest,
+        }
+    }
+
+    pub fn new_p2(bits: u32, stream: BitStream, p2_fixup: u32) -> NewIndexes
+        requires { ⌜ (0 < bits) × (bits ≤ 4) × (0 < «p2_fixup») × («p2_fixup» < 16) × (stream .at + (16 * bits - 2) < 2 ^ 32) ⌝ }
+        ensures { λ r. ⌜ r ≡ newIndexes bits (0 ∷ «p2_fixup» ∷ []) stream (16 * bits - 2) ⌝ }
+    {
+        let compressed = stream.consume_bits_64(16 * bits - 2);
+        let indexes = Indexes::from_compressed_p2(bits, compressed.value, p2_fixup);
+        let rest = compressed.stream;
+        NewIndexes {
+            indexes: indexes,
+            stream: rest,
+        }
+    }
+
+    pub fn new_p3(bits: u32, stream: BitStream, p2_fixup: u32, p3_fixup: u32) -> NewIndexes
+        requires { ⌜ (0 < bits) × (bits ≤ 4) × (0 < «p2_fixup») × («p2_fixup» < «p3_fixup») × («p3_fixup» < 16) × (stream .at + (16 * bits - 3) < 2 ^ 32) ⌝ }
+        ensures { λ r. ⌜ r ≡ newIndexes bits (0 ∷ «p2_fixup» ∷ «p3_fixup» ∷ []) stream (16 * bits - 3) ⌝ }
+    {
+        let compressed = stream.consume_bits_64(16 * bits - 3);
+        let indexes = Indexes::from_compressed_p3(bits, compressed.value, p2_fixup, p3_fixup);
+        let rest = compressed.stream;
+        NewIndexes {
+            indexes: indexes,
+            stream: rest,
+        }
+    }
+
     // Pixel 0 is always an anchor, and the fix-ups are the others in pixel order.
     pub fn from_compressed_p1(bits: u32, compressed: u64) -> Self
         requires { ⌜ (0 < bits) × (bits ≤ 4) × (compressed < 2 ^ (16 * bits - 1)) ⌝ }

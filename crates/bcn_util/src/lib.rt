@@ -3,3 +3,4 @@
 // and the writer is ours.
 pub mod indexes;
 pub mod stream;
+pub mod writer;
