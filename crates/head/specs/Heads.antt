@@ -1,13 +1,14 @@
 -- The head of a sheet: form, width, height.
 -- Assumes nothing.
-use Prim.Native.Nat.{ℕ, _+_, _-_, _≤_}
+use Prim.Native.Nat.{ℕ, _+_, _≤_}
 use mathlib.Core.Bool.{Bool, not}
 use mathlib.Core.List.{List, [], _∷_, _++_}
 use lib.Dec.{eqb, leb}
-use lib.ListN.{length, replicate, set}
+use lib.ListN.{length, replicate}
 use Rattle.head.specs.declared.Number.{Number}
 use Rattle.head.specs.declared.Head.{Head}
 use Rattle.head.specs.declared.HeadBytes.{HeadBytes}
+use Rattle.laws.specs.Padding.{padded, stored}
 use Rattle.laws.specs.Refusals.{first, refuse}
 use Rattle.laws.specs.Tables.{both, pick}
 use Rattle.head.specs.Numbers.{numberBytes, readNumber}
@@ -67,20 +68,16 @@ unfoldable pub headBytes : ℕ → ℕ → List ℕ
 headBytes w h = numberBytes form ++ (numberBytes w ++ numberBytes h)
 
 -- bytes with zeros behind, seven in all
-unfoldable pub padded : List ℕ → HeadBytes
-padded bs = record { refusal = 0; bytes = bs ++ replicate (7 - length bs) 0; count = length bs }
+abbrev pub sevenOf : List ℕ → HeadBytes
+sevenOf bs = record { refusal = 0; bytes = padded 7 bs; count = length bs }
 
 abbrev pub noBytes : ℕ → HeadBytes
 noBytes r = record { refusal = r; bytes = replicate 7 0; count = 0 }
 
 -- writing a head
 unfoldable pub writeHead : ℕ → ℕ → HeadBytes
-writeHead w h = pick (eqb (sizeRefusal w h) 0) (padded (headBytes w h)) (noBytes (sizeRefusal w h))
+writeHead w h = pick (eqb (sizeRefusal w h) 0) (sevenOf (headBytes w h)) (noBytes (sizeRefusal w h))
 
--- one byte more, and several
-abbrev pub pushed : HeadBytes → ℕ → HeadBytes
-pushed h b = record { refusal = h .refusal; bytes = set (h .bytes) (h .count) b; count = h .count + 1 }
-
-unfoldable pub pushAll : HeadBytes → List ℕ → HeadBytes
-pushAll h [] = h
-pushAll h (b ∷ bs) = pushAll (pushed h b) bs
+-- bytes behind those of h
+abbrev pub withBytes : HeadBytes → List ℕ → HeadBytes
+withBytes h bs = let p = stored (h .bytes, h .count) bs in record { refusal = h .refusal; bytes = p .0; count = p .1 }

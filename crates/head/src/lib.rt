@@ -1,10 +1,11 @@
 // The head of a sheet: numbers in groups of seven bits, and the form, width and height that they spell. The form and the
 // largest side of a sheet are named here, and nowhere else in the code.
 ghost use mathlib.Core.Path.{_≡_};
+ghost use mathlib.Core.List.{[], _∷_};
 ghost use Prim.Native.Nat.{_+_, _^_, _≤_, _<_};
 ghost use lib.ListN.{drop};
 ghost use Rattle.head.specs.Numbers.{numberBytes, numbersEnd, readGroups, readNumber};
-ghost use Rattle.head.specs.Heads.{headOf, noBytes, pushAll, pushed, readHead, sizeRefusal, writeHead};
+ghost use Rattle.head.specs.Heads.{headOf, noBytes, readHead, sizeRefusal, withBytes, writeHead};
 
 // The form of a sheet whose blocks stand row by row.
 pub const FORM: u32 = 1;
@@ -157,7 +158,7 @@ fn no_bytes(refusal: u8) -> HeadBytes
 // One byte more.
 fn push(h: HeadBytes, byte: u8) -> HeadBytes
     requires { ⌜ h .count < 7 ⌝ }
-    ensures { λ r. ⌜ r ≡ pushed h byte ⌝ }
+    ensures { λ r. ⌜ r ≡ withBytes h (byte ∷ []) ⌝ }
     ensures { λ r. ⌜ r .count ≡ h .count + 1 ⌝ }
 {
     let mut bytes = h.bytes;
@@ -173,7 +174,7 @@ fn push(h: HeadBytes, byte: u8) -> HeadBytes
 // A number's bytes more.
 fn write_number(h: HeadBytes, n: u32) -> HeadBytes
     requires { ⌜ (h .count ≤ 4) × (n < numbersEnd) ⌝ }
-    ensures { λ r. ⌜ r ≡ pushAll h (numberBytes n) ⌝ }
+    ensures { λ r. ⌜ r ≡ withBytes h (numberBytes n) ⌝ }
 {
     if n < 128 {
         return push(h, n as u8);

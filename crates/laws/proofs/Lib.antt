@@ -7,3 +7,4 @@ pub mod Joining
 pub mod First
 pub mod Digits
 pub mod Rows
+pub mod Padding

@@ -2,3 +2,4 @@
 pub mod Tables
 pub mod Digits
 pub mod Refusals
+pub mod Padding

@@ -4,7 +4,7 @@ use mathlib.Core.Path.{_∙_, sym}
 use native.Mathlib.Omega.{arith}
 use borrow.Author.Needs.{needs}
 use Rattle.head.proofs.Heading.{sized}
-use Rattle.head.proofs.Writing.{counted, counted-none, few, nothing, one-byte, written}
+use Rattle.head.proofs.Writing.{few, nothing, one-byte, same-count, written}
 use Rattle.head.proofs.write_head.Statement.{statement}
 use Rattle.head.proofs.write_head.Tie as tie
 
@@ -21,19 +21,19 @@ no-bytes-requires-2 : tie.Need-no-bytes-requires-2
 no-bytes-requires-2 c κs = search needs
 
 write-number-requires : tie.Need-write-number-requires
-write-number-requires c κs = (omega (arith, counted-none (c .no-bytes2 .ensures)), omega arith)
+write-number-requires c κs = (omega (arith, same-count (c .no-bytes2 .ensures)), omega arith)
 
 write-number-requires-2 : tie.Need-write-number-requires-2
 write-number-requires-2 c κs =
     let n = c .before in
     let s = sized _ _ (sym (n .before .before .size-refusal .ensures) ∙ n .before .if1 .left) in
-    (omega (arith, counted _ _ (c .write-number .ensures), counted-none (n .no-bytes2 .ensures), one-byte), omega (arith, s .within-wide))
+    (omega (arith, same-count (c .write-number .ensures), same-count (n .no-bytes2 .ensures), one-byte), omega (arith, s .within-wide))
 
 write-number-requires-3 : tie.Need-write-number-requires-3
 write-number-requires-3 c κs =
     let n = c .before .before in
     let s = sized _ _ (sym (n .before .before .size-refusal .ensures) ∙ n .before .if1 .left) in
-    (omega (arith, counted _ _ (c .write-number2 .ensures), few 3 (n .before .before .before .args .width), counted _ _ (c .before .write-number .ensures), counted-none (n .no-bytes2 .ensures), one-byte), omega (arith, s .within-high))
+    (omega (arith, same-count (c .write-number2 .ensures), few 3 (n .before .before .before .args .width), same-count (c .before .write-number .ensures), same-count (n .no-bytes2 .ensures), one-byte), omega (arith, s .within-high))
 
 returns-2 : tie.Need-returns-2
 returns-2 c =

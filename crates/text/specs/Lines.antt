@@ -1,0 +1,60 @@
+-- The lines of a listing, as bytes.
+-- Assumes nothing.
+use Prim.Native.Nat.{ℕ, zero, suc, _+_, _/_, _%_}
+use Prim.Native.Char.{code}
+use Prim.Native.String.{String, [] as empty, _∷_ as _then_}
+use mathlib.Core.List.{List, [], _∷_, _++_}
+use lib.Dec.{ltb}
+use lib.ListN.{length, getD}
+use Rattle.text.specs.declared.Line.{Line}
+use Rattle.laws.specs.Padding.{padded, stored}
+use Rattle.laws.specs.Tables.{pick}
+
+unfoldable pub ascii : String → List ℕ
+ascii empty = []
+ascii (c then s) = code c ∷ ascii s
+
+abbrev pub space : ℕ
+space = 32
+
+abbrev pub newline : ℕ
+newline = 10
+
+-- the decimal digits of n, the high ones first, in at most k places (48 is the digit 0)
+unfoldable pub digitsIn : ℕ → ℕ → List ℕ
+digitsIn zero n = []
+digitsIn (suc k) n = pick (ltb n 10) [] (digitsIn k (n / 10)) ++ ((48 + n % 10) ∷ [])
+
+-- a number of 32 bits has at most ten
+unfoldable pub decimal : ℕ → List ℕ
+decimal n = digitsIn 10 n
+
+abbrev pub spaced : ℕ → List ℕ
+spaced n = space ∷ decimal n
+
+-- `sheet` with width and height
+unfoldable pub sheetLine : ℕ → ℕ → List ℕ
+sheetLine w h = ascii "sheet " ++ decimal w ++ (space ∷ []) ++ decimal h ++ (newline ∷ [])
+
+-- the opacity mark: `o` (111) for modes 0 to 3 and `-` (45) otherwise
+unfoldable pub opacityMark : ℕ → ℕ
+opacityMark m = pick (ltb m 4) 111 45
+
+unfoldable pub channels : List ℕ → List ℕ
+channels px = spaced (getD px 0 0) ++ spaced (getD px 1 0) ++ spaced (getD px 2 0) ++ spaced (getD px 3 0)
+
+-- number, mode, the four channels of pixel 0, the opacity mark
+unfoldable pub blockLine : ℕ → ℕ → List ℕ → List ℕ
+blockLine number m px = decimal number ++ spaced m ++ channels px ++ (space ∷ []) ++ (opacityMark m ∷ []) ++ (newline ∷ [])
+
+-- `refused` and the number
+unfoldable pub refusedLine : ℕ → List ℕ
+refusedLine n = ascii "refused" ++ spaced n ++ (newline ∷ [])
+
+-- a line's bytes with zeros behind
+unfoldable pub lineOf : List ℕ → Line
+lineOf bs = record { bytes = padded 40 bs; length = length bs }
+
+-- bytes behind those of a line
+unfoldable pub withBytes : Line → List ℕ → Line
+withBytes line bs = let p = stored (line .bytes, line .length) bs in record { bytes = p .0; length = p .1 }
