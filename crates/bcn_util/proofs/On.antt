@@ -13,7 +13,7 @@ use Rattle.bcn_util.specs.declared.stream.Values2.{Values2}
 use Rattle.bcn_util.specs.declared.stream.Values4.{Values4}
 use Rattle.laws.specs.Digits.{split, total}
 use Rattle.laws.specs.Tables.{table}
-use Rattle.laws.proofs.Rows.{split-table, table-none, total-more}
+use Rattle.laws.proofs.Rows.{split-table, table-none, total-more, total-room}
 use Rattle.format.specs.Block.{field}
 use Rattle.bcn_util.specs.Stream.{consumed2, consumed4, consumed64, consumed8, held, skipped}
 
@@ -96,8 +96,11 @@ module _ (f : ℕ → ℕ) {n : ℕ} {s : BitStream} where
   pub row-start : On n 0 s → On n (total (table 0 f)) s
   row-start o = rw (table-none f) o
 
-  pub row-next : (i : ℕ) {r : Bits64} → On n (total (table i f)) s → r ≡ consumed64 s (f i) → On n (total (table (i + 1) f)) (r .stream)
-  row-next i o e = rw (add-one, total-more i f) (got-on o (f i) e)
+  pub row-next : (i : ℕ) → On n (total (table i f) + f i) s → On n (total (table (i + 1) f)) s
+  row-next i o = rw (add-one, total-more i f) o
+
+  pub row-room : (i k : ℕ) → On n (total (table i f)) s → i < k → s .at + f i ≤ total (table k f)
+  row-room i k o h = rw (o .stands) (total-room f i k h)
 
 -- and the values that it has read are the digits of n
 pub split-fields : (k : ℕ) (f : ℕ → ℕ) (n : ℕ) → split (table k f) n ≡ table k (λ i. field n (total (table i f)) (f i))

@@ -10,12 +10,12 @@ use lib.Arith.{lt-one}
 use lib.Pow.{pow-pos, pow-add, pow-mono, shl-exact, shr-lt, shr-shr, high, low}
 use lib.Bits.{bitOr, or-lt, or-shifted-r}
 use Rattle.bcn_util.specs.declared.writer.BitWriter.{BitWriter}
-use Rattle.laws.specs.Digits.{join, split, total}
+use Rattle.laws.specs.Digits.{Fit, join, split, total}
 use Rattle.laws.specs.Tables.{table, tableFrom}
-use Rattle.laws.proofs.Digits.{join-lt}
+use Rattle.laws.proofs.Digits.{join-lt, join-split, split-join}
 use Rattle.laws.proofs.Joining.{table-same}
 use Rattle.laws.proofs.Rows.{fit-table, join-more, table-none, total-more, total-room, total-same}
-use Rattle.format.specs.Block.{bytesOf, eights, field}
+use Rattle.format.specs.Block.{bytesOf, eights, field, number}
 use Rattle.bcn_util.specs.Writer.{pushed, writerOf, written}
 use Rattle.bcn_util.proofs.On.{split-fields}
 use Rattle.bcn_util.proofs.Words.{shl-keeps}
@@ -81,20 +81,21 @@ rowWriter f v i = writerOf (join (table i f) (table i v)) (total (table i f))
 pub row-none : (f v : ℕ → ℕ) → writerOf 0 0 ≡ rowWriter f v 0
 row-none f v = rw (table-none f)
 
-module _ (f v : ℕ → ℕ) (n : ℕ) (fits : (k : ℕ) → k < n → v k < 2 ^ f k) (i : ℕ) (h : i < n) where
+module _ (f v : ℕ → ℕ) (n : ℕ) (fits : (k : ℕ) → k < n → v k < 2 ^ f k) (i : ℕ) (h : i < n) {w : BitWriter} (e : w ≡ rowWriter f v i) where
   upto : (k : ℕ) → k < i → v k < 2 ^ f k
   upto k l = fits k (omega arith)
 
   -- what a push asks for
-  pub row-asks : total (table n f) ≤ 128 → (v i < 2 ^ f i) × (total (table i f) + f i ≤ 128) × (written (rowWriter f v i) < 2 ^ total (table i f))
-  row-asks room = (fits i h, omega (arith, total-room f i n h), rw (written-of (join (table i f) (table i v)) (total (table i f))) (join-lt (fit-table i f v upto)))
+  pub row-asks : total (table n f) ≤ 128 → (v i < 2 ^ f i) × (w .at + f i ≤ 128) × (written w < 2 ^ w .at)
+  row-asks room =
+      rw e (fits i h, omega (arith, total-room f i n h), rw (written-of (join (table i f) (table i v)) (total (table i f))) (join-lt (fit-table i f v upto)))
 
-  pub row-more : pushed (rowWriter f v i) (v i) (f i) ≡ rowWriter f v (i + 1)
-  row-more = rw (written-of (join (table i f) (table i v)) (total (table i f)), add-one, join-more i f v upto, total-more i f)
+  pub row-more : {r : BitWriter} → r ≡ pushed w (v i) (f i) → r ≡ rowWriter f v (i + 1)
+  row-more q = q ∙ rw (e, written-of (join (table i f) (table i v)) (total (table i f)), add-one, join-more i f v upto, total-more i f)
 
 -- what the loop has written in the end
-pub row-written : (f v : ℕ → ℕ) (n : ℕ) → written (rowWriter f v n) ≡ join (table n f) (table n v)
-row-written f v n = written-of (join (table n f) (table n v)) (total (table n f))
+pub row-written : (f v : ℕ → ℕ) (n : ℕ) {w : BitWriter} → w ≡ rowWriter f v n → written w ≡ join (table n f) (table n v)
+row-written f v n e = ap written e ∙ written-of (join (table n f) (table n v)) (total (table n f))
 
 -- the bytes of a number, each as a field
 eights-table : table 16 (λ (k : ℕ). 8) ≡ eights
@@ -106,3 +107,10 @@ unfolding bytesOf
 bytes-fields n =
     ap (λ (ws : List ℕ). split ws n) (sym eights-table) ∙ split-fields 16 (λ k. 8) n
     ∙ table-same 0 16 _ _ (λ k h. ap (λ (a : ℕ). field n a 8) (total-same (λ j. 8) 8 k (λ j l. refl) ∙ mul-comm k 8))
+
+-- so what is written and finished reads back
+pub read-back : (f v : ℕ → ℕ) (n : ℕ) → ((k : ℕ) → k < n → v k < 2 ^ f k) → total (table n f) ≤ 128 → split (table n f) (number (bytesOf (join (table n f) (table n v)))) ≡ table n v
+unfolding number bytesOf
+read-back f v n fits room =
+    let fit : Fit (table n f) (table n v) = fit-table n f v fits in
+    ap (split (table n f)) (join-split eights (join (table n f) (table n v)) (lt-of-lt-of-le (join-lt fit) (pow-mono {i = total (table n f)} {j = 128} room))) ∙ split-join fit

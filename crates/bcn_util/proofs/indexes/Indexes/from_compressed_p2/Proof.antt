@@ -13,7 +13,7 @@ decompress-single-index-requires-2 c κs =
     let s = c .before in
     let w = s .args .bits in
     let x = c .decompress-single-index in
-    (s .pre .0, s .pre .1, s .pre .4, spare-bit w 1 (x .result) (s .pre .1) (omega arith) (after-1 w (s .pre .0) (s .args .compressed) 0 (x .result) (omega arith) (s .pre .2) (x .ensures)))
+    (s .pre .0, s .pre .1, omega arith, spare-bit w 1 (x .result) (s .pre .1) (omega arith) (after-1 w (s .pre .0) (s .args .compressed) 0 (x .result) (omega arith) (s .pre .2) (x .ensures)))
 
 returns : tie.Need-returns
 returns c =

@@ -3,7 +3,7 @@
 use mathlib.Core.Path.{refl, sym, _∙_}
 use Prim.Native.Nat.{_*_, _-_, _≤_}
 use native.Mathlib.Omega.{arith}
-use Rattle.laws.proofs.Filled.{Filled, filled-none, filled-next, filled-all}
+use Rattle.laws.proofs.Filled.{Filled, filled-all, filled-next, filled-none}
 use Rattle.format.specs.Block.{field}
 use Rattle.bcn_util.specs.Stream.{held}
 use Rattle.bcn_util.specs.Writer.{written}
