@@ -1,6 +1,5 @@
 -- Sixteen indexes of one width, and how they are stored where the anchors have a bit less.
 -- Assumes nothing.
-use mathlib.Core.Path.{_≡_}
 use mathlib.Core.List.{List, []}
 use Prim.Native.Nat.{ℕ, _+_, _-_, _*_, _/_, _%_, _^_}
 use Rattle.bcn_util.specs.declared.indexes.Indexes.{Indexes}
@@ -21,9 +20,6 @@ indexWidths w an = table 16 (indexWidth w an)
 -- the indexes that stand in n at these widths, at w bits each: an anchor's top bit is zero
 unfoldable pub expanded : ℕ → List ℕ → ℕ → ℕ
 expanded w an n = join (indexWidths w []) (split (indexWidths w an) n)
-
-abbrev pub Expanded : ℕ → List ℕ → ℕ → ℕ → Type 0
-Expanded w an n x = x ≡ expanded w an n
 
 abbrev pub indexesOf : ℕ → List ℕ → ℕ → Indexes
 indexesOf w an n = record { uncompressed = expanded w an n; bits = w }
