@@ -8,3 +8,5 @@ pub mod Lens
 pub mod Subsets
 pub mod Meaning
 pub mod Direct
+pub mod Theorems
+pub mod Examples

@@ -12,7 +12,7 @@ use lib.Pow.{pow-mono}
 use Rattle.format.specs.declared.Split.{Split}
 use Rattle.laws.specs.Tables.{pick}
 use Rattle.laws.proofs.Tests.{at, both-intro}
-use Rattle.format.specs.Drawing.{drawn, eight, promoted, weightOf}
+use Rattle.format.specs.Drawing.{drawn, eight, weightOf}
 use Rattle.format.specs.Lines.{Line, arrayOf, has, indexPlace, laid, lineBits, means, pPlace, rotated, turned, valuePlace}
 use Rattle.format.specs.Modes.{channelBits, endpointCount, firstBits, indexBits, lines, modeRow, pCount, rotationBits, secondBits}
 use Rattle.format.specs.Places.{Place, head, index, pbit, value, width}
@@ -33,10 +33,9 @@ eight-ext : (m c v v' p p' : ℕ) → v ≡ v' → (pCount m ≢ 0 → p ≡ p')
 unfolding eight
 eight-ext m c v v' p p' ev ep = go (eqb (pCount m) 0) refl
   where
-    go : (b : Bool) → eqb (pCount m) 0 ≡ b
-        → pick b (promoted (channelBits m c) v) (promoted (channelBits m c + 1) (v * 2 + p)) ≡ pick b (promoted (channelBits m c) v') (promoted (channelBits m c + 1) (v' * 2 + p'))
-    go true e = ap (promoted (channelBits m c)) ev
-    go false e = ap₂ (λ (x y : ℕ). promoted (channelBits m c + 1) (x * 2 + y)) ev (ep (eqb-false _ _ e))
+    go : (b : Bool) → eqb (pCount m) 0 ≡ b → eight m c v p ≡ eight m c v' p'
+    go true e = rw (e, ev)
+    go false e = rw (ev, ep (eqb-false _ _ e))
 
 pub means-ext : (m : ℕ) (s : Split) (l : ℕ) (a b : Line) (q c : ℕ) → ((k : ℕ) → k < 2 → a .value k c ≡ b .value k c) → (pCount m ≢ 0 → (k : ℕ) → k < 2 → a .p k ≡ b .p k) → a .index q ≡ b .index q
     → means m s l a q c ≡ means m s l b q c

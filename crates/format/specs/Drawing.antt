@@ -26,6 +26,17 @@ weights (suc (suc (suc (suc b)))) = 0 ∷ 4 ∷ 9 ∷ 13 ∷ 17 ∷ 21 ∷ 26 �
 unfoldable pub weightOf : ℕ → ℕ → ℕ
 weightOf b i = getD (weights b) i 0
 
+-- the weights as the Rust has them, of 256
+unfoldable pub weights256 : ℕ → List ℕ
+weights256 zero = []
+weights256 (suc zero) = []
+weights256 (suc (suc zero)) = 0 ∷ 84 ∷ 172 ∷ 256 ∷ []
+weights256 (suc (suc (suc zero))) = 0 ∷ 36 ∷ 72 ∷ 108 ∷ 148 ∷ 184 ∷ 220 ∷ 256 ∷ []
+weights256 (suc (suc (suc (suc b)))) = 0 ∷ 16 ∷ 36 ∷ 52 ∷ 68 ∷ 84 ∷ 104 ∷ 120 ∷ 136 ∷ 152 ∷ 172 ∷ 188 ∷ 204 ∷ 220 ∷ 240 ∷ 256 ∷ []
+
+unfoldable pub weightOf256 : ℕ → ℕ → ℕ
+weightOf256 b i = getD (weights256 b) i 0
+
 -- the channel between e0 and e1 at the weight w of 64
 unfoldable pub drawn : ℕ → ℕ → ℕ → ℕ
 drawn e0 e1 w = ((64 - w) * e0 + w * e1 + 32) / 64
