@@ -1,7 +1,7 @@
 // The partition tables of the Rust's src/bcn_data.rs: the subset of each pixel, the anchors, and how many pixels a subset has.
 // The Rust's parsers of byte strings are constant tables here, and that they say what the strings say is proved.
 ghost use mathlib.Core.Path.{_≡_};
-ghost use Prim.Native.Nat.{_*_, _<_};
+ghost use Prim.Native.Nat.{_+_, _*_, _<_};
 ghost use Rattle.format.specs.Block.{field};
 ghost use Rattle.format.specs.Lines.{anchorOf};
 ghost use Rattle.format.specs.Partitions.{howMany};
@@ -137,11 +137,18 @@ pub fn fixup_indexes_3(id: u8) -> Fixups
     requires { ⌜ id < 64 ⌝ }
     ensures { λ r. ⌜ r ≡ fixups3 id ⌝ }
 {
-    let both = PARTITION_SET_3_FIXUPS[id as usize];
+    let both = both_fixups_3(id);
     Fixups {
         fixup_index_2: both % 16,
         fixup_index_3: both >> 4,
     }
+}
+
+fn both_fixups_3(id: u8) -> u8
+    requires { ⌜ id < 64 ⌝ }
+    ensures { λ r. ⌜ r ≡ map3 id .«fixup_index_3» * 16 + map3 id .«fixup_index_2» ⌝ }
+{
+    PARTITION_SET_3_FIXUPS[id as usize]
 }
 
 // The anchor of a subset.
