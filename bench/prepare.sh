@@ -1,0 +1,54 @@
+# Sourced by `count` and `run`: finds the kit, the archive and the published Rust, and makes a work folder.
+#
+#     prepare [ARCHIVE] [PUBLISHED]
+# sets  archive    the static library that is measured
+#       has_rows   yes where the archive has sheet_decode_row, else empty
+#       kit        the folder of the kit's clang and linker for this machine
+#       work       a fresh folder, removed at exit, with the published sources and reference.rs in it
+
+die() { echo "${0##*/}: $*" >&2; exit 2; }
+
+prepare() {
+    local bench repository place published=
+    bench=$(cd "$(dirname "${BASH_SOURCE[0]}")" && pwd)
+    repository=$(dirname "$bench")
+
+    archive=${1:-$repository/target/staticlib/libconsole.a}
+    [ -f "$archive" ] || die "no archive $archive: 'rt staticlib console' at the repository's root writes it"
+    archive=$(readlink -f "$archive")
+    if [ -z "${1:-}" ] && [ -n "$(find "$repository/crates" -name '*.rt' -newer "$archive" -print -quit)" ]; then
+        echo "${0##*/}: a source is newer than the archive: 'rt staticlib console' writes it again" >&2
+    fi
+    # an archive's index has the exported names as plain text
+    grep -qaw bc7_decode_block "$archive" || die "$archive has no bc7_decode_block"
+    has_rows=
+    if grep -qaw sheet_decode_row "$archive"; then has_rows=yes; fi
+
+    place=${2:-$repository/../shared}
+    for published in "$place/docs/src/src" "$place/src" "$place"; do
+        [ ! -f "$published/decode/bc7.rs" ] || break
+    done
+    [ -f "$published/decode/bc7.rs" ] || die "no published Rust (decode/bc7.rs) below $place"
+
+    command -v rustc >/dev/null || die 'no rustc on the PATH'
+    command -v rt >/dev/null || die "no rt on the PATH: the kit's compiler is needed"
+    kit=$(cd "$(dirname "$(rt doc)")/../on/$(uname -m)/toolchain/bin" && pwd) || die "no compiler in the kit for $(uname -m)"
+
+    work=$(mktemp -d)
+    trap 'rm -rf "$work"' EXIT
+    mkdir "$work/decode"
+    cp "$published/bcn_data.rs" "$work/"
+    cp "$published/decode/bc7.rs" "$published/decode/bcn_util.rs" "$work/decode/"
+    # what was copied may be read-only
+    chmod -R u+w "$work"
+    cp "$bench/reference.rs" "$bench/count.c" "$bench/time.rs" "$work/"
+    cd "$work"
+}
+
+# compile_reference block|row WORDS..: the published decoder behind rust_decode_block or rust_decode_row
+compile_reference() {
+    local part=$1
+    shift
+    rustc --edition 2021 --crate-name "reference_$part" --cfg "$part" --check-cfg 'cfg(block, row)' \
+        -C opt-level=3 -C codegen-units=1 "$@" reference.rs
+}

@@ -1,0 +1,211 @@
+//! Times the published Rust and the archive's functions in one program, in turn, and prints medians.
+
+use std::hint::black_box;
+use std::time::Instant;
+
+type Block = [u8; 16];
+type Pixels = [[u8; 4]; 16];
+type DecodeBlock = unsafe extern "C" fn(&Block, &mut Pixels);
+
+// the archive's; the linker finds them
+extern "C" {
+    fn bc7_decode_block(block: &Block, pixels: &mut Pixels);
+    #[cfg(rows)]
+    fn sheet_decode_row(
+        width: u32,
+        height: u32,
+        row: u32,
+        blocks: *const u8,
+        blocks_length: usize,
+        out: *mut u8,
+        out_length: usize,
+    ) -> u32;
+}
+
+const MIXED: usize = 9;
+const NAMES: [&str; 10] = ["0", "1", "2", "3", "4", "5", "6", "7", "8", "mixed"];
+
+/// The blocks that `count` draws, by the same rule and from the same seed, so that the two can be held together.
+fn make_blocks(count: usize, mode: usize) -> Vec<Block> {
+    let mut state = 88172645463325252_u64;
+    let mut random_number = || {
+        state ^= state << 13;
+        state ^= state >> 7;
+        state ^= state << 17;
+        state.wrapping_mul(0x2545F4914F6CDD1D)
+    };
+    let mut block_of_mode = |_| {
+        let mode = if mode == MIXED { random_number() % 8 } else { mode as u64 };
+        let (low, high) = (random_number(), random_number());
+        let marked = if mode == 8 { 0 } else { (low << (mode + 1) | 1 << mode) % 256 };
+        let number = u128::from(high) << 64 | u128::from(low - low % 256 + marked);
+        number.to_le_bytes()
+    };
+    (0..count).map(&mut block_of_mode).collect()
+}
+
+/// A picture's blocks, and how many of them stand in a row.
+struct Picture<'a> {
+    blocks: &'a [Block],
+    columns: usize,
+}
+
+type Decode = fn(&Picture, &mut [Pixels]);
+
+fn every_block(decode: DecodeBlock, picture: &Picture, out: &mut [Pixels]) {
+    for (block, pixels) in picture.blocks.iter().zip(out) {
+        unsafe { decode(block, pixels) }
+    }
+}
+
+/// `black_box` keeps the compiler from drawing the Rust into the loop, which it cannot do with the archive's function.
+fn rust_blocks(picture: &Picture, out: &mut [Pixels]) {
+    every_block(black_box(reference_block::rust_decode_block as DecodeBlock), picture, out)
+}
+
+fn our_blocks(picture: &Picture, out: &mut [Pixels]) {
+    every_block(black_box(bc7_decode_block as DecodeBlock), picture, out)
+}
+
+#[cfg(rows)]
+mod rows {
+    use super::*;
+
+    type DecodeRow = unsafe extern "C" fn(u32, u32, u32, *const u8, usize, *mut u8, usize) -> u32;
+
+    fn every_row(decode: DecodeRow, picture: &Picture, out: &mut [Pixels]) {
+        let columns = picture.columns;
+        let height = 4 * (picture.blocks.len() / columns);
+        for (row, (blocks, out)) in picture.blocks.chunks_exact(columns).zip(out.chunks_exact_mut(columns)).enumerate()
+        {
+            let (blocks, out) = (blocks.as_flattened(), out.as_flattened_mut().as_flattened_mut());
+            // a picture has at most 1,024 rows of blocks: more of them are as many pictures
+            let (width, height, row) = (4 * columns as u32, height.min(4096) as u32, row as u32 % 1024);
+            let refused =
+                unsafe { decode(width, height, row, blocks.as_ptr(), blocks.len(), out.as_mut_ptr(), out.len()) };
+            assert_eq!(refused, 0);
+        }
+    }
+
+    pub fn rust_rows(picture: &Picture, out: &mut [Pixels]) {
+        every_row(black_box(reference_row::rust_decode_row as DecodeRow), picture, out)
+    }
+
+    pub fn our_rows(picture: &Picture, out: &mut [Pixels]) {
+        every_row(black_box(sheet_decode_row as DecodeRow), picture, out)
+    }
+}
+
+fn seconds(decode: Decode, picture: &Picture, out: &mut [Pixels]) -> f64 {
+    let start = Instant::now();
+    decode(black_box(picture), black_box(&mut *out));
+    start.elapsed().as_secs_f64()
+}
+
+fn median(mut values: Vec<f64>) -> f64 {
+    values.sort_by(f64::total_cmp);
+    values[values.len() / 2]
+}
+
+/// Median seconds of both over the same buffers. They take turns, and turns at being first, so that whatever slows the
+/// machine for a while slows both.
+fn compare(sides: [Decode; 2], picture: &Picture, out: &mut [Pixels], rounds: usize) -> [f64; 2] {
+    // row by row, to need no second output of full size
+    let columns = picture.columns;
+    let mut expected = vec![[[1; 4]; 16]; columns];
+    for (blocks, out) in picture.blocks.chunks_exact(columns).zip(out.chunks_exact_mut(columns)) {
+        let row = Picture { blocks, columns };
+        sides[0](&row, &mut expected);
+        sides[1](&row, out);
+        assert!(*out == *expected, "the two write different pixels");
+    }
+
+    let mut times = [vec![], vec![]];
+    for round in 0..rounds {
+        for turn in 0..2 {
+            let side = (round + turn) % 2;
+            times[side].push(seconds(sides[side], picture, out));
+        }
+    }
+    times.map(median)
+}
+
+fn head() {
+    println!("            Rust                 here            time");
+    println!("mode   blocks/s    MB/s    blocks/s    MB/s  here/Rust");
+}
+
+fn line(name: &str, blocks: usize, [rust, here]: [f64; 2]) {
+    let speed = |seconds: f64| (blocks as f64 / seconds / 1e6, 64.0 * blocks as f64 / seconds / 1e6);
+    let ((rust_blocks, rust_bytes), (our_blocks, our_bytes)) = (speed(rust), speed(here));
+    println!("{name:5} {rust_blocks:7.2} M {rust_bytes:7.0}   {our_blocks:7.2} M {our_bytes:7.0} {:10.2}", here / rust);
+}
+
+/// The bytes of the machine's largest cache, where the system tells.
+fn largest_cache() -> Option<usize> {
+    let size = |index: usize| -> Option<usize> {
+        let text = std::fs::read_to_string(format!("/sys/devices/system/cpu/cpu0/cache/index{index}/size")).ok()?;
+        let text = text.trim();
+        let kibibytes: usize = text.strip_suffix('K')?.parse().ok()?;
+        Some(1024 * kibibytes)
+    };
+    (0..8).filter_map(size).max()
+}
+
+const SMALL: usize = 4096;
+const SMALL_ROUNDS: usize = 201;
+const LARGE_ROUNDS: usize = 9;
+/// 64 MiB of blocks and 256 MiB of pixels: enough of a shared machine's memory.
+const LARGEST: usize = 1 << 22;
+
+fn main() {
+    let kinds: &[(&str, usize, [Decode; 2])] = &[
+        ("blocks, one call each", 1024, [rust_blocks, our_blocks]),
+        #[cfg(rows)]
+        ("rows of 256 blocks, one call each", 256, [rows::rust_rows, rows::our_rows]),
+        #[cfg(rows)]
+        ("rows of 1024 blocks, one call each", 1024, [rows::rust_rows, rows::our_rows]),
+    ];
+
+    println!("MB: a million bytes of pixels. Medians; the two take turns. Their pixels were compared before.");
+    println!(
+        "\nIn cache: {} kB of blocks and {} kB of pixels, read and written in the round before",
+        16 * SMALL / 1000,
+        64 * SMALL / 1000
+    );
+
+    // written, not only reserved: the first touch of a page is the system's work
+    let mut out = vec![[[1; 4]; 16]; SMALL];
+    for (kind, columns, sides) in kinds {
+        println!("\n{kind}: {SMALL} blocks again and again, {SMALL_ROUNDS} rounds");
+        head();
+        for (mode, name) in NAMES.iter().enumerate() {
+            let blocks = make_blocks(SMALL, mode);
+            line(name, SMALL, compare(*sides, &Picture { blocks: &blocks, columns: *columns }, &mut out, SMALL_ROUNDS));
+        }
+    }
+
+    let cache = largest_cache();
+    let wanted = 2 * cache.unwrap_or(64 << 20);
+    let mut count = 1 << 18;
+    while 80 * count < wanted && count < LARGEST {
+        count *= 2;
+    }
+    let blocks = make_blocks(count, MIXED);
+    let mut out = vec![[[1; 4]; 16]; count];
+    let megabytes = |bytes: usize| bytes / 1_000_000;
+    let state = match cache {
+        Some(bytes) if 80 * count > bytes => format!("Larger than the largest cache, {} MB", megabytes(bytes)),
+        Some(bytes) => format!("NOT larger than the largest cache, {} MB, but this program's most", megabytes(bytes)),
+        None => "The system does not say how large its caches are".to_string(),
+    };
+    let (read, written) = (megabytes(16 * count), megabytes(64 * count));
+    println!("\n{state}: {read} MB of blocks and {written} MB of pixels, every page touched before");
+    for (kind, columns, sides) in kinds {
+        println!("\n{kind}: {count} blocks, {LARGE_ROUNDS} rounds");
+        head();
+        line("mixed", count, compare(*sides, &Picture { blocks: &blocks, columns: *columns }, &mut out, LARGE_ROUNDS));
+    }
+    #[cfg(not(rows))]
+    println!("\nno rows: the archive has no sheet_decode_row");
+}
