@@ -85,9 +85,16 @@ module _ (a : ℕ) (h : a < 64) where
   unfolding subsets map3
   digits3 = split-join (fit 2 2 (getD strings3 a "") is3)
 
+  -- so the counts are those of the string's digits
+  pub size2 : (k : ℕ) → howMany k (subsets 1 (map2 a .«subset_indexes»)) ≡ howMany k (digits (getD strings2 a ""))
+  size2 k = ap (howMany k) digits2
+
+  pub size3 : (k : ℕ) → howMany k (subsets 2 (map3 a .«subset_indexes»)) ≡ howMany k (digits (getD strings3 a ""))
+  size3 k = ap (howMany k) digits3
+
   -- no pixel has the number 3, as the counts of three subsets ask
   pub none-3 : howMany 3 (subsets 2 (map3 a .«subset_indexes»)) ≡ 0
-  none-3 = ap (howMany 3) digits3 ∙ no-3 2 2 (getD strings3 a "") is3
+  none-3 = size3 3 ∙ no-3 2 2 (getD strings3 a "") is3
 
 -- the share of a pixel in a word
 shareOf : (b n w q : ℕ) → q < n → w / 2 ^ (b * q) % 2 ^ b ≡ getD (split (replicate n b) w) q 0

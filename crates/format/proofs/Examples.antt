@@ -52,3 +52,8 @@ blocks-show = refl
 pub p-before-promotion : eight 0 0 8 0 ∷ eight 0 0 8 1 ∷ [] ≡ 132 ∷ 140 ∷ []
 unfolding eight promoted modeRow
 p-before-promotion = refl
+
+-- anchors stand in the order of the pixels: of three-subset partition 2 the second lies in subset 2, the third in subset 1
+pub partition-2-of-three : anchors3 2 ∷ map (subset3 2) (anchors3 2) ∷ [] ≡ (0 ∷ 8 ∷ 15 ∷ []) ∷ (0 ∷ 2 ∷ 1 ∷ []) ∷ []
+unfolding anchors3 subset3 strings3 digits marks
+partition-2-of-three = refl
