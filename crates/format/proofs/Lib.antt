@@ -8,5 +8,6 @@ pub mod Lens
 pub mod Subsets
 pub mod Meaning
 pub mod Direct
+pub mod Trailing
 pub mod Theorems
 pub mod Examples

@@ -115,7 +115,7 @@ one-bit : (m : ℕ) → m < 8 → indexModeBits m ≤ 1
 unfolding modeRow
 one-bit m h = leb→le _ 1 (at 8 (λ m. leb (indexModeBits m) 1) tt m h)
 
-six-bits : (m : ℕ) → m < 8 → partitionBits m ≤ 6
+pub six-bits : (m : ℕ) → m < 8 → partitionBits m ≤ 6
 unfolding modeRow
 six-bits m h = leb→le _ 6 (at 8 (λ m. leb (partitionBits m) 6) tt m h)
 

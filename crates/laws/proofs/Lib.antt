@@ -1,4 +1,5 @@
 pub mod Tests
+pub mod Scan
 pub mod Cases
 pub mod Part
 pub mod Filled

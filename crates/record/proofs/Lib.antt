@@ -1,2 +1,5 @@
 pub mod Packing
+pub mod Widths
+pub mod Taking
+pub mod Steps
 pub mod Theorems

@@ -1,0 +1,27 @@
+-- A loop that tests each number below n, and leaves at the first that fails.
+-- Assumes nothing.
+use mathlib.Core.Path.{_≡_, refl, ap, ap₂, _∙_, sym}
+use mathlib.Core.Logic.{⊎-elim}
+use mathlib.Core.Bool.{Bool, true, false}
+use Prim.Native.Nat.{ℕ, zero, suc, _+_, _<_}
+use native.Mathlib.Nat.{eq-or-lt-of-le, le-of-suc-le-suc, le-refl, lt-trans, not-suc-le-zero}
+use native.Mathlib.Numerals.{add-one}
+use Rattle.laws.specs.Tables.{below, both}
+
+pub scan-more : (f : ℕ → Bool) (i : ℕ) → below i f ≡ true → f i ≡ true → below (i + 1) f ≡ true
+scan-more f i h e = rw (add-one, e, h)
+
+both-false : (b : Bool) → both b false ≡ false
+both-false true = refl
+both-false false = refl
+
+pub scan-fails : (n : ℕ) (f : ℕ → Bool) (i : ℕ) → i < n → f i ≡ false → below n f ≡ false
+scan-fails zero f i h e = absurd (not-suc-le-zero h)
+scan-fails (suc n) f i h e =
+    ⊎-elim (λ q. ap (λ (b : Bool). both b (below n f)) (ap f (sym q) ∙ e))
+    (λ l. ap (both (f n)) (scan-fails n f i l e) ∙ both-false (f n))
+    (eq-or-lt-of-le (le-of-suc-le-suc h))
+
+pub scan-same : (n : ℕ) (f g : ℕ → Bool) → ((k : ℕ) → k < n → f k ≡ g k) → below n f ≡ below n g
+scan-same zero f g h = refl
+scan-same (suc n) f g h = ap₂ both (h n (le-refl (suc n))) (scan-same n f g (λ k l. h k (lt-trans l (le-refl (suc n)))))

@@ -1,0 +1,134 @@
+-- What the steps of taking apart and of packing make together.
+-- Assumes nothing.
+use mathlib.Core.Bool.{true, false}
+use mathlib.Core.Path.{_≡_, sym, ap, _∙_, subst}
+use mathlib.Core.Logic.{_≢_}
+use mathlib.Core.List.{List, []}
+use Prim.Native.Nat.{ℕ, _+_, _^_, _≤_, _<_}
+use native.Mathlib.Nat.{le-of-eq, lt-of-lt-of-le}
+use native.Mathlib.Omega.{arith}
+use borrow.Author.Tests.{eq-eqb, le-ltb, lt-ltb, ne-eqb}
+use lib.ListN.{getD, replicate}
+use lib.Pow.{pow-mono}
+use Rattle.record.specs.declared.Record.{Record}
+use Rattle.record.specs.declared.Packed.{Packed}
+use Rattle.record.specs.declared.modes.Anchors.{Anchors}
+use Rattle.format.specs.declared.Split.{Split}
+use Rattle.bcn_util.specs.declared.writer.BitWriter.{BitWriter}
+use Rattle.laws.specs.Digits.{Fit, join, split, total}
+use Rattle.laws.specs.Refusals.{first}
+use Rattle.format.specs.Block.{bytesOf, eights, modeOf, number}
+use Rattle.format.specs.Modes.{kindOfMode, partitionBits}
+use Rattle.format.specs.Places.{atPlace, blockOf, head, listOf, opened, placeAt, pos, width, widths}
+use Rattle.format.specs.Splits.{anchors, kindOf, partition, splitAt, splitOf}
+use Rattle.format.proofs.Modes.{good-64, six-bits}
+use Rattle.format.proofs.Opening.{opened-good}
+use Rattle.format.proofs.Places.{inside-placeAt, total-128}
+use Rattle.format.proofs.Trailing.{mode-le-8}
+use Rattle.record.specs.Records.{fits, made, packRefusal, packed, packedAs, recordOf, says, taken, unpackedAs, zeroRecord}
+use Rattle.record.specs.Rows.{anchorsOf, pixelsOf, widthsWith}
+use Rattle.record.proofs.Packing.{fits-at, taken-open}
+use Rattle.record.proofs.Widths.{fits-split, widths-split}
+use Rattle.bcn_util.specs.Writer.{pushed, written}
+use Rattle.bcn_util.proofs.Puts.{row-asks, row-more, row-written, rowWriter}
+
+-- TAKING APART
+pub reserved : (bs : List ℕ) {m : ℕ} → m ≡ modeOf bs → m ≡ 8 → unpackedAs 1 zeroRecord ≡ taken bs
+unfolding taken
+reserved bs e h = rw (eq-eqb (modeOf bs) 8 (sym e ∙ h))
+
+module _ (bs : List ℕ) (sixteen : Fit eights bs) {m : ℕ} (em : m ≡ modeOf bs) (not-8 : m ≢ 8) where
+  low : modeOf bs < 8
+  low = let n : modeOf bs ≢ 8 = λ z. not-8 (em ∙ z) in omega (arith, mode-le-8 bs)
+
+  pub mode-low : m < 8
+  mode-low = subst (λ (m : ℕ). m < 8) (sym em) low
+
+  module _ {s : Split} (es : s ≡ splitAt m (number bs)) where
+    is-split : s ≡ splitOf bs
+    unfolding splitOf
+    is-split = es ∙ ap (λ (m : ℕ). splitAt m (number bs)) em
+
+    pub partition-low : partition s < 64
+    partition-low = subst (λ (s : Split). partition s < 64) (sym is-split) (good-64 (opened-good bs sixteen low))
+
+    pub accepted : {a : Anchors} {vs : List ℕ} {r : Record} → a ≡ anchorsOf s → vs ≡ split (widthsWith m (pixelsOf a)) (number bs)
+        → r ≡ made m s (λ x. getD vs (pos x) 0) → unpackedAs 0 r ≡ taken bs
+    unfolding recordOf opened atPlace
+    accepted {a} {vs} {r} ea ev er =
+        let widths-are : vs ≡ split (widths m s) (number bs) = ev ∙ ap (λ (a : Anchors). split (widthsWith m (pixelsOf a)) (number bs)) ea ∙ ap (λ (ws : List ℕ). split ws (number bs)) (widths-split m s partition-low) in
+        ap (unpackedAs 0) (rw (er, widths-are, is-split, em)) ∙ sym (taken-open bs low)
+
+-- PACKING: the loop that pushes what a record says, each at its width
+module _ (r : Record) (an : List ℕ) where
+  abbrev wide : ℕ → ℕ
+  wide i = width (r .mode) an (placeAt i)
+
+  abbrev said : ℕ → ℕ
+  said i = says r (placeAt i)
+
+  abbrev pub Writing : ℕ → BitWriter → Type 0
+  Writing i b = (i ≤ 66) × (b ≡ rowWriter wide said i)
+
+module _ (r : Record) (an : List ℕ) (all-fit : fits (r .mode) an (says r) ≡ true) where
+  each-fits : (k : ℕ) → k < 66 → said r an k < 2 ^ wide r an k
+  each-fits k l = fits-at (r .mode) an (says r) all-fit (placeAt k) (inside-placeAt k l)
+
+  pub writing-asks : (i v w : ℕ) (b : BitWriter) → i < 66 → total (widthsWith (r .mode) an) ≤ 128 → Writing r an i b → v ≡ said r an i → w ≡ wide r an i
+      → (v < 2 ^ w) × (b .at + w ≤ 128) × (written b < 2 ^ b .at)
+  unfolding widthsWith
+  writing-asks i v w b l room h ev ew = rw (ev, ew) (row-asks (wide r an) (said r an) 66 each-fits i l (h .1) room)
+
+  pub writing-next : (i v w : ℕ) (b b' : BitWriter) → i < 66 → Writing r an i b → v ≡ said r an i → w ≡ wide r an i → b' ≡ pushed b v w → Writing r an (i + 1) b'
+  writing-next i v w b b' l h ev ew e = (omega arith, row-more (wide r an) (said r an) 66 each-fits i l (h .1) (rw (ev, ew) at e))
+
+  pub writing-all : (i : ℕ) (b : BitWriter) → 66 ≤ i → Writing r an i b → written b ≡ join (widthsWith (r .mode) an) (listOf (says r))
+  unfolding widthsWith listOf
+  writing-all i b l h =
+      let e : i ≡ 66 = omega (arith, h .0) in
+      row-written (wide r an) (said r an) 66 (rw e at (h .1))
+
+-- the ways out of packing, each by the tests on it
+abbrev refusedWith : ℕ → Packed
+refusedWith n = packedAs n (replicate 16 0)
+
+module _ (r : Record) where
+  pub way-mode : 7 < r .mode → refusedWith 5 ≡ packed r
+  unfolding packed packRefusal first
+  way-mode h = rw (lt-ltb 7 (r .mode) h)
+
+  pub way-kind : r .mode ≤ 7 → kindOf (r .split) ≢ kindOfMode (r .mode) → refusedWith 5 ≡ packed r
+  unfolding packed packRefusal first
+  way-kind h n = rw (le-ltb 7 (r .mode) h, ne-eqb (kindOf (r .split)) (kindOfMode (r .mode)) n)
+
+  module _ (h : r .mode ≤ 7) (k : kindOf (r .split) ≡ kindOfMode (r .mode)) where
+    pub way-width : fits (r .mode) [] (says r) ≡ false → refusedWith 3 ≡ packed r
+    unfolding packed packRefusal first
+    way-width f = rw (le-ltb 7 (r .mode) h, eq-eqb (kindOf (r .split)) (kindOfMode (r .mode)) k, f)
+
+    module _ (full : fits (r .mode) [] (says r) ≡ true) where
+      part-fits : partition (r .split) < 2 ^ partitionBits (r .mode)
+      unfolding says width
+      part-fits = fits-at (r .mode) [] (says r) full (head 1) tt
+
+      pub part-64 : partition (r .split) < 64
+      part-64 = lt-of-lt-of-le part-fits (pow-mono (six-bits (r .mode) (omega arith)))
+
+      module _ {a : Anchors} (ea : a ≡ anchorsOf (r .split)) where
+        stored : fits (r .mode) (pixelsOf a) (says r) ≡ fits (r .mode) (anchors (r .split)) (says r)
+        stored = ap (λ (a : Anchors). fits (r .mode) (pixelsOf a) (says r)) ea ∙ fits-split (r .mode) (r .split) part-64 (says r)
+
+        pub way-anchor : fits (r .mode) (pixelsOf a) (says r) ≡ false → refusedWith 6 ≡ packed r
+        unfolding packed packRefusal first
+        way-anchor f = rw (le-ltb 7 (r .mode) h, eq-eqb (kindOf (r .split)) (kindOfMode (r .mode)) k, full, sym stored ∙ f)
+
+        stored-widths : widthsWith (r .mode) (pixelsOf a) ≡ widths (r .mode) (r .split)
+        stored-widths = ap (λ (a : Anchors). widthsWith (r .mode) (pixelsOf a)) ea ∙ widths-split (r .mode) (r .split) part-64
+
+        pub room : total (widthsWith (r .mode) (pixelsOf a)) ≤ 128
+        room = rw stored-widths (le-of-eq (total-128 (r .mode) (r .split) (omega arith) k part-fits))
+
+        pub way-packed : {bs : List ℕ} → fits (r .mode) (pixelsOf a) (says r) ≡ true
+            → bs ≡ bytesOf (join (widthsWith (r .mode) (pixelsOf a)) (listOf (says r))) → packedAs 0 bs ≡ packed r
+        unfolding packed packRefusal first blockOf
+        way-packed f e = rw (le-ltb 7 (r .mode) h, eq-eqb (kindOf (r .split)) (kindOfMode (r .mode)) k, full, sym stored ∙ f, e, stored-widths)
