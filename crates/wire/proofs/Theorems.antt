@@ -1,0 +1,71 @@
+-- The bytes of a record say all of it. `Shaped r` says that the record's arrays have their lengths.
+-- Assumes nothing.
+use mathlib.Core.Path.{_≡_, refl, sym, ap, _∙_, subst}
+use mathlib.Core.List.{List}
+use Prim.Native.Nat.{ℕ, _+_, _-_, _<_, _≤_}
+use native.Mathlib.Omega.{arith}
+use borrow.Author.Tests.{lt-ltb, le-ltb}
+use lib.Dec.{lit<}
+use lib.ListN.{length, getD}
+use lib.Seq.{ext-getD}
+use Rattle.record.specs.declared.Record.{Record}
+use Rattle.format.specs.declared.Split.{Split}
+use Rattle.format.specs.declared.Split.the-variants.{Whole, Two, Three, Vector}
+use Rattle.laws.specs.Tables.{table}
+use Rattle.laws.proofs.Part.{getD-table, length-table}
+use Rattle.format.specs.Splits.{indexMode, kindOf, ofKind}
+use Rattle.record.specs.Records.{Shaped}
+use Rattle.wire.specs.Wire.{recordByte, recordBytes, recordOfBytes, splitByte}
+
+same-split : (s : Split) → ofKind (kindOf s) (splitByte s) (splitByte s) (indexMode s) ≡ s
+same-split Whole = refl
+same-split (Two a) = refl
+same-split (Three a) = refl
+same-split (Vector r i) = refl
+
+module _ (r : Record) where
+  byte : (i : ℕ) → i < 66 → getD (recordBytes r) i 0 ≡ recordByte r i
+  unfolding recordBytes
+  byte i h = getD-table 66 (recordByte r) 0 i h
+
+  -- n bytes from o on that are the values xs
+  part : (n o : ℕ) (xs : List ℕ) → length xs ≡ n → o + n ≤ 66 → ((i : ℕ) → i < n → recordByte r (o + i) ≡ getD xs i 0) → table n (λ i. getD (recordBytes r) (o + i) 0) ≡ xs
+  part n o xs long room is =
+      ext-getD 0 _ xs (length-table n _ ∙ sym long) (λ i l.
+      let l' : i < n = subst (λ (m : ℕ). i < m) (length-table n (λ i. getD (recordBytes r) (o + i) 0)) l in
+      getD-table n (λ i. getD (recordBytes r) (o + i) 0) 0 i l' ∙ byte (o + i) (omega arith) ∙ is i l')
+
+  module _ (i : ℕ) where
+    endpoint : i < 24 → recordByte r (4 + i) ≡ getD (r .endpoints) i 0
+    unfolding recordByte
+    endpoint h = rw (le-ltb (4 + i) 4 (omega arith), lt-ltb (4 + i) 28 (omega arith)) (ap (λ (k : ℕ). getD (r .endpoints) k 0) (let z : 4 + i - 4 ≡ i = omega arith in z))
+
+    p-bit : i < 6 → recordByte r (28 + i) ≡ getD (r .p) i 0
+    unfolding recordByte
+    p-bit h =
+        rw (le-ltb (28 + i) 4 (omega arith), le-ltb (28 + i) 28 (omega arith), lt-ltb (28 + i) 34 (omega arith)) (ap (λ (k : ℕ). getD (r .p) k 0) (let z : 28 + i - 28 ≡ i = omega arith in z))
+
+    first-index : i < 16 → recordByte r (34 + i) ≡ getD (r .first) i 0
+    unfolding recordByte
+    first-index h =
+        rw (le-ltb (34 + i) 4 (omega arith), le-ltb (34 + i) 28 (omega arith), le-ltb (34 + i) 34 (omega arith), lt-ltb (34 + i) 50 (omega arith)) (ap (λ (k : ℕ). getD (r .first) k 0) (let z : 34 + i - 34 ≡ i = omega arith in z))
+
+    second-index : i < 16 → recordByte r (50 + i) ≡ getD (r .second) i 0
+    unfolding recordByte
+    second-index h =
+        rw (le-ltb (50 + i) 4 (omega arith), le-ltb (50 + i) 28 (omega arith), le-ltb (50 + i) 34 (omega arith), le-ltb (50 + i) 50 (omega arith)) (ap (λ (k : ℕ). getD (r .second) k 0) (let z : 50 + i - 50 ≡ i = omega arith in z))
+
+  -- the record of a record's bytes is that record
+  pub record-of-its-bytes : Shaped r → recordOfBytes (recordBytes r) ≡ r
+  unfolding recordOfBytes recordByte
+  record-of-its-bytes sh =
+      let bs : List ℕ = recordBytes r in
+      let e : ofKind (getD bs 1 0) (getD bs 2 0) (getD bs 2 0) (getD bs 3 0) ≡ r .split = rw (byte 1 (lit< tt), byte 2 (lit< tt), byte 3 (lit< tt)) (same-split (r .split)) in
+      λ j. record {
+        mode = byte 0 (lit< tt) j;
+        split = e j;
+        endpoints = part 24 4 (r .endpoints) (sh .endpoints) (lit< tt) endpoint j;
+        p = part 6 28 (r .p) (sh .p) (lit< tt) p-bit j;
+        first = part 16 34 (r .first) (sh .first) (lit< tt) first-index j;
+        second = part 16 50 (r .second) (sh .second) (lit< tt) second-index j;
+      }
