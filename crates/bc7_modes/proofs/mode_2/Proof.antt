@@ -1,0 +1,310 @@
+use mathlib.Core.Path.{_≡_, refl, sym, ap, ap₂, _∙_, subst}
+use mathlib.Core.List.{List, [], _∷_}
+use Prim.Native.Nat.{ℕ, _+_, _*_, _<_}
+use native.Mathlib.Omega.{arith}
+use Rattle.format.specs.Modes.{endpointCount, kindOfMode, modeRow}
+use Rattle.format.specs.declared.Split.the-variants.{Whole, Two, Three, Vector}
+use Rattle.format.specs.Drawing.{eight}
+use Rattle.format.specs.Splits.{splitAt}
+use Rattle.format.specs.Block.{field}
+use Rattle.bc7_reader.specs.At.{held}
+use Rattle.bc7_reader.proofs.On.{On, got-v, got-on, two-a, two-b, two-on, four-a, four-b, four-c, four-d, four-on}
+use Rattle.bc7_tables.proofs.Tests.{marks2, marks3}
+use Rattle.bc7_meaning.specs.Plain.{headEnd, valueStart, pStart, valueOf, pOf, endByte}
+use Rattle.bc7_meaning.proofs.Modes.{Flat, whole-law, two-law, three-law, with-p, opaque-p, opaque-only, with-alpha}
+use borrow.Author.Needs.{needs}
+use Rattle.bc7_modes.proofs.mode_2.Statement.{statement}
+use Rattle.bc7_modes.proofs.mode_2.Tie as tie
+use Rattle.bc7_modes.proofs.mode_2.Reads as reads
+use Rattle.bc7_modes.proofs.mode_2.Lts as lts
+use Rattle.bc7_leaves.proofs.opaque.Reads as opaque-reads
+use Rattle.bc7_paint.proofs.subsets_3_2.Reads as subsets-3-2-reads
+use Rattle.bc7_reader.proofs.indexes_3.Reads as indexes-3-reads
+use Rattle.bc7_reader.proofs.take.Reads as take-reads
+use Rattle.bc7_reader.proofs.two.Reads as two-reads
+use Rattle.bc7_tables.proofs.p3_fixup2.Reads as p3-fixup2-reads
+use Rattle.bc7_tables.proofs.p3_fixup3.Reads as p3-fixup3-reads
+use Rattle.bc7_tables.proofs.p3_subsets.Reads as p3-subsets-reads
+
+-- src/lib.rt:81:9
+take-requires : tie.Need-take-requires
+take-requires c κs = search needs
+
+-- src/lib.rt:83:9
+two-requires : tie.Need-two-requires
+two-requires c κs = search needs
+
+-- src/lib.rt:85:9
+two-requires-2 : tie.Need-two-requires-2
+two-requires-2 c κs = search needs
+
+-- src/lib.rt:87:9
+two-requires-3 : tie.Need-two-requires-3
+two-requires-3 c κs = search needs
+
+-- src/lib.rt:89:9
+two-requires-4 : tie.Need-two-requires-4
+two-requires-4 c κs = search needs
+
+-- src/lib.rt:91:9
+two-requires-5 : tie.Need-two-requires-5
+two-requires-5 c κs = search needs
+
+-- src/lib.rt:93:9
+two-requires-6 : tie.Need-two-requires-6
+two-requires-6 c κs = search needs
+
+-- src/lib.rt:95:9
+two-requires-7 : tie.Need-two-requires-7
+two-requires-7 c κs =
+    let at-two6 = c .before in
+    let at-two5 = at-two6 .before .before in
+    let at-two4 = at-two5 .before .before in
+    let at-two3 = at-two4 .before .before in
+    let at-two2 = at-two3 .before .before in
+    let at-two = at-two2 .before .before in
+    let at-take = at-two .before .before in
+    let start = at-take .before in
+    let n : ℕ = held (start .args .start) in
+    let o0 : On n 3 (start .args .start) = record { of = refl; stands = start .pre } in
+    let o1 = got-on o0 (at-take .take .ensures) in
+    let o2 = two-on o1 (at-two .two .ensures) in
+    let o3 = two-on o2 (at-two2 .two2 .ensures) in
+    let o4 = two-on o3 (at-two3 .two3 .ensures) in
+    let o5 = two-on o4 (at-two4 .two4 .ensures) in
+    let o6 = two-on o5 (at-two5 .two5 .ensures) in
+    let o7 = two-on o6 (at-two6 .two6 .ensures) in
+    (omega arith, omega (arith, o7 .stands))
+
+-- src/lib.rt:97:9
+two-requires-8 : tie.Need-two-requires-8
+two-requires-8 c κs =
+    let at-two7 = c .before in
+    let at-two6 = at-two7 .before .before in
+    let at-two5 = at-two6 .before .before in
+    let at-two4 = at-two5 .before .before in
+    let at-two3 = at-two4 .before .before in
+    let at-two2 = at-two3 .before .before in
+    let at-two = at-two2 .before .before in
+    let at-take = at-two .before .before in
+    let start = at-take .before in
+    let n : ℕ = held (start .args .start) in
+    let o0 : On n 3 (start .args .start) = record { of = refl; stands = start .pre } in
+    let o1 = got-on o0 (at-take .take .ensures) in
+    let o2 = two-on o1 (at-two .two .ensures) in
+    let o3 = two-on o2 (at-two2 .two2 .ensures) in
+    let o4 = two-on o3 (at-two3 .two3 .ensures) in
+    let o5 = two-on o4 (at-two4 .two4 .ensures) in
+    let o6 = two-on o5 (at-two5 .two5 .ensures) in
+    let o7 = two-on o6 (at-two6 .two6 .ensures) in
+    let o8 = two-on o7 (at-two7 .two7 .ensures) in
+    (omega arith, omega (arith, o8 .stands))
+
+-- src/lib.rt:99:9
+two-requires-9 : tie.Need-two-requires-9
+two-requires-9 c κs =
+    let at-two8 = c .before in
+    let at-two7 = at-two8 .before .before in
+    let at-two6 = at-two7 .before .before in
+    let at-two5 = at-two6 .before .before in
+    let at-two4 = at-two5 .before .before in
+    let at-two3 = at-two4 .before .before in
+    let at-two2 = at-two3 .before .before in
+    let at-two = at-two2 .before .before in
+    let at-take = at-two .before .before in
+    let start = at-take .before in
+    let n : ℕ = held (start .args .start) in
+    let o0 : On n 3 (start .args .start) = record { of = refl; stands = start .pre } in
+    let o1 = got-on o0 (at-take .take .ensures) in
+    let o2 = two-on o1 (at-two .two .ensures) in
+    let o3 = two-on o2 (at-two2 .two2 .ensures) in
+    let o4 = two-on o3 (at-two3 .two3 .ensures) in
+    let o5 = two-on o4 (at-two4 .two4 .ensures) in
+    let o6 = two-on o5 (at-two5 .two5 .ensures) in
+    let o7 = two-on o6 (at-two6 .two6 .ensures) in
+    let o8 = two-on o7 (at-two7 .two7 .ensures) in
+    let o9 = two-on o8 (at-two8 .two8 .ensures) in
+    (omega arith, omega (arith, o9 .stands))
+
+-- src/lib.rt:101:9
+take-requires-2 : tie.Need-take-requires-2
+take-requires-2 c κs =
+    let at-two9 = c .before in
+    let at-two8 = at-two9 .before .before in
+    let at-two7 = at-two8 .before .before in
+    let at-two6 = at-two7 .before .before in
+    let at-two5 = at-two6 .before .before in
+    let at-two4 = at-two5 .before .before in
+    let at-two3 = at-two4 .before .before in
+    let at-two2 = at-two3 .before .before in
+    let at-two = at-two2 .before .before in
+    let at-take = at-two .before .before in
+    let start = at-take .before in
+    let n : ℕ = held (start .args .start) in
+    let o0 : On n 3 (start .args .start) = record { of = refl; stands = start .pre } in
+    let o1 = got-on o0 (at-take .take .ensures) in
+    let o2 = two-on o1 (at-two .two .ensures) in
+    let o3 = two-on o2 (at-two2 .two2 .ensures) in
+    let o4 = two-on o3 (at-two3 .two3 .ensures) in
+    let o5 = two-on o4 (at-two4 .two4 .ensures) in
+    let o6 = two-on o5 (at-two5 .two5 .ensures) in
+    let o7 = two-on o6 (at-two6 .two6 .ensures) in
+    let o8 = two-on o7 (at-two7 .two7 .ensures) in
+    let o9 = two-on o8 (at-two8 .two8 .ensures) in
+    let o10 = two-on o9 (at-two9 .two9 .ensures) in
+    (omega arith, omega (arith, o10 .stands))
+
+-- src/lib.rt:102:33
+p3-fixup2-requires : tie.Need-p3-fixup2-requires
+p3-fixup2-requires c κs =
+    let at-take = c .before .before .before .before .before .before .before .before .before .before .before .before .before .before .before .before .before .before .before .before in
+    omega (arith, at-take .take .ensures .v-lt)
+
+-- src/lib.rt:102:50
+p3-fixup3-requires : tie.Need-p3-fixup3-requires
+p3-fixup3-requires c κs =
+    let at-take = c .before .before .before .before .before .before .before .before .before .before .before .before .before .before .before .before .before .before .before .before .before in
+    omega (arith, at-take .take .ensures .v-lt)
+
+-- src/lib.rt:102:9
+indexes-3-requires : tie.Need-indexes-3-requires
+indexes-3-requires c κs =
+    let at-p3-fixup2 = c .before in
+    let at-take2 = at-p3-fixup2 .before in
+    let at-take = at-take2 .before .before .before .before .before .before .before .before .before .before .before .before .before .before .before .before .before .before .before .before in
+    (omega arith, omega arith, at-take2 .take2 .ensures .v-lt, rw (at-p3-fixup2 .p3-fixup2 .ensures) (marks3 (at-take .take .result .v) (omega (arith, at-take .take .ensures .v-lt)) .above), rw (at-p3-fixup2 .p3-fixup2 .ensures, c .p3-fixup3 .ensures) (marks3 (at-take .take .result .v) (omega (arith, at-take .take .ensures .v-lt)) .next), rw (c .p3-fixup3 .ensures) (marks3 (at-take .take .result .v) (omega (arith, at-take .take .ensures .v-lt)) .last))
+
+-- src/lib.rt:103:9
+p3-subsets-requires : tie.Need-p3-subsets-requires
+p3-subsets-requires c κs =
+    let at-take = c .before .before .before .before .before .before .before .before .before .before .before .before .before .before .before .before .before .before .before .before .before .before .before in
+    omega (arith, at-take .take .ensures .v-lt)
+
+-- src/lib.rt:104:9
+opaque-requires : tie.Need-opaque-requires
+opaque-requires c κs =
+    let at-two7 = c .before .before .before .before .before .before .before .before .before .before in
+    let at-two4 = at-two7 .before .before .before .before .before .before in
+    let at-two = at-two4 .before .before .before .before .before .before in
+    (omega arith, omega arith, at-two .two .ensures .a-lt, at-two4 .two4 .ensures .a-lt, at-two7 .two7 .ensures .a-lt)
+
+-- src/lib.rt:105:9
+opaque-requires-2 : tie.Need-opaque-requires-2
+opaque-requires-2 c κs =
+    let at-two7 = c .before .before .before .before .before .before .before .before .before .before .before in
+    let at-two4 = at-two7 .before .before .before .before .before .before in
+    let at-two = at-two4 .before .before .before .before .before .before in
+    (omega arith, omega arith, at-two .two .ensures .b-lt, at-two4 .two4 .ensures .b-lt, at-two7 .two7 .ensures .b-lt)
+
+-- src/lib.rt:106:9
+opaque-requires-3 : tie.Need-opaque-requires-3
+opaque-requires-3 c κs =
+    let at-two8 = c .before .before .before .before .before .before .before .before .before .before in
+    let at-two5 = at-two8 .before .before .before .before .before .before in
+    let at-two2 = at-two5 .before .before .before .before .before .before in
+    (omega arith, omega arith, at-two2 .two2 .ensures .a-lt, at-two5 .two5 .ensures .a-lt, at-two8 .two8 .ensures .a-lt)
+
+-- src/lib.rt:107:9
+opaque-requires-4 : tie.Need-opaque-requires-4
+opaque-requires-4 c κs =
+    let at-two8 = c .before .before .before .before .before .before .before .before .before .before .before in
+    let at-two5 = at-two8 .before .before .before .before .before .before in
+    let at-two2 = at-two5 .before .before .before .before .before .before in
+    (omega arith, omega arith, at-two2 .two2 .ensures .b-lt, at-two5 .two5 .ensures .b-lt, at-two8 .two8 .ensures .b-lt)
+
+-- src/lib.rt:108:9
+opaque-requires-5 : tie.Need-opaque-requires-5
+opaque-requires-5 c κs =
+    let at-two9 = c .before .before .before .before .before .before .before .before .before .before in
+    let at-two6 = at-two9 .before .before .before .before .before .before in
+    let at-two3 = at-two6 .before .before .before .before .before .before in
+    (omega arith, omega arith, at-two3 .two3 .ensures .a-lt, at-two6 .two6 .ensures .a-lt, at-two9 .two9 .ensures .a-lt)
+
+-- src/lib.rt:109:9
+opaque-requires-6 : tie.Need-opaque-requires-6
+opaque-requires-6 c κs =
+    let at-two9 = c .before .before .before .before .before .before .before .before .before .before .before in
+    let at-two6 = at-two9 .before .before .before .before .before .before in
+    let at-two3 = at-two6 .before .before .before .before .before .before in
+    (omega arith, omega arith, at-two3 .two3 .ensures .b-lt, at-two6 .two6 .ensures .b-lt, at-two9 .two9 .ensures .b-lt)
+
+-- src/lib.rt:110:5
+subsets-3-2-requires : tie.Need-subsets-3-2-requires
+subsets-3-2-requires c κs = search needs
+
+-- src/lib.rt:77:1
+returns : tie.Need-returns
+unfolding splitAt field endByte eight valueOf pOf valueStart pStart headEnd modeRow kindOfMode endpointCount
+returns c =
+    let at-opaque6 = c .before in
+    let at-opaque5 = at-opaque6 .before in
+    let at-opaque4 = at-opaque5 .before in
+    let at-opaque3 = at-opaque4 .before in
+    let at-opaque2 = at-opaque3 .before in
+    let at-opaque = at-opaque2 .before in
+    let at-p3-subsets = at-opaque .before in
+    let at-indexes-3 = at-p3-subsets .before in
+    let at-p3-fixup3 = at-indexes-3 .before in
+    let at-p3-fixup2 = at-p3-fixup3 .before in
+    let at-take2 = at-p3-fixup2 .before in
+    let at-two9 = at-take2 .before .before in
+    let at-two8 = at-two9 .before .before in
+    let at-two7 = at-two8 .before .before in
+    let at-two6 = at-two7 .before .before in
+    let at-two5 = at-two6 .before .before in
+    let at-two4 = at-two5 .before .before in
+    let at-two3 = at-two4 .before .before in
+    let at-two2 = at-two3 .before .before in
+    let at-two = at-two2 .before .before in
+    let at-take = at-two .before .before in
+    let start = at-take .before in
+    let n : ℕ = held (start .args .start) in
+    let o0 : On n 3 (start .args .start) = record { of = refl; stands = start .pre } in
+    let o1 = got-on o0 (at-take .take .ensures) in
+    let o2 = two-on o1 (at-two .two .ensures) in
+    let o3 = two-on o2 (at-two2 .two2 .ensures) in
+    let o4 = two-on o3 (at-two3 .two3 .ensures) in
+    let o5 = two-on o4 (at-two4 .two4 .ensures) in
+    let o6 = two-on o5 (at-two5 .two5 .ensures) in
+    let o7 = two-on o6 (at-two6 .two6 .ensures) in
+    let o8 = two-on o7 (at-two7 .two7 .ensures) in
+    let o9 = two-on o8 (at-two8 .two8 .ensures) in
+    let o10 = two-on o9 (at-two9 .two9 .ensures) in
+    c .subsets-3-2 .ensures
+    ∙ three-law 2 n (record { mode = omega arith; all = refl; least = omega arith; most = omega arith }) (at-take .take .result .v) _ _ _ _ _ _ _ _ _ _ _ _ _ (ap Three (sym (got-v o0 (at-take .take .ensures)))) refl (omega (arith, at-take .take .ensures .v-lt))
+    (at-p3-subsets .p3-subsets .ensures) (at-p3-fixup2 .p3-fixup2 .ensures) (at-p3-fixup3 .p3-fixup3 .ensures)
+    (at-indexes-3 .indexes-3 .ensures) (got-v o10 (at-take2 .take2 .ensures))
+    (at-opaque .opaque .ensures ∙ opaque-only 5 (two-a o1 (at-two .two .ensures)) (two-a o4 (at-two4 .two4 .ensures)) (two-a o7 (at-two7 .two7 .ensures)))
+    (at-opaque2 .opaque2 .ensures ∙ opaque-only 5 (two-b o1 (at-two .two .ensures)) (two-b o4 (at-two4 .two4 .ensures)) (two-b o7 (at-two7 .two7 .ensures)))
+    (at-opaque3 .opaque3 .ensures ∙ opaque-only 5 (two-a o2 (at-two2 .two2 .ensures)) (two-a o5 (at-two5 .two5 .ensures)) (two-a o8 (at-two8 .two8 .ensures)))
+    (at-opaque4 .opaque4 .ensures ∙ opaque-only 5 (two-b o2 (at-two2 .two2 .ensures)) (two-b o5 (at-two5 .two5 .ensures)) (two-b o8 (at-two8 .two8 .ensures)))
+    (at-opaque5 .opaque5 .ensures ∙ opaque-only 5 (two-a o3 (at-two3 .two3 .ensures)) (two-a o6 (at-two6 .two6 .ensures)) (two-a o9 (at-two9 .two9 .ensures)))
+    (at-opaque6 .opaque6 .ensures ∙ opaque-only 5 (two-b o3 (at-two3 .two3 .ensures)) (two-b o6 (at-two6 .two6 .ensures)) (two-b o9 (at-two9 .two9 .ensures)))
+
+pub mode-2-spec : {M : Type 1} → statement M
+mode-2-spec =
+    tie.close
+    (tie.spec
+    take-requires
+    two-requires
+    two-requires-2
+    two-requires-3
+    two-requires-4
+    two-requires-5
+    two-requires-6
+    two-requires-7
+    two-requires-8
+    two-requires-9
+    take-requires-2
+    p3-fixup2-requires
+    p3-fixup3-requires
+    indexes-3-requires
+    p3-subsets-requires
+    opaque-requires
+    opaque-requires-2
+    opaque-requires-3
+    opaque-requires-4
+    opaque-requires-5
+    opaque-requires-6
+    subsets-3-2-requires
+    returns)

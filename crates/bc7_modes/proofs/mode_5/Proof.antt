@@ -1,0 +1,139 @@
+use mathlib.Core.Path.{_≡_, refl, sym, ap, ap₂, _∙_, subst}
+use mathlib.Core.List.{List, [], _∷_}
+use Prim.Native.Nat.{ℕ, _+_, _*_, _<_}
+use native.Mathlib.Omega.{arith}
+use Rattle.format.specs.Modes.{endpointCount, kindOfMode, modeRow}
+use Rattle.format.specs.declared.Split.the-variants.{Whole, Two, Three, Vector}
+use Rattle.format.specs.Drawing.{eight}
+use Rattle.format.specs.Splits.{splitAt}
+use Rattle.format.specs.Block.{field}
+use Rattle.bc7_reader.specs.At.{held}
+use Rattle.bc7_reader.proofs.On.{On, got-v, got-on, two-a, two-b, two-on, four-a, four-b, four-c, four-d, four-on}
+use Rattle.bc7_tables.proofs.Tests.{marks2, marks3}
+use Rattle.bc7_meaning.specs.Plain.{headEnd, valueStart, pStart, valueOf, pOf, endByte}
+use Rattle.bc7_meaning.proofs.Modes.{Flat, whole-law, two-law, three-law, with-p, opaque-p, opaque-only, with-alpha, first-word, second-word, pair-mode, second-4, second-5, split-4, split-5}
+use Rattle.bc7_paint.specs.Pairs.{turned}
+use borrow.Author.Needs.{needs}
+use Rattle.bc7_modes.proofs.mode_5.Statement.{statement}
+use Rattle.bc7_modes.proofs.mode_5.Tie as tie
+use Rattle.bc7_modes.proofs.mode_5.Reads as reads
+use Rattle.bc7_modes.proofs.mode_5.Lts as lts
+use Rattle.bc7_leaves.proofs.clear.Reads as clear-reads
+use Rattle.bc7_paint.proofs.pair_2_2.Reads as pair-2-2-reads
+use Rattle.bc7_paint.proofs.rotate.Reads as rotate-reads
+use Rattle.bc7_reader.proofs.indexes_1.Reads as indexes-1-reads
+use Rattle.bc7_reader.proofs.take.Reads as take-reads
+use Rattle.bc7_reader.proofs.two.Reads as two-reads
+
+-- src/lib.rt:170:9
+take-requires : tie.Need-take-requires
+take-requires c κs = search needs
+
+-- src/lib.rt:172:9
+two-requires : tie.Need-two-requires
+two-requires c κs = search needs
+
+-- src/lib.rt:174:9
+two-requires-2 : tie.Need-two-requires-2
+two-requires-2 c κs = search needs
+
+-- src/lib.rt:176:9
+two-requires-3 : tie.Need-two-requires-3
+two-requires-3 c κs = search needs
+
+-- src/lib.rt:178:9
+two-requires-4 : tie.Need-two-requires-4
+two-requires-4 c κs = search needs
+
+-- src/lib.rt:180:9
+take-requires-2 : tie.Need-take-requires-2
+take-requires-2 c κs = search needs
+
+-- src/lib.rt:182:9
+take-requires-3 : tie.Need-take-requires-3
+take-requires-3 c κs = search needs
+
+-- src/lib.rt:183:9
+clear-requires : tie.Need-clear-requires
+clear-requires c κs = search needs
+
+-- src/lib.rt:184:9
+clear-requires-2 : tie.Need-clear-requires-2
+clear-requires-2 c κs =
+    let at-two4 = c .before .before .before .before .before in
+    let at-two3 = at-two4 .before .before in
+    let at-two2 = at-two3 .before .before in
+    let at-two = at-two2 .before .before in
+    (omega arith, omega arith, omega arith, omega arith, at-two .two .ensures .b-lt, at-two2 .two2 .ensures .b-lt, at-two3 .two3 .ensures .b-lt, at-two4 .two4 .ensures .b-lt)
+
+-- src/lib.rt:185:29
+indexes-1-requires : tie.Need-indexes-1-requires
+indexes-1-requires c κs = search needs
+
+-- src/lib.rt:185:50
+indexes-1-requires-2 : tie.Need-indexes-1-requires-2
+indexes-1-requires-2 c κs = search needs
+
+-- src/lib.rt:185:12
+pair-2-2-requires : tie.Need-pair-2-2-requires
+pair-2-2-requires c κs = search needs
+
+-- src/lib.rt:185:5
+rotate-requires : tie.Need-rotate-requires
+rotate-requires c κs =
+    let at-take = c .before .before .before .before .before .before .before .before .before .before .before .before .before .before .before .before .before in
+    omega (arith, at-take .take .ensures .v-lt)
+
+-- src/lib.rt:166:1
+returns : tie.Need-returns
+unfolding splitAt field endByte eight valueOf pOf valueStart pStart headEnd modeRow kindOfMode endpointCount
+returns c =
+    let at-pair-2-2 = c .before in
+    let at-indexes-12 = at-pair-2-2 .before in
+    let at-indexes-1 = at-indexes-12 .before in
+    let at-clear2 = at-indexes-1 .before in
+    let at-clear = at-clear2 .before in
+    let at-take3 = at-clear .before in
+    let at-take2 = at-take3 .before .before in
+    let at-two4 = at-take2 .before .before in
+    let at-two3 = at-two4 .before .before in
+    let at-two2 = at-two3 .before .before in
+    let at-two = at-two2 .before .before in
+    let at-take = at-two .before .before in
+    let start = at-take .before in
+    let n : ℕ = held (start .args .start) in
+    let o0 : On n 6 (start .args .start) = record { of = refl; stands = start .pre } in
+    let o1 = got-on o0 (at-take .take .ensures) in
+    let o2 = two-on o1 (at-two .two .ensures) in
+    let o3 = two-on o2 (at-two2 .two2 .ensures) in
+    let o4 = two-on o3 (at-two3 .two3 .ensures) in
+    let o5 = two-on o4 (at-two4 .two4 .ensures) in
+    let o6 = got-on o5 (at-take2 .take2 .ensures) in
+    let r : ℕ = at-take .take .result .v in
+    let h : 5 < 8 = omega arith in
+    c .rotate .ensures
+    ∙ ap (turned r) (at-pair-2-2 .pair-2-2 .ensures)
+    ∙ pair-mode 5 n r 0 h (split-5 n ∙ ap (λ (z : ℕ). Vector z 0) (sym (got-v o0 (at-take .take .ensures)))) (omega (arith, at-take .take .ensures .v-lt)) refl refl (omega arith) (omega arith) (omega arith) (omega arith) _ _ _ _
+    (at-clear .clear .ensures ∙ with-alpha 7 8 (two-a o1 (at-two .two .ensures)) (two-a o2 (at-two2 .two2 .ensures)) (two-a o3 (at-two3 .two3 .ensures)) (two-a o4 (at-two4 .two4 .ensures)))
+    (at-clear2 .clear2 .ensures ∙ with-alpha 7 8 (two-b o1 (at-two .two .ensures)) (two-b o2 (at-two2 .two2 .ensures)) (two-b o3 (at-two3 .two3 .ensures)) (two-b o4 (at-two4 .two4 .ensures)))
+    (first-word 5 n r 0 h _ _ (omega arith) (at-indexes-1 .indexes-1 .ensures) (got-v o5 (at-take2 .take2 .ensures)))
+    (second-word 5 n r 0 h _ _ 97 (omega arith) (second-5 r 0) (at-indexes-12 .indexes-12 .ensures) (got-v o6 (at-take3 .take3 .ensures)))
+
+pub mode-5-spec : {M : Type 1} → statement M
+mode-5-spec =
+    tie.close
+    (tie.spec
+    take-requires
+    two-requires
+    two-requires-2
+    two-requires-3
+    two-requires-4
+    take-requires-2
+    take-requires-3
+    clear-requires
+    clear-requires-2
+    indexes-1-requires
+    indexes-1-requires-2
+    pair-2-2-requires
+    rotate-requires
+    returns)

@@ -1,0 +1,14 @@
+use Rattle.bc7_reader.proofs.Bytes.{or-eight}
+use Rattle.bc7_reader.proofs.word.Statement.{statement}
+use Rattle.bc7_reader.proofs.word.Tie as tie
+use Rattle.bc7_reader.proofs.word.Reads as reads
+use Rattle.bc7_reader.proofs.word.Lts as lts
+
+-- src/lib.rt:35:1
+returns : tie.Need-returns
+returns c =
+    let f = c .fits in
+    or-eight _ _ _ _ _ _ _ _ (f .b0 .fits) (f .b1 .fits) (f .b2 .fits) (f .b3 .fits) (f .b4 .fits) (f .b5 .fits) (f .b6 .fits) (f .b7 .fits)
+
+pub word-spec : {M : Type 1} → statement M
+word-spec = tie.close (tie.spec returns)
