@@ -11,7 +11,6 @@ use lib.ListN.{length, getD, drop, drop-of-length-le}
 use lib.Seq.{drop-cons}
 use borrow.Author.Tests.{lt-ltb, le-ltb, eq-eqb, ne-eqb}
 use Rattle.head.specs.declared.Number.{Number}
-use Rattle.laws.specs.Digits.{more, none}
 use Rattle.laws.proofs.Cases.{lt-or}
 use Rattle.head.specs.Numbers.{found, noNumber, raised, readGroups, readNumber}
 

@@ -13,7 +13,7 @@ use Rattle.head.specs.declared.Head.{Head}
 use Rattle.head.specs.declared.HeadBytes.{HeadBytes}
 use Rattle.laws.proofs.Cases.{lt-or}
 use Rattle.head.specs.Heads.{Sized, form, formIn, headBytes, headOf, headRefusal, heightIn, readHead, sizeRefusal, widthIn, writeHead}
-use Rattle.head.specs.Numbers.{found, groups, noNumber, numberBytes, numbersEnd, raised, readGroups, readNumber}
+use Rattle.head.specs.Numbers.{Bytes, found, groups, noNumber, numberBytes, numbersEnd, raised, readGroups, readNumber}
 use Rattle.head.proofs.Heading.{accepted, head-1, head-2, head-3, head-4, head-5, refused, size-0, sized}
 use Rattle.head.proofs.Reading.{every-number, near, raised-some, read-last, read-more}
 use Rattle.head.proofs.Writing.{groups-last, groups-more, one-byte}
@@ -38,9 +38,6 @@ groups-read (suc k) n at rest h =
     (lt-or n 128)
 
 -- the bytes of an accepted number are those that writing it gives
-abbrev pub Bytes : List ℕ → Type 0
-Bytes bs = (i : ℕ) → getD bs i 0 < 256
-
 pub record OneForm (k at : ℕ) (bs : List ℕ) (r : Number) : Type 0 where
   pub whole : bs ≡ groups k (r .value) ++ drop (length (groups k (r .value))) bs
   pub ends : r .next ≡ at + length (groups k (r .value))

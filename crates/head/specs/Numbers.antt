@@ -1,12 +1,15 @@
 -- Numbers in groups of seven bits, low group first, the high bit set on all but the last byte; the shortest form only, at most
 -- three groups.
 -- Assumes nothing.
-use Prim.Native.Nat.{ℕ, zero, suc, _+_, _*_, _/_, _%_}
+use Prim.Native.Nat.{ℕ, zero, suc, _+_, _*_, _/_, _%_, _<_}
 use mathlib.Core.List.{List, [], _∷_}
 use lib.Dec.{eqb, ltb}
-use lib.ListN.{drop}
+use lib.ListN.{getD, drop}
 use Rattle.head.specs.declared.Number.{Number}
 use Rattle.laws.specs.Tables.{pick}
+
+abbrev pub Bytes : List ℕ → Type 0
+Bytes bs = (i : ℕ) → getD bs i 0 < 256
 
 -- the bytes of n, in at most k groups
 unfoldable pub groups : ℕ → ℕ → List ℕ

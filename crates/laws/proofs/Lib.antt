@@ -9,3 +9,4 @@ pub mod First
 pub mod Digits
 pub mod Rows
 pub mod Padding
+pub mod Fitting

@@ -1,0 +1,2 @@
+-- That it holds.
+pub mod Proved

@@ -1,0 +1,21 @@
+-- Document 01's blocks and numbers marked P: each question of the list is answered as expected.
+-- Assumes nothing.
+use mathlib.Core.Path.{_≡_, refl}
+use mathlib.Core.List.{map}
+use Rattle.laws.specs.Refusals.{first}
+use Rattle.laws.specs.Tables.{table, tableFrom}
+use Rattle.format.specs.Block.{bytesOf, modeOf, number, trailing}
+use Rattle.format.specs.Drawing.{drawn, eight, promoted, weightOf, weights}
+use Rattle.format.specs.Lines.{anchorOf, arrayOf, has, indexPlace, laid, lineAt, lineBits, lineOf, means, own, pPlace, pixel, pixels, rotated, shown, turned, valuePlace, withLine}
+use Rattle.format.specs.Modes.{endpointCount, kindOfMode, modeRow}
+use Rattle.format.specs.Partitions.{anchors2, anchors3, digits, marks, strings2, strings3, subset2, subset3}
+use Rattle.format.specs.Places.{atPlace, blockOf, listOf, opened, placeAt, pos, width, widths}
+use Rattle.format.specs.Splits.{splitAt, splitOf}
+use Rattle.record.specs.Records.{made, recordOf, taken}
+use Rattle.head.specs.Numbers.{groups, raised, readGroups, readNumber}
+use Rattle.line.specs.Replace.{after, indexFits, lineFits, lineGiven, oriented, ownWidth, pFits, put, refusal, refusalIn, replaced, valueFits}
+use Rattle.document_01.specs.Claims.{answer, claims}
+
+pub document-01-holds : map (λ c. answer (c .question)) claims ≡ map (λ c. c .expected) claims
+unfolding table tableFrom digits marks strings2 strings3 subset2 subset3 anchors2 anchors3 weights weightOf drawn promoted eight modeRow kindOfMode endpointCount placeAt pos width widths trailing number modeOf splitAt splitOf atPlace opened has valuePlace pPlace arrayOf indexPlace own lineOf lineBits means rotated lineAt shown pixel pixels groups readGroups readNumber raised taken recordOf made replaced after refusal refusalIn lineFits valueFits pFits indexFits ownWidth lineGiven put oriented withLine laid turned anchorOf blockOf listOf first bytesOf
+document-01-holds = refl

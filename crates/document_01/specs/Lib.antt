@@ -1,0 +1,2 @@
+-- What document 01 lists.
+pub mod Claims

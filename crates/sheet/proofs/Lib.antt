@@ -1,0 +1,9 @@
+pub mod Blocks
+pub mod Columns
+pub mod Refusing
+pub mod Finding
+pub mod Replacing
+pub mod Pictures
+pub mod Storing
+pub mod Calling
+pub mod Theorems
