@@ -53,7 +53,7 @@ subset-below (Three a) q ha hq = ltb→lt (subset3 a q) 3 (at 16 (λ q. ltb (sub
 subset-below (Vector r i) q ha hq = lit< tt
 
 module _ {m : ℕ} {s : Split} {f : Place → ℕ} (g : WellFormed m s f) where
-  good-lines : lines m ≡ getD (1 ∷ 2 ∷ 3 ∷ 2 ∷ []) (kindOf s) 0
+  pub good-lines : lines m ≡ getD (1 ∷ 2 ∷ 3 ∷ 2 ∷ []) (kindOf s) 0
   good-lines = kind-lines m (g .mode) ∙ ap (λ (k : ℕ). getD (1 ∷ 2 ∷ 3 ∷ 2 ∷ []) k 0) (sym (good-kind g))
 
   -- every channel of every pixel is of a line of the mode

@@ -23,6 +23,10 @@ use Rattle.record.proofs.Packing.{open-mode}
 use Rattle.line.specs.Acceptable.{Acceptable, Answer, Within, accepted, no-line, p-bits-differ, reserved, too-wide}
 use Rattle.line.specs.Replace.{Call, indexFits, lineFits, pFits, refusal, refusalIn, valueFits}
 
+pub second : (a b : Bool) → a ≡ true → both a b ≡ false → b ≡ false
+second true b p q = q
+second false b p q = absurd (subst (λ (c : Bool). T (not c)) p tt)
+
 module _ (m : ℕ) (s : Split) (l : ℕ) (ln : Line) where
   -- the test of all values, and each value
   pub fits-within : lineFits m s l ln ≡ true → Within m s l ln
@@ -57,10 +61,6 @@ module _ (m : ℕ) (s : Split) (l : ℕ) (ln : Line) where
         within = fits-within (not-false _ (refuse-no 2 _ (c .0)));
         same-p = λ z. eqb-true (ln .p 0) (ln .p 1) (not-false _ (second (eqb m 1) _ (eq-eqb m 1 z) (refuse-no 3 _ (d .0))));
       }
-    where
-      second : (a b : Bool) → a ≡ true → both a b ≡ false → b ≡ false
-      second true b p q = q
-      second false b p q = absurd (subst (λ (c : Bool). T (not c)) p tt)
 
 -- the reserved blocks are those whose first byte is zero
 pub reserved-mode : (bs : List ℕ) → getD bs 0 0 ≡ 0 → modeOf bs ≡ 8

@@ -5,5 +5,8 @@ pub mod Given
 pub mod Steps
 pub mod Blocks
 pub mod Sequences
+pub mod Widths
+pub mod Orientation
 pub mod ThroughRecord
+pub mod Ways
 pub mod Theorems

@@ -39,22 +39,22 @@ not-zero : (b : Bool) (w : ℕ) → pick b w 0 ≢ 0 → pick b w 0 ≡ w
 not-zero true w n = refl
 not-zero false w n = absurd (n refl)
 
-module _ (m : ℕ) (s : Split) (l : ℕ) (ln : Line) where
-  own-width-le : (x : Place) → ownWidth m s l x ≤ width m [] x
-  unfolding ownWidth
-  own-width-le x = or-zero (has m s l x) (width m [] x)
+pub own-width-le : (m : ℕ) (s : Split) (l : ℕ) (x : Place) → ownWidth m s l x ≤ width m [] x
+unfolding ownWidth
+own-width-le m s l x = or-zero (has m s l x) (width m [] x)
 
+module _ (m : ℕ) (s : Split) (l : ℕ) (ln : Line) where
   value-width : (k c : ℕ) → ownWidth m s l (valuePlace s l k c) ≤ channelBits m c
   unfolding width valuePlace
-  value-width k c = le-trans (own-width-le (valuePlace s l k c)) (or-zero (ltb (pick (isVector s) k (2 * l + k)) (endpointCount m)) (channelBits m c))
+  value-width k c = le-trans (own-width-le m s l (valuePlace s l k c)) (or-zero (ltb (pick (isVector s) k (2 * l + k)) (endpointCount m)) (channelBits m c))
 
   p-width : (k : ℕ) → ownWidth m s l (pPlace m l k) ≤ 1
   unfolding width pPlace
-  p-width k = le-trans (own-width-le (pPlace m l k)) (or-zero (ltb (pick (eqb m 1) l (2 * l + k)) (pCount m)) 1)
+  p-width k = le-trans (own-width-le m s l (pPlace m l k)) (or-zero (ltb (pick (eqb m 1) l (2 * l + k)) (pCount m)) 1)
 
   index-width : (q : ℕ) → ownWidth m s l (indexPlace s l q) ≤ lineBits m s l
   unfolding width indexPlace lineBits
-  index-width q = own-width-le (indexPlace s l q)
+  index-width q = own-width-le m s l (indexPlace s l q)
 
   pub bounded : Within m s l ln → Bounded m s l ln
   bounded w = record {

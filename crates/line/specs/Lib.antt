@@ -2,3 +2,4 @@
 pub mod Replace
 pub mod Calls
 pub mod Acceptable
+pub mod Coded

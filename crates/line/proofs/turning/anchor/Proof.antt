@@ -1,0 +1,72 @@
+-- The anchor of a line.
+-- Assumes nothing.
+use mathlib.Core.Path.{sym}
+use native.Mathlib.Omega.{arith}
+use borrow.Author.Needs.{needs}
+use Rattle.laws.proofs.Tests.{at}
+use Rattle.format.proofs.Modes.{good-64}
+use Rattle.line.proofs.Orientation.{anchor-vector, anchor-whole, below-two}
+use Rattle.line.proofs.Widths.{line-below-3}
+use Rattle.line.proofs.turning.anchor.Statement.{statement}
+use Rattle.line.proofs.turning.anchor.Tie as tie
+
+enum-told : tie.Need-enum-told
+enum-told c = search needs
+
+enum-known-split : tie.Need-enum-known-split
+enum-known-split c = search needs
+
+cast-anchor-2 : tie.Need-cast-anchor-2
+cast-anchor-2 c = omega (arith, below-two (c .before .before .before .pre) (c .before .split .given .1))
+
+anchor-2-requires : tie.Need-anchor-2-requires
+anchor-2-requires c κs = (rw (c .before .split .given .1) at (good-64 (c .before .before .before .pre .holds)), below-two (c .before .before .before .pre) (c .before .split .given .1))
+
+cast-result : tie.Need-cast-result
+cast-result c = search needs
+
+enum-known-split-2 : tie.Need-enum-known-split-2
+enum-known-split-2 c = search needs
+
+cast-anchor-3 : tie.Need-cast-anchor-3
+cast-anchor-3 c = omega (arith, line-below-3 (c .before .before .before .pre))
+
+anchor-3-requires : tie.Need-anchor-3-requires
+anchor-3-requires c κs = (rw (c .before .split2 .given .1) at (good-64 (c .before .before .before .pre .holds)), line-below-3 (c .before .before .before .pre))
+
+cast-result-2 : tie.Need-cast-result-2
+cast-result-2 c = search needs
+
+enum-told-2 : tie.Need-enum-told-2
+enum-told-2 c = search needs
+
+returns : tie.Need-returns
+returns c = rw (c .enum-told .given .1) (sym (anchor-whole _))
+
+returns-2 : tie.Need-returns-2
+returns-2 c = rw (c .before .before .split .given .1) (c .anchor-2 .ensures)
+
+returns-3 : tie.Need-returns-3
+returns-3 c = rw (c .before .before .split2 .given .1) (c .anchor-3 .ensures)
+
+returns-4 : tie.Need-returns-4
+returns-4 c = rw (c .enum-told2 .given .1) (sym (anchor-vector _ _ _))
+
+pub anchor-spec : {M : Type 1} → statement M
+anchor-spec =
+    tie.close
+    (tie.spec
+    enum-told
+    enum-known-split
+    cast-anchor-2
+    anchor-2-requires
+    cast-result
+    enum-known-split-2
+    cast-anchor-3
+    anchor-3-requires
+    cast-result-2
+    enum-told-2
+    returns
+    returns-2
+    returns-3
+    returns-4)

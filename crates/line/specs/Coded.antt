@@ -1,0 +1,24 @@
+-- What the code goes by.
+-- Assumes nothing.
+use Prim.Native.Nat.{ℕ, _/_, _%_, _<_}
+use Rattle.line.specs.declared.Replacement.{Replacement}
+use Rattle.format.specs.declared.Split.{Split}
+use Rattle.laws.specs.Tables.{table}
+use Rattle.format.specs.Lines.{Line}
+use Rattle.format.specs.Modes.{lines}
+use Rattle.format.specs.Places.{Place}
+use Rattle.format.specs.WellFormed.{WellFormed}
+
+-- m and s are the mode and the split of a block, and l is a line of that mode
+pub record LineOfBlock (m : ℕ) (s : Split) (l : ℕ) : Type 0 where
+  pub places : Place → ℕ
+  pub holds : WellFormed m s places
+  pub line : l < lines m
+
+-- a line as a replacement gives it
+unfoldable pub givenAs : Line → Replacement
+givenAs ln = record {
+  endpoints = table 8 (λ i. ln .value (i / 4) (i % 4));
+  p = table 2 (ln .p);
+  indexes = table 16 (ln .index);
+}
