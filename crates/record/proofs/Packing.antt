@@ -23,11 +23,11 @@ use Rattle.laws.proofs.Tests.{T-true, at, below-intro, both-intro, both-left, b
 use Rattle.format.specs.Block.{eights, modeOf, trailing}
 use Rattle.format.specs.Modes.{indexBits, kindOfMode}
 use Rattle.format.specs.Partitions.{among}
-use Rattle.format.specs.Places.{Place, blockOf, head, index, inside, pbit, placeAt, pos, value, width}
+use Rattle.format.specs.Places.{Place, blockOf, head, index, inside, opened, pbit, placeAt, pos, value, width}
 use Rattle.format.specs.Splits.{anchors, indexMode, kindOf, ofKind, partition, rotation}
 use Rattle.format.specs.WellFormed.{WellFormed}
 use Rattle.format.proofs.Modes.{good-parts}
-use Rattle.format.proofs.Opening.{block-ext, good-kind}
+use Rattle.format.proofs.Opening.{block-ext, good-kind, opened-good}
 use Rattle.format.proofs.Places.{inside-placeAt, placeAt-pos, pos-lt, split-of-kind}
 use Rattle.record.specs.Records.{Shaped, fits, made, packRefusal, packed, packedAs, recordOf, says, taken, unpackedAs}
 
@@ -157,3 +157,8 @@ open-mode bs (more {v = b} h f) n =
 pub taken-open : (bs : List ℕ) → modeOf bs < 8 → taken bs ≡ unpackedAs 0 (recordOf bs)
 unfolding taken
 taken-open bs o = rw (ne-eqb (modeOf bs) 8 (λ z. let y : ⊥ = omega arith in y))
+
+-- the record of a block says what stands in the block
+pub record-says : (bs : List ℕ) → Fit eights bs → modeOf bs < 8 → (x : Place) → T (inside x) → says (recordOf bs) x ≡ opened bs x
+unfolding recordOf
+record-says bs h o x i = says-made (opened-good bs h o) x i

@@ -19,7 +19,7 @@ use Rattle.format.specs.WellFormed.{WellFormed}
 use Rattle.format.proofs.Lens.{shown-ext}
 use Rattle.format.proofs.Opening.{block-opened, mode-block, opened-block, opened-good, split-block}
 use Rattle.record.specs.Records.{Shaped, made, packed, packedAs, recordOf, says, taken, unpackedAs}
-use Rattle.record.proofs.Packing.{good-accepted, good-packs, made-ext, made-says, open-mode, packs-good, says-made, taken-open}
+use Rattle.record.proofs.Packing.{good-accepted, good-packs, made-ext, made-says, open-mode, packs-good, record-says, taken-open}
 
 -- packing what taking apart answers gives the block back
 pub pack-unpack : (bs : List ℕ) → Fit eights bs → getD bs 0 0 ≢ 0 → packed (taken bs .«record») ≡ packedAs 0 bs
@@ -47,7 +47,7 @@ unfolding recordOf made pixel
 record-draws-block bs h n q c =
     let o : modeOf bs < 8 = open-mode bs h n in
     rw (ne-eqb (modeOf bs) 8 (λ z. let y : ⊥ = omega arith in y))
-    (shown-ext (modeOf bs) (splitOf bs) (says (made (modeOf bs) (splitOf bs) (opened bs))) (opened bs) q c (says-made (opened-good bs h o)))
+    (shown-ext (modeOf bs) (splitOf bs) (says (recordOf bs)) (opened bs) q c (record-says bs h o))
 
 -- any two answers that a promise admits are the same
 pub determined-unpack : (bs : List ℕ) (a b : Unpacked) → a ≡ taken bs → b ≡ taken bs → a ≡ b

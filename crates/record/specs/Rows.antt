@@ -26,7 +26,7 @@ rowOf m = record {
   second = secondBits m;
 }
 
--- the anchors: a pixel that is none is named again, as there are never more than three
+-- the anchors as three pixels: pixel 0 again where a split has fewer, and 16, which is no pixel, for none
 abbrev pub pixelsOf : Anchors → List ℕ
 pixelsOf x = x .a ∷ x .b ∷ x .c ∷ []
 

@@ -43,6 +43,7 @@ pub struct Packed {
     pub block: [u8; 16],
 }
 
+// What a refused block answers.
 fn zero_record() -> Record
     ensures { λ r. ⌜ r ≡ zeroRecord ⌝ }
 {
@@ -70,13 +71,14 @@ pub fn unpack(block: [u8; 16]) -> Unpacked
     }
     let split = read_split(block, mode);
     let values = read_places(block, mode, anchors_of(split));
-    let whole = record_of(mode, split, values);
+    let record = record_of(mode, split, values);
     Unpacked {
         refusal: 0,
-        record: whole,
+        record: record,
     }
 }
 
+// What a refused record answers.
 fn refused(refusal: u8) -> Packed
     ensures { λ r. ⌜ r ≡ packedAs refusal (replicate 16 0) ⌝ }
 {

@@ -8,8 +8,8 @@ ghost use Rattle.format.specs.Modes.{indexBits};
 ghost use Rattle.format.specs.Places.{head, index, pbit, placeAt, value, width};
 ghost use Rattle.format.specs.Splits.{partition};
 ghost use Rattle.record.specs.Rows.{anchorsOf, noAnchors, pixelsOf, rowOf};
-use bcn_data::partition_set_2;
-use bcn_data::partition_set_3;
+use bcn_data::fixup_index_2;
+use bcn_data::fixup_indexes_3;
 use format::Split;
 
 // A row of the table. The kind of split: 0 whole, 1 two subsets, 2 three subsets, 3 vector and scalar.
@@ -27,7 +27,7 @@ pub struct ModeRow {
     pub second: u32,
 }
 
-// Up to three pixels that are anchors. What is missing is named twice, or 16 where there is none.
+// The pixels that are anchors, as three numbers: pixel 0 again where a split has fewer, and 16, which is no pixel, for none.
 pub struct Anchors {
     pub a: usize,
     pub b: usize,
@@ -141,6 +141,7 @@ const MODES: [ModeRow; 8] = [
     },
 ];
 
+// The row of a mode.
 pub fn mode_row(mode: u8) -> ModeRow
     requires { ⌜ mode < 8 ⌝ }
     ensures { λ r. ⌜ r ≡ rowOf mode ⌝ }
@@ -181,6 +182,7 @@ pub fn value_width(mode: u8, channel: usize, endpoint: usize) -> u32
     row.colour
 }
 
+// One bit where the mode has that p bit.
 pub fn p_width(mode: u8, p: usize) -> u32
     requires { ⌜ mode < 8 ⌝ }
     ensures { λ r. ⌜ r ≡ width mode [] (pbit p) ⌝ }
@@ -204,6 +206,7 @@ pub fn index_width(mode: u8, set: usize) -> u32
     row.second
 }
 
+// Is a pixel one of them?
 fn is_anchor(anchors: Anchors, pixel: usize) -> bool
     ensures { λ r. ⌜ r ≡ among pixel (pixelsOf anchors) ⌝ }
 {
@@ -251,7 +254,7 @@ pub fn place_width(mode: u8, anchors: Anchors, place: usize) -> u32
     stored_index_width(mode, anchors, (place - 34) / 16, (place - 34) % 16)
 }
 
-// The anchors of a split. Pixel 0 is always one; the partition tables have the others.
+// Pixel 0 is always an anchor; the partition tables have the others.
 pub fn anchors_of(split: Split) -> Anchors
     requires { ⌜ partition split < 64 ⌝ }
     ensures { λ r. ⌜ r ≡ anchorsOf split ⌝ }
@@ -259,19 +262,19 @@ pub fn anchors_of(split: Split) -> Anchors
     match split {
         Split::Whole => Anchors { a: 0, b: 0, c: 0 },
         Split::Two(partition) => {
-            let map = partition_set_2(partition);
+            let fixup = fixup_index_2(partition);
             Anchors {
                 a: 0,
-                b: map.fixup_index_2 as usize,
+                b: fixup as usize,
                 c: 0,
             }
         }
         Split::Three(partition) => {
-            let map = partition_set_3(partition);
+            let fixups = fixup_indexes_3(partition);
             Anchors {
                 a: 0,
-                b: map.fixup_index_2 as usize,
-                c: map.fixup_index_3 as usize,
+                b: fixups.fixup_index_2 as usize,
+                c: fixups.fixup_index_3 as usize,
             }
         }
         Split::Vector {

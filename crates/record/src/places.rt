@@ -53,6 +53,7 @@ pub fn value_at(record: Record, place: usize) -> u8
     record.second[place - 50]
 }
 
+// Does what a record says of one place fit its width?
 fn fits_at(record: Record, anchors: Anchors, place: usize) -> bool
     requires { ⌜ («record» .mode < 8) × (place < 66) ⌝ }
     ensures { λ r. ⌜ r ≡ ltb (says «record» (placeAt place)) (2 ^ width («record» .mode) (pixelsOf anchors) (placeAt place)) ⌝ }
@@ -93,6 +94,7 @@ fn endpoints_of(values: [u8; 66]) -> [u8; 24]
     endpoints
 }
 
+// The p bits stand together in both.
 fn p_of(values: [u8; 66]) -> [u8; 6]
     ensures { λ r. ⌜ r ≡ table 6 (λ k. getD values (pos (pbit k)) 0) ⌝ }
 {

@@ -14,6 +14,7 @@ use bcn_util::stream::BitStream;
 use bcn_util::stream::Bits8;
 use format::Split;
 
+// The mode is the count of zero bits that byte 0 ends in, and 8 is reserved.
 pub fn mode_of(block: [u8; 16]) -> u8
     ensures { λ r. ⌜ r ≡ modeOf block ⌝ }
 {

@@ -13,6 +13,7 @@ use crate::modes::place_width;
 use crate::places::value_at;
 use bcn_util::writer::BitWriter;
 
+// Every value has to fit its width, and the widths the block.
 pub fn write_places(record: Record, anchors: Anchors) -> [u8; 16]
     requires { ⌜ («record» .mode < 8) × (fits («record» .mode) (pixelsOf anchors) (says «record») ≡ true) × (total (widthsWith («record» .mode) (pixelsOf anchors)) ≤ 128) ⌝ }
     ensures { λ r. ⌜ r ≡ bytesOf (join (widthsWith («record» .mode) (pixelsOf anchors)) (listOf (says «record»))) ⌝ }

@@ -37,7 +37,8 @@ refused-requires-2 : tie.Need-refused-requires-2
 refused-requires-2 c κs = search needs
 
 returns-2 : tie.Need-returns-2
-returns-2 c = let kinds = c .before .before .before in
+returns-2 c =
+    let kinds = c .before .before .before in
     c .refused2 .ensures
     ∙ way-kind _ (kinds .before .before .if1 .left) (λ e. c .before .if2 .taken (kinds .kind-of .ensures ∙ e ∙ sym (ap (λ (r : ModeRow). r .kind) (kinds .before .mode-row .ensures))))
 
@@ -51,13 +52,15 @@ refused-requires-3 : tie.Need-refused-requires-3
 refused-requires-3 c κs = search needs
 
 returns-3 : tie.Need-returns-3
-returns-3 c = let else2 = c .before .before .before .before in
+returns-3 c =
+    let else2 = c .before .before .before .before in
     c .refused3 .ensures
     ∙ way-width _ (else2 .before .before .before .before .if1 .left) (same-kind else2)
     (fits-none _ _ (c .before .before .before .no-anchors .ensures) (c .before .before .fit-widths .ensures) ∙ not-true _ (c .before .if3 .taken))
 
 anchors-of-requires : tie.Need-anchors-of-requires
-anchors-of-requires c κs = let else2 = c .before .before .before in
+anchors-of-requires c κs =
+    let else2 = c .before .before .before in
     part-64 _ (else2 .before .before .before .before .if1 .left) (same-kind else2) (full-fits c)
 
 fit-widths-requires-2 : tie.Need-fit-widths-requires-2
@@ -67,14 +70,16 @@ refused-requires-4 : tie.Need-refused-requires-4
 refused-requires-4 c κs = search needs
 
 returns-4 : tie.Need-returns-4
-returns-4 c = let else3 = c .before .before .before .before in
+returns-4 c =
+    let else3 = c .before .before .before .before in
     let else2 = else3 .before .before .before in
     c .refused4 .ensures
     ∙ way-anchor _ (else2 .before .before .before .before .if1 .left) (same-kind else2) (full-fits else3) (c .before .before .before .anchors-of .ensures)
     (sym (c .before .before .fit-widths2 .ensures) ∙ not-true _ (c .before .if4 .taken))
 
 write-places-requires : tie.Need-write-places-requires
-write-places-requires c κs = let else3 = c .before .before .before in
+write-places-requires c κs =
+    let else3 = c .before .before .before in
     let else2 = else3 .before .before .before in
     let low = else2 .before .before .before .before .if1 .left in (
       omega arith,
@@ -83,7 +88,8 @@ write-places-requires c κs = let else3 = c .before .before .before in
     )
 
 returns-5 : tie.Need-returns-5
-returns-5 c = let else4 = c .before in
+returns-5 c =
+    let else4 = c .before in
     let else3 = else4 .before .before .before in
     let else2 = else3 .before .before .before in
     way-packed _ (else2 .before .before .before .before .if1 .left) (same-kind else2) (full-fits else3) (else4 .before .before .anchors-of .ensures)

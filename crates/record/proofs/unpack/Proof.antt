@@ -45,7 +45,8 @@ record-of-requires : tie.Need-record-of-requires
 record-of-requires c κs = search needs
 
 returns-2 : tie.Need-returns-2
-returns-2 c = let else = c .before .before .before .before in
+returns-2 c =
+    let else = c .before .before .before .before in
     accepted _ (sixteen (else .before .before)) (else .before .mode-of .ensures) (else .if1 .left) (c .before .before .before .read-split .ensures)
     (c .before .before .anchors-of .ensures) (c .before .read-places .ensures) (c .record-of .ensures)
 

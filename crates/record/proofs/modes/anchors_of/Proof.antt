@@ -5,11 +5,13 @@ use Prim.Native.Nat.{_<_}
 use borrow.Author.Needs.{needs}
 use Rattle.format.specs.Splits.{partition}
 use Rattle.format.specs.declared.Split.{Split}
-use Rattle.format.specs.declared.Split.the-variants.{Two, Three}
 use Rattle.record.specs.Rows.{anchorsOf}
 use Rattle.record.proofs.Widths.{anchors-two, anchors-three}
 use Rattle.record.proofs.modes.anchors_of.Statement.{statement}
 use Rattle.record.proofs.modes.anchors_of.Tie as tie
+
+low : {s t : Split} → partition s < 64 → s ≡ t → partition t < 64
+low h e = subst (λ (s : Split). partition s < 64) e h
 
 enum-told : tie.Need-enum-told
 enum-told c = search needs
@@ -17,8 +19,8 @@ enum-told c = search needs
 enum-known-split : tie.Need-enum-known-split
 enum-known-split c = search needs
 
-partition-set-2-requires : tie.Need-partition-set-2-requires
-partition-set-2-requires c κs = let e : c .before .before .before .args .split ≡ Two (c .before .split .given .0 .0) = c .before .split .given .1 in subst (λ (s : Split). partition s < 64) e (c .before .before .before .pre)
+fixup-index-2-requires : tie.Need-fixup-index-2-requires
+fixup-index-2-requires c κs = low (c .before .before .before .pre) (c .before .split .given .1)
 
 cast-t7 : tie.Need-cast-t7
 cast-t7 c = search needs
@@ -26,8 +28,8 @@ cast-t7 c = search needs
 enum-known-split-2 : tie.Need-enum-known-split-2
 enum-known-split-2 c = search needs
 
-partition-set-3-requires : tie.Need-partition-set-3-requires
-partition-set-3-requires c κs = let e : c .before .before .before .args .split ≡ Three (c .before .split2 .given .0 .0) = c .before .split2 .given .1 in subst (λ (s : Split). partition s < 64) e (c .before .before .before .pre)
+fixup-indexes-3-requires : tie.Need-fixup-indexes-3-requires
+fixup-indexes-3-requires c κs = low (c .before .before .before .pre) (c .before .split2 .given .1)
 
 cast-t8 : tie.Need-cast-t8
 cast-t8 c = search needs
@@ -42,14 +44,14 @@ returns : tie.Need-returns
 returns c = sym (ap anchorsOf (c .enum-told .given .1))
 
 returns-2 : tie.Need-returns-2
-returns-2 c = let known = c .before .before .before in
-    let e : known .before .before .args .split ≡ Two (known .split .given .0 .0) = known .split .given .1 in
-    rw (c .before .partition-set-2 .ensures) (anchors-two _ (subst (λ (s : Split). partition s < 64) e (known .before .before .pre)) ∙ sym (ap anchorsOf e))
+returns-2 c =
+    let known = c .before .before in
+    rw (c .fixup-index-2 .ensures) (anchors-two _ (low (known .before .before .pre) (known .split .given .1)) ∙ sym (ap anchorsOf (known .split .given .1)))
 
 returns-3 : tie.Need-returns-3
-returns-3 c = let known = c .before .before .before .before in
-    let e : known .before .before .args .split ≡ Three (known .split2 .given .0 .0) = known .split2 .given .1 in
-    rw (c .before .before .partition-set-3 .ensures) (anchors-three _ (subst (λ (s : Split). partition s < 64) e (known .before .before .pre)) ∙ sym (ap anchorsOf e))
+returns-3 c =
+    let known = c .before .before .before .before in
+    rw (c .before .before .fixup-indexes-3 .ensures) (anchors-three _ (low (known .before .before .pre) (known .split2 .given .1)) ∙ sym (ap anchorsOf (known .split2 .given .1)))
 
 returns-4 : tie.Need-returns-4
 returns-4 c = sym (ap anchorsOf (c .enum-told2 .given .1))
@@ -60,10 +62,10 @@ anchors-of-spec =
     (tie.spec
     enum-told
     enum-known-split
-    partition-set-2-requires
+    fixup-index-2-requires
     cast-t7
     enum-known-split-2
-    partition-set-3-requires
+    fixup-indexes-3-requires
     cast-t8
     cast-t9
     enum-told-2

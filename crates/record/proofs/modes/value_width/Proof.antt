@@ -15,12 +15,14 @@ returns c = simp (le-ltb _ _ (rw (c .before .before .mode-row .ensures) at (c .i
 
 returns-2 : tie.Need-returns-2
 unfolding width
-returns-2 c = let e = c .before .before .before .mode-row .ensures in
+returns-2 c =
+    let e = c .before .before .before .mode-row .ensures in
     simp (e, lt-ltb _ _ (rw e at (c .before .if1 .left)), eq-eqb _ _ (c .if2 .taken))
 
 returns-3 : tie.Need-returns-3
 unfolding width
-returns-3 c = let e = c .before .before .before .mode-row .ensures in
+returns-3 c =
+    let e = c .before .before .before .mode-row .ensures in
     simp (e, lt-ltb _ _ (rw e at (c .before .if1 .left)), ne-eqb _ _ (c .if2 .left))
 
 pub value-width-spec : {M : Type 1} → statement M

@@ -46,7 +46,8 @@ loop-again c = (omega arith, scan-more (test _ _) _ (c .before .before .before .
 
 returns-2 : tie.Need-returns-2 Inv-loop μ-loop
 unfolding fits
-returns-2 c = let end : c .before .loop .place ≡ 66 = omega arith in
+returns-2 c =
+    let end : c .before .loop .place ≡ 66 = omega arith in
     sym (subst (λ (n : ℕ). below n (test (c .before .before .args .«record») (c .before .before .args .anchors)) ≡ true) end (c .before .loop .inv .1))
 
 pub fit-widths-spec : {M : Type 1} → statement M

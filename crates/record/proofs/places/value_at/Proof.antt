@@ -42,7 +42,8 @@ element-copy-out-result-3 c = search needs
 
 returns-4 : tie.Need-returns-4
 unfolding placeAt says
-returns-4 c = let i : ℕ = c .before .before .before .before .before .args .place in
+returns-4 c =
+    let i : ℕ = c .before .before .before .before .before .args .place in
     let set : (i - 34) / 16 ≡ 0 = omega arith in
     let pixel : (i - 34) % 16 ≡ i - 34 = omega arith in
     rw (le-ltb _ _ (c .before .before .before .before .if1 .left), le-ltb _ _ (c .before .before .before .if2 .left), le-ltb _ _ (c .before .before .if3 .left), set, pixel)
@@ -52,7 +53,8 @@ element-copy-out-result-4 c = search needs
 
 returns-5 : tie.Need-returns-5
 unfolding placeAt says
-returns-5 c = let i : ℕ = c .before .before .before .before .before .args .place in
+returns-5 c =
+    let i : ℕ = c .before .before .before .before .before .args .place in
     let set : (i - 34) / 16 ≡ 1 = omega arith in
     let pixel : (i - 34) % 16 ≡ i - 50 = omega arith in
     rw (le-ltb _ _ (c .before .before .before .before .if1 .left), le-ltb _ _ (c .before .before .before .if2 .left), le-ltb _ _ (c .before .before .if3 .left), set, pixel)

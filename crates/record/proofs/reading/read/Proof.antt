@@ -9,7 +9,8 @@ take-requires : tie.Need-take-requires
 take-requires c κs = search needs
 
 cast-t5 : tie.Need-cast-t5
-cast-t5 c = let s = c .before .before .before in
+cast-t5 c =
+    let s = c .before .before .before in
     record { fits = rw (c .before .before .take .ensures) (field-below _ _ (s .args .width) 8 (s .pre .0)) }
 
 returns : tie.Need-returns

@@ -26,7 +26,8 @@ place-width-requires : tie.Need-place-width-requires Inv-loop μ-loop
 place-width-requires c κs = c .before .before .before .pre
 
 read-requires : tie.Need-read-requires Inv-loop μ-loop
-read-requires c κs = let r = c .before .before .loop .inv in
+read-requires c κs =
+    let r = c .before .before .loop .inv in
     let w = at-most-8 _ _ _ _ (c .place-width .ensures) (c .before .before .before .before .pre) (c .before .loop-test .taken) in
     (w, omega (arith, w, r .near, r .few))
 
@@ -40,7 +41,8 @@ loop-less : tie.Need-loop-less Inv-loop μ-loop
 loop-less c = omega arith
 
 loop-again : tie.Need-loop-again Inv-loop μ-loop
-loop-again c = let s = c .before .before .before .before in
+loop-again c =
+    let s = c .before .before .before .before in
     reading-next _ _ _ _ _ _ _ _ (s .before .before .pre) (c .before .before .before .loop-test .taken) (s .loop .inv) (c .before .before .place-width .ensures) (c .before .read .ensures)
 
 returns : tie.Need-returns Inv-loop μ-loop

@@ -20,17 +20,20 @@ skip-requires : tie.Need-skip-requires
 skip-requires c κs = search needs
 
 read-requires : tie.Need-read-requires
-read-requires c κs = let s = c .before .before in
+read-requires c κs =
+    let s = c .before .before in
     let w = split-bits _ (s .before .pre) in
     rw (s .mode-row .ensures, c .skip .ensures) (w .0, omega (arith, w .0, c .before .new .ensures .1, s .before .pre))
 
 read-requires-2 : tie.Need-read-requires-2
-read-requires-2 c κs = let s = c .before .before .before in
+read-requires-2 c κs =
+    let s = c .before .before .before in
     let w = split-bits _ (s .before .pre) in
     rw (c .read .ensures, s .mode-row .ensures, c .before .skip .ensures) (w .1, omega (arith, w .0, w .1, c .before .before .new .ensures .1, s .before .pre))
 
 read-requires-3 : tie.Need-read-requires-3
-read-requires-3 c κs = let s = c .before .before .before .before in
+read-requires-3 c κs =
+    let s = c .before .before .before .before in
     let w = split-bits _ (s .before .pre) in
     rw (c .read2 .ensures, c .before .read .ensures, s .mode-row .ensures, c .before .before .skip .ensures)
     (w .2, omega (arith, w .0, w .1, w .2, c .before .before .before .new .ensures .1, s .before .pre))
@@ -39,7 +42,8 @@ split-of-kind-requires : tie.Need-split-of-kind-requires
 split-of-kind-requires c κs = search needs
 
 returns : tie.Need-returns
-returns c = let new = c .before .before .before .before .before in
+returns c =
+    let new = c .before .before .before .before .before in
     c .split-of-kind .ensures
     ∙ split-read _ _ (new .before .mode-row .ensures) (new .new .ensures .0) (new .new .ensures .1) (c .before .before .before .before .skip .ensures)
     (c .before .before .before .read .ensures) (c .before .before .read2 .ensures) (c .before .read3 .ensures)

@@ -33,7 +33,8 @@ place-width-requires : tie.Need-place-width-requires Inv-loop μ-loop
 place-width-requires c κs = c .before .before .before .before .pre .0
 
 push-requires : tie.Need-push-requires Inv-loop μ-loop
-push-requires c κs = let loop = c .before .before .before in
+push-requires c κs =
+    let loop = c .before .before .before in
     writing-asks _ _ (loop .before .before .pre .1) _ _ _ _ (c .before .before .loop-test .taken) (loop .before .before .pre .2) (loop .loop .inv) (c .before .value-at .ensures) (c .place-width .ensures)
 
 add-place : tie.Need-add-place Inv-loop μ-loop
@@ -43,14 +44,16 @@ loop-less : tie.Need-loop-less Inv-loop μ-loop
 loop-less c = omega arith
 
 loop-again : tie.Need-loop-again Inv-loop μ-loop
-loop-again c = let loop = c .before .before .before .before in
+loop-again c =
+    let loop = c .before .before .before .before in
     writing-next _ _ (loop .before .before .pre .1) _ _ _ _ _ (c .before .before .before .loop-test .taken) (loop .loop .inv) (c .before .before .value-at .ensures) (c .before .place-width .ensures) (c .push .ensures)
 
 finish-requires : tie.Need-finish-requires Inv-loop μ-loop
 finish-requires c κs = tt
 
 returns : tie.Need-returns Inv-loop μ-loop
-returns c = let loop = c .before .before in
+returns c =
+    let loop = c .before .before in
     c .finish .ensures ∙ ap bytesOf (writing-all _ _ (loop .before .before .pre .1) _ _ (omega arith) (loop .loop .inv))
 
 pub write-places-spec : {M : Type 1} → statement M
