@@ -1,6 +1,6 @@
 -- When a row is refused, and when not.
 -- Assumes nothing.
-use mathlib.Core.Path.{_≡_, refl, _∙_}
+use mathlib.Core.Path.{_≡_, refl, _∙_, ap, sym}
 use mathlib.Core.Bool.{true, false, not}
 use mathlib.Core.List.{List}
 use Prim.Native.Nat.{ℕ, zero, _-_, _*_, _<_, _≤_}
@@ -12,6 +12,7 @@ use borrow.Author.Tests.{eq-eqb, ne-eqb, le-leb, lt-leb, leb-false, eqb-true, no
 use Rattle.laws.proofs.First.{first-here, first-none, first-skip, first-zero, refuse-no}
 use Rattle.head.specs.Heads.{Sized, sizeRefusal}
 use Rattle.head.proofs.Heading.{sized}
+use Rattle.line.specs.Replace.{after}
 use Rattle.sheet.specs.Rows.{across, rowBytes, rowOut, rowRefusal, shown}
 
 -- the ways of `row_refusal`
@@ -66,16 +67,23 @@ module _ (w h row given room : ℕ) where
         space = eqb-true room _ (not-false _ (refuse-no 10 _ (d .0)));
       }
 
+pub told-by : (w h row given room : ℕ) {r : ℕ} → r ≡ rowRefusal w h row given room → r ≡ 0 → Accepted w h row given room
+told-by w h row given room e z = told w h row given room (sym e ∙ z)
+
 -- four lines at the most
 pub area : (lines w : ℕ) → lines ≤ 4 → lines * (4 * w) ≤ 4 * (4 * w)
 area lines w h = mul-le-mul-right (4 * w) h
 
--- the output of `decode_row`
-module _ (w h row : ℕ) (blocks out : List ℕ) where
-  pub kept : (rowRefusal w h row (length blocks) (length out) ≡ 0 → ⊥) → rowOut w h row blocks out ≡ out
-  unfolding rowOut
-  kept ne = rw (ne-eqb (rowRefusal w h row (length blocks) (length out)) 0 ne)
+pub drawn : (w h row : ℕ) (blocks out : List ℕ) → rowRefusal w h row (length blocks) (length out) ≡ 0 → rowOut w h row blocks out ≡ rowBytes w (shown h row) blocks
+unfolding rowOut
+drawn w h row blocks out e = rw (eq-eqb (rowRefusal w h row (length blocks) (length out)) 0 e)
 
-  pub drawn : rowRefusal w h row (length blocks) (length out) ≡ 0 → rowOut w h row blocks out ≡ rowBytes w (shown h row) blocks
+-- the ways of `decode_row`
+module _ (w h row : ℕ) (blocks out : List ℕ) {r : ℕ} (e : r ≡ rowRefusal w h row (length blocks) (length out)) where
+  pub kept : (r ≡ 0 → ⊥) → (r ≡ rowRefusal w h row (length blocks) (length out)) × (out ≡ rowOut w h row blocks out)
   unfolding rowOut
-  drawn e = rw (eq-eqb (rowRefusal w h row (length blocks) (length out)) 0 e)
+  kept ne = (e, rw (← e, ne-eqb r 0 ne))
+
+  pub drawn-by : r ≡ 0 → {lines : ℕ} → lines ≡ shown h row → {after : List ℕ} → after ≡ rowBytes w lines blocks
+      → (0 ≡ rowRefusal w h row (length blocks) (length out)) × (after ≡ rowOut w h row blocks out)
+  drawn-by z l d = (sym z ∙ e, d ∙ ap (λ (n : ℕ). rowBytes w n blocks) l ∙ sym (drawn w h row blocks out (sym e ∙ z)))

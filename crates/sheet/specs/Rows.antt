@@ -41,8 +41,7 @@ unfoldable pub rowRefusal : ℕ → ℕ → ℕ → ℕ → ℕ → ℕ
 rowRefusal w h row given room =
     first
     (sizeRefusal w h
-    ∷ refuse 12 (leb (across h) row)
-    ∷ refuse 10 (not (eqb given (16 * across w)))
+    ∷ refuse 12 (leb (across h) row) ∷ refuse 10 (not (eqb given (16 * across w)))
     ∷ refuse 11 (not (eqb room (shown h row * (4 * w)))) ∷ [])
 
 -- the output afterwards

@@ -4,8 +4,8 @@ ghost use mathlib.Core.Path.{_≡_};
 ghost use Prim.Native.Nat.{_+_, _-_, _*_, _≤_, _<_, min};
 ghost use lib.ListN.{length, getD};
 ghost use Rattle.laws.specs.Tables.{over};
-ghost use Rattle.sheet.specs.Rows.{blockAt, lineByte, rowRefusal, shown, withColumn};
-ghost use Rattle.sheet.specs.Sheets.{findBlock, foundAt, putBlock};
+ghost use Rattle.sheet.specs.Rows.{across, blockAt, lineByte, rowBytes, rowOut, rowRefusal, shown, withColumn};
+ghost use Rattle.sheet.specs.Sheets.{findBlock, foundAt, putBlock, sheetAfter, sheetRefusal};
 
 // The block at a place.
 fn load(s: &[u8], at: usize) -> [u8; 16]
@@ -109,6 +109,18 @@ fn put_block(px: [[u8; 4]; 16], c: usize, w: usize, lines: usize, out: &mut [u8]
     put_lines(px, c, w, lines, out);
 }
 
+// All blocks of a row.
+fn put_row(w: usize, lines: usize, blocks: &[u8], out: &mut [u8])
+    requires { ⌜ (lines ≤ 4) × (0 < w) × (w ≤ 65536) × (length (now blocks) ≡ 16 * across w) × (length (now out) ≡ lines * (4 * w)) ⌝ }
+    ensures { λ _. ⌜ now (out .exit) ≡ rowBytes w lines (now (blocks .entry)) ⌝ }
+{
+    let columns = blocks.len() / 16;
+    for c in 0..columns {
+        let px = bc7::decode_bc7_block(load(blocks, 16 * c));
+        put_block(px, c, w, lines, out);
+    }
+}
+
 // The lines of a row of blocks that are shown.
 fn lines_shown(height: u32, row: u32) -> usize
     requires { ⌜ 4 * row < height ⌝ }
@@ -121,9 +133,9 @@ fn lines_shown(height: u32, row: u32) -> usize
 fn row_refusal(width: u32, height: u32, row: u32, given: usize, room: usize) -> u8
     ensures { λ r. ⌜ r ≡ rowRefusal width height row given room ⌝ }
 {
-    let refusal = head::size_refusal(width, height);
-    if refusal != 0 {
-        return refusal;
+    let size = head::size_refusal(width, height);
+    if size != 0 {
+        return size;
     }
     if row >= (height + 3) / 4 {
         return 12;
@@ -135,6 +147,19 @@ fn row_refusal(width: u32, height: u32, row: u32, given: usize, room: usize) -> 
     if room != lines_shown(height, row) * (4 * w) {
         return 11;
     }
+    0
+}
+
+// One row of blocks as lines of pixels, top first. A refused call leaves the output as it was.
+pub fn decode_row(width: u32, height: u32, row: u32, blocks: &[u8], out: &mut [u8]) -> u8
+    ensures { λ r. ⌜ r ≡ rowRefusal width height row (length (now (blocks .entry))) (length (now (out .entry))) ⌝ }
+    ensures { λ _. ⌜ now (out .exit) ≡ rowOut width height row (now (blocks .entry)) (now (out .entry)) ⌝ }
+{
+    let refusal = row_refusal(width, height, row, blocks.len(), out.len());
+    if refusal != 0 {
+        return refusal;
+    }
+    put_row(width as usize, lines_shown(height, row), blocks, out);
     0
 }
 
@@ -175,4 +200,23 @@ fn find_block(sheet: &[u8], block: u32) -> Found
         refusal: 0,
         at: start + 16 * number,
     }
+}
+
+// A line of a block of a sheet, replaced. A refused call leaves the sheet as it was.
+pub fn replace_in_sheet(sheet: &mut [u8], block: u32, line: u32, new: line::Replacement) -> u8
+    ensures { λ r. ⌜ r ≡ sheetRefusal (now (sheet .entry)) block line new ⌝ }
+    ensures { λ _. ⌜ now (sheet .exit) ≡ sheetAfter (now (sheet .entry)) block line new ⌝ }
+{
+    let found = find_block(sheet, block);
+    if found.refusal != 0 {
+        return found.refusal;
+    }
+    let at = found.at;
+    let replaced = line::replace_line(load(sheet, at), line, new);
+    if replaced.refusal != 0 {
+        return replaced.refusal;
+    }
+    let after = replaced.block;
+    store(sheet, at, after);
+    0
 }
