@@ -1,4 +1,4 @@
-// Endpoints, weights and drawing: what every mode shares.
+// Endpoints promoted to eight bits, the weights of indexes, and drawing between two endpoints: what every mode shares.
 ghost use mathlib.Core.Path.{_≡_};
 ghost use mathlib.Core.List.{[], _∷_};
 ghost use Prim.Native.Nat.{ℕ, _+_, _-_, _*_, _/_, _%_, _^_, _≤_, _<_};

@@ -1,4 +1,4 @@
-// One function for each mode: it reads with literal widths, and draws.
+// One function for each mode: it reads with literal widths, so that positions fold away, and draws.
 ghost use mathlib.Core.Path.{_≡_};
 ghost use Prim.Native.Nat.{ℕ, _+_, _*_, _<_};
 ghost use Rattle.bc7_reader.specs.At.{held};

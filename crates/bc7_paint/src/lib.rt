@@ -1,4 +1,5 @@
-// Sixteen pixels from endpoints, a map of subsets and words of indexes.
+// Sixteen pixels from endpoints, a map of subsets and words of indexes: one function for each kind of split and index width,
+// and the rotation.
 ghost use mathlib.Core.Path.{_≡_};
 ghost use mathlib.Core.List.{[], _∷_};
 ghost use Prim.Native.Nat.{ℕ, _+_, _-_, _*_, _/_, _%_, _^_, _≤_, _<_};

@@ -1,4 +1,5 @@
-// The reader by value: two halves of a block and a position that moves over them.
+// Reading a block by value: two halves and a position that moves over them, and the sixteen indexes of one width made from
+// those that are stored with a bit less at each anchor.
 ghost use mathlib.Core.Path.{_≡_};
 ghost use mathlib.Core.List.{[], _∷_};
 ghost use Prim.Native.Nat.{ℕ, _+_, _-_, _*_, _/_, _%_, _^_, _≤_, _<_};

@@ -1,4 +1,5 @@
-// The partitions, as words: k bits for each pixel's subset; and the anchors.
+// The partitions as words, k bits for the subset of each pixel, and the pixels that are anchors. That they say what the
+// strings of the format say is one computed test for each table.
 ghost use mathlib.Core.Path.{_≡_};
 ghost use Prim.Native.Nat.{_<_};
 ghost use Rattle.format.specs.Partitions.{subset2, subset3};

@@ -28,47 +28,36 @@ size s = search needs
 byte : (s : tie.Start) (i : ℕ) → Fits w8 (getD (s .args .t1) i 0)
 byte s i = search needs
 
--- src/lib.rt:10:9
 open-requires : tie.Need-open-requires
 open-requires c κs = search needs
 
--- src/lib.rt:11:30
 array-read-match : tie.Need-array-read-match
 array-read-match c = search needs
 
--- src/lib.rt:12:14
 mode-0-requires : tie.Need-mode-0-requires
 mode-0-requires c κs = search needs
 
--- src/lib.rt:13:14
 mode-1-requires : tie.Need-mode-1-requires
 mode-1-requires c κs = search needs
 
--- src/lib.rt:14:14
 mode-2-requires : tie.Need-mode-2-requires
 mode-2-requires c κs = search needs
 
--- src/lib.rt:15:14
 mode-3-requires : tie.Need-mode-3-requires
 mode-3-requires c κs = search needs
 
--- src/lib.rt:16:14
 mode-4-requires : tie.Need-mode-4-requires
 mode-4-requires c κs = search needs
 
--- src/lib.rt:17:14
 mode-5-requires : tie.Need-mode-5-requires
 mode-5-requires c κs = search needs
 
--- src/lib.rt:18:14
 mode-6-requires : tie.Need-mode-6-requires
 mode-6-requires c κs = search needs
 
--- src/lib.rt:19:14
 mode-7-requires : tie.Need-mode-7-requires
 mode-7-requires c κs = search needs
 
--- src/lib.rt:7:1
 returns : tie.Need-returns
 unfolding held
 returns c =
@@ -76,7 +65,6 @@ returns c =
     let s = o .before in
     by-mode (s .args .t1) (size s) (λ i. byte s i .fits) 0 _ _ (omega arith) (c .before .match .keys1) (o .open .ensures .0) (c .mode-0 .ensures)
 
--- src/lib.rt:7:1
 returns-2 : tie.Need-returns-2
 unfolding held
 returns-2 c =
@@ -84,7 +72,6 @@ returns-2 c =
     let s = o .before in
     by-mode (s .args .t1) (size s) (λ i. byte s i .fits) 1 _ _ (omega arith) (c .before .match .keys2) (o .open .ensures .0) (c .mode-1 .ensures)
 
--- src/lib.rt:7:1
 returns-3 : tie.Need-returns-3
 unfolding held
 returns-3 c =
@@ -92,7 +79,6 @@ returns-3 c =
     let s = o .before in
     by-mode (s .args .t1) (size s) (λ i. byte s i .fits) 2 _ _ (omega arith) (c .before .match .keys3) (o .open .ensures .0) (c .mode-2 .ensures)
 
--- src/lib.rt:7:1
 returns-4 : tie.Need-returns-4
 unfolding held
 returns-4 c =
@@ -100,7 +86,6 @@ returns-4 c =
     let s = o .before in
     by-mode (s .args .t1) (size s) (λ i. byte s i .fits) 3 _ _ (omega arith) (c .before .match .keys4) (o .open .ensures .0) (c .mode-3 .ensures)
 
--- src/lib.rt:7:1
 returns-5 : tie.Need-returns-5
 unfolding held
 returns-5 c =
@@ -108,7 +93,6 @@ returns-5 c =
     let s = o .before in
     by-mode (s .args .t1) (size s) (λ i. byte s i .fits) 4 _ _ (omega arith) (c .before .match .keys5) (o .open .ensures .0) (c .mode-4 .ensures)
 
--- src/lib.rt:7:1
 returns-6 : tie.Need-returns-6
 unfolding held
 returns-6 c =
@@ -116,7 +100,6 @@ returns-6 c =
     let s = o .before in
     by-mode (s .args .t1) (size s) (λ i. byte s i .fits) 5 _ _ (omega arith) (c .before .match .keys6) (o .open .ensures .0) (c .mode-5 .ensures)
 
--- src/lib.rt:7:1
 returns-7 : tie.Need-returns-7
 unfolding held
 returns-7 c =
@@ -124,7 +107,6 @@ returns-7 c =
     let s = o .before in
     by-mode (s .args .t1) (size s) (λ i. byte s i .fits) 6 _ _ (omega arith) (c .before .match .keys7) (o .open .ensures .0) (c .mode-6 .ensures)
 
--- src/lib.rt:7:1
 returns-8 : tie.Need-returns-8
 unfolding held
 returns-8 c =
@@ -132,7 +114,6 @@ returns-8 c =
     let s = o .before in
     by-mode (s .args .t1) (size s) (λ i. byte s i .fits) 7 _ _ (omega arith) (c .before .match .keys8) (o .open .ensures .0) (c .mode-7 .ensures)
 
--- src/lib.rt:7:1
 returns-9 : tie.Need-returns-9
 returns-9 c =
     let s = c .before .before in
@@ -146,19 +127,19 @@ decode-bc7-block-spec =
     open-requires
     array-read-match
     mode-0-requires
-    mode-1-requires
-    mode-2-requires
-    mode-3-requires
-    mode-4-requires
-    mode-5-requires
-    mode-6-requires
-    mode-7-requires
     returns
+    mode-1-requires
     returns-2
+    mode-2-requires
     returns-3
+    mode-3-requires
     returns-4
+    mode-4-requires
     returns-5
+    mode-5-requires
     returns-6
+    mode-6-requires
     returns-7
+    mode-7-requires
     returns-8
     returns-9)

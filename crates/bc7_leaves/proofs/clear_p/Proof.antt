@@ -11,51 +11,39 @@ use Rattle.bc7_leaves.proofs.clear_p.Reads as reads
 use Rattle.bc7_leaves.proofs.clear_p.Lts as lts
 use Rattle.bc7_leaves.proofs.clear.Reads as clear-reads
 
--- src/lib.rt:44:11
 add-clear : tie.Need-add-clear
 add-clear c = search needs
 
--- src/lib.rt:44:18
 add-clear-2 : tie.Need-add-clear-2
 add-clear-2 c = search needs
 
--- src/lib.rt:44:25
 mul-clear : tie.Need-mul-clear
 mul-clear c = omega (arith, small (c .args .w) (c .args .r) (c .pre .1) (c .pre .2), small (c .args .w) (c .args .g) (c .pre .1) (c .pre .3), small (c .args .w) (c .args .b) (c .pre .1) (c .pre .4), small (c .args .w) (c .args .a) (c .pre .1) (c .pre .5))
 
--- src/lib.rt:44:25
 add-clear-3 : tie.Need-add-clear-3
 add-clear-3 c = omega (arith, small (c .args .w) (c .args .r) (c .pre .1) (c .pre .2), small (c .args .w) (c .args .g) (c .pre .1) (c .pre .3), small (c .args .w) (c .args .b) (c .pre .1) (c .pre .4), small (c .args .w) (c .args .a) (c .pre .1) (c .pre .5))
 
--- src/lib.rt:44:36
 mul-clear-2 : tie.Need-mul-clear-2
 mul-clear-2 c = omega (arith, small (c .args .w) (c .args .r) (c .pre .1) (c .pre .2), small (c .args .w) (c .args .g) (c .pre .1) (c .pre .3), small (c .args .w) (c .args .b) (c .pre .1) (c .pre .4), small (c .args .w) (c .args .a) (c .pre .1) (c .pre .5))
 
--- src/lib.rt:44:36
 add-clear-4 : tie.Need-add-clear-4
 add-clear-4 c = omega (arith, small (c .args .w) (c .args .r) (c .pre .1) (c .pre .2), small (c .args .w) (c .args .g) (c .pre .1) (c .pre .3), small (c .args .w) (c .args .b) (c .pre .1) (c .pre .4), small (c .args .w) (c .args .a) (c .pre .1) (c .pre .5))
 
--- src/lib.rt:44:47
 mul-clear-3 : tie.Need-mul-clear-3
 mul-clear-3 c = omega (arith, small (c .args .w) (c .args .r) (c .pre .1) (c .pre .2), small (c .args .w) (c .args .g) (c .pre .1) (c .pre .3), small (c .args .w) (c .args .b) (c .pre .1) (c .pre .4), small (c .args .w) (c .args .a) (c .pre .1) (c .pre .5))
 
--- src/lib.rt:44:47
 add-clear-5 : tie.Need-add-clear-5
 add-clear-5 c = omega (arith, small (c .args .w) (c .args .r) (c .pre .1) (c .pre .2), small (c .args .w) (c .args .g) (c .pre .1) (c .pre .3), small (c .args .w) (c .args .b) (c .pre .1) (c .pre .4), small (c .args .w) (c .args .a) (c .pre .1) (c .pre .5))
 
--- src/lib.rt:44:58
 mul-clear-4 : tie.Need-mul-clear-4
 mul-clear-4 c = omega (arith, small (c .args .w) (c .args .r) (c .pre .1) (c .pre .2), small (c .args .w) (c .args .g) (c .pre .1) (c .pre .3), small (c .args .w) (c .args .b) (c .pre .1) (c .pre .4), small (c .args .w) (c .args .a) (c .pre .1) (c .pre .5))
 
--- src/lib.rt:44:58
 add-clear-6 : tie.Need-add-clear-6
 add-clear-6 c = omega (arith, small (c .args .w) (c .args .r) (c .pre .1) (c .pre .2), small (c .args .w) (c .args .g) (c .pre .1) (c .pre .3), small (c .args .w) (c .args .b) (c .pre .1) (c .pre .4), small (c .args .w) (c .args .a) (c .pre .1) (c .pre .5))
 
--- src/lib.rt:44:5
 clear-requires : tie.Need-clear-requires
 clear-requires c κs = (omega arith, omega arith, omega arith, omega arith, with-p (c .args .w) (c .args .r) (c .args .p) (c .pre .2) (c .pre .6), with-p (c .args .w) (c .args .g) (c .args .p) (c .pre .3) (c .pre .6), with-p (c .args .w) (c .args .b) (c .args .p) (c .pre .4) (c .pre .6), with-p (c .args .w) (c .args .a) (c .args .p) (c .pre .5) (c .pre .6))
 
--- src/lib.rt:40:1
 returns : tie.Need-returns
 returns c = search needs
 

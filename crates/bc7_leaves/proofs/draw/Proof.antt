@@ -19,191 +19,145 @@ Inv-loop a b w out₀ i₀ out i = (i ≤ 16) × Part 16 [] (λ q. four (λ c. l
 abbrev μ-loop : tie.MeasureT-loop
 μ-loop a b w out₀ i₀ out i = 16 - i
 
--- src/lib.rt:138:5
 loop-holds : tie.Need-loop-holds Inv-loop μ-loop
 loop-holds c = (omega arith, part-none refl (λ k h. not-suc-le-zero h))
 
--- src/lib.rt:140:18
 mul-lerp : tie.Need-mul-lerp Inv-loop μ-loop
 mul-lerp c = omega arith
 
--- src/lib.rt:140:18
 index-1-lerp : tie.Need-index-1-lerp Inv-loop μ-loop
 index-1-lerp c = omega arith
 
--- src/lib.rt:140:18
 index-2-lerp : tie.Need-index-2-lerp Inv-loop μ-loop
 index-2-lerp c = omega arith
 
--- src/lib.rt:140:27
 mul-lerp-2 : tie.Need-mul-lerp-2 Inv-loop μ-loop
 mul-lerp-2 c = omega arith
 
--- src/lib.rt:140:27
 index-1-lerp-2 : tie.Need-index-1-lerp-2 Inv-loop μ-loop
 index-1-lerp-2 c = omega arith
 
--- src/lib.rt:140:27
 index-2-lerp-2 : tie.Need-index-2-lerp-2 Inv-loop μ-loop
 index-2-lerp-2 c = omega arith
 
--- src/lib.rt:140:36
 mul-lerp-3 : tie.Need-mul-lerp-3 Inv-loop μ-loop
 mul-lerp-3 c = omega arith
 
--- src/lib.rt:140:36
 index-1-lerp-3 : tie.Need-index-1-lerp-3 Inv-loop μ-loop
 index-1-lerp-3 c = omega arith
 
--- src/lib.rt:140:36
 index-2-lerp-3 : tie.Need-index-2-lerp-3 Inv-loop μ-loop
 index-2-lerp-3 c = omega arith
 
--- src/lib.rt:140:13
 lerp-requires : tie.Need-lerp-requires Inv-loop μ-loop
 unfolding cell
 lerp-requires c κs = (c .before .before .before .before .before .pre) .le (c .before .before .before .before .loop .i) 0 (c .before .before .before .loop-test .taken) (omega arith)
 
--- src/lib.rt:141:18
 mul-lerp-4 : tie.Need-mul-lerp-4 Inv-loop μ-loop
 mul-lerp-4 c = omega arith
 
--- src/lib.rt:141:18
 index-1-lerp-4 : tie.Need-index-1-lerp-4 Inv-loop μ-loop
 index-1-lerp-4 c = omega arith
 
--- src/lib.rt:141:18
 index-2-lerp-4 : tie.Need-index-2-lerp-4 Inv-loop μ-loop
 index-2-lerp-4 c = omega arith
 
--- src/lib.rt:141:27
 mul-lerp-5 : tie.Need-mul-lerp-5 Inv-loop μ-loop
 mul-lerp-5 c = omega arith
 
--- src/lib.rt:141:27
 index-1-lerp-5 : tie.Need-index-1-lerp-5 Inv-loop μ-loop
 index-1-lerp-5 c = omega arith
 
--- src/lib.rt:141:27
 index-2-lerp-5 : tie.Need-index-2-lerp-5 Inv-loop μ-loop
 index-2-lerp-5 c = omega arith
 
--- src/lib.rt:141:36
 mul-lerp-6 : tie.Need-mul-lerp-6 Inv-loop μ-loop
 mul-lerp-6 c = omega arith
 
--- src/lib.rt:141:36
 index-1-lerp-6 : tie.Need-index-1-lerp-6 Inv-loop μ-loop
 index-1-lerp-6 c = omega arith
 
--- src/lib.rt:141:36
 index-2-lerp-6 : tie.Need-index-2-lerp-6 Inv-loop μ-loop
 index-2-lerp-6 c = omega arith
 
--- src/lib.rt:141:13
 lerp-requires-2 : tie.Need-lerp-requires-2 Inv-loop μ-loop
 unfolding cell
 lerp-requires-2 c κs = (c .before .before .before .before .before .before .before .before .before .pre) .le (c .before .before .before .before .before .before .before .before .loop .i) 1 (c .before .before .before .before .before .before .before .loop-test .taken) (omega arith)
 
--- src/lib.rt:142:18
 mul-lerp-7 : tie.Need-mul-lerp-7 Inv-loop μ-loop
 mul-lerp-7 c = omega arith
 
--- src/lib.rt:142:18
 index-1-lerp-7 : tie.Need-index-1-lerp-7 Inv-loop μ-loop
 index-1-lerp-7 c = omega arith
 
--- src/lib.rt:142:18
 index-2-lerp-7 : tie.Need-index-2-lerp-7 Inv-loop μ-loop
 index-2-lerp-7 c = omega arith
 
--- src/lib.rt:142:27
 mul-lerp-8 : tie.Need-mul-lerp-8 Inv-loop μ-loop
 mul-lerp-8 c = omega arith
 
--- src/lib.rt:142:27
 index-1-lerp-8 : tie.Need-index-1-lerp-8 Inv-loop μ-loop
 index-1-lerp-8 c = omega arith
 
--- src/lib.rt:142:27
 index-2-lerp-8 : tie.Need-index-2-lerp-8 Inv-loop μ-loop
 index-2-lerp-8 c = omega arith
 
--- src/lib.rt:142:36
 mul-lerp-9 : tie.Need-mul-lerp-9 Inv-loop μ-loop
 mul-lerp-9 c = omega arith
 
--- src/lib.rt:142:36
 index-1-lerp-9 : tie.Need-index-1-lerp-9 Inv-loop μ-loop
 index-1-lerp-9 c = omega arith
 
--- src/lib.rt:142:36
 index-2-lerp-9 : tie.Need-index-2-lerp-9 Inv-loop μ-loop
 index-2-lerp-9 c = omega arith
 
--- src/lib.rt:142:13
 lerp-requires-3 : tie.Need-lerp-requires-3 Inv-loop μ-loop
 unfolding cell
 lerp-requires-3 c κs = (c .before .before .before .before .before .before .before .before .before .before .before .before .before .pre) .le (c .before .before .before .before .before .before .before .before .before .before .before .before .loop .i) 2 (c .before .before .before .before .before .before .before .before .before .before .before .loop-test .taken) (omega arith)
 
--- src/lib.rt:143:18
 mul-lerp-10 : tie.Need-mul-lerp-10 Inv-loop μ-loop
 mul-lerp-10 c = omega arith
 
--- src/lib.rt:143:18
 index-1-lerp-10 : tie.Need-index-1-lerp-10 Inv-loop μ-loop
 index-1-lerp-10 c = omega arith
 
--- src/lib.rt:143:18
 index-2-lerp-10 : tie.Need-index-2-lerp-10 Inv-loop μ-loop
 index-2-lerp-10 c = omega arith
 
--- src/lib.rt:143:27
 mul-lerp-11 : tie.Need-mul-lerp-11 Inv-loop μ-loop
 mul-lerp-11 c = omega arith
 
--- src/lib.rt:143:27
 index-1-lerp-11 : tie.Need-index-1-lerp-11 Inv-loop μ-loop
 index-1-lerp-11 c = omega arith
 
--- src/lib.rt:143:27
 index-2-lerp-11 : tie.Need-index-2-lerp-11 Inv-loop μ-loop
 index-2-lerp-11 c = omega arith
 
--- src/lib.rt:143:36
 mul-lerp-12 : tie.Need-mul-lerp-12 Inv-loop μ-loop
 mul-lerp-12 c = omega arith
 
--- src/lib.rt:143:36
 index-1-lerp-12 : tie.Need-index-1-lerp-12 Inv-loop μ-loop
 index-1-lerp-12 c = omega arith
 
--- src/lib.rt:143:36
 index-2-lerp-12 : tie.Need-index-2-lerp-12 Inv-loop μ-loop
 index-2-lerp-12 c = omega arith
 
--- src/lib.rt:143:13
 lerp-requires-4 : tie.Need-lerp-requires-4 Inv-loop μ-loop
 unfolding cell
 lerp-requires-4 c κs = (c .before .before .before .before .before .before .before .before .before .before .before .before .before .before .before .before .before .pre) .le (c .before .before .before .before .before .before .before .before .before .before .before .before .before .before .before .before .loop .i) 3 (c .before .before .before .before .before .before .before .before .before .before .before .before .before .before .before .loop-test .taken) (omega arith)
 
--- src/lib.rt:139:9
 mul-out : tie.Need-mul-out Inv-loop μ-loop
 mul-out c = omega arith
 
--- src/lib.rt:139:9
 array-set-from-out : tie.Need-array-set-from-out Inv-loop μ-loop
 array-set-from-out c = omega arith
 
--- src/lib.rt:138:9
 add-i : tie.Need-add-i Inv-loop μ-loop
 add-i c = omega arith
 
--- src/lib.rt:138:5
 loop-less : tie.Need-loop-less Inv-loop μ-loop
 loop-less c = omega arith
 
--- src/lib.rt:138:5
 loop-again : tie.Need-loop-again Inv-loop μ-loop
 unfolding cell
 loop-again c =
@@ -217,7 +171,6 @@ loop-again c =
           (four-eq (c1 .lerp .ensures) (c2 .lerp2 .ensures) (c3 .lerp3 .ensures) (c .lerp4 .ensures)) (λ k h q ne. omega arith),
     )
 
--- src/lib.rt:133:1
 returns : tie.Need-returns Inv-loop μ-loop
 unfolding mixed
 returns c = part-all (c .before .loop .inv .1) (λ k l. omega arith)

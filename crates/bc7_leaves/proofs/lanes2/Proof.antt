@@ -21,39 +21,30 @@ Inv-loop x t w₀ i₀ w i = (i ≤ 16) × Part 16 [] (λ q. four (λ c. 4 * wei
 abbrev μ-loop : tie.MeasureT-loop
 μ-loop x t w₀ i₀ w i = 16 - i
 
--- src/lib.rt:105:5
 loop-holds : tie.Need-loop-holds Inv-loop μ-loop
 loop-holds c = (omega arith, part-none refl (λ k h. not-suc-le-zero h))
 
--- src/lib.rt:106:18
 part-of-requires : tie.Need-part-of-requires Inv-loop μ-loop
 part-of-requires c κs = omega arith
 
--- src/lib.rt:106:16
 mul-w : tie.Need-mul-w Inv-loop μ-loop
 mul-w c = omega arith
 
--- src/lib.rt:106:16
 array-copy-out-w : tie.Need-array-copy-out-w Inv-loop μ-loop
 array-copy-out-w c = omega arith
 
--- src/lib.rt:106:9
 mul-w-2 : tie.Need-mul-w-2 Inv-loop μ-loop
 mul-w-2 c = omega arith
 
--- src/lib.rt:106:9
 array-set-from-w : tie.Need-array-set-from-w Inv-loop μ-loop
 array-set-from-w c = omega arith
 
--- src/lib.rt:105:9
 add-i : tie.Need-add-i Inv-loop μ-loop
 add-i c = omega arith
 
--- src/lib.rt:105:5
 loop-less : tie.Need-loop-less Inv-loop μ-loop
 loop-less c = omega arith
 
--- src/lib.rt:105:5
 loop-again : tie.Need-loop-again Inv-loop μ-loop
 unfolding weights lanesOf
 loop-again c =
@@ -64,7 +55,6 @@ loop-again c =
           (lane-at 2 (p .part-of .result) (p .part-of .ensures .1) ∙ ap (λ (i : ℕ). four (λ c. 4 * weightOf 2 i)) (p .part-of .ensures .0)) (λ k h q ne. omega arith),
     )
 
--- src/lib.rt:100:1
 returns : tie.Need-returns Inv-loop μ-loop
 unfolding laneTable
 returns c = part-all (c .before .loop .inv .1) (λ k l. omega arith)

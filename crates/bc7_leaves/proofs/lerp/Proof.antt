@@ -11,31 +11,24 @@ use Rattle.bc7_leaves.proofs.lerp.Tie as tie
 use Rattle.bc7_leaves.proofs.lerp.Reads as reads
 use Rattle.bc7_leaves.proofs.lerp.Lts as lts
 
--- src/lib.rt:59:8
 sub-result : tie.Need-sub-result
 sub-result c = search needs
 
--- src/lib.rt:59:7
 mul-result : tie.Need-mul-result
 mul-result c = omega (arith, mean (256 - c .args .w) (c .args .w) (c .args .e0) (c .args .e1) (omega arith) (c .fits .e0 .fits) (c .fits .e1 .fits))
 
--- src/lib.rt:59:33
 mul-result-2 : tie.Need-mul-result-2
 mul-result-2 c = omega (arith, mean (256 - c .args .w) (c .args .w) (c .args .e0) (c .args .e1) (omega arith) (c .fits .e0 .fits) (c .fits .e1 .fits))
 
--- src/lib.rt:59:7
 add-result : tie.Need-add-result
 add-result c = omega (arith, mean (256 - c .args .w) (c .args .w) (c .args .e0) (c .args .e1) (omega arith) (c .fits .e0 .fits) (c .fits .e1 .fits))
 
--- src/lib.rt:59:7
 add-result-2 : tie.Need-add-result-2
 add-result-2 c = omega (arith, mean (256 - c .args .w) (c .args .w) (c .args .e0) (c .args .e1) (omega arith) (c .fits .e0 .fits) (c .fits .e1 .fits))
 
--- src/lib.rt:59:5
 cast-result : tie.Need-cast-result
 cast-result c = omega (arith, mean (256 - c .args .w) (c .args .w) (c .args .e0) (c .args .e1) (omega arith) (c .fits .e0 .fits) (c .fits .e1 .fits))
 
--- src/lib.rt:55:1
 returns : tie.Need-returns
 unfolding lerped
 returns c = refl

@@ -11,39 +11,30 @@ use Rattle.bc7_leaves.proofs.opaque_p.Reads as reads
 use Rattle.bc7_leaves.proofs.opaque_p.Lts as lts
 use Rattle.bc7_leaves.proofs.opaque.Reads as opaque-reads
 
--- src/lib.rt:29:12
 add-opaque : tie.Need-add-opaque
 add-opaque c = search needs
 
--- src/lib.rt:29:19
 mul-opaque : tie.Need-mul-opaque
 mul-opaque c = omega (arith, small (c .args .w) (c .args .r) (c .pre .1) (c .pre .2), small (c .args .w) (c .args .g) (c .pre .1) (c .pre .3), small (c .args .w) (c .args .b) (c .pre .1) (c .pre .4))
 
--- src/lib.rt:29:19
 add-opaque-2 : tie.Need-add-opaque-2
 add-opaque-2 c = omega (arith, small (c .args .w) (c .args .r) (c .pre .1) (c .pre .2), small (c .args .w) (c .args .g) (c .pre .1) (c .pre .3), small (c .args .w) (c .args .b) (c .pre .1) (c .pre .4))
 
--- src/lib.rt:29:30
 mul-opaque-2 : tie.Need-mul-opaque-2
 mul-opaque-2 c = omega (arith, small (c .args .w) (c .args .r) (c .pre .1) (c .pre .2), small (c .args .w) (c .args .g) (c .pre .1) (c .pre .3), small (c .args .w) (c .args .b) (c .pre .1) (c .pre .4))
 
--- src/lib.rt:29:30
 add-opaque-3 : tie.Need-add-opaque-3
 add-opaque-3 c = omega (arith, small (c .args .w) (c .args .r) (c .pre .1) (c .pre .2), small (c .args .w) (c .args .g) (c .pre .1) (c .pre .3), small (c .args .w) (c .args .b) (c .pre .1) (c .pre .4))
 
--- src/lib.rt:29:41
 mul-opaque-3 : tie.Need-mul-opaque-3
 mul-opaque-3 c = omega (arith, small (c .args .w) (c .args .r) (c .pre .1) (c .pre .2), small (c .args .w) (c .args .g) (c .pre .1) (c .pre .3), small (c .args .w) (c .args .b) (c .pre .1) (c .pre .4))
 
--- src/lib.rt:29:41
 add-opaque-4 : tie.Need-add-opaque-4
 add-opaque-4 c = omega (arith, small (c .args .w) (c .args .r) (c .pre .1) (c .pre .2), small (c .args .w) (c .args .g) (c .pre .1) (c .pre .3), small (c .args .w) (c .args .b) (c .pre .1) (c .pre .4))
 
--- src/lib.rt:29:5
 opaque-requires : tie.Need-opaque-requires
 opaque-requires c κs = (omega arith, omega arith, with-p (c .args .w) (c .args .r) (c .args .p) (c .pre .2) (c .pre .5), with-p (c .args .w) (c .args .g) (c .args .p) (c .pre .3) (c .pre .5), with-p (c .args .w) (c .args .b) (c .args .p) (c .pre .4) (c .pre .5))
 
--- src/lib.rt:25:1
 returns : tie.Need-returns
 returns c = search needs
 

@@ -14,23 +14,18 @@ use Rattle.bc7_leaves.proofs.part_of.Tie as tie
 use Rattle.bc7_leaves.proofs.part_of.Reads as reads
 use Rattle.bc7_leaves.proofs.part_of.Lts as lts
 
--- src/lib.rt:52:13
 mul-result : tie.Need-mul-result
 mul-result c = omega (arith, mul-le-mul-right {m = c .args .i} {n = 15} (c .args .bits) (omega arith))
 
--- src/lib.rt:52:7
 shr-result : tie.Need-shr-result
 shr-result c = omega (arith, mul-le-mul-right {m = c .args .i} {n = 15} (c .args .bits) (omega arith))
 
--- src/lib.rt:52:36
 shl-result : tie.Need-shl-result
 shl-result c = search needs
 
--- src/lib.rt:52:6
 rem-result : tie.Need-rem-result
 rem-result c = rw (one-shl (c .args .bits) (omega arith)) (pow-pos (c .args .bits))
 
--- src/lib.rt:48:1
 returns : tie.Need-returns
 unfolding part
 returns c = rw (one-shl (c .args .bits) (omega arith)) (refl, part-lt (c .args .x) (c .args .bits) (c .args .i))

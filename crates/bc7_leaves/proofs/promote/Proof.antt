@@ -10,27 +10,21 @@ use Rattle.bc7_leaves.proofs.promote.Tie as tie
 use Rattle.bc7_leaves.proofs.promote.Reads as reads
 use Rattle.bc7_leaves.proofs.promote.Lts as lts
 
--- src/lib.rt:13:19
 sub-t : tie.Need-sub-t
 sub-t c = search needs
 
--- src/lib.rt:13:13
 shl-t : tie.Need-shl-t
 shl-t c = search needs
 
--- src/lib.rt:14:11
 shr-result : tie.Need-shr-result
 shr-result c = search needs
 
--- src/lib.rt:14:6
 add-result : tie.Need-add-result
 add-result c = record { fits = lt-of-lt-of-le {m = 256} (rw (promote-is (c .args .n) (c .args .v) (c .pre .0) (c .pre .1) (c .pre .2)) (promoted-lt (c .args .n) (c .args .v) (c .pre .0) (c .pre .1) (c .pre .2))) (omega arith) }
 
--- src/lib.rt:14:5
 cast-result : tie.Need-cast-result
 cast-result c = record { fits = rw (promote-is (c .args .n) (c .args .v) (c .pre .0) (c .pre .1) (c .pre .2)) (promoted-lt (c .args .n) (c .args .v) (c .pre .0) (c .pre .1) (c .pre .2)) }
 
--- src/lib.rt:9:1
 returns : tie.Need-returns
 returns c = promote-is (c .args .n) (c .args .v) (c .pre .0) (c .pre .1) (c .pre .2)
 

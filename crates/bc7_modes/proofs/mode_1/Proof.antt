@@ -26,54 +26,42 @@ use Rattle.bc7_reader.proofs.two.Reads as two-reads
 use Rattle.bc7_tables.proofs.p2_fixup.Reads as p2-fixup-reads
 use Rattle.bc7_tables.proofs.p2_subsets.Reads as p2-subsets-reads
 
--- src/lib.rt:57:9
 take-requires : tie.Need-take-requires
 take-requires c κs = search needs
 
--- src/lib.rt:59:9
 four-requires : tie.Need-four-requires
 four-requires c κs = search needs
 
--- src/lib.rt:61:9
 four-requires-2 : tie.Need-four-requires-2
 four-requires-2 c κs = search needs
 
--- src/lib.rt:63:9
 four-requires-3 : tie.Need-four-requires-3
 four-requires-3 c κs = search needs
 
--- src/lib.rt:65:9
 two-requires : tie.Need-two-requires
 two-requires c κs = search needs
 
--- src/lib.rt:67:9
 take-requires-2 : tie.Need-take-requires-2
 take-requires-2 c κs = search needs
 
--- src/lib.rt:68:33
 p2-fixup-requires : tie.Need-p2-fixup-requires
 p2-fixup-requires c κs = search needs
 
--- src/lib.rt:68:9
 indexes-2-requires : tie.Need-indexes-2-requires
 indexes-2-requires c κs =
     let at-take2 = c .before in
     let at-take = at-take2 .before .before .before .before .before .before .before .before .before .before in
     (omega arith, omega arith, at-take2 .take2 .ensures .v-lt, rw (c .p2-fixup .ensures) (marks2 (at-take .take .result .v) (omega (arith, at-take .take .ensures .v-lt)) .above), rw (c .p2-fixup .ensures) (marks2 (at-take .take .result .v) (omega (arith, at-take .take .ensures .v-lt)) .last))
 
--- src/lib.rt:69:9
 p2-subsets-requires : tie.Need-p2-subsets-requires
 p2-subsets-requires c κs = omega (arith, c .before .before .before .before .before .before .before .before .before .before .before .before .take .ensures .v-lt)
 
--- src/lib.rt:70:9
 opaque-p-requires : tie.Need-opaque-p-requires
 opaque-p-requires c κs = search needs
 
--- src/lib.rt:71:9
 opaque-p-requires-2 : tie.Need-opaque-p-requires-2
 opaque-p-requires-2 c κs = search needs
 
--- src/lib.rt:72:9
 opaque-p-requires-3 : tie.Need-opaque-p-requires-3
 opaque-p-requires-3 c κs =
     let at-two = c .before .before .before .before .before .before .before in
@@ -82,7 +70,6 @@ opaque-p-requires-3 c κs =
     let at-four = at-four2 .before .before in
     (omega arith, omega arith, at-four .four .ensures .c-lt, at-four2 .four2 .ensures .c-lt, at-four3 .four3 .ensures .c-lt, at-two .two .ensures .b-lt)
 
--- src/lib.rt:73:9
 opaque-p-requires-4 : tie.Need-opaque-p-requires-4
 opaque-p-requires-4 c κs =
     let at-two = c .before .before .before .before .before .before .before .before in
@@ -91,11 +78,9 @@ opaque-p-requires-4 c κs =
     let at-four = at-four2 .before .before in
     (omega arith, omega arith, at-four .four .ensures .d-lt, at-four2 .four2 .ensures .d-lt, at-four3 .four3 .ensures .d-lt, at-two .two .ensures .b-lt)
 
--- src/lib.rt:74:5
 subsets-2-3-requires : tie.Need-subsets-2-3-requires
 subsets-2-3-requires c κs = search needs
 
--- src/lib.rt:53:1
 returns : tie.Need-returns
 unfolding splitAt field endByte eight valueOf pOf valueStart pStart headEnd modeRow kindOfMode endpointCount
 returns c =

@@ -26,35 +26,27 @@ use Rattle.bc7_tables.proofs.p3_fixup2.Reads as p3-fixup2-reads
 use Rattle.bc7_tables.proofs.p3_fixup3.Reads as p3-fixup3-reads
 use Rattle.bc7_tables.proofs.p3_subsets.Reads as p3-subsets-reads
 
--- src/lib.rt:81:9
 take-requires : tie.Need-take-requires
 take-requires c κs = search needs
 
--- src/lib.rt:83:9
 two-requires : tie.Need-two-requires
 two-requires c κs = search needs
 
--- src/lib.rt:85:9
 two-requires-2 : tie.Need-two-requires-2
 two-requires-2 c κs = search needs
 
--- src/lib.rt:87:9
 two-requires-3 : tie.Need-two-requires-3
 two-requires-3 c κs = search needs
 
--- src/lib.rt:89:9
 two-requires-4 : tie.Need-two-requires-4
 two-requires-4 c κs = search needs
 
--- src/lib.rt:91:9
 two-requires-5 : tie.Need-two-requires-5
 two-requires-5 c κs = search needs
 
--- src/lib.rt:93:9
 two-requires-6 : tie.Need-two-requires-6
 two-requires-6 c κs = search needs
 
--- src/lib.rt:95:9
 two-requires-7 : tie.Need-two-requires-7
 two-requires-7 c κs =
     let at-two6 = c .before in
@@ -76,7 +68,6 @@ two-requires-7 c κs =
     let o7 = two-on o6 (at-two6 .two6 .ensures) in
     (omega arith, omega (arith, o7 .stands))
 
--- src/lib.rt:97:9
 two-requires-8 : tie.Need-two-requires-8
 two-requires-8 c κs =
     let at-two7 = c .before in
@@ -100,7 +91,6 @@ two-requires-8 c κs =
     let o8 = two-on o7 (at-two7 .two7 .ensures) in
     (omega arith, omega (arith, o8 .stands))
 
--- src/lib.rt:99:9
 two-requires-9 : tie.Need-two-requires-9
 two-requires-9 c κs =
     let at-two8 = c .before in
@@ -126,7 +116,6 @@ two-requires-9 c κs =
     let o9 = two-on o8 (at-two8 .two8 .ensures) in
     (omega arith, omega (arith, o9 .stands))
 
--- src/lib.rt:101:9
 take-requires-2 : tie.Need-take-requires-2
 take-requires-2 c κs =
     let at-two9 = c .before in
@@ -154,19 +143,16 @@ take-requires-2 c κs =
     let o10 = two-on o9 (at-two9 .two9 .ensures) in
     (omega arith, omega (arith, o10 .stands))
 
--- src/lib.rt:102:33
 p3-fixup2-requires : tie.Need-p3-fixup2-requires
 p3-fixup2-requires c κs =
     let at-take = c .before .before .before .before .before .before .before .before .before .before .before .before .before .before .before .before .before .before .before .before in
     omega (arith, at-take .take .ensures .v-lt)
 
--- src/lib.rt:102:50
 p3-fixup3-requires : tie.Need-p3-fixup3-requires
 p3-fixup3-requires c κs =
     let at-take = c .before .before .before .before .before .before .before .before .before .before .before .before .before .before .before .before .before .before .before .before .before in
     omega (arith, at-take .take .ensures .v-lt)
 
--- src/lib.rt:102:9
 indexes-3-requires : tie.Need-indexes-3-requires
 indexes-3-requires c κs =
     let at-p3-fixup2 = c .before in
@@ -174,13 +160,11 @@ indexes-3-requires c κs =
     let at-take = at-take2 .before .before .before .before .before .before .before .before .before .before .before .before .before .before .before .before .before .before .before .before in
     (omega arith, omega arith, at-take2 .take2 .ensures .v-lt, rw (at-p3-fixup2 .p3-fixup2 .ensures) (marks3 (at-take .take .result .v) (omega (arith, at-take .take .ensures .v-lt)) .above), rw (at-p3-fixup2 .p3-fixup2 .ensures, c .p3-fixup3 .ensures) (marks3 (at-take .take .result .v) (omega (arith, at-take .take .ensures .v-lt)) .next), rw (c .p3-fixup3 .ensures) (marks3 (at-take .take .result .v) (omega (arith, at-take .take .ensures .v-lt)) .last))
 
--- src/lib.rt:103:9
 p3-subsets-requires : tie.Need-p3-subsets-requires
 p3-subsets-requires c κs =
     let at-take = c .before .before .before .before .before .before .before .before .before .before .before .before .before .before .before .before .before .before .before .before .before .before .before in
     omega (arith, at-take .take .ensures .v-lt)
 
--- src/lib.rt:104:9
 opaque-requires : tie.Need-opaque-requires
 opaque-requires c κs =
     let at-two7 = c .before .before .before .before .before .before .before .before .before .before in
@@ -188,7 +172,6 @@ opaque-requires c κs =
     let at-two = at-two4 .before .before .before .before .before .before in
     (omega arith, omega arith, at-two .two .ensures .a-lt, at-two4 .two4 .ensures .a-lt, at-two7 .two7 .ensures .a-lt)
 
--- src/lib.rt:105:9
 opaque-requires-2 : tie.Need-opaque-requires-2
 opaque-requires-2 c κs =
     let at-two7 = c .before .before .before .before .before .before .before .before .before .before .before in
@@ -196,7 +179,6 @@ opaque-requires-2 c κs =
     let at-two = at-two4 .before .before .before .before .before .before in
     (omega arith, omega arith, at-two .two .ensures .b-lt, at-two4 .two4 .ensures .b-lt, at-two7 .two7 .ensures .b-lt)
 
--- src/lib.rt:106:9
 opaque-requires-3 : tie.Need-opaque-requires-3
 opaque-requires-3 c κs =
     let at-two8 = c .before .before .before .before .before .before .before .before .before .before in
@@ -204,7 +186,6 @@ opaque-requires-3 c κs =
     let at-two2 = at-two5 .before .before .before .before .before .before in
     (omega arith, omega arith, at-two2 .two2 .ensures .a-lt, at-two5 .two5 .ensures .a-lt, at-two8 .two8 .ensures .a-lt)
 
--- src/lib.rt:107:9
 opaque-requires-4 : tie.Need-opaque-requires-4
 opaque-requires-4 c κs =
     let at-two8 = c .before .before .before .before .before .before .before .before .before .before .before in
@@ -212,7 +193,6 @@ opaque-requires-4 c κs =
     let at-two2 = at-two5 .before .before .before .before .before .before in
     (omega arith, omega arith, at-two2 .two2 .ensures .b-lt, at-two5 .two5 .ensures .b-lt, at-two8 .two8 .ensures .b-lt)
 
--- src/lib.rt:108:9
 opaque-requires-5 : tie.Need-opaque-requires-5
 opaque-requires-5 c κs =
     let at-two9 = c .before .before .before .before .before .before .before .before .before .before in
@@ -220,7 +200,6 @@ opaque-requires-5 c κs =
     let at-two3 = at-two6 .before .before .before .before .before .before in
     (omega arith, omega arith, at-two3 .two3 .ensures .a-lt, at-two6 .two6 .ensures .a-lt, at-two9 .two9 .ensures .a-lt)
 
--- src/lib.rt:109:9
 opaque-requires-6 : tie.Need-opaque-requires-6
 opaque-requires-6 c κs =
     let at-two9 = c .before .before .before .before .before .before .before .before .before .before .before in
@@ -228,11 +207,9 @@ opaque-requires-6 c κs =
     let at-two3 = at-two6 .before .before .before .before .before .before in
     (omega arith, omega arith, at-two3 .two3 .ensures .b-lt, at-two6 .two6 .ensures .b-lt, at-two9 .two9 .ensures .b-lt)
 
--- src/lib.rt:110:5
 subsets-3-2-requires : tie.Need-subsets-3-2-requires
 subsets-3-2-requires c κs = search needs
 
--- src/lib.rt:77:1
 returns : tie.Need-returns
 unfolding splitAt field endByte eight valueOf pOf valueStart pStart headEnd modeRow kindOfMode endpointCount
 returns c =

@@ -26,35 +26,27 @@ use Rattle.bc7_reader.proofs.indexes_1.Reads as indexes-1-reads
 use Rattle.bc7_reader.proofs.take.Reads as take-reads
 use Rattle.bc7_reader.proofs.two.Reads as two-reads
 
--- src/lib.rt:141:9
 take-requires : tie.Need-take-requires
 take-requires c κs = search needs
 
--- src/lib.rt:143:9
 take-requires-2 : tie.Need-take-requires-2
 take-requires-2 c κs = search needs
 
--- src/lib.rt:145:9
 two-requires : tie.Need-two-requires
 two-requires c κs = search needs
 
--- src/lib.rt:147:9
 two-requires-2 : tie.Need-two-requires-2
 two-requires-2 c κs = search needs
 
--- src/lib.rt:149:9
 two-requires-3 : tie.Need-two-requires-3
 two-requires-3 c κs = search needs
 
--- src/lib.rt:151:9
 two-requires-4 : tie.Need-two-requires-4
 two-requires-4 c κs = search needs
 
--- src/lib.rt:153:9
 take-requires-3 : tie.Need-take-requires-3
 take-requires-3 c κs = search needs
 
--- src/lib.rt:155:9
 take-requires-4 : tie.Need-take-requires-4
 take-requires-4 c κs =
     let at-take3 = c .before in
@@ -76,11 +68,9 @@ take-requires-4 c κs =
     let o7 = got-on o6 (at-take3 .take3 .ensures) in
     (omega arith, omega (arith, o7 .stands))
 
--- src/lib.rt:156:9
 clear-requires : tie.Need-clear-requires
 clear-requires c κs = search needs
 
--- src/lib.rt:157:9
 clear-requires-2 : tie.Need-clear-requires-2
 clear-requires-2 c κs =
     let at-two4 = c .before .before .before .before .before in
@@ -89,25 +79,20 @@ clear-requires-2 c κs =
     let at-two = at-two2 .before .before in
     (omega arith, omega arith, omega arith, omega arith, at-two .two .ensures .b-lt, at-two2 .two2 .ensures .b-lt, at-two3 .two3 .ensures .b-lt, at-two4 .two4 .ensures .b-lt)
 
--- src/lib.rt:158:9
 indexes-1-requires : tie.Need-indexes-1-requires
 indexes-1-requires c κs = search needs
 
--- src/lib.rt:159:9
 indexes-1-requires-2 : tie.Need-indexes-1-requires-2
 indexes-1-requires-2 c κs = search needs
 
--- src/lib.rt:161:23
 pair-2-3-requires : tie.Need-pair-2-3-requires
 pair-2-3-requires c κs = search needs
 
--- src/lib.rt:161:9
 rotate-requires : tie.Need-rotate-requires
 rotate-requires c κs =
     let at-take = c .before .before .before .before .before .before .before .before .before .before .before .before .before .before .before .before .before .before .before .before .before in
     omega (arith, at-take .take .ensures .v-lt)
 
--- src/lib.rt:161:9
 returns : tie.Need-returns
 unfolding splitAt field endByte eight valueOf pOf valueStart pStart headEnd modeRow kindOfMode endpointCount
 returns c =
@@ -146,17 +131,14 @@ returns c =
     (first-word 4 n r 0 h _ _ (omega arith) (at-indexes-1 .indexes-1 .ensures) (got-v o6 (at-take3 .take3 .ensures)))
     (second-word 4 n r 0 h _ _ 81 (omega arith) (second-4 r 0) (at-indexes-12 .indexes-12 .ensures) (got-v o7 (at-take4 .take4 .ensures)))
 
--- src/lib.rt:163:12
 pair-3-2-requires : tie.Need-pair-3-2-requires
 pair-3-2-requires c κs = search needs
 
--- src/lib.rt:163:5
 rotate-requires-2 : tie.Need-rotate-requires-2
 rotate-requires-2 c κs =
     let at-take = c .before .before .before .before .before .before .before .before .before .before .before .before .before .before .before .before .before .before .before .before .before in
     omega (arith, at-take .take .ensures .v-lt)
 
--- src/lib.rt:137:1
 returns-2 : tie.Need-returns-2
 unfolding splitAt field endByte eight valueOf pOf valueStart pStart headEnd modeRow kindOfMode endpointCount
 returns-2 c =

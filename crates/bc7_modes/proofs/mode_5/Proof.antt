@@ -25,39 +25,30 @@ use Rattle.bc7_reader.proofs.indexes_1.Reads as indexes-1-reads
 use Rattle.bc7_reader.proofs.take.Reads as take-reads
 use Rattle.bc7_reader.proofs.two.Reads as two-reads
 
--- src/lib.rt:170:9
 take-requires : tie.Need-take-requires
 take-requires c κs = search needs
 
--- src/lib.rt:172:9
 two-requires : tie.Need-two-requires
 two-requires c κs = search needs
 
--- src/lib.rt:174:9
 two-requires-2 : tie.Need-two-requires-2
 two-requires-2 c κs = search needs
 
--- src/lib.rt:176:9
 two-requires-3 : tie.Need-two-requires-3
 two-requires-3 c κs = search needs
 
--- src/lib.rt:178:9
 two-requires-4 : tie.Need-two-requires-4
 two-requires-4 c κs = search needs
 
--- src/lib.rt:180:9
 take-requires-2 : tie.Need-take-requires-2
 take-requires-2 c κs = search needs
 
--- src/lib.rt:182:9
 take-requires-3 : tie.Need-take-requires-3
 take-requires-3 c κs = search needs
 
--- src/lib.rt:183:9
 clear-requires : tie.Need-clear-requires
 clear-requires c κs = search needs
 
--- src/lib.rt:184:9
 clear-requires-2 : tie.Need-clear-requires-2
 clear-requires-2 c κs =
     let at-two4 = c .before .before .before .before .before in
@@ -66,25 +57,20 @@ clear-requires-2 c κs =
     let at-two = at-two2 .before .before in
     (omega arith, omega arith, omega arith, omega arith, at-two .two .ensures .b-lt, at-two2 .two2 .ensures .b-lt, at-two3 .two3 .ensures .b-lt, at-two4 .two4 .ensures .b-lt)
 
--- src/lib.rt:185:29
 indexes-1-requires : tie.Need-indexes-1-requires
 indexes-1-requires c κs = search needs
 
--- src/lib.rt:185:50
 indexes-1-requires-2 : tie.Need-indexes-1-requires-2
 indexes-1-requires-2 c κs = search needs
 
--- src/lib.rt:185:12
 pair-2-2-requires : tie.Need-pair-2-2-requires
 pair-2-2-requires c κs = search needs
 
--- src/lib.rt:185:5
 rotate-requires : tie.Need-rotate-requires
 rotate-requires c κs =
     let at-take = c .before .before .before .before .before .before .before .before .before .before .before .before .before .before .before .before .before in
     omega (arith, at-take .take .ensures .v-lt)
 
--- src/lib.rt:166:1
 returns : tie.Need-returns
 unfolding splitAt field endByte eight valueOf pOf valueStart pStart headEnd modeRow kindOfMode endpointCount
 returns c =

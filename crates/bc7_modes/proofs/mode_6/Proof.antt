@@ -23,35 +23,27 @@ use Rattle.bc7_reader.proofs.indexes_1.Reads as indexes-1-reads
 use Rattle.bc7_reader.proofs.take.Reads as take-reads
 use Rattle.bc7_reader.proofs.two.Reads as two-reads
 
--- src/lib.rt:192:9
 two-requires : tie.Need-two-requires
 two-requires c κs = search needs
 
--- src/lib.rt:194:9
 two-requires-2 : tie.Need-two-requires-2
 two-requires-2 c κs = search needs
 
--- src/lib.rt:196:9
 two-requires-3 : tie.Need-two-requires-3
 two-requires-3 c κs = search needs
 
--- src/lib.rt:198:9
 two-requires-4 : tie.Need-two-requires-4
 two-requires-4 c κs = search needs
 
--- src/lib.rt:200:9
 two-requires-5 : tie.Need-two-requires-5
 two-requires-5 c κs = search needs
 
--- src/lib.rt:202:9
 take-requires : tie.Need-take-requires
 take-requires c κs = search needs
 
--- src/lib.rt:203:9
 clear-p-requires : tie.Need-clear-p-requires
 clear-p-requires c κs = search needs
 
--- src/lib.rt:204:9
 clear-p-requires-2 : tie.Need-clear-p-requires-2
 clear-p-requires-2 c κs =
     let at-two5 = c .before .before .before in
@@ -61,15 +53,12 @@ clear-p-requires-2 c κs =
     let at-two = at-two2 .before .before in
     (omega arith, omega arith, at-two .two .ensures .b-lt, at-two2 .two2 .ensures .b-lt, at-two3 .two3 .ensures .b-lt, at-two4 .two4 .ensures .b-lt, at-two5 .two5 .ensures .b-lt)
 
--- src/lib.rt:205:21
 indexes-1-requires : tie.Need-indexes-1-requires
 indexes-1-requires c κs = search needs
 
--- src/lib.rt:205:5
 whole-4-requires : tie.Need-whole-4-requires
 whole-4-requires c κs = search needs
 
--- src/lib.rt:188:1
 returns : tie.Need-returns
 unfolding splitAt field endByte eight valueOf pOf valueStart pStart headEnd modeRow kindOfMode endpointCount
 returns c =

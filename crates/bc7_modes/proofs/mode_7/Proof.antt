@@ -25,31 +25,24 @@ use Rattle.bc7_reader.proofs.take.Reads as take-reads
 use Rattle.bc7_tables.proofs.p2_fixup.Reads as p2-fixup-reads
 use Rattle.bc7_tables.proofs.p2_subsets.Reads as p2-subsets-reads
 
--- src/lib.rt:212:9
 take-requires : tie.Need-take-requires
 take-requires c κs = search needs
 
--- src/lib.rt:214:9
 four-requires : tie.Need-four-requires
 four-requires c κs = search needs
 
--- src/lib.rt:216:9
 four-requires-2 : tie.Need-four-requires-2
 four-requires-2 c κs = search needs
 
--- src/lib.rt:218:9
 four-requires-3 : tie.Need-four-requires-3
 four-requires-3 c κs = search needs
 
--- src/lib.rt:220:9
 four-requires-4 : tie.Need-four-requires-4
 four-requires-4 c κs = search needs
 
--- src/lib.rt:222:9
 four-requires-5 : tie.Need-four-requires-5
 four-requires-5 c κs = search needs
 
--- src/lib.rt:224:9
 take-requires-2 : tie.Need-take-requires-2
 take-requires-2 c κs =
     let at-four5 = c .before in
@@ -69,22 +62,18 @@ take-requires-2 c κs =
     let o6 = four-on o5 (at-four5 .four5 .ensures) in
     (omega arith, omega (arith, o6 .stands))
 
--- src/lib.rt:225:33
 p2-fixup-requires : tie.Need-p2-fixup-requires
 p2-fixup-requires c κs = omega (arith, c .before .before .before .before .before .before .before .before .before .before .before .before .take .ensures .v-lt)
 
--- src/lib.rt:225:9
 indexes-2-requires : tie.Need-indexes-2-requires
 indexes-2-requires c κs =
     let at-take2 = c .before in
     let at-take = at-take2 .before .before .before .before .before .before .before .before .before .before .before .before in
     (omega arith, omega arith, at-take2 .take2 .ensures .v-lt, rw (c .p2-fixup .ensures) (marks2 (at-take .take .result .v) (omega (arith, at-take .take .ensures .v-lt)) .above), rw (c .p2-fixup .ensures) (marks2 (at-take .take .result .v) (omega (arith, at-take .take .ensures .v-lt)) .last))
 
--- src/lib.rt:226:9
 p2-subsets-requires : tie.Need-p2-subsets-requires
 p2-subsets-requires c κs = omega (arith, c .before .before .before .before .before .before .before .before .before .before .before .before .before .before .take .ensures .v-lt)
 
--- src/lib.rt:227:9
 clear-p-requires : tie.Need-clear-p-requires
 clear-p-requires c κs =
     let at-four5 = c .before .before .before .before .before in
@@ -94,7 +83,6 @@ clear-p-requires c κs =
     let at-four = at-four2 .before .before in
     (omega arith, omega arith, at-four .four .ensures .a-lt, at-four2 .four2 .ensures .a-lt, at-four3 .four3 .ensures .a-lt, at-four4 .four4 .ensures .a-lt, at-four5 .four5 .ensures .a-lt)
 
--- src/lib.rt:228:9
 clear-p-requires-2 : tie.Need-clear-p-requires-2
 clear-p-requires-2 c κs =
     let at-four5 = c .before .before .before .before .before .before in
@@ -104,7 +92,6 @@ clear-p-requires-2 c κs =
     let at-four = at-four2 .before .before in
     (omega arith, omega arith, at-four .four .ensures .b-lt, at-four2 .four2 .ensures .b-lt, at-four3 .four3 .ensures .b-lt, at-four4 .four4 .ensures .b-lt, at-four5 .four5 .ensures .b-lt)
 
--- src/lib.rt:229:9
 clear-p-requires-3 : tie.Need-clear-p-requires-3
 clear-p-requires-3 c κs =
     let at-four5 = c .before .before .before .before .before .before .before in
@@ -114,7 +101,6 @@ clear-p-requires-3 c κs =
     let at-four = at-four2 .before .before in
     (omega arith, omega arith, at-four .four .ensures .c-lt, at-four2 .four2 .ensures .c-lt, at-four3 .four3 .ensures .c-lt, at-four4 .four4 .ensures .c-lt, at-four5 .four5 .ensures .c-lt)
 
--- src/lib.rt:230:9
 clear-p-requires-4 : tie.Need-clear-p-requires-4
 clear-p-requires-4 c κs =
     let at-four5 = c .before .before .before .before .before .before .before .before in
@@ -124,11 +110,9 @@ clear-p-requires-4 c κs =
     let at-four = at-four2 .before .before in
     (omega arith, omega arith, at-four .four .ensures .d-lt, at-four2 .four2 .ensures .d-lt, at-four3 .four3 .ensures .d-lt, at-four4 .four4 .ensures .d-lt, at-four5 .four5 .ensures .d-lt)
 
--- src/lib.rt:231:5
 subsets-2-2-requires : tie.Need-subsets-2-2-requires
 subsets-2-2-requires c κs = search needs
 
--- src/lib.rt:208:1
 returns : tie.Need-returns
 unfolding splitAt field endByte eight valueOf pOf valueStart pStart headEnd modeRow kindOfMode endpointCount
 returns c =

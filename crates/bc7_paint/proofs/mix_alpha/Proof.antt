@@ -14,55 +14,42 @@ use Rattle.bc7_paint.proofs.mix_alpha.Reads as reads
 use Rattle.bc7_paint.proofs.mix_alpha.Lts as lts
 use Rattle.bc7_leaves.proofs.lerp.Reads as lerp-reads
 
--- src/lib.rt:82:14
 array-read-lerp : tie.Need-array-read-lerp
 array-read-lerp c = search needs
 
--- src/lib.rt:82:20
 array-read-lerp-2 : tie.Need-array-read-lerp-2
 array-read-lerp-2 c = search needs
 
--- src/lib.rt:82:9
 lerp-requires : tie.Need-lerp-requires
 lerp-requires c κs = search needs
 
--- src/lib.rt:83:14
 array-read-lerp-3 : tie.Need-array-read-lerp-3
 array-read-lerp-3 c = search needs
 
--- src/lib.rt:83:20
 array-read-lerp-4 : tie.Need-array-read-lerp-4
 array-read-lerp-4 c = search needs
 
--- src/lib.rt:83:9
 lerp-requires-2 : tie.Need-lerp-requires-2
 lerp-requires-2 c κs = search needs
 
--- src/lib.rt:84:14
 array-read-lerp-5 : tie.Need-array-read-lerp-5
 array-read-lerp-5 c = search needs
 
--- src/lib.rt:84:20
 array-read-lerp-6 : tie.Need-array-read-lerp-6
 array-read-lerp-6 c = search needs
 
--- src/lib.rt:84:9
 lerp-requires-3 : tie.Need-lerp-requires-3
 lerp-requires-3 c κs = search needs
 
--- src/lib.rt:85:14
 array-read-lerp-7 : tie.Need-array-read-lerp-7
 array-read-lerp-7 c = search needs
 
--- src/lib.rt:85:20
 array-read-lerp-8 : tie.Need-array-read-lerp-8
 array-read-lerp-8 c = search needs
 
--- src/lib.rt:85:9
 lerp-requires-4 : tie.Need-lerp-requires-4
 lerp-requires-4 c κs = search needs
 
--- src/lib.rt:77:1
 returns : tie.Need-returns
 returns c =
     let c3 = c .before in

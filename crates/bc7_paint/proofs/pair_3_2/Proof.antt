@@ -26,56 +26,43 @@ Inv-loop e0 e1 x y t u out₀ i₀ out i = (i ≤ 16) × Part 16 [] (λ q. four 
 abbrev μ-loop : tie.MeasureT-loop
 μ-loop e0 e1 x y t u out₀ i₀ out i = 16 - i
 
--- src/lib.rt:111:5
 loop-holds : tie.Need-loop-holds Inv-loop μ-loop
 loop-holds c = (omega arith, part-none refl (λ k h. not-suc-le-zero h))
 
--- src/lib.rt:112:19
 part-of-requires : tie.Need-part-of-requires Inv-loop μ-loop
 part-of-requires c κs = omega arith
 
--- src/lib.rt:112:17
 mul-w : tie.Need-mul-w Inv-loop μ-loop
 mul-w c = omega arith
 
--- src/lib.rt:112:17
 array-read-w : tie.Need-array-read-w Inv-loop μ-loop
 array-read-w c = omega arith
 
--- src/lib.rt:113:19
 part-of-requires-2 : tie.Need-part-of-requires-2 Inv-loop μ-loop
 part-of-requires-2 c κs = omega arith
 
--- src/lib.rt:113:17
 mul-v : tie.Need-mul-v Inv-loop μ-loop
 mul-v c = omega arith
 
--- src/lib.rt:113:17
 array-read-v : tie.Need-array-read-v Inv-loop μ-loop
 array-read-v c = omega arith
 
--- src/lib.rt:114:18
 mix-alpha-requires : tie.Need-mix-alpha-requires Inv-loop μ-loop
 unfolding weights
 mix-alpha-requires c κs = (weight-256 3 _ (c .before .part-of .result) _ (omega arith) (omega arith) (c .before .part-of .ensures .1) (c .before .part-of .ensures .0) (weight-at 3 (c .before .part-of .result)), weight-256 2 _ (c .part-of2 .result) _ (omega arith) (omega arith) (c .part-of2 .ensures .1) (c .part-of2 .ensures .0) (weight-at 2 (c .part-of2 .result)))
 
--- src/lib.rt:114:9
 mul-out : tie.Need-mul-out Inv-loop μ-loop
 mul-out c = omega arith
 
--- src/lib.rt:114:9
 array-set-from-out : tie.Need-array-set-from-out Inv-loop μ-loop
 array-set-from-out c = omega arith
 
--- src/lib.rt:111:9
 add-i : tie.Need-add-i Inv-loop μ-loop
 add-i c = omega arith
 
--- src/lib.rt:111:5
 loop-less : tie.Need-loop-less Inv-loop μ-loop
 loop-less c = omega arith
 
--- src/lib.rt:111:5
 loop-again : tie.Need-loop-again Inv-loop μ-loop
 unfolding weights
 loop-again c =
@@ -90,7 +77,6 @@ loop-again c =
           (λ k h q ne. omega arith),
     )
 
--- src/lib.rt:105:1
 returns : tie.Need-returns Inv-loop μ-loop
 unfolding paired
 returns c = part-all (c .before .loop .inv .1) (λ k l. omega arith)

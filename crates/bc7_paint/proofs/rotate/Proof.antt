@@ -10,34 +10,27 @@ use Rattle.bc7_paint.proofs.swap_1.Reads as swap-1-reads
 use Rattle.bc7_paint.proofs.swap_2.Reads as swap-2-reads
 use Rattle.bc7_paint.proofs.swap_3.Reads as swap-3-reads
 
--- src/lib.rt:170:9
 swap-1-requires : tie.Need-swap-1-requires
 swap-1-requires c κs = search needs
 
--- src/lib.rt:170:9
 returns : tie.Need-returns
 unfolding turned
 returns c = rw (c .before .if1 .taken) (c .swap-1 .ensures)
 
--- src/lib.rt:173:9
 swap-2-requires : tie.Need-swap-2-requires
 swap-2-requires c κs = search needs
 
--- src/lib.rt:173:9
 returns-2 : tie.Need-returns-2
 unfolding turned
 returns-2 c = rw (c .before .if2 .taken) (c .swap-2 .ensures)
 
--- src/lib.rt:176:9
 swap-3-requires : tie.Need-swap-3-requires
 swap-3-requires c κs = search needs
 
--- src/lib.rt:176:9
 returns-3 : tie.Need-returns-3
 unfolding turned
 returns-3 c = rw (c .before .if3 .taken) (c .swap-3 .ensures)
 
--- src/lib.rt:165:1
 returns-4 : tie.Need-returns-4
 unfolding turned
 returns-4 c =

@@ -23,55 +23,42 @@ Inv-loop map x s r a₀ b₀ i₀ a b i = (i ≤ 16) × Part 16 [] (λ q. getD s
 abbrev μ-loop : tie.MeasureT-loop
 μ-loop map x s r a₀ b₀ i₀ a b i = 16 - i
 
--- src/lib.rt:44:5
 loop-holds : tie.Need-loop-holds Inv-loop μ-loop
 loop-holds c = (omega arith, part-none refl (λ k h. not-suc-le-zero h), part-none refl (λ k h. not-suc-le-zero h))
 
--- src/lib.rt:45:13
 part-of-requires : tie.Need-part-of-requires Inv-loop μ-loop
 part-of-requires c κs = omega arith
 
--- src/lib.rt:46:16
 mul-a : tie.Need-mul-a Inv-loop μ-loop
 mul-a c = omega arith
 
--- src/lib.rt:46:16
 array-copy-out-a : tie.Need-array-copy-out-a Inv-loop μ-loop
 array-copy-out-a c = omega arith
 
--- src/lib.rt:46:9
 mul-a-2 : tie.Need-mul-a-2 Inv-loop μ-loop
 mul-a-2 c = omega arith
 
--- src/lib.rt:46:9
 array-set-from-a : tie.Need-array-set-from-a Inv-loop μ-loop
 array-set-from-a c = omega arith
 
--- src/lib.rt:47:16
 mul-b : tie.Need-mul-b Inv-loop μ-loop
 mul-b c = omega arith
 
--- src/lib.rt:47:16
 array-copy-out-b : tie.Need-array-copy-out-b Inv-loop μ-loop
 array-copy-out-b c = omega arith
 
--- src/lib.rt:47:9
 mul-b-2 : tie.Need-mul-b-2 Inv-loop μ-loop
 mul-b-2 c = omega arith
 
--- src/lib.rt:47:9
 array-set-from-b : tie.Need-array-set-from-b Inv-loop μ-loop
 array-set-from-b c = omega arith
 
--- src/lib.rt:44:9
 add-i : tie.Need-add-i Inv-loop μ-loop
 add-i c = omega arith
 
--- src/lib.rt:44:5
 loop-less : tie.Need-loop-less Inv-loop μ-loop
 loop-less c = omega arith
 
--- src/lib.rt:44:5
 loop-again : tie.Need-loop-again Inv-loop μ-loop
 loop-again c =
     let p = c .before .before in
@@ -85,15 +72,12 @@ loop-again c =
       part-set i _ (l .before .loop .inv .2) h (ap (λ (j : ℕ). getD (a .t2) j []) e) (λ k h q ne. omega arith),
     )
 
--- src/lib.rt:49:16
 lanes2-requires : tie.Need-lanes2-requires Inv-loop μ-loop
 lanes2-requires c κs = search needs
 
--- src/lib.rt:49:5
 draw-requires : tie.Need-draw-requires Inv-loop μ-loop
 draw-requires c κs = rw (c .lanes2 .ensures) (lanes-weighted 2 _ (omega arith) (omega arith))
 
--- src/lib.rt:39:1
 returns : tie.Need-returns Inv-loop μ-loop
 returns c =
     let w = c .before in

@@ -21,75 +21,57 @@ Inv-loop px out₀ i₀ out i = (i ≤ 16) × Part 16 [] (λ q. four (λ c. cell
 abbrev μ-loop : tie.MeasureT-loop
 μ-loop px out₀ i₀ out i = 16 - i
 
--- src/lib.rt:138:5
 loop-holds : tie.Need-loop-holds Inv-loop μ-loop
 loop-holds c = (omega arith, part-none refl (λ k h. not-suc-le-zero h))
 
--- src/lib.rt:139:19
 mul-t7 : tie.Need-mul-t7 Inv-loop μ-loop
 mul-t7 c = omega arith
 
--- src/lib.rt:139:19
 index-1-t12 : tie.Need-index-1-t12 Inv-loop μ-loop
 index-1-t12 c = omega arith
 
--- src/lib.rt:139:19
 index-2-t12 : tie.Need-index-2-t12 Inv-loop μ-loop
 index-2-t12 c = omega arith
 
--- src/lib.rt:139:29
 mul-t13 : tie.Need-mul-t13 Inv-loop μ-loop
 mul-t13 c = omega arith
 
--- src/lib.rt:139:29
 index-1-t18 : tie.Need-index-1-t18 Inv-loop μ-loop
 index-1-t18 c = omega arith
 
--- src/lib.rt:139:29
 index-2-t18 : tie.Need-index-2-t18 Inv-loop μ-loop
 index-2-t18 c = omega arith
 
--- src/lib.rt:139:39
 mul-t19 : tie.Need-mul-t19 Inv-loop μ-loop
 mul-t19 c = omega arith
 
--- src/lib.rt:139:39
 index-1-t24 : tie.Need-index-1-t24 Inv-loop μ-loop
 index-1-t24 c = omega arith
 
--- src/lib.rt:139:39
 index-2-t24 : tie.Need-index-2-t24 Inv-loop μ-loop
 index-2-t24 c = omega arith
 
--- src/lib.rt:139:49
 mul-t25 : tie.Need-mul-t25 Inv-loop μ-loop
 mul-t25 c = omega arith
 
--- src/lib.rt:139:49
 index-1-t30 : tie.Need-index-1-t30 Inv-loop μ-loop
 index-1-t30 c = omega arith
 
--- src/lib.rt:139:49
 index-2-t30 : tie.Need-index-2-t30 Inv-loop μ-loop
 index-2-t30 c = omega arith
 
--- src/lib.rt:139:9
 mul-out : tie.Need-mul-out Inv-loop μ-loop
 mul-out c = omega arith
 
--- src/lib.rt:139:9
 array-set-from-out : tie.Need-array-set-from-out Inv-loop μ-loop
 array-set-from-out c = omega arith
 
--- src/lib.rt:138:9
 add-i : tie.Need-add-i Inv-loop μ-loop
 add-i c = omega arith
 
--- src/lib.rt:138:5
 loop-less : tie.Need-loop-less Inv-loop μ-loop
 loop-less c = omega arith
 
--- src/lib.rt:138:5
 loop-again : tie.Need-loop-again Inv-loop μ-loop
 unfolding cell rotated
 loop-again c =
@@ -98,7 +80,6 @@ loop-again c =
     let h : i < 16 = l .loop-test .taken in
     (omega (arith, h), part-set i _ (l .before .loop .inv .1) h refl (λ k h q ne. omega arith))
 
--- src/lib.rt:134:1
 returns : tie.Need-returns Inv-loop μ-loop
 unfolding swapped
 returns c = part-all (c .before .loop .inv .1) (λ k l. omega arith)

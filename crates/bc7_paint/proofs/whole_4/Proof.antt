@@ -17,15 +17,12 @@ use Rattle.bc7_paint.proofs.whole_4.Lts as lts
 use Rattle.bc7_leaves.proofs.draw.Reads as draw-reads
 use Rattle.bc7_leaves.proofs.lanes4.Reads as lanes4-reads
 
--- src/lib.rt:70:30
 lanes4-requires : tie.Need-lanes4-requires
 lanes4-requires c κs = search needs
 
--- src/lib.rt:70:5
 draw-requires : tie.Need-draw-requires
 draw-requires c κs = rw (c .lanes4 .ensures) (lanes-weighted 4 _ (omega arith) (omega arith))
 
--- src/lib.rt:67:1
 returns : tie.Need-returns
 returns c =
     let w = c .before in

@@ -11,39 +11,30 @@ use Rattle.bc7_reader.proofs.expand.Tie as tie
 use Rattle.bc7_reader.proofs.expand.Reads as reads
 use Rattle.bc7_reader.proofs.expand.Lts as lts
 
--- src/lib.rt:140:13
 mul-k : tie.Need-mul-k
 mul-k c = omega (arith, times-width (c .args .bits) (c .args .index) (omega arith))
 
--- src/lib.rt:140:29
 sub-k : tie.Need-sub-k
 sub-k c = search needs
 
--- src/lib.rt:140:13
 add-k : tie.Need-add-k
 add-k c = omega (arith, times-width (c .args .bits) (c .args .index) (omega arith))
 
--- src/lib.rt:141:11
 shl-result : tie.Need-shl-result
 shl-result c = omega (arith, times-width (c .args .bits) (c .args .index) (omega arith))
 
--- src/lib.rt:141:6
 rem-result : tie.Need-rem-result
 rem-result c = rw (one-shl (c .args .index * c .args .bits + (c .args .bits - 1)) (omega (arith, times-width (c .args .bits) (c .args .index) (omega arith)))) (pow-pos (c .args .index * c .args .bits + (c .args .bits - 1)))
 
--- src/lib.rt:141:28
 shr-result : tie.Need-shr-result
 shr-result c = omega (arith, times-width (c .args .bits) (c .args .index) (omega arith))
 
--- src/lib.rt:141:27
 shl-result-2 : tie.Need-shl-result-2
 shl-result-2 c = omega (arith, times-width (c .args .bits) (c .args .index) (omega arith))
 
--- src/lib.rt:141:5
 add-result : tie.Need-add-result
 add-result c = record { fits = rw (insert-sum (c .args .x) (c .args .index * c .args .bits + (c .args .bits - 1)) (omega (arith, times-width (c .args .bits) (c .args .index) (omega arith))) (omega arith)) (inserted-lt (c .args .x) (c .args .index * c .args .bits + (c .args .bits - 1)) 63 (omega arith) (omega (arith, times-width (c .args .bits) (c .args .index) (omega arith)))) }
 
--- src/lib.rt:136:1
 returns : tie.Need-returns
 returns c = insert-sum (c .args .x) (c .args .index * c .args .bits + (c .args .bits - 1)) (omega (arith, times-width (c .args .bits) (c .args .index) (omega arith))) (omega arith)
 

@@ -9,15 +9,12 @@ use Rattle.bc7_reader.proofs.four.Reads as reads
 use Rattle.bc7_reader.proofs.four.Lts as lts
 use Rattle.bc7_reader.proofs.two.Reads as two-reads
 
--- src/lib.rt:122:9
 two-requires : tie.Need-two-requires
 two-requires c κs = search needs
 
--- src/lib.rt:124:9
 two-requires-2 : tie.Need-two-requires-2
 two-requires-2 c κs = search needs
 
--- src/lib.rt:118:1
 returns : tie.Need-returns
 returns c =
     let y = c .before in

@@ -7,11 +7,9 @@ use Rattle.bc7_reader.proofs.indexes_1.Reads as reads
 use Rattle.bc7_reader.proofs.indexes_1.Lts as lts
 use Rattle.bc7_reader.proofs.expand.Reads as expand-reads
 
--- src/lib.rt:150:5
 expand-requires : tie.Need-expand-requires
 expand-requires c κs = (omega arith, omega arith, omega arith, room (c .args .bits) 1 (c .args .raw) (omega arith) (omega arith) (omega arith) (c .pre .2))
 
--- src/lib.rt:146:1
 returns : tie.Need-returns
 returns c = expand-1 (c .before .args .bits) (c .before .args .raw) (c .expand .result) (omega arith) (c .expand .ensures)
 

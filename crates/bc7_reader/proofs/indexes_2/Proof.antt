@@ -7,15 +7,12 @@ use Rattle.bc7_reader.proofs.indexes_2.Reads as reads
 use Rattle.bc7_reader.proofs.indexes_2.Lts as lts
 use Rattle.bc7_reader.proofs.expand.Reads as expand-reads
 
--- src/lib.rt:157:18
 expand-requires : tie.Need-expand-requires
 expand-requires c κs = (omega arith, omega arith, omega arith, room (c .args .bits) 2 (c .args .raw) (omega arith) (omega arith) (omega arith) (c .pre .2))
 
--- src/lib.rt:157:5
 expand-requires-2 : tie.Need-expand-requires-2
 expand-requires-2 c κs = (omega arith, omega arith, omega arith, room (c .before .args .bits) 1 (c .expand .result) (omega arith) (omega arith) (omega arith) (grow (c .before .args .bits) 1 (c .before .args .raw) 0 (c .expand .result) (c .before .pre .0) (omega arith) (omega arith) (c .before .pre .2) (c .expand .ensures)))
 
--- src/lib.rt:153:1
 returns : tie.Need-returns
 returns c =
     let s = c .before .before in

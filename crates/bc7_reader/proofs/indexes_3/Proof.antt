@@ -7,19 +7,15 @@ use Rattle.bc7_reader.proofs.indexes_3.Reads as reads
 use Rattle.bc7_reader.proofs.indexes_3.Lts as lts
 use Rattle.bc7_reader.proofs.expand.Reads as expand-reads
 
--- src/lib.rt:164:31
 expand-requires : tie.Need-expand-requires
 expand-requires c κs = (omega arith, omega arith, omega arith, room (c .args .bits) 3 (c .args .raw) (omega arith) (omega arith) (omega arith) (c .pre .2))
 
--- src/lib.rt:164:18
 expand-requires-2 : tie.Need-expand-requires-2
 expand-requires-2 c κs = (omega arith, omega arith, omega arith, room (c .before .args .bits) 2 (c .expand .result) (omega arith) (omega arith) (omega arith) (grow (c .before .args .bits) 2 (c .before .args .raw) 0 (c .expand .result) (c .before .pre .0) (omega arith) (omega arith) (c .before .pre .2) (c .expand .ensures)))
 
--- src/lib.rt:164:5
 expand-requires-3 : tie.Need-expand-requires-3
 expand-requires-3 c κs = (omega arith, omega arith, omega arith, room (c .before .before .args .bits) 1 (c .expand2 .result) (omega arith) (omega arith) (omega arith) (grow (c .before .before .args .bits) 1 (c .before .expand .result) (c .before .before .args .second) (c .expand2 .result) (c .before .before .pre .0) (omega arith) (omega arith) (grow (c .before .before .args .bits) 2 (c .before .before .args .raw) 0 (c .before .expand .result) (c .before .before .pre .0) (omega arith) (omega arith) (c .before .before .pre .2) (c .before .expand .ensures)) (c .expand2 .ensures)))
 
--- src/lib.rt:160:1
 returns : tie.Need-returns
 returns c =
     let y = c .before in

@@ -13,23 +13,18 @@ use Rattle.bc7_reader.proofs.take.Reads as reads
 use Rattle.bc7_reader.proofs.take.Lts as lts
 use Rattle.bc7_reader.proofs.window.Reads as window-reads
 
--- src/lib.rt:94:12
 window-requires : tie.Need-window-requires
 window-requires c κs = search needs
 
--- src/lib.rt:94:40
 shl-t5 : tie.Need-shl-t5
 shl-t5 c = search needs
 
--- src/lib.rt:94:12
 rem-t6 : tie.Need-rem-t6
 rem-t6 c = rw (one-shl (c .before .args .n) (c .before .pre .0)) (pow-pos (c .before .args .n))
 
--- src/lib.rt:98:17
 add-t7 : tie.Need-add-t7
 add-t7 c = search needs
 
--- src/lib.rt:89:1
 returns : tie.Need-returns
 unfolding held field
 returns c =

@@ -9,15 +9,12 @@ use Rattle.bc7_reader.proofs.two.Reads as reads
 use Rattle.bc7_reader.proofs.two.Lts as lts
 use Rattle.bc7_reader.proofs.take.Reads as take-reads
 
--- src/lib.rt:107:9
 take-requires : tie.Need-take-requires
 take-requires c κs = search needs
 
--- src/lib.rt:109:9
 take-requires-2 : tie.Need-take-requires-2
 take-requires-2 c κs = search needs
 
--- src/lib.rt:103:1
 returns : tie.Need-returns
 returns c =
     let y = c .before in

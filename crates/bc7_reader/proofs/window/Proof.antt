@@ -5,43 +5,34 @@ use Rattle.bc7_reader.proofs.window.Tie as tie
 use Rattle.bc7_reader.proofs.window.Reads as reads
 use Rattle.bc7_reader.proofs.window.Lts as lts
 
--- src/fixed.rt:23:10
 shr-result : tie.Need-shr-result
 shr-result c = search needs
 
--- src/fixed.rt:23:40
 sub-result : tie.Need-sub-result
 sub-result c = search needs
 
--- src/fixed.rt:23:40
 cast-result : tie.Need-cast-result
 cast-result c = search needs
 
--- src/fixed.rt:23:24
 shl-result : tie.Need-shl-result
 shl-result c = search needs
 
--- src/fixed.rt:25:18
 cast-result-2 : tie.Need-cast-result-2
 cast-result-2 c = search needs
 
--- src/fixed.rt:25:9
 shr-result-2 : tie.Need-shr-result-2
 shr-result-2 c = search needs
 
--- src/fixed.rt:19:1
 returns : tie.Need-returns
 returns c =
     let a = c .before .args in
     window-low (a .low) (a .high) (a .at) (c .before .fits .low .fits) (c .if1 .taken)
 
--- src/fixed.rt:19:1
 returns-2 : tie.Need-returns-2
 returns-2 c =
     let s = c .before .before in
     window-high (s .args .low) (s .args .high) (s .args .at) (s .fits .low .fits) (s .fits .high .fits) (c .before .if1 .left)
 
--- src/fixed.rt:19:1
 returns-3 : tie.Need-returns-3
 returns-3 c =
     let s = c .before .before in

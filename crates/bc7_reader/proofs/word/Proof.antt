@@ -4,7 +4,6 @@ use Rattle.bc7_reader.proofs.word.Tie as tie
 use Rattle.bc7_reader.proofs.word.Reads as reads
 use Rattle.bc7_reader.proofs.word.Lts as lts
 
--- src/lib.rt:35:1
 returns : tie.Need-returns
 returns c =
     let f = c .fits in

@@ -10,15 +10,12 @@ use Rattle.bc7_tables.proofs.p2_fixup.Reads as reads
 use Rattle.bc7_tables.proofs.p2_fixup.Lts as lts
 use Rattle.bc7_tables.proofs.of_u8.Reads as of-u8-reads
 
--- src/lib.rt:95:11
 array-read-of-u8 : tie.Need-array-read-of-u8
 array-read-of-u8 c = search needs
 
--- src/lib.rt:95:5
 of-u8-requires : tie.Need-of-u8-requires
 of-u8-requires c κs = search needs
 
--- src/lib.rt:91:1
 returns : tie.Need-returns
 unfolding strings2 marks anchor2
 returns c = c .of-u8 .ensures ∙ List·getD-map (λ (s : String). getD (marks 0 s) 0 0) strings2 (c .before .args .i) ""

@@ -10,19 +10,15 @@ use Rattle.bc7_tables.proofs.p2_subsets.Reads as reads
 use Rattle.bc7_tables.proofs.p2_subsets.Lts as lts
 use Rattle.bc7_tables.proofs.of_u16.Reads as of-u16-reads
 
--- src/lib.rt:81:12
 mul-of-u16 : tie.Need-mul-of-u16
 mul-of-u16 c = search needs
 
--- src/lib.rt:81:12
 array-read-of-u16 : tie.Need-array-read-of-u16
 array-read-of-u16 c = search needs
 
--- src/lib.rt:81:5
 of-u16-requires : tie.Need-of-u16-requires
 of-u16-requires c κs = search needs
 
--- src/lib.rt:77:1
 returns : tie.Need-returns
 unfolding strings2 digits subset2 words
 returns c = subst (Map 1 (subset2 (c .before .args .i))) (sym (c .of-u16 .ensures)) (packed-map 1 subset2 (words 1 strings2) tt (c .before .args .i) (c .before .pre))

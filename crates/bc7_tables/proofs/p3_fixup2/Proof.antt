@@ -10,15 +10,12 @@ use Rattle.bc7_tables.proofs.p3_fixup2.Reads as reads
 use Rattle.bc7_tables.proofs.p3_fixup2.Lts as lts
 use Rattle.bc7_tables.proofs.of_u8.Reads as of-u8-reads
 
--- src/lib.rt:102:11
 array-read-of-u8 : tie.Need-array-read-of-u8
 array-read-of-u8 c = search needs
 
--- src/lib.rt:102:5
 of-u8-requires : tie.Need-of-u8-requires
 of-u8-requires c κs = search needs
 
--- src/lib.rt:98:1
 returns : tie.Need-returns
 unfolding strings3 marks anchor3
 returns c = c .of-u8 .ensures ∙ List·getD-map (λ (s : String). getD (marks 0 s) 0 0) strings3 (c .before .args .i) ""

@@ -10,19 +10,15 @@ use Rattle.bc7_tables.proofs.p3_subsets.Reads as reads
 use Rattle.bc7_tables.proofs.p3_subsets.Lts as lts
 use Rattle.bc7_tables.proofs.of_u32.Reads as of-u32-reads
 
--- src/lib.rt:88:12
 mul-of-u32 : tie.Need-mul-of-u32
 mul-of-u32 c = search needs
 
--- src/lib.rt:88:12
 array-read-of-u32 : tie.Need-array-read-of-u32
 array-read-of-u32 c = search needs
 
--- src/lib.rt:88:5
 of-u32-requires : tie.Need-of-u32-requires
 of-u32-requires c κs = search needs
 
--- src/lib.rt:84:1
 returns : tie.Need-returns
 unfolding strings3 digits subset3 words
 returns c = subst (Map 2 (subset3 (c .before .args .i))) (sym (c .of-u32 .ensures)) (packed-map 2 subset3 (words 2 strings3) tt (c .before .args .i) (c .before .pre))
