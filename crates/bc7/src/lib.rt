@@ -17,66 +17,49 @@ pub fn decode_bc7_block(block: [u8; 16]) -> [[u8; 4]; 16]
     ensures { λ r. ⌜ r ≡ pixels block ⌝ }
 {
     let w = open(block, 0);
+    // one value of all arms: with a return in each, mode 4 is compiled to half as many instructions again
     match u8::trailing_zeros(block[0]) {
-        0 => {
-            return mode_0(Bits {
-                lo: w.lo,
-                hi: w.hi,
-                at: 1,
-            });
-        }
-        1 => {
-            return mode_1(Bits {
-                lo: w.lo,
-                hi: w.hi,
-                at: 2,
-            });
-        }
-        2 => {
-            return mode_2(Bits {
-                lo: w.lo,
-                hi: w.hi,
-                at: 3,
-            });
-        }
-        3 => {
-            return mode_3(Bits {
-                lo: w.lo,
-                hi: w.hi,
-                at: 4,
-            });
-        }
-        4 => {
-            return mode_4(Bits {
-                lo: w.lo,
-                hi: w.hi,
-                at: 5,
-            });
-        }
-        5 => {
-            return mode_5(Bits {
-                lo: w.lo,
-                hi: w.hi,
-                at: 6,
-            });
-        }
-        6 => {
-            return mode_6(Bits {
-                lo: w.lo,
-                hi: w.hi,
-                at: 7,
-            });
-        }
-        7 => {
-            return mode_7(Bits {
-                lo: w.lo,
-                hi: w.hi,
-                at: 8,
-            });
-        }
-        _ => {
-            return [[0u8; 4]; 16];
-        }
+        0 => mode_0(Bits {
+            lo: w.lo,
+            hi: w.hi,
+            at: 1,
+        }),
+        1 => mode_1(Bits {
+            lo: w.lo,
+            hi: w.hi,
+            at: 2,
+        }),
+        2 => mode_2(Bits {
+            lo: w.lo,
+            hi: w.hi,
+            at: 3,
+        }),
+        3 => mode_3(Bits {
+            lo: w.lo,
+            hi: w.hi,
+            at: 4,
+        }),
+        4 => mode_4(Bits {
+            lo: w.lo,
+            hi: w.hi,
+            at: 5,
+        }),
+        5 => mode_5(Bits {
+            lo: w.lo,
+            hi: w.hi,
+            at: 6,
+        }),
+        6 => mode_6(Bits {
+            lo: w.lo,
+            hi: w.hi,
+            at: 7,
+        }),
+        7 => mode_7(Bits {
+            lo: w.lo,
+            hi: w.hi,
+            at: 8,
+        }),
+        _ => [[0u8; 4]; 16],
     }
 }
 

@@ -127,19 +127,19 @@ decode-bc7-block-spec =
     open-requires
     array-read-match
     mode-0-requires
-    returns
     mode-1-requires
-    returns-2
     mode-2-requires
-    returns-3
     mode-3-requires
-    returns-4
     mode-4-requires
-    returns-5
     mode-5-requires
-    returns-6
     mode-6-requires
-    returns-7
     mode-7-requires
+    returns
+    returns-2
+    returns-3
+    returns-4
+    returns-5
+    returns-6
+    returns-7
     returns-8
     returns-9)
