@@ -62,10 +62,3 @@ pub fn decode_bc7_block(block: [u8; 16]) -> [[u8; 4]; 16]
         _ => [[0u8; 4]; 16],
     }
 }
-
-#[no_mangle]
-pub extern "C" fn bc7_decode_block(block: &[u8; 16], out: &mut [[u8; 4]; 16])
-    ensures { λ _. ⌜ now (out .exit) ≡ pixels (now (block .entry)) ⌝ }
-{
-    *out = decode_bc7_block(*block);
-}
