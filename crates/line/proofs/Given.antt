@@ -3,12 +3,11 @@
 use mathlib.Core.Path.{_≡_, refl, sym, _∙_}
 use mathlib.Core.Logic.{_≢_}
 use mathlib.Core.Bool.{Bool, true, false}
-use Prim.Native.Nat.{ℕ, _-_, _^_, _<_, _≤_}
+use Prim.Native.Nat.{ℕ, _^_, _<_, _≤_}
 use borrow.Author.Tests.{eqb-false, not-true}
-use lib.Dec.{leb}
 use Rattle.format.specs.declared.Split.{Split}
 use Rattle.laws.specs.Tables.{pick}
-use Rattle.format.specs.Lines.{Line, anchorOf, indexPlace, isDrawn, lineAt, lineBits, lineOf, means, own, pPlace, rotated, shown, turned, valuePlace, withLine}
+use Rattle.format.specs.Lines.{Line, indexPlace, isDrawn, lineAt, lineBits, lineOf, means, own, pPlace, rotated, shown, turned, valuePlace, withLine}
 use Rattle.format.specs.Modes.{channelBits, pCount}
 use Rattle.format.specs.Places.{Place}
 use Rattle.format.specs.Splits.{rotation}
@@ -16,14 +15,14 @@ use Rattle.format.specs.WellFormed.{WellFormed}
 use Rattle.format.proofs.Lens.{own-same}
 use Rattle.format.proofs.Meaning.{good-rotation, has-index, has-p, has-value, laid-index, laid-p, laid-value, line-bits, means-ext, rotated-lt, turned-means}
 use Rattle.line.specs.Acceptable.{Acceptable}
-use Rattle.line.specs.Replace.{oriented, put, refusalIn}
+use Rattle.line.specs.Replace.{oriented, put, refusalIn, topSet}
 use Rattle.line.proofs.Accepting.{accepted-is}
 use Rattle.line.proofs.Put.{bounded}
 
 oriented-means : (m : ℕ) (s : Split) (l : ℕ) (ln : Line) (q c : ℕ) → 2 ≤ lineBits m s l → lineBits m s l ≤ 4 → ln .index q < 2 ^ lineBits m s l
     → means m s l (oriented m s l ln) q c ≡ means m s l ln q c
 unfolding oriented
-oriented-means m s l ln q c h2 h4 hi = go (leb (2 ^ (lineBits m s l - 1)) (ln .index (anchorOf s l)))
+oriented-means m s l ln q c h2 h4 hi = go (topSet m s l ln)
   where
     go : (b : Bool) → means m s l (pick b (turned (lineBits m s l) ln) ln) q c ≡ means m s l ln q c
     go true = turned-means m s l ln q c h2 h4 hi
@@ -31,7 +30,7 @@ oriented-means m s l ln q c h2 h4 hi = go (leb (2 ^ (lineBits m s l - 1)) (ln .i
 
 same-oriented : (m : ℕ) (s : Split) (l : ℕ) (ln : Line) → ln .p 0 ≡ ln .p 1 → oriented m s l ln .p 0 ≡ oriented m s l ln .p 1
 unfolding oriented turned
-same-oriented m s l ln e = go (leb (2 ^ (lineBits m s l - 1)) (ln .index (anchorOf s l)))
+same-oriented m s l ln e = go (topSet m s l ln)
   where
     go : (b : Bool) → pick b (turned (lineBits m s l) ln) ln .p 0 ≡ pick b (turned (lineBits m s l) ln) ln .p 1
     go true = sym e

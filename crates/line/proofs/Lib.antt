@@ -7,6 +7,7 @@ pub mod Blocks
 pub mod Sequences
 pub mod Widths
 pub mod Orientation
+pub mod OwnWidths
 pub mod ThroughRecord
 pub mod Ways
 pub mod Theorems

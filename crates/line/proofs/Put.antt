@@ -8,7 +8,7 @@ use Prim.Native.Nat.{ℕ, zero, suc, _+_, _-_, _*_, _%_, _^_, _<_, _≤_}
 use native.Mathlib.Nat.{le-refl, le-trans, lt-of-lt-of-le, pow-suc, mod-lt}
 use native.Mathlib.Omega.{arith}
 use borrow.Author.Tests.{eqb-true, eqb-false, eq-eqb, ne-eqb, leb-true, leb-false}
-use lib.Dec.{T, eqb, ltb, ltb→lt, leb, lit<}
+use lib.Dec.{T, eqb, ltb, ltb→lt, lit<}
 use lib.Pow.{pow-mono, pow-pos, ones-sub-lt}
 use Rattle.format.specs.declared.Split.{Split}
 use Rattle.laws.specs.Tables.{pick}
@@ -22,7 +22,7 @@ use Rattle.format.specs.WellFormed.{WellFormed}
 use Rattle.format.proofs.Lens.{has-head, has-parts}
 use Rattle.format.proofs.Modes.{good-64, good-index-mode, good-subset, lines-le, the-anchor}
 use Rattle.line.specs.Acceptable.{Acceptable, Within}
-use Rattle.line.specs.Replace.{oriented, ownWidth, put, refusalIn}
+use Rattle.line.specs.Replace.{oriented, ownWidth, put, refusalIn, topSet}
 use Rattle.line.proofs.Accepting.{accepted-is}
 
 -- a line whose values are within the widths of its mode
@@ -74,7 +74,7 @@ module _ (m : ℕ) (s : Split) (l : ℕ) (ln : Line) where
 
   bounded-oriented : Bounded m s l ln → Bounded m s l (oriented m s l ln)
   unfolding oriented
-  bounded-oriented h = go (leb (2 ^ (lineBits m s l - 1)) (ln .index (anchorOf s l)))
+  bounded-oriented h = go (topSet m s l ln)
     where
       go : (b : Bool) → Bounded m s l (pick b (turned (lineBits m s l) ln) ln)
       go true = bounded-turned h
@@ -83,7 +83,7 @@ module _ (m : ℕ) (s : Split) (l : ℕ) (ln : Line) where
   -- and at the anchor the top bit is zero
   anchor-low : 1 ≤ lineBits m s l → oriented m s l ln .index (anchorOf s l) < 2 ^ (lineBits m s l - 1)
   unfolding oriented turned
-  anchor-low one = go (leb (2 ^ (lineBits m s l - 1)) (ln .index (anchorOf s l))) refl
+  anchor-low one = go (topSet m s l ln) refl
     where
       w : ℕ
       w = lineBits m s l
@@ -91,7 +91,7 @@ module _ (m : ℕ) (s : Split) (l : ℕ) (ln : Line) where
       double : 2 ^ (w - 1) * 2 ≡ 2 ^ w
       double = sym (pow-suc 2 (w - 1)) ∙ ap (λ (k : ℕ). 2 ^ k) (let z : suc (w - 1) ≡ w = omega arith in z)
 
-      go : (b : Bool) → leb (2 ^ (w - 1)) (ln .index (anchorOf s l)) ≡ b → pick b (turned w ln) ln .index (anchorOf s l) < 2 ^ (w - 1)
+      go : (b : Bool) → topSet m s l ln ≡ b → pick b (turned w ln) ln .index (anchorOf s l) < 2 ^ (w - 1)
       go true e = omega (arith, leb-true (2 ^ (w - 1)) (ln .index (anchorOf s l)) e, double, pow-pos (w - 1))
       go false e = leb-false _ _ e
 

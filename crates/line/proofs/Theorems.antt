@@ -16,12 +16,15 @@ use Rattle.format.specs.Modes.{lines}
 use Rattle.format.specs.Partitions.{among}
 use Rattle.format.specs.Places.{opened}
 use Rattle.format.specs.Splits.{splitOf}
-use Rattle.line.specs.Acceptable.{Acceptable, Answer, accepted}
+use Rattle.format.proofs.Opening.{opened-good}
+use Rattle.record.proofs.Packing.{open-mode}
+use Rattle.line.specs.Acceptable.{Acceptable, Answer, OwnWidths, accepted}
 use Rattle.line.specs.Calls.{afterAll, last, lastOfEach, seen}
 use Rattle.line.specs.Replace.{Call, after, refusal, replaced}
 use Rattle.line.proofs.Accepting.{answer-is, answered, reserved-mode, zero-byte}
 use Rattle.line.proofs.Blocks.{after-mode, after-sixteen, after-split, all-same, bytes-trade, full-alpha, given-drawn, others-kept, same-refusal, unchanged}
 use Rattle.line.proofs.Draws.{drawn-by-one}
+use Rattle.line.proofs.OwnWidths.{own-widths}
 use Rattle.line.proofs.Sequences.{all-mode, all-sixteen, all-split, sequence-draws}
 use Rattle.line.proofs.Steps.{steps-last-of-each, steps-same}
 
@@ -33,7 +36,11 @@ accepted-when bs h c = (λ e. parts (rw e at (answered bs h c)), λ a. answer-is
     parts : Answer bs c 0 → (getD bs 0 0 ≢ 0) × Acceptable (modeOf bs) (splitOf bs) (c .line) (c .given)
     parts (accepted n a) = (n, a)
 
--- and each refusal number exactly when document 01 says (`Answer` has the words)
+-- those widths are, in a block whose first byte isn't zero
+pub the-widths : (bs : List ℕ) → Fit eights bs → getD bs 0 0 ≢ 0 → (l : ℕ) → l < lines (modeOf bs) → OwnWidths (modeOf bs) (splitOf bs) l
+the-widths bs h n l hl = own-widths (opened-good bs h (open-mode bs h n)) l hl
+
+-- each refusal number is given exactly when document 01 says (`Answer` has the words)
 pub refused-when : (bs : List ℕ) → Fit eights bs → (c : Call) (n : ℕ) → (refusal bs c ≡ n) ↔ Answer bs c n
 refused-when bs h c n = (λ e. rw e at (answered bs h c), answer-is bs h c)
 

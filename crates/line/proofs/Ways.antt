@@ -18,7 +18,7 @@ use Rattle.format.specs.declared.Split.{Split}
 use Rattle.laws.specs.Digits.{Fit}
 use Rattle.laws.specs.Tables.{below, both, pick}
 use Rattle.laws.proofs.Part.{getD-table}
-use Rattle.laws.proofs.Tests.{at, both-left, both-right, both-true, no-both}
+use Rattle.laws.proofs.Tests.{both-left, both-right, both-true, no-both}
 use Rattle.format.specs.Block.{eights, modeOf}
 use Rattle.format.specs.Lines.{Line, has, laid, withLine}
 use Rattle.format.specs.Modes.{lines}

@@ -4,12 +4,14 @@ use mathlib.Core.Path.{_≡_}
 use mathlib.Core.Logic.{_≢_}
 use mathlib.Core.List.{List}
 use Prim.Native.Nat.{ℕ, _^_, _<_, _≤_}
+use lib.Dec.{eqb}
 use lib.ListN.{getD}
 use Rattle.format.specs.declared.Split.{Split}
+use Rattle.laws.specs.Tables.{pick}
 use Rattle.format.specs.Block.{modeOf}
-use Rattle.format.specs.Lines.{Line, indexPlace, pPlace, valuePlace}
-use Rattle.format.specs.Modes.{lines}
-use Rattle.format.specs.Splits.{splitOf}
+use Rattle.format.specs.Lines.{Line, indexPlace, lineBits, pPlace, valuePlace}
+use Rattle.format.specs.Modes.{channelBits, lines, pCount}
+use Rattle.format.specs.Splits.{isVector, splitOf, subset}
 use Rattle.line.specs.Replace.{Call, ownWidth}
 
 -- every value is within the width that it has in line l
@@ -17,6 +19,14 @@ pub record Within (m : ℕ) (s : Split) (l : ℕ) (ln : Line) : Type 0 where
   pub value : (k c : ℕ) → k < 2 → c < 4 → ln .value k c < 2 ^ ownWidth m s l (valuePlace s l k c)
   pub p : (k : ℕ) → k < 2 → ln .p k < 2 ^ ownWidth m s l (pPlace m l k)
   pub index : (q : ℕ) → q < 16 → ln .index q < 2 ^ ownWidth m s l (indexPlace s l q)
+
+-- what those widths are. Of a vector and a scalar, the vector has red, green and blue, and the scalar alpha; a subset has all
+-- channels of the mode, of which alpha may have no bits. A p bit has one bit, where the mode has p bits at all. An index has the
+-- line's width, at the pixels of the line
+pub record OwnWidths (m : ℕ) (s : Split) (l : ℕ) : Type 0 where
+  pub value : (k c : ℕ) → k < 2 → c < 4 → ownWidth m s l (valuePlace s l k c) ≡ pick (isVector s) (pick (eqb (pick (eqb c 3) 1 0) l) (channelBits m c) 0) (channelBits m c)
+  pub p : (k : ℕ) → k < 2 → ownWidth m s l (pPlace m l k) ≡ pick (eqb (pCount m) 0) 0 1
+  pub index : (q : ℕ) → q < 16 → ownWidth m s l (indexPlace s l q) ≡ pick (isVector s) (lineBits m s l) (pick (eqb (subset s q) l) (lineBits m s l) 0)
 
 -- a line that a block of mode m and split s takes: its number is below the mode's count, and in mode 1 its p bits are equal
 pub record Acceptable (m : ℕ) (s : Split) (l : ℕ) (ln : Line) : Type 0 where

@@ -5,9 +5,9 @@ use mathlib.Core.Bool.{Bool, not}
 use mathlib.Core.List.{List, [], _∷_}
 use lib.Dec.{eqb, ltb, leb}
 use lib.ListN.{getD}
-use Rattle.format.specs.declared.Split.{Split}
-use Rattle.line.specs.declared.Replaced.{Replaced}
 use Rattle.line.specs.declared.Replacement.{Replacement}
+use Rattle.line.specs.declared.Replaced.{Replaced}
+use Rattle.format.specs.declared.Split.{Split}
 use Rattle.laws.specs.Refusals.{first, refuse}
 use Rattle.laws.specs.Tables.{below, both, pick}
 use Rattle.format.specs.Block.{modeOf}
@@ -54,9 +54,13 @@ refusalIn m s l ln =
     refuse 4 (both (eqb m 1) (not (eqb (ln .p 0) (ln .p 1)))) ∷
     [])
 
--- as it is stored: turned round if the index at the line's anchor has its top bit set
+-- has the index at the line's anchor its top bit set
+abbrev pub topSet : ℕ → Split → ℕ → Line → Bool
+topSet m s l ln = leb (2 ^ (lineBits m s l - 1)) (ln .index (anchorOf s l))
+
+-- the line as it is stored: turned round if so, else as it is given
 unfoldable pub oriented : ℕ → Split → ℕ → Line → Line
-oriented m s l ln = pick (leb (2 ^ (lineBits m s l - 1)) (ln .index (anchorOf s l))) (turned (lineBits m s l) ln) ln
+oriented m s l ln = pick (topSet m s l ln) (turned (lineBits m s l) ln) ln
 
 -- what stands at the places with the line l put in
 unfoldable pub put : ℕ → Split → ℕ → Line → (Place → ℕ) → Place → ℕ

@@ -1,7 +1,6 @@
 -- An index fits the width that it has in the line.
 -- Assumes nothing.
-use mathlib.Core.Path.{sym, subst}
-use Prim.Native.Nat.{ℕ, _<_}
+use Prim.Native.Nat.{_<_}
 use borrow.Author.Needs.{needs}
 use Rattle.format.specs.Lines.{indexPlace}
 use Rattle.format.specs.Places.{index}
@@ -14,14 +13,17 @@ use Rattle.line.proofs.fitting.index_fits.Tie as tie
 set-of-requires : tie.Need-set-of-requires
 set-of-requires c κs = good-index-mode (c .pre .0 .holds)
 
+there : (c : tie.After-set-of) → c .set-of .result < 2
+there c = rw (c .set-of .ensures) (array-lt _ _ (good-index-mode (c .before .pre .0 .holds)))
+
 own-index-width-requires : tie.Need-own-index-width-requires
-own-index-width-requires c κs = (c .before .pre .0, (subst (λ (x : ℕ). x < 2) (sym (c .set-of .ensures)) (array-lt _ _ (good-index-mode (c .before .pre .0 .holds)))), c .before .pre .1)
+own-index-width-requires c κs = (c .before .pre .0, there c, c .before .pre .1)
 
 element-copy-out-fits : tie.Need-element-copy-out-fits
 element-copy-out-fits c = search needs
 
 fits-requires : tie.Need-fits-requires
-fits-requires c κs = rw (c .before .own-index-width .ensures) (own-le-8 _ _ _ (index _ _) (c .before .before .before .pre .0 .holds .mode) (inside-index (subst (λ (x : ℕ). x < 2) (sym (c .before .before .set-of .ensures)) (array-lt _ _ (good-index-mode (c .before .before .before .pre .0 .holds)))) (c .before .before .before .pre .1)))
+fits-requires c κs = rw (c .before .own-index-width .ensures) (own-le-8 _ _ _ (index _ _) (c .before .before .before .pre .0 .holds .mode) (inside-index (there (c .before .before)) (c .before .before .before .pre .1)))
 
 returns : tie.Need-returns
 unfolding indexFits indexPlace lineGiven

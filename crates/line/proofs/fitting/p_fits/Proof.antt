@@ -1,7 +1,6 @@
 -- A p bit fits the width that it has in the line.
 -- Assumes nothing.
-use mathlib.Core.Path.{sym, subst}
-use Prim.Native.Nat.{ℕ, _<_}
+use Prim.Native.Nat.{_<_}
 use borrow.Author.Needs.{needs}
 use Rattle.format.specs.Lines.{pPlace}
 use Rattle.format.specs.Places.{pbit}
@@ -13,14 +12,17 @@ use Rattle.line.proofs.fitting.p_fits.Tie as tie
 p-of-requires : tie.Need-p-of-requires
 p-of-requires c κs = (line-below-3 (c .pre .0), c .pre .1)
 
+there : (c : tie.After-p-of) → c .p-of .result < 6
+there c = rw (c .p-of .ensures) (p-lt (c .before .args .mode) _ _ (line-below-3 (c .before .pre .0)) (c .before .pre .1))
+
 own-p-width-requires : tie.Need-own-p-width-requires
-own-p-width-requires c κs = (c .before .pre .0 .holds .mode, (subst (λ (x : ℕ). x < 6) (sym (c .p-of .ensures)) (p-lt (c .before .args .mode) _ _ (line-below-3 (c .before .pre .0)) (c .before .pre .1))))
+own-p-width-requires c κs = (c .before .pre .0 .holds .mode, there c)
 
 element-copy-out-fits : tie.Need-element-copy-out-fits
 element-copy-out-fits c = search needs
 
 fits-requires : tie.Need-fits-requires
-fits-requires c κs = rw (c .before .own-p-width .ensures (c .before .before .before .args .split)) (own-le-8 _ _ _ (pbit _) (c .before .before .before .pre .0 .holds .mode) (inside-pbit (subst (λ (x : ℕ). x < 6) (sym (c .before .before .p-of .ensures)) (p-lt (c .before .before .before .args .mode) _ _ (line-below-3 (c .before .before .before .pre .0)) (c .before .before .before .pre .1)))))
+fits-requires c κs = rw (c .before .own-p-width .ensures (c .before .before .before .args .split)) (own-le-8 _ _ _ (pbit _) (c .before .before .before .pre .0 .holds .mode) (inside-pbit (there (c .before .before))))
 
 returns : tie.Need-returns
 unfolding pFits pPlace lineGiven

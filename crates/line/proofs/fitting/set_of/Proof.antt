@@ -3,7 +3,6 @@
 use native.Mathlib.Omega.{arith}
 use borrow.Author.Needs.{needs}
 use borrow.Author.Tests.{eq-eqb, ne-eqb}
-use Rattle.laws.proofs.Tests.{at}
 use Rattle.format.specs.Lines.{arrayOf}
 use Rattle.line.proofs.fitting.set_of.Statement.{statement}
 use Rattle.line.proofs.fitting.set_of.Tie as tie

@@ -1,7 +1,6 @@
 -- A value fits the width that it has in the line.
 -- Assumes nothing.
-use mathlib.Core.Path.{sym, subst}
-use Prim.Native.Nat.{ℕ, _<_}
+use Prim.Native.Nat.{_<_}
 use borrow.Author.Needs.{needs}
 use Rattle.format.specs.Lines.{valuePlace}
 use Rattle.format.specs.Places.{value}
@@ -13,8 +12,11 @@ use Rattle.line.proofs.fitting.value_fits.Tie as tie
 endpoint-of-requires : tie.Need-endpoint-of-requires
 endpoint-of-requires c κs = (line-below-3 (c .pre .0), c .pre .1)
 
+there : (c : tie.After-endpoint-of) → c .endpoint-of .result < 6
+there c = rw (c .endpoint-of .ensures) (endpoint-lt (c .before .args .split) _ _ (line-below-3 (c .before .pre .0)) (c .before .pre .1))
+
 own-value-width-requires : tie.Need-own-value-width-requires
-own-value-width-requires c κs = (c .before .pre .0 .holds .mode, c .before .pre .2, (subst (λ (x : ℕ). x < 6) (sym (c .endpoint-of .ensures)) (endpoint-lt (c .before .args .split) _ _ (line-below-3 (c .before .pre .0)) (c .before .pre .1))))
+own-value-width-requires c κs = (c .before .pre .0 .holds .mode, c .before .pre .2, there c)
 
 mul-fits : tie.Need-mul-fits
 mul-fits c = search needs
@@ -26,7 +28,7 @@ element-copy-out-fits : tie.Need-element-copy-out-fits
 element-copy-out-fits c = search needs
 
 fits-requires : tie.Need-fits-requires
-fits-requires c κs = rw (c .before .own-value-width .ensures) (own-le-8 _ _ _ (value _ _) (c .before .before .before .pre .0 .holds .mode) (inside-value (c .before .before .before .pre .2) (subst (λ (x : ℕ). x < 6) (sym (c .before .before .endpoint-of .ensures)) (endpoint-lt (c .before .before .before .args .split) _ _ (line-below-3 (c .before .before .before .pre .0)) (c .before .before .before .pre .1)))))
+fits-requires c κs = rw (c .before .own-value-width .ensures) (own-le-8 _ _ _ (value _ _) (c .before .before .before .pre .0 .holds .mode) (inside-value (c .before .before .before .pre .2) (there (c .before .before))))
 
 returns : tie.Need-returns
 unfolding valueFits valuePlace lineGiven

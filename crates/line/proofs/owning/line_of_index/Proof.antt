@@ -2,7 +2,6 @@
 -- Assumes nothing.
 use borrow.Author.Needs.{needs}
 use borrow.Author.Tests.{eq-eqb, ne-eqb}
-use Rattle.laws.proofs.Tests.{at}
 use Rattle.line.proofs.owning.line_of_index.Statement.{statement}
 use Rattle.line.proofs.owning.line_of_index.Tie as tie
 

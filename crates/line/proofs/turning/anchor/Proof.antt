@@ -3,7 +3,6 @@
 use mathlib.Core.Path.{sym}
 use native.Mathlib.Omega.{arith}
 use borrow.Author.Needs.{needs}
-use Rattle.laws.proofs.Tests.{at}
 use Rattle.format.proofs.Modes.{good-64}
 use Rattle.line.proofs.Orientation.{anchor-vector, anchor-whole, below-two}
 use Rattle.line.proofs.Widths.{line-below-3}

@@ -4,7 +4,6 @@ use mathlib.Core.Path.{_≡_, _∙_, sym, ap}
 use Prim.Native.Nat.{ℕ}
 use native.Mathlib.Omega.{arith}
 use borrow.Author.Needs.{needs}
-use Rattle.laws.proofs.Tests.{at}
 use Rattle.format.specs.Lines.{turned}
 use Rattle.format.proofs.Meaning.{line-bits}
 use Rattle.line.specs.Coded.{givenAs}
