@@ -1,0 +1,30 @@
+-- `sheet_replace_line`: what `replace_in_sheet` answers and leaves.
+-- Assumes nothing.
+use mathlib.Core.Path.{ap, _∙_}
+use Rattle.sheet.specs.Sheets.{sheetAfter, sheetRefusal}
+use borrow.Author.Needs.{needs}
+use Rattle.console.proofs.sheet_replace_line.Statement.{statement}
+use Rattle.console.proofs.sheet_replace_line.Tie as tie
+
+replacement-of-requires : tie.Need-replacement-of-requires
+replacement-of-requires c κs = search needs
+
+replace-in-sheet-requires : tie.Need-replace-in-sheet-requires
+replace-in-sheet-requires c κs = search needs
+
+cast-result : tie.Need-cast-result
+cast-result c = search needs
+
+same-length : tie.Need-same-length
+same-length c = search needs
+
+returns : tie.Need-returns
+returns c =
+    let e = c .before .before .replace-in-sheet .ensures in
+    let given = c .before .before .before .replacement-of .ensures in
+    (e .0 ∙ ap (sheetRefusal _ _ _) given, e .1 ∙ ap (sheetAfter _ _ _) given)
+
+pub sheet-replace-line-spec : {M : Type 1} → statement M
+sheet-replace-line-spec =
+    tie.close
+    (tie.spec replacement-of-requires replace-in-sheet-requires cast-result same-length returns)

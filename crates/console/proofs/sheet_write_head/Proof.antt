@@ -1,0 +1,33 @@
+-- `sheet_write_head`: what `write_head` answers.
+-- Assumes nothing.
+use mathlib.Core.Path.{sym, ap, _∙_}
+use borrow.Author.Tests.{eq-eqb, ne-eqb}
+use Rattle.head.specs.declared.HeadBytes.{HeadBytes}
+use borrow.Author.Needs.{needs}
+use Rattle.console.proofs.sheet_write_head.Statement.{statement}
+use Rattle.console.proofs.sheet_write_head.Tie as tie
+
+write-head-requires : tie.Need-write-head-requires
+write-head-requires c κs = search needs
+
+cast-result : tie.Need-cast-result
+cast-result c = search needs
+
+returns : tie.Need-returns
+returns c =
+    let e = c .before .before .before .write-head .ensures in
+    let other = ne-eqb _ 0 (c .before .if1 .taken) in
+    (ap (λ (h : HeadBytes). h .refusal) e, (rw (← e, other), rw (← e, other)))
+
+cast-count : tie.Need-cast-count
+cast-count c = search needs
+
+returns-2 : tie.Need-returns-2
+returns-2 c =
+    let e = c .before .before .before .before .write-head .ensures in
+    let zero = c .before .before .if1 .left in
+    (sym zero ∙ ap (λ (h : HeadBytes). h .refusal) e, (rw (← e, eq-eqb _ 0 zero), rw (← e, eq-eqb _ 0 zero)))
+
+pub sheet-write-head-spec : {M : Type 1} → statement M
+sheet-write-head-spec =
+    tie.close (tie.spec write-head-requires cast-result returns cast-count returns-2)
