@@ -16,22 +16,19 @@ use Rattle.laws.proofs.Part.{part-all}
 use Rattle.laws.proofs.Tests.{at}
 use Rattle.format.specs.Lines.{Line, anchorOf, firstIn, lineBits, turned}
 use Rattle.format.specs.Partitions.{subset3}
-use Rattle.format.specs.Splits.{kindOf, partition}
+use Rattle.format.specs.Splits.{partition}
 use Rattle.format.proofs.Modes.{good-64}
 use Rattle.format.proofs.Subsets.{good-lines}
 use Rattle.record.proofs.Widths.{fit, unfit}
 use Rattle.bcn_data.specs.Maps.{map3}
 use Rattle.bcn_data.proofs.Maps.{anchor-in2, anchor-in3, anchors-in2, anchors-in3}
-use Rattle.line.specs.Coded.{LineOfBlock, givenAs}
+use Rattle.line.specs.Coded.{LineOfBlock, givenAs, linesOf}
 use Rattle.line.specs.Replace.{lineGiven, oriented}
 use Rattle.line.proofs.Widths.{pick-lt}
 
 -- the line's number is below the count of its kind
-line-of-kind : {m : ℕ} {s : Split} {l : ℕ} → LineOfBlock m s l → l < getD (1 ∷ 2 ∷ 3 ∷ 2 ∷ []) (kindOf s) 0
+pub line-of-kind : {m : ℕ} {s : Split} {l : ℕ} → LineOfBlock m s l → l < linesOf s
 line-of-kind {m} {s} {l} h = subst (λ (n : ℕ). l < n) (good-lines (h .holds)) (h .line)
-
-pub below-two : {m : ℕ} {s : Split} {l a : ℕ} → LineOfBlock m s l → s ≡ Two a → l < 2
-below-two {m} {s} {l} h e = subst (λ (s : Split). l < getD (1 ∷ 2 ∷ 3 ∷ 2 ∷ []) (kindOf s) 0) e (line-of-kind h)
 
 only : (l : ℕ) → firstIn (λ (q : ℕ). 0) l (0 ∷ []) ≡ 0
 only l = go (eqb 0 l)
@@ -51,7 +48,7 @@ anchor-vector r i l = only l
 pub anchor-lt : {m : ℕ} {s : Split} {l : ℕ} → LineOfBlock m s l → anchorOf s l < 16
 anchor-lt {m} {s} {l} h = go s (good-64 (h .holds)) (line-of-kind h)
   where
-    go : (s : Split) → partition s < 64 → l < getD (1 ∷ 2 ∷ 3 ∷ 2 ∷ []) (kindOf s) 0 → anchorOf s l < 16
+    go : (s : Split) → partition s < 64 → l < linesOf s → anchorOf s l < 16
     go Whole ha hl = rw (anchor-whole l) (omega arith)
     go (Two a) ha hl = rw (anchor-in2 a l ha hl) (pick-lt (eqb l 0) 0 _ 16 (omega arith) (anchors-in2 a ha .last))
     go (Three a) ha hl =

@@ -1,12 +1,15 @@
 -- What the code goes by.
 -- Assumes nothing.
+use mathlib.Core.List.{[], _∷_}
 use Prim.Native.Nat.{ℕ, _/_, _%_, _<_}
+use lib.ListN.{getD}
 use Rattle.line.specs.declared.Replacement.{Replacement}
 use Rattle.format.specs.declared.Split.{Split}
 use Rattle.laws.specs.Tables.{table}
 use Rattle.format.specs.Lines.{Line}
 use Rattle.format.specs.Modes.{lines}
 use Rattle.format.specs.Places.{Place}
+use Rattle.format.specs.Splits.{kindOf}
 use Rattle.format.specs.WellFormed.{WellFormed}
 
 -- m and s are the mode and the split of a block, and l is a line of that mode
@@ -14,6 +17,10 @@ pub record LineOfBlock (m : ℕ) (s : Split) (l : ℕ) : Type 0 where
   pub places : Place → ℕ
   pub holds : WellFormed m s places
   pub line : l < lines m
+
+-- how many lines a split has, by its kind
+abbrev pub linesOf : Split → ℕ
+linesOf s = getD (1 ∷ 2 ∷ 3 ∷ 2 ∷ []) (kindOf s) 0
 
 -- a line as a replacement gives it
 unfoldable pub givenAs : Line → Replacement

@@ -3,6 +3,7 @@ ghost use mathlib.Core.Path.{_≡_};
 ghost use Prim.Native.Nat.{_+_, _*_, _^_, _<_, _≤_};
 ghost use lib.Dec.{eqb, ltb};
 ghost use Rattle.laws.specs.Tables.{below, pick};
+ghost use Rattle.format.specs.declared.Split.{Split};
 ghost use Rattle.format.specs.Lines.{arrayOf};
 ghost use Rattle.format.specs.Splits.{indexMode, isVector};
 ghost use Rattle.line.specs.Replace.{indexFits, lineFits, lineGiven, pFits, valueFits};
@@ -96,9 +97,9 @@ fn endpoint_fits(mode: u8, split: Split, line: usize, new: Replacement, k: usize
     true
 }
 
-fn p_fits(mode: u8, split: Split, line: usize, new: Replacement, k: usize) -> bool
-    requires { ⌜ LineOfBlock mode split line × (k < 2) ⌝ }
-    ensures { λ r. ⌜ r ≡ pFits mode split line (lineGiven new) k ⌝ }
+fn p_fits(mode: u8, line: usize, new: Replacement, k: usize) -> bool
+    requires { ⌜ (mode < 8) × (line < 3) × (k < 2) ⌝ }
+    ensures { λ r. ⌜ ((split : Split) → r ≡ pFits mode split line (lineGiven new) k) ⌝ }
 {
     let width = own_p_width(mode, line, p_of(mode, line, k));
     fits(new.p[k], width)
@@ -136,10 +137,10 @@ pub fn line_fits(mode: u8, split: Split, line: usize, new: Replacement) -> bool
     if !endpoint_fits(mode, split, line, new, 1) {
         return false;
     }
-    if !p_fits(mode, split, line, new, 0) {
+    if !p_fits(mode, line, new, 0) {
         return false;
     }
-    if !p_fits(mode, split, line, new, 1) {
+    if !p_fits(mode, line, new, 1) {
         return false;
     }
     indexes_fit(mode, split, line, new)

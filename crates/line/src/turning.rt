@@ -6,10 +6,11 @@ ghost use lib.ListN.{getD};
 ghost use Rattle.laws.specs.Tables.{table};
 ghost use Rattle.format.specs.Lines.{anchorOf, lineBits};
 ghost use Rattle.format.specs.Lines.{turned as turnedLine};
+ghost use Rattle.format.specs.Splits.{partition as partitionOf};
 ghost use Rattle.line.specs.Acceptable.{Within};
 ghost use Rattle.line.specs.Replace.{lineGiven};
 ghost use Rattle.line.specs.Replace.{oriented as orientedLine};
-ghost use Rattle.line.specs.Coded.{LineOfBlock, givenAs};
+ghost use Rattle.line.specs.Coded.{LineOfBlock, givenAs, linesOf};
 use crate::Replacement;
 use crate::fitting::set_of;
 use bcn_data::anchor_2;
@@ -18,8 +19,8 @@ use format::Split;
 use record::modes::index_width;
 
 // The pixel that is the anchor of a line.
-fn anchor(mode: u8, split: Split, line: usize) -> usize
-    requires { ⌜ LineOfBlock mode split line ⌝ }
+fn anchor(split: Split, line: usize) -> usize
+    requires { ⌜ (partitionOf split < 64) × (line < linesOf split) ⌝ }
     ensures { λ r. ⌜ r ≡ anchorOf split line ⌝ }
 {
     match split {
@@ -75,7 +76,7 @@ pub fn oriented(mode: u8, split: Split, line: usize, new: Replacement) -> Replac
     ensures { λ r. ⌜ r ≡ givenAs (orientedLine mode split line (lineGiven new)) ⌝ }
 {
     let width = line_width(mode, split, line);
-    let at = anchor(mode, split, line);
+    let at = anchor(split, line);
     let index = new.indexes[at];
     if index as u32 >> (width - 1) == 0 {
         return new;

@@ -3,9 +3,7 @@
 use mathlib.Core.Path.{sym}
 use native.Mathlib.Omega.{arith}
 use borrow.Author.Needs.{needs}
-use Rattle.format.proofs.Modes.{good-64}
-use Rattle.line.proofs.Orientation.{anchor-vector, anchor-whole, below-two}
-use Rattle.line.proofs.Widths.{line-below-3}
+use Rattle.line.proofs.Orientation.{anchor-vector, anchor-whole}
 use Rattle.line.proofs.turning.anchor.Statement.{statement}
 use Rattle.line.proofs.turning.anchor.Tie as tie
 
@@ -16,10 +14,10 @@ enum-known-split : tie.Need-enum-known-split
 enum-known-split c = search needs
 
 cast-anchor-2 : tie.Need-cast-anchor-2
-cast-anchor-2 c = omega (arith, below-two (c .before .before .before .pre) (c .before .split .given .1))
+cast-anchor-2 c = let h = rw (c .before .split .given .1) at (c .before .before .before .pre .1) in omega arith
 
 anchor-2-requires : tie.Need-anchor-2-requires
-anchor-2-requires c κs = (rw (c .before .split .given .1) at (good-64 (c .before .before .before .pre .holds)), below-two (c .before .before .before .pre) (c .before .split .given .1))
+anchor-2-requires c κs = rw (c .before .split .given .1) at (c .before .before .before .pre)
 
 cast-result : tie.Need-cast-result
 cast-result c = search needs
@@ -28,10 +26,10 @@ enum-known-split-2 : tie.Need-enum-known-split-2
 enum-known-split-2 c = search needs
 
 cast-anchor-3 : tie.Need-cast-anchor-3
-cast-anchor-3 c = omega (arith, line-below-3 (c .before .before .before .pre))
+cast-anchor-3 c = let h = rw (c .before .split2 .given .1) at (c .before .before .before .pre .1) in omega arith
 
 anchor-3-requires : tie.Need-anchor-3-requires
-anchor-3-requires c κs = (rw (c .before .split2 .given .1) at (good-64 (c .before .before .before .pre .holds)), line-below-3 (c .before .before .before .pre))
+anchor-3-requires c κs = rw (c .before .split2 .given .1) at (c .before .before .before .pre)
 
 cast-result-2 : tie.Need-cast-result-2
 cast-result-2 c = search needs

@@ -6,9 +6,10 @@ use native.Mathlib.Omega.{arith}
 use borrow.Author.Needs.{needs}
 use Rattle.format.specs.Lines.{turned}
 use Rattle.format.proofs.Meaning.{line-bits}
+use Rattle.format.proofs.Modes.{good-64}
 use Rattle.line.specs.Coded.{givenAs}
 use Rattle.line.specs.Replace.{lineGiven}
-use Rattle.line.proofs.Orientation.{anchor-lt, given-back, stays, turns}
+use Rattle.line.proofs.Orientation.{anchor-lt, given-back, line-of-kind, stays, turns}
 use Rattle.line.proofs.Put.{bounded}
 use Rattle.line.proofs.turning.oriented.Statement.{statement}
 use Rattle.line.proofs.turning.oriented.Tie as tie
@@ -20,7 +21,7 @@ line-width-requires : tie.Need-line-width-requires
 line-width-requires c κs = search needs
 
 anchor-requires : tie.Need-anchor-requires
-anchor-requires c κs = search needs
+anchor-requires c κs = (good-64 (c .before .pre .0 .holds), line-of-kind (c .before .pre .0))
 
 element-copy-out-index : tie.Need-element-copy-out-index
 element-copy-out-index c = rw (c .anchor .ensures) (anchor-lt (c .before .before .pre .0))
