@@ -5,27 +5,15 @@ ghost use mathlib.Core.Path.{_≡_};
 ghost use Prim.Native.Nat.{_<_, _+_, _≤_};
 ghost use lib.ListN.{getD};
 ghost use Rattle.laws.specs.Tables.{table};
-ghost use Rattle.format.specs.Splits.{kindOf, indexMode, ofKind};
 ghost use Rattle.wire.specs.Wire.{replacementOf, splitByte, recordByte, recordBytes, recordOfBytes, packedBytes};
 use format::Split;
 use line::Replacement;
 use record::Packed;
 use record::Record;
 use record::pack;
-
-fn kind_byte(split: Split) -> u8
-    ensures { λ r. ⌜ r ≡ kindOf split ⌝ }
-{
-    match split {
-        Split::Whole => 0,
-        Split::Two(_) => 1,
-        Split::Three(_) => 2,
-        Split::Vector {
-            rotation: _,
-            index_mode: _,
-        } => 3,
-    }
-}
+use record::splits::index_mode_of;
+use record::splits::kind_of;
+use record::splits::split_of_kind;
 
 // The partition or the rotation, whichever the split has.
 fn split_byte(split: Split) -> u8
@@ -42,20 +30,6 @@ fn split_byte(split: Split) -> u8
     }
 }
 
-fn index_mode_byte(split: Split) -> u8
-    ensures { λ r. ⌜ r ≡ indexMode split ⌝ }
-{
-    match split {
-        Split::Whole => 0,
-        Split::Two(_) => 0,
-        Split::Three(_) => 0,
-        Split::Vector {
-            rotation: _,
-            index_mode,
-        } => index_mode,
-    }
-}
-
 fn record_byte(from: Record, i: usize) -> u8
     requires { ⌜ i < 66 ⌝ }
     ensures { λ r. ⌜ r ≡ recordByte from i ⌝ }
@@ -64,9 +38,9 @@ fn record_byte(from: Record, i: usize) -> u8
     if i < 4 {
         let head = [
             from.mode,
-            kind_byte(split),
+            kind_of(split),
             split_byte(split),
-            index_mode_byte(split),
+            index_mode_of(split),
         ];
         return head[i];
     }
@@ -90,24 +64,6 @@ pub fn record_bytes(from: Record) -> [u8; 66]
         bytes[i] = record_byte(from, i);
     }
     bytes
-}
-
-fn split_of(kind: u8, part: u8, index_mode: u8) -> Split
-    ensures { λ r. ⌜ r ≡ ofKind kind part part «index_mode» ⌝ }
-{
-    if kind == 0 {
-        return Split::Whole;
-    }
-    if kind == 1 {
-        return Split::Two(part);
-    }
-    if kind == 2 {
-        return Split::Three(part);
-    }
-    Split::Vector {
-        rotation: part,
-        index_mode: index_mode,
-    }
 }
 
 fn endpoints_of(bytes: [u8; 66]) -> [u8; 24]
@@ -147,7 +103,7 @@ fn record_of_bytes(bytes: [u8; 66]) -> Record
 {
     Record {
         mode: bytes[0],
-        split: split_of(bytes[1], bytes[2], bytes[3]),
+        split: split_of_kind(bytes[1], bytes[2], bytes[2], bytes[3]),
         endpoints: endpoints_of(bytes),
         p: p_of(bytes),
         first: indexes_of(bytes, 34),

@@ -8,14 +8,14 @@ use borrow.Author.Needs.{needs}
 use Rattle.wire.proofs.record_byte.Statement.{statement}
 use Rattle.wire.proofs.record_byte.Tie as tie
 
-kind-byte-requires : tie.Need-kind-byte-requires
-kind-byte-requires c κs = search needs
+kind-of-requires : tie.Need-kind-of-requires
+kind-of-requires c κs = search needs
 
 split-byte-requires : tie.Need-split-byte-requires
 split-byte-requires c κs = search needs
 
-index-mode-byte-requires : tie.Need-index-mode-byte-requires
-index-mode-byte-requires c κs = search needs
+index-mode-of-requires : tie.Need-index-mode-of-requires
+index-mode-of-requires c κs = search needs
 
 array-read-result : tie.Need-array-read-result
 array-read-result c = search needs
@@ -25,7 +25,7 @@ unfolding recordByte
 returns c =
     let s = c .before .before .before .before .args in
     rw (lt-ltb _ _ (c .before .before .before .if1 .taken))
-    (λ j. getD (s .t1 .mode ∷ c .before .before .kind-byte .ensures j ∷ c .before .split-byte .ensures j ∷ c .index-mode-byte .ensures j ∷ []) (s .i) 0)
+    (λ j. getD (s .t1 .mode ∷ c .before .before .kind-of .ensures j ∷ c .before .split-byte .ensures j ∷ c .index-mode-of .ensures j ∷ []) (s .i) 0)
 
 element-copy-out-result : tie.Need-element-copy-out-result
 element-copy-out-result c = search needs
@@ -59,9 +59,9 @@ pub record-byte-spec : {M : Type 1} → statement M
 record-byte-spec =
     tie.close
     (tie.spec
-    kind-byte-requires
+    kind-of-requires
     split-byte-requires
-    index-mode-byte-requires
+    index-mode-of-requires
     array-read-result
     returns
     element-copy-out-result
