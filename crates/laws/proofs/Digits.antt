@@ -1,14 +1,14 @@
 -- Splitting a number into digits and joining digits are inverse to each other, for any list of widths.
 -- Assumes nothing.
-use mathlib.Core.Path.{_≡_, refl, sym, ap, ap₂, _∙_, subst}
+use mathlib.Core.Path.{_≡_, refl, sym, ap, ap₂, _∙_}
 use mathlib.Core.List.{List, [], _∷_, _++_}
-use Prim.Native.Nat.{ℕ, zero, suc, _+_, _-_, _*_, _/_, _%_, _^_, _≤_, _<_, zero-le}
-use native.Mathlib.Nat.{mod-lt, mod-eq-of-lt, mod-one, zero-div, zero-mod, add-zero, zero-add, add-comm, add-assoc, div-one, lt-of-lt-of-le, le-trans, mul-le-mul-right, zero-lt-suc, not-suc-le-zero, le-of-suc-le-suc, mul-one, add-mul, mul-assoc}
+use Prim.Native.Nat.{ℕ, zero, suc, _+_, _-_, _*_, _/_, _%_, _^_, _<_}
+use native.Mathlib.Nat.{mod-lt, mod-eq-of-lt, mod-one, add-zero, zero-add, add-comm, add-assoc, div-one, zero-lt-suc, not-suc-le-zero, le-of-suc-le-suc, mul-one, add-mul, mul-assoc}
 use native.Mathlib.Omega.{arith}
-use lib.ListN.{length, getD, take, drop}
+use lib.ListN.{length, getD, take}
 use lib.Arith.{digits-lt}
 use lib.Pow.{pow-pos, pow-add, mod-pow-add, high, low, shr-shr}
-use Rattle.laws.specs.Digits.{total, split, join, Fit, none, more}
+use Rattle.laws.specs.Digits.{Fit, join, more, none, split, total}
 
 -- the values of a split fit their widths
 pub split-fits : (ws : List ℕ) (n : ℕ) → Fit ws (split ws n)
@@ -34,10 +34,6 @@ split-join (more {w = w} {v = v} {ws = ws} {vs = vs} h f) =
 pub join-lt : {ws vs : List ℕ} → Fit ws vs → join ws vs < 2 ^ total ws
 join-lt none = zero-lt-suc 0
 join-lt (more {w = w} {v = v} {ws = ws} {vs = vs} h f) = rw (pow-add 2 (total ws) w) (digits-lt (join-lt f) h)
-
--- two numbers of that width with the same digits are the same
-pub split-inj : (ws : List ℕ) (m n : ℕ) → m < 2 ^ total ws → n < 2 ^ total ws → split ws m ≡ split ws n → m ≡ n
-split-inj ws m n hm hn e = sym (join-split ws m hm) ∙ ap (join ws) e ∙ join-split ws n hn
 
 -- the digit at place k starts where the digits before it end
 pub split-at-place : (ws : List ℕ) (n k : ℕ) → k < length ws → getD (split ws n) k 0 ≡ n / 2 ^ total (take k ws) % 2 ^ getD ws k 0

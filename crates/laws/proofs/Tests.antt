@@ -5,9 +5,8 @@ use mathlib.Core.Logic.{⊎-elim}
 use mathlib.Core.Bool.{Bool, true, false, not}
 use Prim.Native.Nat.{ℕ, zero, suc, _<_}
 use native.Mathlib.Nat.{le-of-suc-le-suc, not-suc-le-zero, eq-or-lt-of-le, lt-trans, le-refl}
-use native.Mathlib.Omega.{arith}
 use lib.Dec.{T, eqb, eqb-refl}
-use Rattle.laws.specs.Tables.{pick, both, below, implies}
+use Rattle.laws.specs.Tables.{below, both, implies}
 
 pub T-true : (b : Bool) → T b → b ≡ true
 T-true true t = refl
@@ -54,8 +53,3 @@ at (suc n) f t k h =
 pub below-intro : (n : ℕ) (f : ℕ → Bool) → ((k : ℕ) → k < n → T (f k)) → T (below n f)
 below-intro zero f h = tt
 below-intro (suc n) f h = both-intro (f n) (below n f) (h n (le-refl (suc n))) (below-intro n f (λ k l. h k (lt-trans l (le-refl (suc n)))))
-
--- a refusal that was not given
-pub pick-zero : (b : Bool) (n r : ℕ) → pick b (suc n) r ≡ 0 → (b ≡ false) × (r ≡ 0)
-pick-zero true n r e = absurd (let z : ⊥ = omega arith in z)
-pick-zero false n r e = (refl, e)
