@@ -181,7 +181,7 @@ taken (suc k) at zero bs h = absurd (not-suc-le-zero h)
 taken (suc k) at (suc n) [] h = refl
 taken (suc k) at (suc n) (b ∷ bs) h = rw (taken k (at + 1) n bs (le-of-suc-le-suc h))
 
-drop-take : (m n : ℕ) (l : List ℕ) → drop m (take (m + n) l) ≡ take n (drop m l)
+pub drop-take : (m n : ℕ) (l : List ℕ) → drop m (take (m + n) l) ≡ take n (drop m l)
 drop-take zero n l = rw zero-add
 drop-take (suc m) n [] = rw (suc-add, take-nil)
 drop-take (suc m) n (x ∷ l) = rw suc-add (drop-take m n l)

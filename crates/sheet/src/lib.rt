@@ -8,7 +8,7 @@ ghost use Rattle.sheet.specs.Rows.{across, blockAt, lineByte, rowBytes, 
 ghost use Rattle.sheet.specs.Sheets.{findBlock, foundAt, putBlock, sheetAfter, sheetRefusal};
 
 // The block at a place.
-fn load(s: &[u8], at: usize) -> [u8; 16]
+pub fn load(s: &[u8], at: usize) -> [u8; 16]
     requires { ⌜ at + 16 ≤ length (now s) ⌝ }
     ensures { λ r. ⌜ r ≡ blockAt (now (s .entry)) at ⌝ }
 {

@@ -85,6 +85,7 @@ fn push_pixel(line: Line, pixel: [u8; 4]) -> Line
 // The first line of a listing: `sheet`, width and height.
 pub fn sheet_line(width: u32, height: u32) -> Line
     ensures { λ r. ⌜ r ≡ lineOf (sheetLine width height) ⌝ }
+    ensures { λ r. ⌜ r .length ≤ 40 ⌝ }
 {
     let wide = push_number(push_word(empty(), b"sheet "), width);
     push(push_number(push(wide, b' '), height), b'\n')
@@ -100,6 +101,7 @@ pub fn opacity_mark(mode: u8) -> u8
 // The line of a block: its number, its mode, the four channels of its pixel 0, and its opacity mark.
 pub fn block_line(number: u32, mode: u8, pixel: [u8; 4]) -> Line
     ensures { λ r. ⌜ r ≡ lineOf (blockLine number mode pixel) ⌝ }
+    ensures { λ r. ⌜ r .length ≤ 40 ⌝ }
 {
     let drawn = push_pixel(push_byte(push_number(empty(), number), mode), pixel);
     push(push(push(drawn, b' '), opacity_mark(mode)), b'\n')
@@ -108,6 +110,7 @@ pub fn block_line(number: u32, mode: u8, pixel: [u8; 4]) -> Line
 // The line of a refusal.
 pub fn refused_line(refusal: u8) -> Line
     ensures { λ r. ⌜ r ≡ lineOf (refusedLine refusal) ⌝ }
+    ensures { λ r. ⌜ r .length ≤ 40 ⌝ }
 {
     push(push_byte(push_word(empty(), b"refused"), refusal), b'\n')
 }

@@ -41,7 +41,7 @@ returns c =
     let drawn = with-then _ _ _ (with-then _ _ _ (n .push-number .ensures .0) (d .before .push-byte .ensures .0)) (d .push-pixel .ensures .0) in
     let marked = with-then _ _ _ (with-then _ _ _ drawn (m .before .push .ensures .0)) (rw (m .opacity-mark .ensures) at (c .before .push2 .ensures .0)) in
     let ended = with-then _ _ _ marked (c .push3 .ensures .0) in
-    from-empty _ (n .before .empty .ensures .0) ended (omega (arith, with-length _ _ ended))
+    (from-empty _ (n .before .empty .ensures .0) ended (omega (arith, with-length _ _ ended)), omega arith)
 
 pub block-line-spec : {M : Type 1} → statement M
 block-line-spec =

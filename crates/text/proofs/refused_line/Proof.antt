@@ -27,7 +27,7 @@ unfolding refusedLine ascii
 returns c =
     let w = c .before .before in
     let ended = with-then _ _ _ (with-then _ _ _ (w .push-word .ensures .0) (c .before .push-byte .ensures .0)) (c .push .ensures .0) in
-    from-empty _ (w .before .before .empty .ensures .0) ended (omega (arith, with-length _ _ ended, w .push-word .ensures .1, w .before .before .empty .ensures .1))
+    (from-empty _ (w .before .before .empty .ensures .0) ended (omega (arith, with-length _ _ ended, w .push-word .ensures .1, w .before .before .empty .ensures .1)), omega (arith, w .push-word .ensures .1, w .before .before .empty .ensures .1))
 
 pub refused-line-spec : {M : Type 1} → statement M
 refused-line-spec =

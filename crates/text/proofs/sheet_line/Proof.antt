@@ -37,7 +37,7 @@ returns c =
     let wide = with-then _ _ _ (s .push-word .ensures .0) (w .push-number .ensures .0) in
     let high = with-then _ _ _ (with-then _ _ _ wide (h .before .push .ensures .0)) (h .push-number2 .ensures .0) in
     let ended = with-then _ _ _ high (c .push2 .ensures .0) in
-    from-empty _ (s .before .before .empty .ensures .0) ended (omega (arith, with-length _ _ ended))
+    (from-empty _ (s .before .before .empty .ensures .0) ended (omega (arith, with-length _ _ ended)), omega arith)
 
 pub sheet-line-spec : {M : Type 1} → statement M
 sheet-line-spec =
