@@ -1,0 +1,2 @@
+-- The definitions that the decoder's contracts cite.
+pub mod Fields
