@@ -1,0 +1,25 @@
+-- Sixteen pixels: looked up in a palette, joined of two, and with two channels exchanged.
+-- Assumes nothing.
+use mathlib.Core.List.{List, []}
+use Prim.Native.Nat.{ℕ, _+_, _*_, _^_}
+use lib.Dec.{eqb}
+use lib.ListN.{getD}
+use Rattle.laws.specs.Tables.{pick, table}
+use Rattle.format.specs.Lines.{rotated}
+use Rattle.bcn_util.specs.Indexes.{part}
+use Rattle.bc7_fields.specs.Fields.{four}
+
+-- the place of a pixel's colour in the palettes of all subsets: the subset is k bits of the map, the index b bits of x
+unfoldable pub key : ℕ → ℕ → ℕ → ℕ → ℕ → ℕ
+key k b map x q = part map k q * 2 ^ b + part x b q
+
+unfoldable pub painted : (ℕ → ℕ) → List (List ℕ) → List (List ℕ)
+painted place p = table 16 (λ q. getD p (place q) [])
+
+-- red, green and blue of the first, alpha of the second
+unfoldable pub merged : List (List ℕ) → List (List ℕ) → List (List ℕ)
+merged colors alphas = table 16 (λ q. four (λ c. getD (getD (pick (eqb c 3) alphas colors) q []) c 0))
+
+-- rotation 1, 2, 3 swaps alpha with red, green, blue
+unfoldable pub swapped : ℕ → List (List ℕ) → List (List ℕ)
+swapped r pixels = table 16 (λ q. four (λ c. getD (getD pixels q []) (rotated r c) 0))
