@@ -113,11 +113,15 @@ module _ (b : ℕ) (hb : b ≤ 3) (e0 e1 e2 e3 : List ℕ) (i : ℕ) (hi : i < 2
         (rw (length-over (stack1 b e0 e1) (1 * 2 ^ b) (2 ^ b) (between b e2 e3), length-over (replicate 32 (replicate 4 0)) 0 (2 ^ b) (between b e0 e1)) (omega (arith, small))) hi
 
 -- rotation after colour and alpha are joined
-pub turned-is : (r : ℕ) (colors alphas : List (List ℕ)) → r < 4 → swapped r (merged colors alphas) ≡ turned r colors alphas
-unfolding swapped merged turned
-turned-is r colors alphas h =
-    table-same [] 16 _ _ (λ q hq. four-ext _ _ (λ c hc.
-    ap (λ (l : List ℕ). getD l (rotated r c) 0) (getD-table 16 _ [] q hq) ∙ four-at _ (rotated r c) (rotated-lt r c h hc)))
+module _ (r : ℕ) (colors alphas : List (List ℕ)) (h : r < 4) where
+  abbrev joint : ℕ → ℕ → ℕ
+  joint q c = getD (getD (pick (eqb c 3) alphas colors) q []) c 0
+
+  pub turned-is : swapped r (merged colors alphas) ≡ turned r colors alphas
+  unfolding swapped merged turned
+  turned-is =
+      table-same [] 16 (λ q. four (λ c. getD (getD (table 16 (λ q. four (joint q))) q []) (rotated r c) 0)) (λ q. four (λ c. joint q (rotated r c))) (λ q hq. four-ext _ _ (λ c hc.
+      ap (λ (l : List ℕ). getD l (rotated r c) 0) (getD-table 16 (λ q. four (joint q)) [] q hq) ∙ four-at (joint q) (rotated r c) (rotated-lt r c h hc)))
 
 -- where there are a vector and its scalar
 module _ (m n r i : ℕ) (hr : r < 4) (es : splitAt m n ≡ Vector r i) where

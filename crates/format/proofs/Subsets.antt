@@ -46,7 +46,7 @@ three-below : T (below 64 (λ a. below 16 (λ q. ltb (subset3 a q) 3)))
 unfolding digits strings3 subset3
 three-below = tt
 
-subset-below : (s : Split) (q : ℕ) → partition s < 64 → q < 16 → subset s q < getD (1 ∷ 2 ∷ 3 ∷ 2 ∷ []) (kindOf s) 0
+pub subset-below : (s : Split) (q : ℕ) → partition s < 64 → q < 16 → subset s q < getD (1 ∷ 2 ∷ 3 ∷ 2 ∷ []) (kindOf s) 0
 subset-below Whole q ha hq = lit< tt
 subset-below (Two a) q ha hq = ltb→lt (subset2 a q) 2 (at 16 (λ q. ltb (subset2 a q) 2) (at 64 (λ a. below 16 (λ q. ltb (subset2 a q) 2)) two-below a ha) q hq)
 subset-below (Three a) q ha hq = ltb→lt (subset3 a q) 3 (at 16 (λ q. ltb (subset3 a q) 3) (at 64 (λ a. below 16 (λ q. ltb (subset3 a q) 3)) three-below a ha) q hq)

@@ -1,145 +1,187 @@
-use mathlib.Core.Path.{_≡_}
-use Prim.Native.Nat.{ℕ, _<_}
+-- Each mode shows what the format says, and so does a reserved block.
+-- Assumes nothing.
+use mathlib.Core.Path.{_≡_, refl, ap}
+use Prim.Native.Nat.{ℕ, _+_}
 use native.Mathlib.Omega.{arith}
-use lib.Count.{trailing-le}
-use lib.ListN.{length, getD}
+use borrow.Author.Needs.{needs}
+use lib.ListN.{getD, length}
 use mir.Syntax.{w8}
 use mir.Val.{Fits}
-use Rattle.bc7_reader.specs.At.{held}
-use Rattle.bc7.proofs.Laws.{by-mode, reserved, eight}
-use borrow.Author.Needs.{needs}
+use Rattle.bc7.proofs.Laws.{by-mode, by-none, eight, mode-8}
 use Rattle.bc7.proofs.decode_bc7_block.Statement.{statement}
 use Rattle.bc7.proofs.decode_bc7_block.Tie as tie
-use Rattle.bc7.proofs.decode_bc7_block.Reads as reads
-use Rattle.bc7.proofs.decode_bc7_block.Lts as lts
-use Rattle.bc7_modes.proofs.mode_0.Reads as mode-0-reads
-use Rattle.bc7_modes.proofs.mode_1.Reads as mode-1-reads
-use Rattle.bc7_modes.proofs.mode_2.Reads as mode-2-reads
-use Rattle.bc7_modes.proofs.mode_3.Reads as mode-3-reads
-use Rattle.bc7_modes.proofs.mode_4.Reads as mode-4-reads
-use Rattle.bc7_modes.proofs.mode_5.Reads as mode-5-reads
-use Rattle.bc7_modes.proofs.mode_6.Reads as mode-6-reads
-use Rattle.bc7_modes.proofs.mode_7.Reads as mode-7-reads
-use Rattle.bc7_reader.proofs.open.Reads as open-reads
 
-size : (s : tie.Start) → length (s .args .t1) ≡ 16
+size : (s : tie.Start) → length (s .args .block) ≡ 16
 size s = search needs
 
-byte : (s : tie.Start) (i : ℕ) → Fits w8 (getD (s .args .t1) i 0)
+byte : (s : tie.Start) (i : ℕ) → Fits w8 (getD (s .args .block) i 0)
 byte s i = search needs
 
-open-requires : tie.Need-open-requires
-open-requires c κs = search needs
+new-requires : tie.Need-new-requires
+new-requires c κs = search needs
 
-array-read-match : tie.Need-array-read-match
-array-read-match c = search needs
+extract-mode-requires : tie.Need-extract-mode-requires
+extract-mode-requires c κs = search needs
+
+skip-requires : tie.Need-skip-requires
+skip-requires c κs = search needs
 
 mode-0-requires : tie.Need-mode-0-requires
-mode-0-requires c κs = search needs
-
-mode-1-requires : tie.Need-mode-1-requires
-mode-1-requires c κs = search needs
-
-mode-2-requires : tie.Need-mode-2-requires
-mode-2-requires c κs = search needs
-
-mode-3-requires : tie.Need-mode-3-requires
-mode-3-requires c κs = search needs
-
-mode-4-requires : tie.Need-mode-4-requires
-mode-4-requires c κs = search needs
-
-mode-5-requires : tie.Need-mode-5-requires
-mode-5-requires c κs = search needs
-
-mode-6-requires : tie.Need-mode-6-requires
-mode-6-requires c κs = search needs
-
-mode-7-requires : tie.Need-mode-7-requires
-mode-7-requires c κs = search needs
+mode-0-requires c κs = rw (c .skip .ensures) (ap (λ (x : ℕ). x + 1) (c .before .before .before .new .ensures .1))
 
 returns : tie.Need-returns
-unfolding held
 returns c =
-    let o = c .before .before in
-    let s = o .before in
-    by-mode (s .args .t1) (size s) (λ i. byte s i .fits) 0 _ _ (omega arith) (c .before .match .keys1) (o .open .ensures .0) (c .mode-0 .ensures)
+    let skip = c .before in
+    let arm = skip .before in
+    let mode = arm .before in
+    let new = mode .before in
+    let s = new .before in
+    by-mode (s .args .block) (size s) (λ i. byte s i .fits) (new .new .result) (new .new .ensures .0) (new .new .ensures .1) (mode .extract-mode .ensures) (arm .match .keys1) (omega arith) (skip .skip .ensures) (c .mode-0 .ensures)
+
+skip-requires-2 : tie.Need-skip-requires-2
+skip-requires-2 c κs = search needs
+
+mode-1-requires : tie.Need-mode-1-requires
+mode-1-requires c κs = rw (c .skip2 .ensures) (ap (λ (x : ℕ). x + 2) (c .before .before .before .new .ensures .1))
 
 returns-2 : tie.Need-returns-2
-unfolding held
 returns-2 c =
-    let o = c .before .before in
-    let s = o .before in
-    by-mode (s .args .t1) (size s) (λ i. byte s i .fits) 1 _ _ (omega arith) (c .before .match .keys2) (o .open .ensures .0) (c .mode-1 .ensures)
+    let skip = c .before in
+    let arm = skip .before in
+    let mode = arm .before in
+    let new = mode .before in
+    let s = new .before in
+    by-mode (s .args .block) (size s) (λ i. byte s i .fits) (new .new .result) (new .new .ensures .0) (new .new .ensures .1) (mode .extract-mode .ensures) (arm .match .keys2) (omega arith) (skip .skip2 .ensures) (c .mode-1 .ensures)
+
+skip-requires-3 : tie.Need-skip-requires-3
+skip-requires-3 c κs = search needs
+
+mode-2-requires : tie.Need-mode-2-requires
+mode-2-requires c κs = rw (c .skip3 .ensures) (ap (λ (x : ℕ). x + 3) (c .before .before .before .new .ensures .1))
 
 returns-3 : tie.Need-returns-3
-unfolding held
 returns-3 c =
-    let o = c .before .before in
-    let s = o .before in
-    by-mode (s .args .t1) (size s) (λ i. byte s i .fits) 2 _ _ (omega arith) (c .before .match .keys3) (o .open .ensures .0) (c .mode-2 .ensures)
+    let skip = c .before in
+    let arm = skip .before in
+    let mode = arm .before in
+    let new = mode .before in
+    let s = new .before in
+    by-mode (s .args .block) (size s) (λ i. byte s i .fits) (new .new .result) (new .new .ensures .0) (new .new .ensures .1) (mode .extract-mode .ensures) (arm .match .keys3) (omega arith) (skip .skip3 .ensures) (c .mode-2 .ensures)
+
+skip-requires-4 : tie.Need-skip-requires-4
+skip-requires-4 c κs = search needs
+
+mode-3-requires : tie.Need-mode-3-requires
+mode-3-requires c κs = rw (c .skip4 .ensures) (ap (λ (x : ℕ). x + 4) (c .before .before .before .new .ensures .1))
 
 returns-4 : tie.Need-returns-4
-unfolding held
 returns-4 c =
-    let o = c .before .before in
-    let s = o .before in
-    by-mode (s .args .t1) (size s) (λ i. byte s i .fits) 3 _ _ (omega arith) (c .before .match .keys4) (o .open .ensures .0) (c .mode-3 .ensures)
+    let skip = c .before in
+    let arm = skip .before in
+    let mode = arm .before in
+    let new = mode .before in
+    let s = new .before in
+    by-mode (s .args .block) (size s) (λ i. byte s i .fits) (new .new .result) (new .new .ensures .0) (new .new .ensures .1) (mode .extract-mode .ensures) (arm .match .keys4) (omega arith) (skip .skip4 .ensures) (c .mode-3 .ensures)
+
+skip-requires-5 : tie.Need-skip-requires-5
+skip-requires-5 c κs = search needs
+
+mode-4-requires : tie.Need-mode-4-requires
+mode-4-requires c κs = rw (c .skip5 .ensures) (ap (λ (x : ℕ). x + 5) (c .before .before .before .new .ensures .1))
 
 returns-5 : tie.Need-returns-5
-unfolding held
 returns-5 c =
-    let o = c .before .before in
-    let s = o .before in
-    by-mode (s .args .t1) (size s) (λ i. byte s i .fits) 4 _ _ (omega arith) (c .before .match .keys5) (o .open .ensures .0) (c .mode-4 .ensures)
+    let skip = c .before in
+    let arm = skip .before in
+    let mode = arm .before in
+    let new = mode .before in
+    let s = new .before in
+    by-mode (s .args .block) (size s) (λ i. byte s i .fits) (new .new .result) (new .new .ensures .0) (new .new .ensures .1) (mode .extract-mode .ensures) (arm .match .keys5) (omega arith) (skip .skip5 .ensures) (c .mode-4 .ensures)
+
+skip-requires-6 : tie.Need-skip-requires-6
+skip-requires-6 c κs = search needs
+
+mode-5-requires : tie.Need-mode-5-requires
+mode-5-requires c κs = rw (c .skip6 .ensures) (ap (λ (x : ℕ). x + 6) (c .before .before .before .new .ensures .1))
 
 returns-6 : tie.Need-returns-6
-unfolding held
 returns-6 c =
-    let o = c .before .before in
-    let s = o .before in
-    by-mode (s .args .t1) (size s) (λ i. byte s i .fits) 5 _ _ (omega arith) (c .before .match .keys6) (o .open .ensures .0) (c .mode-5 .ensures)
+    let skip = c .before in
+    let arm = skip .before in
+    let mode = arm .before in
+    let new = mode .before in
+    let s = new .before in
+    by-mode (s .args .block) (size s) (λ i. byte s i .fits) (new .new .result) (new .new .ensures .0) (new .new .ensures .1) (mode .extract-mode .ensures) (arm .match .keys6) (omega arith) (skip .skip6 .ensures) (c .mode-5 .ensures)
+
+skip-requires-7 : tie.Need-skip-requires-7
+skip-requires-7 c κs = search needs
+
+mode-6-requires : tie.Need-mode-6-requires
+mode-6-requires c κs = rw (c .skip7 .ensures) (ap (λ (x : ℕ). x + 7) (c .before .before .before .new .ensures .1))
 
 returns-7 : tie.Need-returns-7
-unfolding held
 returns-7 c =
-    let o = c .before .before in
-    let s = o .before in
-    by-mode (s .args .t1) (size s) (λ i. byte s i .fits) 6 _ _ (omega arith) (c .before .match .keys7) (o .open .ensures .0) (c .mode-6 .ensures)
+    let skip = c .before in
+    let arm = skip .before in
+    let mode = arm .before in
+    let new = mode .before in
+    let s = new .before in
+    by-mode (s .args .block) (size s) (λ i. byte s i .fits) (new .new .result) (new .new .ensures .0) (new .new .ensures .1) (mode .extract-mode .ensures) (arm .match .keys7) (omega arith) (skip .skip7 .ensures) (c .mode-6 .ensures)
+
+skip-requires-8 : tie.Need-skip-requires-8
+skip-requires-8 c κs = search needs
+
+mode-7-requires : tie.Need-mode-7-requires
+mode-7-requires c κs = rw (c .skip8 .ensures) (ap (λ (x : ℕ). x + 8) (c .before .before .before .new .ensures .1))
 
 returns-8 : tie.Need-returns-8
-unfolding held
 returns-8 c =
-    let o = c .before .before in
-    let s = o .before in
-    by-mode (s .args .t1) (size s) (λ i. byte s i .fits) 7 _ _ (omega arith) (c .before .match .keys8) (o .open .ensures .0) (c .mode-7 .ensures)
+    let skip = c .before in
+    let arm = skip .before in
+    let mode = arm .before in
+    let new = mode .before in
+    let s = new .before in
+    by-mode (s .args .block) (size s) (λ i. byte s i .fits) (new .new .result) (new .new .ensures .0) (new .new .ensures .1) (mode .extract-mode .ensures) (arm .match .keys8) (omega arith) (skip .skip8 .ensures) (c .mode-7 .ensures)
 
 returns-9 : tie.Need-returns-9
 returns-9 c =
-    let s = c .before .before in
-    reserved (s .args .t1) (size s) (λ i. byte s i .fits)
-    (eight _ (trailing-le 8 (getD (s .args .t1) 0 0)) (c .match .rest .0 .0 .0 .0 .0 .0 .0 .1) (c .match .rest .0 .0 .0 .0 .0 .0 .1) (c .match .rest .0 .0 .0 .0 .0 .1) (c .match .rest .0 .0 .0 .0 .1) (c .match .rest .0 .0 .0 .1) (c .match .rest .0 .0 .1) (c .match .rest .0 .1) (c .match .rest .1))
+    let mode = c .before in
+    let new = mode .before in
+    let s = new .before in
+    let rest = c .match .rest in
+    let none =
+    eight _ (mode-8 (s .args .block) (size s) (λ i. byte s i .fits) (new .new .result) (new .new .ensures .0) (new .new .ensures .1) (mode .extract-mode .ensures) refl)
+    (rest .0 .0 .0 .0 .0 .0 .0 .1) (rest .0 .0 .0 .0 .0 .0 .1) (rest .0 .0 .0 .0 .0 .1) (rest .0 .0 .0 .0 .1) (rest .0 .0 .0 .1) (rest .0 .0 .1) (rest .0 .1) (rest .1) in
+    by-none (s .args .block) (size s) (λ i. byte s i .fits) (new .new .result) (new .new .ensures .0) (new .new .ensures .1) (mode .extract-mode .ensures) refl none
 
 pub decode-bc7-block-spec : {M : Type 1} → statement M
 decode-bc7-block-spec =
     tie.close
     (tie.spec
-    open-requires
-    array-read-match
+    new-requires
+    extract-mode-requires
+    skip-requires
     mode-0-requires
-    mode-1-requires
-    mode-2-requires
-    mode-3-requires
-    mode-4-requires
-    mode-5-requires
-    mode-6-requires
-    mode-7-requires
     returns
+    skip-requires-2
+    mode-1-requires
     returns-2
+    skip-requires-3
+    mode-2-requires
     returns-3
+    skip-requires-4
+    mode-3-requires
     returns-4
+    skip-requires-5
+    mode-4-requires
     returns-5
+    skip-requires-6
+    mode-5-requires
     returns-6
+    skip-requires-7
+    mode-6-requires
     returns-7
+    skip-requires-8
+    mode-7-requires
     returns-8
     returns-9)

@@ -1,0 +1,2 @@
+-- The definitions that the contracts cite, beside those of `format` and `bc7_fields`.
+pub mod Taken
