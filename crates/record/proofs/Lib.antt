@@ -1,5 +1,2 @@
-pub mod Packing
-pub mod Widths
 pub mod Taking
 pub mod Steps
-pub mod Theorems

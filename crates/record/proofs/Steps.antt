@@ -10,9 +10,9 @@ use native.Mathlib.Omega.{arith}
 use borrow.Author.Tests.{eq-eqb, le-ltb, lt-ltb, ne-eqb}
 use lib.ListN.{getD, replicate}
 use lib.Pow.{pow-mono}
-use Rattle.record.specs.declared.Record.{Record}
-use Rattle.record.specs.declared.Packed.{Packed}
-use Rattle.record.specs.declared.modes.Anchors.{Anchors}
+use Rattle.record_rules.specs.declared.Record.{Record}
+use Rattle.record_rules.specs.declared.Packed.{Packed}
+use Rattle.record_widths.specs.declared.Anchors.{Anchors}
 use Rattle.format.specs.declared.Split.{Split}
 use Rattle.bcn_util.specs.declared.writer.BitWriter.{BitWriter}
 use Rattle.laws.specs.Digits.{Fit, join, split, total}
@@ -25,10 +25,10 @@ use Rattle.format.proofs.Modes.{good-64, six-bits}
 use Rattle.format.proofs.Opening.{opened-good}
 use Rattle.format.proofs.Places.{inside-placeAt, total-128}
 use Rattle.format.proofs.Trailing.{mode-le-8}
-use Rattle.record.specs.Records.{fits, made, packRefusal, packed, packedAs, recordOf, says, taken, unpackedAs, zeroRecord}
-use Rattle.record.specs.Rows.{anchorsOf, pixelsOf, widthsWith}
-use Rattle.record.proofs.Packing.{fits-at, taken-open}
-use Rattle.record.proofs.Widths.{fits-split, widths-split}
+use Rattle.record_rules.specs.Records.{fits, made, packRefusal, packed, packedAs, recordOf, says, taken, unpackedAs, zeroRecord}
+use Rattle.record_widths.specs.Rows.{anchorsOf, pixelsOf, widthsWith}
+use Rattle.record_rules.proofs.Packing.{fits-at, taken-open}
+use Rattle.record_widths.proofs.Pixels.{fits-split, widths-split}
 use Rattle.bcn_util.specs.Writer.{pushed, written}
 use Rattle.bcn_util.proofs.Puts.{row-asks, row-more, row-written, rowWriter}
 

@@ -9,7 +9,7 @@ use native.Mathlib.Omega.{arith}
 use lib.Dec.{lit<}
 use lib.ListN.{length, set}
 use lib.Pow.{shr-shr}
-use Rattle.record.specs.declared.modes.ModeRow.{ModeRow}
+use Rattle.record_widths.specs.declared.ModeRow.{ModeRow}
 use Rattle.bcn_util.specs.declared.stream.BitStream.{BitStream}
 use Rattle.bcn_util.specs.declared.stream.Bits8.{Bits8}
 use Rattle.laws.specs.Digits.{split, total}
@@ -19,8 +19,8 @@ use Rattle.format.specs.Block.{field}
 use Rattle.format.specs.Modes.{indexModeBits, kindOfMode, partitionBits, rotationBits}
 use Rattle.format.specs.Places.{placeAt, width}
 use Rattle.format.specs.Splits.{ofKind, splitAt}
-use Rattle.record.specs.Rows.{rowOf, widthsWith}
-use Rattle.record.proofs.Widths.{width-le-8}
+use Rattle.record_widths.specs.Rows.{rowOf, widthsWith}
+use Rattle.record_rules.proofs.Widths.{width-le-8}
 use Rattle.bcn_util.specs.Stream.{consumed8, held, skipped}
 use Rattle.bcn_util.proofs.On.{On, got-8, on-8, on-skipped, row-next, row-start, split-fields}
 

@@ -1,47 +1,25 @@
-// A block taken apart into a record, and a record packed into a block. The record holds everything that a block stores, in the
-// order of document 01; it is what the lines of a block are read from and replaced in.
+// A block taken apart into a record, and a record packed into a block. The record is what the lines of a block are read from
+// and replaced in.
 ghost use mathlib.Core.Path.{_≡_};
 ghost use lib.ListN.{replicate};
-ghost use Rattle.record.specs.Records.{packed, packedAs, taken, zeroRecord};
-use crate::modes::anchors_of;
-use crate::modes::mode_row;
-use crate::modes::no_anchors;
-use crate::places::fit_widths;
-use crate::places::record_of;
+ghost use Rattle.record_rules.specs.Records.{packed, packedAs, taken, zeroRecord};
 use crate::reading::mode_of;
 use crate::reading::read_places;
 use crate::reading::read_split;
-use crate::splits::kind_of;
 use crate::writing::write_places;
 use format::Split;
+use record_places::places::fit_widths;
+use record_places::places::record_of;
+use record_places::splits::kind_of;
+use record_rules::Packed;
+use record_rules::Record;
+use record_rules::Unpacked;
+use record_widths::anchors_of;
+use record_widths::mode_row;
+use record_widths::no_anchors;
 
-pub mod modes;
-pub mod places;
 pub mod reading;
-pub mod splits;
 pub mod writing;
-
-// Endpoint e has channel c (red, green, blue, alpha) at 4 * e + c. The index set that is stored first is the first.
-pub struct Record {
-    pub mode: u8,
-    pub split: Split,
-    pub endpoints: [u8; 24],
-    pub p: [u8; 6],
-    pub first: [u8; 16],
-    pub second: [u8; 16],
-}
-
-// What taking apart answers: a refusal number (0: accepted) beside the record.
-pub struct Unpacked {
-    pub refusal: u8,
-    pub record: Record,
-}
-
-// What packing answers: a refusal number (0: accepted) beside the block.
-pub struct Packed {
-    pub refusal: u8,
-    pub block: [u8; 16],
-}
 
 // What a refused block answers.
 fn zero_record() -> Record

@@ -5,14 +5,14 @@ ghost use Rattle.laws.specs.Digits.{split};
 ghost use Rattle.format.specs.Block.{modeOf, number};
 ghost use Rattle.format.specs.Splits.{splitAt};
 ghost use Rattle.bcn_util.specs.Stream.{consumed8};
-ghost use Rattle.record.specs.Rows.{pixelsOf, widthsWith};
-use crate::modes::Anchors;
-use crate::modes::mode_row;
-use crate::modes::place_width;
-use crate::splits::split_of_kind;
+ghost use Rattle.record_widths.specs.Rows.{pixelsOf, widthsWith};
 use bcn_util::stream::BitStream;
 use bcn_util::stream::Bits8;
 use format::Split;
+use record_places::splits::split_of_kind;
+use record_widths::Anchors;
+use record_widths::mode_row;
+use record_widths::place_width;
 
 // The mode is the count of zero bits that byte 0 ends in, and 8 is reserved.
 pub fn mode_of(block: [u8; 16]) -> u8

@@ -5,13 +5,13 @@ ghost use Prim.Native.Nat.{_<_, _≤_};
 ghost use Rattle.laws.specs.Digits.{join, total};
 ghost use Rattle.format.specs.Block.{bytesOf};
 ghost use Rattle.format.specs.Places.{listOf};
-ghost use Rattle.record.specs.Rows.{pixelsOf, widthsWith};
-ghost use Rattle.record.specs.Records.{fits, says};
-use crate::Record;
-use crate::modes::Anchors;
-use crate::modes::place_width;
-use crate::places::value_at;
+ghost use Rattle.record_widths.specs.Rows.{pixelsOf, widthsWith};
+ghost use Rattle.record_rules.specs.Records.{fits, says};
 use bcn_util::writer::BitWriter;
+use record_places::places::value_at;
+use record_rules::Record;
+use record_widths::Anchors;
+use record_widths::place_width;
 
 // Every value has to fit its width, and the widths the block.
 pub fn write_places(record: Record, anchors: Anchors) -> [u8; 16]

@@ -8,10 +8,10 @@ use borrow.Author.Needs.{needs}
 use borrow.Author.Tests.{not-true, not-false}
 use Rattle.format.specs.Modes.{kindOfMode}
 use Rattle.format.specs.Splits.{kindOf}
-use Rattle.record.specs.Records.{fits, says}
-use Rattle.record.specs.declared.modes.ModeRow.{ModeRow}
+use Rattle.record_rules.specs.Records.{fits, says}
+use Rattle.record_widths.specs.declared.ModeRow.{ModeRow}
 use Rattle.record.proofs.Steps.{part-64, room, way-anchor, way-kind, way-mode, way-packed, way-width}
-use Rattle.record.proofs.Widths.{fits-none}
+use Rattle.record_widths.proofs.Pixels.{fits-none}
 use Rattle.record.proofs.pack.Statement.{statement}
 use Rattle.record.proofs.pack.Tie as tie
 

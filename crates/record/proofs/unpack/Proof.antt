@@ -9,7 +9,7 @@ use lib.ListN.{getD, length}
 use Rattle.laws.specs.Digits.{Fit}
 use Rattle.format.proofs.Subsets.{sixteen-bytes}
 use Rattle.format.specs.Block.{eights}
-use Rattle.record.specs.Records.{unpackedAs}
+use Rattle.record_rules.specs.Records.{unpackedAs}
 use Rattle.record.proofs.Steps.{accepted, mode-low, partition-low, reserved}
 use Rattle.record.proofs.unpack.Statement.{statement}
 use Rattle.record.proofs.unpack.Tie as tie

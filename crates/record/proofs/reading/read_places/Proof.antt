@@ -4,9 +4,9 @@ use mathlib.Core.Path.{refl}
 use Prim.Native.Nat.{_-_}
 use native.Mathlib.Omega.{arith}
 use Rattle.bcn_util.specs.Stream.{held}
-use Rattle.record.specs.Rows.{pixelsOf}
+use Rattle.record_widths.specs.Rows.{pixelsOf}
 use Rattle.record.proofs.Taking.{Reading, reading-all, reading-next, reading-none}
-use Rattle.record.proofs.Widths.{at-most-8}
+use Rattle.record_rules.proofs.Widths.{at-most-8}
 use Rattle.record.proofs.reading.read_places.Statement.{statement}
 use Rattle.record.proofs.reading.read_places.Tie as tie
 

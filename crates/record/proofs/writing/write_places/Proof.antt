@@ -6,7 +6,7 @@ use native.Mathlib.Omega.{arith}
 use borrow.Author.Needs.{needs}
 use Rattle.format.specs.Block.{bytesOf}
 use Rattle.bcn_util.proofs.Puts.{row-none}
-use Rattle.record.specs.Rows.{pixelsOf}
+use Rattle.record_widths.specs.Rows.{pixelsOf}
 use Rattle.record.proofs.Steps.{Writing, writing-all, writing-asks, writing-next}
 use Rattle.record.proofs.writing.write_places.Statement.{statement}
 use Rattle.record.proofs.writing.write_places.Tie as tie

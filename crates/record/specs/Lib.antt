@@ -1,3 +1,0 @@
--- The record of a block, taking apart and packing.
-pub mod Records
-pub mod Rows

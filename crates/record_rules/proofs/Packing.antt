@@ -1,0 +1,152 @@
+-- The record and the places say the same of each other; what packing accepts is what a block holds.
+-- Assumes nothing.
+use mathlib.Core.Path.{_≡_, refl, sym, ap, ap₂, _∙_, subst}
+use mathlib.Core.Logic.{_≢_}
+use mathlib.Core.Bool.{Bool, true, false, not}
+use mathlib.Core.List.{List, []}
+use Prim.Native.Nat.{ℕ, zero, suc, _+_, _-_, _*_, _/_, _%_, _^_, _<_}
+use native.Mathlib.Nat.{lt-of-lt-of-le}
+use native.Mathlib.Omega.{arith}
+use borrow.Author.Tests.{le-ltb, ltb-false, eq-eqb, ne-eqb, not-false, eqb-true}
+use lib.Dec.{T, eqb, ltb, ltb→lt, lt→ltb}
+use lib.ListN.{length, getD}
+use lib.Pow.{pow-mono}
+use Rattle.record_rules.specs.declared.Record.{Record}
+use Rattle.format.specs.declared.Split.{Split}
+use Rattle.laws.specs.Digits.{Fit, more}
+use Rattle.laws.specs.Refusals.{first}
+use Rattle.laws.specs.Tables.{below, implies, table}
+use Rattle.laws.proofs.First.{first-zero, refuse-no}
+use Rattle.laws.proofs.Joining.{table-same}
+use Rattle.laws.proofs.Part.{getD-table, part-all}
+use Rattle.laws.proofs.Tests.{T-true, at, below-intro, both-intro, both-left, both-right, implied, true-T}
+use Rattle.format.specs.Block.{eights, modeOf, trailing}
+use Rattle.format.specs.Modes.{kindOfMode}
+use Rattle.format.specs.Places.{Place, blockOf, head, index, inside, opened, pbit, placeAt, pos, value, width}
+use Rattle.format.specs.Splits.{anchors, indexMode, kindOf, ofKind, partition, rotation}
+use Rattle.format.specs.WellFormed.{WellFormed}
+use Rattle.format.proofs.Modes.{good-parts}
+use Rattle.format.proofs.Opening.{block-ext, good-kind, opened-good}
+use Rattle.format.proofs.Places.{inside-placeAt, placeAt-pos, pos-lt, split-of-kind}
+use Rattle.record_rules.specs.Records.{Shaped, fits, made, packRefusal, packed, packedAs, recordOf, says, taken, unpackedAs}
+use Rattle.record_rules.proofs.Widths.{width-le}
+
+module _ {m : ℕ} {s : Split} {f : Place → ℕ} (g : WellFormed m s f) where
+  -- the record of what stands at the places says just that
+  pub says-made : (x : Place) → T (inside x) → says (made m s f) x ≡ f x
+  unfolding says made
+  says-made (head zero) h = sym (g .marker)
+  says-made (head (suc zero)) h = good-parts g .0
+  says-made (head (suc (suc zero))) h = good-parts g .1
+  says-made (head (suc (suc (suc zero)))) h = good-parts g .2
+  says-made (head (suc (suc (suc (suc k))))) h = absurd (let l = ltb→lt (suc (suc (suc (suc k)))) 4 h in let z : ⊥ = omega arith in z)
+  says-made (value c e) h =
+      let hc : c < 4 = ltb→lt c 4 (both-left (ltb c 4) (ltb e 6) h) in
+      let he : e < 6 = ltb→lt e 6 (both-right (ltb c 4) (ltb e 6) h) in
+      getD-table 24 (λ i. f (value (i % 4) (i / 4))) 0 (4 * e + c) (omega arith)
+      ∙ ap f (ap₂ value (let z : (4 * e + c) % 4 ≡ c = omega arith in z) (let z : (4 * e + c) / 4 ≡ e = omega arith in z))
+  says-made (pbit k) h = getD-table 6 (λ k. f (pbit k)) 0 k (ltb→lt k 6 h)
+  says-made (index zero q) h = getD-table 16 (λ q. f (index 0 q)) 0 q (ltb→lt q 16 (both-right (ltb 0 2) (ltb q 16) h))
+  says-made (index (suc zero) q) h = getD-table 16 (λ q. f (index 1 q)) 0 q (ltb→lt q 16 (both-right (ltb 1 2) (ltb q 16) h))
+  says-made (index (suc (suc a)) q) h = absurd (let l = ltb→lt (suc (suc a)) 2 (both-left (ltb (suc (suc a)) 2) (ltb q 16) h) in let z : ⊥ = omega arith in z)
+
+table-is : (n : ℕ) (f : ℕ → ℕ) (vs : List ℕ) → length vs ≡ n → ((i : ℕ) → i < n → f i ≡ getD vs i 0) → table n f ≡ vs
+table-is n f vs e h = sym (part-all {d = 0} {P = λ k. Unit {0}} (record { long = e; done = λ k l t. sym (h k l) }) (λ k l. tt))
+
+-- a record goes by the places there are
+pub made-ext : (m : ℕ) (s : Split) (f g : Place → ℕ) → ((x : Place) → T (inside x) → f x ≡ g x) → made m s f ≡ made m s g
+unfolding made
+made-ext m s f g h =
+    let v : table 24 (λ i. f (value (i % 4) (i / 4))) ≡ table 24 (λ i. g (value (i % 4) (i / 4))) =
+    table-same 0 24 _ _ (λ i l. h (value (i % 4) (i / 4)) (both-intro (ltb (i % 4) 4) (ltb (i / 4) 6) (lt→ltb (i % 4) 4 (omega arith)) (lt→ltb (i / 4) 6 (omega arith)))) in
+    let p : table 6 (λ k. f (pbit k)) ≡ table 6 (λ k. g (pbit k)) = table-same 0 6 _ _ (λ k l. h (pbit k) (lt→ltb _ 6 l)) in
+    let a : table 16 (λ q. f (index 0 q)) ≡ table 16 (λ q. g (index 0 q)) = table-same 0 16 _ _ (λ q l. h (index 0 q) (lt→ltb _ 16 l)) in
+    let b : table 16 (λ q. f (index 1 q)) ≡ table 16 (λ q. g (index 1 q)) = table-same 0 16 _ _ (λ q l. h (index 1 q) (lt→ltb _ 16 l)) in
+    λ j. record { mode = m; split = s; endpoints = v j; p = p j; first = a j; second = b j }
+
+-- the record of what a record says is that record
+pub made-says : (r : Record) → Shaped r → made (r .mode) (r .split) (says r) ≡ r
+unfolding made says
+made-says r sh =
+    let v : table 24 (λ i. getD (r .endpoints) (4 * (i / 4) + i % 4) 0) ≡ r .endpoints =
+    table-is 24 _ (r .endpoints) (sh .endpoints) (λ i l. ap (λ (j : ℕ). getD (r .endpoints) j 0) (let z : 4 * (i / 4) + i % 4 ≡ i = omega arith in z)) in
+    let p : table 6 (λ k. getD (r .p) k 0) ≡ r .p = table-is 6 _ (r .p) (sh .p) (λ i l. refl) in
+    let a : table 16 (λ k. getD (r .first) k 0) ≡ r .first = table-is 16 _ (r .first) (sh .first) (λ i l. refl) in
+    let b : table 16 (λ k. getD (r .second) k 0) ≡ r .second = table-is 16 _ (r .second) (sh .second) (λ i l. refl) in
+    λ j. record { mode = r .mode; split = r .split; endpoints = v j; p = p j; first = a j; second = b j }
+
+-- the test of all places, and each place
+pub fits-at : (m : ℕ) (an : List ℕ) (f : Place → ℕ) → fits m an f ≡ true → (x : Place) → T (inside x) → f x < 2 ^ width m an x
+unfolding fits
+fits-at m an f e x h =
+    subst (λ (y : Place). f y < 2 ^ width m an y) (placeAt-pos x h)
+    (ltb→lt _ _ (at 66 (λ i. ltb (f (placeAt i)) (2 ^ width m an (placeAt i))) (true-T _ e) (pos x) (pos-lt x h)))
+
+pub fits-of : (m : ℕ) (an : List ℕ) (f : Place → ℕ) → ((x : Place) → T (inside x) → f x < 2 ^ width m an x) → fits m an f ≡ true
+unfolding fits
+fits-of m an f h = T-true _ (below-intro 66 (λ i. ltb (f (placeAt i)) (2 ^ width m an (placeAt i))) (λ k l. lt→ltb _ _ (h (placeAt k) (inside-placeAt k l))))
+
+-- a record is accepted if what it says stands in a block
+pub good-accepted : (r : Record) → WellFormed (r .mode) (r .split) (says r) → packRefusal r ≡ 0
+unfolding packRefusal first
+good-accepted r g =
+    let m = r .mode in
+    let s = r .split in
+    let mode : ltb 7 m ≡ false = le-ltb 7 m (omega (arith, g .mode)) in
+    let kind : eqb (kindOf s) (kindOfMode m) ≡ true = eq-eqb _ _ (good-kind g) in
+    let full : fits m [] (says r) ≡ true = fits-of m [] _ (λ x i. lt-of-lt-of-le (g .fits x i) (pow-mono (width-le m (anchors s) x))) in
+    let anch : fits m (anchors s) (says r) ≡ true = fits-of m (anchors s) _ (g .fits) in
+    rw (mode, kind, full, anch)
+
+-- WellFormed goes by the places there are
+pub good-ext : {m : ℕ} {s : Split} {f h : Place → ℕ} → ((x : Place) → T (inside x) → h x ≡ f x) → WellFormed m s f → WellFormed m s h
+good-ext {m} {s} {f} {h} e g = record {
+  mode = g .mode;
+  marker = e (head 0) tt ∙ g .marker;
+  splits = rw (e (head 1) tt, e (head 2) tt, e (head 3) tt) (g .splits);
+  fits = λ x i. subst (λ (v : ℕ). v < 2 ^ width m (anchors s) x) (sym (e x i)) (g .fits x i);
+}
+
+-- what stands in a block is accepted
+pub good-packs : {m : ℕ} {s : Split} {f : Place → ℕ} → WellFormed m s f → packed (made m s f) ≡ packedAs 0 (blockOf m s f)
+unfolding packed made
+good-packs {m} {s} {f} g =
+    rw (good-accepted (made m s f) (good-ext (says-made g) g)) (ap (packedAs 0) (block-ext m s (says (made m s f)) f (says-made g)))
+
+-- a record that packing accepts is what stands in a block
+pub packs-good : (r : Record) → packRefusal r ≡ 0 → WellFormed (r .mode) (r .split) (says r)
+unfolding packRefusal says
+packs-good r e =
+    let m = r .mode in
+    let s = r .split in
+    let a = first-zero _ _ e in
+    let b = first-zero _ _ (a .1) in
+    let c = first-zero _ _ (b .1) in
+    let d = first-zero _ _ (c .1) in
+    let k : kindOf s ≡ kindOfMode m = eqb-true _ _ (not-false _ (refuse-no 4 _ (b .0))) in
+    record {
+      mode = omega (arith, ltb-false 7 m (refuse-no 4 _ (a .0)));
+      marker = refl;
+      splits = sym (split-of-kind s ∙ ap (λ (k : ℕ). ofKind k (partition s) (rotation s) (indexMode s)) k);
+      fits = fits-at m (anchors s) (says r) (not-false _ (refuse-no 5 _ (d .0)));
+    }
+
+nonzero-mode : T (below 256 (λ b. implies (not (eqb b 0)) (ltb (trailing 8 b) 8)))
+unfolding trailing implies
+nonzero-mode = tt
+
+-- the reserved blocks are those whose first byte is zero
+pub open-mode : (bs : List ℕ) → Fit eights bs → getD bs 0 0 ≢ 0 → modeOf bs < 8
+unfolding modeOf
+open-mode bs (more {v = b} h f) n =
+    ltb→lt (trailing 8 b) 8 (implied (not (eqb b 0)) (ltb (trailing 8 b) 8) (at 256 (λ b. implies (not (eqb b 0)) (ltb (trailing 8 b) 8)) nonzero-mode b h)
+    (subst (λ (t : Bool). T (not t)) (sym (ne-eqb b 0 n)) tt))
+
+pub taken-open : (bs : List ℕ) → modeOf bs < 8 → taken bs ≡ unpackedAs 0 (recordOf bs)
+unfolding taken
+taken-open bs o = rw (ne-eqb (modeOf bs) 8 (λ z. let y : ⊥ = omega arith in y))
+
+-- the record of a block says what stands in the block
+pub record-says : (bs : List ℕ) → Fit eights bs → modeOf bs < 8 → (x : Place) → T (inside x) → says (recordOf bs) x ≡ opened bs x
+unfolding recordOf
+record-says bs h o x i = says-made (opened-good bs h o) x i

@@ -1,0 +1,57 @@
+-- DEMAND 2, in one place. `Fit eights bs` says that bs is sixteen bytes, `Shaped r` that the record's arrays have their lengths.
+-- Assumes nothing.
+use mathlib.Core.Path.{_≡_, sym, ap, _∙_}
+use mathlib.Core.Logic.{_≢_, _↔_}
+use mathlib.Core.List.{List}
+use Prim.Native.Nat.{ℕ, _<_}
+use native.Mathlib.Omega.{arith}
+use borrow.Author.Tests.{ne-eqb}
+use lib.ListN.{getD}
+use Rattle.record_rules.specs.declared.Record.{Record}
+use Rattle.record_rules.specs.declared.Unpacked.{Unpacked}
+use Rattle.record_rules.specs.declared.Packed.{Packed}
+use Rattle.laws.specs.Digits.{Fit}
+use Rattle.format.specs.Block.{eights, modeOf}
+use Rattle.format.specs.Lines.{pixel, shown}
+use Rattle.format.specs.Places.{blockOf, opened}
+use Rattle.format.specs.Splits.{splitOf}
+use Rattle.format.specs.WellFormed.{WellFormed}
+use Rattle.format.proofs.Lens.{shown-ext}
+use Rattle.format.proofs.Opening.{block-opened, mode-block, opened-block, opened-good, split-block}
+use Rattle.record_rules.specs.Records.{Shaped, made, packed, packedAs, recordOf, says, taken, unpackedAs}
+use Rattle.record_rules.proofs.Packing.{good-accepted, good-packs, made-ext, made-says, open-mode, packs-good, record-says, taken-open}
+
+-- packing what taking apart answers gives the block back
+pub pack-unpack : (bs : List ℕ) → Fit eights bs → getD bs 0 0 ≢ 0 → packed (taken bs .«record») ≡ packedAs 0 bs
+unfolding recordOf
+pack-unpack bs h n =
+    let o : modeOf bs < 8 = open-mode bs h n in
+    ap packed (ap (λ (u : Unpacked). u .«record») (taken-open bs o)) ∙ good-packs (opened-good bs h o) ∙ ap (packedAs 0) (block-opened bs h o)
+
+-- taking apart what packing accepted gives the record back
+pub unpack-pack : (r : Record) → Shaped r → packed r .refusal ≡ 0 → taken (packed r .block) ≡ unpackedAs 0 r
+unfolding packed recordOf
+unpack-pack r sh e =
+    let g : WellFormed (r .mode) (r .split) (says r) = packs-good r e in
+    let bs : List ℕ = blockOf (r .mode) (r .split) (says r) in
+    rw e (taken-open bs (rw (mode-block g) (g .mode)) ∙ ap (unpackedAs 0) (rw (mode-block g, split-block g) (made-ext (r .mode) (r .split) (opened bs) (says r) (opened-block g) ∙ made-says r sh)))
+
+-- a record is accepted exactly if what it says is what a block holds
+pub well-formed-is-accepted : (r : Record) → (packed r .refusal ≡ 0) ↔ WellFormed (r .mode) (r .split) (says r)
+unfolding packed
+well-formed-is-accepted r = (packs-good r, good-accepted r)
+
+-- drawing the record of a block gives the block's pixels
+pub record-draws-block : (bs : List ℕ) → Fit eights bs → getD bs 0 0 ≢ 0 → (q c : ℕ) → shown (recordOf bs .mode) (recordOf bs .split) (says (recordOf bs)) q c ≡ pixel bs q c
+unfolding recordOf made pixel
+record-draws-block bs h n q c =
+    let o : modeOf bs < 8 = open-mode bs h n in
+    rw (ne-eqb (modeOf bs) 8 (λ z. let y : ⊥ = omega arith in y))
+    (shown-ext (modeOf bs) (splitOf bs) (says (recordOf bs)) (opened bs) q c (record-says bs h o))
+
+-- any two answers that a promise admits are the same
+pub determined-unpack : (bs : List ℕ) (a b : Unpacked) → a ≡ taken bs → b ≡ taken bs → a ≡ b
+determined-unpack bs a b p q = p ∙ sym q
+
+pub determined-pack : (r : Record) (a b : Packed) → a ≡ packed r → b ≡ packed r → a ≡ b
+determined-pack r a b p q = p ∙ sym q

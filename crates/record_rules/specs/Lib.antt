@@ -1,0 +1,2 @@
+-- The record of a block, taking apart and packing.
+pub mod Records

@@ -1,0 +1,41 @@
+-- What the code holds of the format: a row of the mode table, and the anchors of a split as three pixels.
+-- Assumes nothing.
+use Prim.Native.Nat.{ℕ}
+use mathlib.Core.List.{List, [], _∷_}
+use lib.ListN.{getD}
+use Rattle.record_widths.specs.declared.ModeRow.{ModeRow}
+use Rattle.record_widths.specs.declared.Anchors.{Anchors}
+use Rattle.format.specs.declared.Split.{Split}
+use Rattle.laws.specs.Tables.{table}
+use Rattle.format.specs.Modes.{alphaBits, colourBits, endpointCount, firstBits, indexModeBits, kindOfMode, lines, pCount, partitionBits, rotationBits, secondBits}
+use Rattle.format.specs.Places.{placeAt, width}
+use Rattle.format.specs.Splits.{anchors}
+
+abbrev pub rowOf : ℕ → ModeRow
+rowOf m = record {
+  lines = lines m;
+  kind = kindOfMode m;
+  endpoints = endpointCount m;
+  partition = partitionBits m;
+  rotation = rotationBits m;
+  «index_mode» = indexModeBits m;
+  colour = colourBits m;
+  alpha = alphaBits m;
+  p = pCount m;
+  first = firstBits m;
+  second = secondBits m;
+}
+
+-- the anchors as three pixels: pixel 0 again where a split has fewer, and 16, which is no pixel, for none
+abbrev pub pixelsOf : Anchors → List ℕ
+pixelsOf x = x .a ∷ x .b ∷ x .c ∷ []
+
+abbrev pub anchorsOf : Split → Anchors
+anchorsOf s = record { a = getD (anchors s) 0 0; b = getD (anchors s) 1 0; c = getD (anchors s) 2 0 }
+
+abbrev pub noAnchors : Anchors
+noAnchors = record { a = 16; b = 16; c = 16 }
+
+-- the widths of all places, where these pixels are anchors
+unfoldable pub widthsWith : ℕ → List ℕ → List ℕ
+widthsWith m an = table 66 (λ i. width m an (placeAt i))
