@@ -7,16 +7,14 @@ use mathlib.Core.List.{List, []}
 use Prim.Native.Nat.{ℕ, _+_, _^_, _≤_, _<_}
 use native.Mathlib.Nat.{le-of-eq, lt-of-lt-of-le}
 use native.Mathlib.Omega.{arith}
-use borrow.Author.Tests.{eq-eqb, le-ltb, lt-ltb, ne-eqb}
-use lib.ListN.{getD, replicate}
+use borrow.Author.Tests.{eq-eqb}
+use lib.ListN.{getD}
 use lib.Pow.{pow-mono}
 use Rattle.record_rules.specs.declared.Record.{Record}
-use Rattle.record_rules.specs.declared.Packed.{Packed}
 use Rattle.record_widths.specs.declared.Anchors.{Anchors}
 use Rattle.format.specs.declared.Split.{Split}
 use Rattle.bcn_util.specs.declared.writer.BitWriter.{BitWriter}
 use Rattle.laws.specs.Digits.{Fit, join, split, total}
-use Rattle.laws.specs.Refusals.{first}
 use Rattle.format.specs.Block.{bytesOf, eights, modeOf, number}
 use Rattle.format.specs.Modes.{kindOfMode, partitionBits}
 use Rattle.format.specs.Places.{atPlace, blockOf, head, listOf, opened, placeAt, pos, width, widths}
@@ -25,9 +23,10 @@ use Rattle.format.proofs.Modes.{good-64, six-bits}
 use Rattle.format.proofs.Opening.{opened-good}
 use Rattle.format.proofs.Places.{inside-placeAt, total-128}
 use Rattle.format.proofs.Trailing.{mode-le-8}
-use Rattle.record_rules.specs.Records.{fits, made, packRefusal, packed, packedAs, recordOf, says, taken, unpackedAs, zeroRecord}
+use Rattle.record_rules.specs.Records.{fits, made, packed, packedAs, recordOf, says, taken, unpackedAs, zeroRecord}
 use Rattle.record_widths.specs.Rows.{anchorsOf, pixelsOf, widthsWith}
 use Rattle.record_rules.proofs.Packing.{fits-at, taken-open}
+use Rattle.record_rules.proofs.Ways.{refusedWith, way-anchor, way-packed}
 use Rattle.record_widths.proofs.Pixels.{fits-split, widths-split}
 use Rattle.bcn_util.specs.Writer.{pushed, written}
 use Rattle.bcn_util.proofs.Puts.{row-asks, row-more, row-written, rowWriter}
@@ -88,47 +87,29 @@ module _ (r : Record) (an : List ℕ) (all-fit : fits (r .mode) an (says r) ≡ 
       let e : i ≡ 66 = omega (arith, h .0) in
       row-written (wide r an) (said r an) 66 (rw e at (h .1))
 
--- the ways out of packing, each by the tests on it
-abbrev refusedWith : ℕ → Packed
-refusedWith n = packedAs n (replicate 16 0)
+-- packing goes by the anchors as three pixels
+module _ (r : Record) (h : r .mode ≤ 7) (k : kindOf (r .split) ≡ kindOfMode (r .mode)) (full : fits (r .mode) [] (says r) ≡ true) where
+  part-fits : partition (r .split) < 2 ^ partitionBits (r .mode)
+  unfolding says width
+  part-fits = fits-at (r .mode) [] (says r) full (head 1) tt
 
-module _ (r : Record) where
-  pub way-mode : 7 < r .mode → refusedWith 5 ≡ packed r
-  unfolding packed packRefusal first
-  way-mode h = rw (lt-ltb 7 (r .mode) h)
+  pub part-64 : partition (r .split) < 64
+  part-64 = lt-of-lt-of-le part-fits (pow-mono (six-bits (r .mode) (omega arith)))
 
-  pub way-kind : r .mode ≤ 7 → kindOf (r .split) ≢ kindOfMode (r .mode) → refusedWith 5 ≡ packed r
-  unfolding packed packRefusal first
-  way-kind h n = rw (le-ltb 7 (r .mode) h, ne-eqb (kindOf (r .split)) (kindOfMode (r .mode)) n)
+  module _ {a : Anchors} (ea : a ≡ anchorsOf (r .split)) where
+    stored : fits (r .mode) (pixelsOf a) (says r) ≡ fits (r .mode) (anchors (r .split)) (says r)
+    stored = ap (λ (a : Anchors). fits (r .mode) (pixelsOf a) (says r)) ea ∙ fits-split (r .mode) (r .split) part-64 (says r)
 
-  module _ (h : r .mode ≤ 7) (k : kindOf (r .split) ≡ kindOfMode (r .mode)) where
-    pub way-width : fits (r .mode) [] (says r) ≡ false → refusedWith 3 ≡ packed r
-    unfolding packed packRefusal first
-    way-width f = rw (le-ltb 7 (r .mode) h, eq-eqb (kindOf (r .split)) (kindOfMode (r .mode)) k, f)
+    pub stored-anchor : fits (r .mode) (pixelsOf a) (says r) ≡ false → refusedWith 6 ≡ packed r
+    stored-anchor f = way-anchor r h k full (sym stored ∙ f)
 
-    module _ (full : fits (r .mode) [] (says r) ≡ true) where
-      part-fits : partition (r .split) < 2 ^ partitionBits (r .mode)
-      unfolding says width
-      part-fits = fits-at (r .mode) [] (says r) full (head 1) tt
+    stored-widths : widthsWith (r .mode) (pixelsOf a) ≡ widths (r .mode) (r .split)
+    stored-widths = ap (λ (a : Anchors). widthsWith (r .mode) (pixelsOf a)) ea ∙ widths-split (r .mode) (r .split) part-64
 
-      pub part-64 : partition (r .split) < 64
-      part-64 = lt-of-lt-of-le part-fits (pow-mono (six-bits (r .mode) (omega arith)))
+    pub room : total (widthsWith (r .mode) (pixelsOf a)) ≤ 128
+    room = rw stored-widths (le-of-eq (total-128 (r .mode) (r .split) (omega arith) k part-fits))
 
-      module _ {a : Anchors} (ea : a ≡ anchorsOf (r .split)) where
-        stored : fits (r .mode) (pixelsOf a) (says r) ≡ fits (r .mode) (anchors (r .split)) (says r)
-        stored = ap (λ (a : Anchors). fits (r .mode) (pixelsOf a) (says r)) ea ∙ fits-split (r .mode) (r .split) part-64 (says r)
-
-        pub way-anchor : fits (r .mode) (pixelsOf a) (says r) ≡ false → refusedWith 6 ≡ packed r
-        unfolding packed packRefusal first
-        way-anchor f = rw (le-ltb 7 (r .mode) h, eq-eqb (kindOf (r .split)) (kindOfMode (r .mode)) k, full, sym stored ∙ f)
-
-        stored-widths : widthsWith (r .mode) (pixelsOf a) ≡ widths (r .mode) (r .split)
-        stored-widths = ap (λ (a : Anchors). widthsWith (r .mode) (pixelsOf a)) ea ∙ widths-split (r .mode) (r .split) part-64
-
-        pub room : total (widthsWith (r .mode) (pixelsOf a)) ≤ 128
-        room = rw stored-widths (le-of-eq (total-128 (r .mode) (r .split) (omega arith) k part-fits))
-
-        pub way-packed : {bs : List ℕ} → fits (r .mode) (pixelsOf a) (says r) ≡ true
-            → bs ≡ bytesOf (join (widthsWith (r .mode) (pixelsOf a)) (listOf (says r))) → packedAs 0 bs ≡ packed r
-        unfolding packed packRefusal first blockOf
-        way-packed f e = rw (le-ltb 7 (r .mode) h, eq-eqb (kindOf (r .split)) (kindOfMode (r .mode)) k, full, sym stored ∙ f, e, stored-widths)
+    pub stored-packed : {bs : List ℕ} → fits (r .mode) (pixelsOf a) (says r) ≡ true
+        → bs ≡ bytesOf (join (widthsWith (r .mode) (pixelsOf a)) (listOf (says r))) → packedAs 0 bs ≡ packed r
+    unfolding blockOf
+    stored-packed f e = rw (e, stored-widths) (way-packed r h k full (sym stored ∙ f))

@@ -1,3 +1,4 @@
-pub mod Packing
 pub mod Widths
+pub mod Ways
+pub mod Packing
 pub mod Theorems

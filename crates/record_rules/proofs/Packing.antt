@@ -2,16 +2,17 @@
 -- Assumes nothing.
 use mathlib.Core.Path.{_≡_, refl, sym, ap, ap₂, _∙_, subst}
 use mathlib.Core.Logic.{_≢_}
-use mathlib.Core.Bool.{Bool, true, false, not}
+use mathlib.Core.Bool.{Bool, true, not}
 use mathlib.Core.List.{List, []}
 use Prim.Native.Nat.{ℕ, zero, suc, _+_, _-_, _*_, _/_, _%_, _^_, _<_}
 use native.Mathlib.Nat.{lt-of-lt-of-le}
 use native.Mathlib.Omega.{arith}
-use borrow.Author.Tests.{le-ltb, ltb-false, eq-eqb, ne-eqb, not-false, eqb-true}
+use borrow.Author.Tests.{ltb-false, ne-eqb, not-false, eqb-true}
 use lib.Dec.{T, eqb, ltb, ltb→lt, lt→ltb}
 use lib.ListN.{length, getD}
 use lib.Pow.{pow-mono}
 use Rattle.record_rules.specs.declared.Record.{Record}
+use Rattle.record_rules.specs.declared.Packed.{Packed}
 use Rattle.format.specs.declared.Split.{Split}
 use Rattle.laws.specs.Digits.{Fit, more}
 use Rattle.laws.specs.Refusals.{first}
@@ -30,6 +31,7 @@ use Rattle.format.proofs.Opening.{block-ext, good-kind, opened-good}
 use Rattle.format.proofs.Places.{inside-placeAt, placeAt-pos, pos-lt, split-of-kind}
 use Rattle.record_rules.specs.Records.{Shaped, fits, made, packRefusal, packed, packedAs, recordOf, says, taken, unpackedAs}
 use Rattle.record_rules.proofs.Widths.{width-le}
+use Rattle.record_rules.proofs.Ways.{way-packed}
 
 module _ {m : ℕ} {s : Split} {f : Place → ℕ} (g : WellFormed m s f) where
   -- the record of what stands at the places says just that
@@ -86,17 +88,18 @@ pub fits-of : (m : ℕ) (an : List ℕ) (f : Place → ℕ) → ((x : Place) →
 unfolding fits
 fits-of m an f h = T-true _ (below-intro 66 (λ i. ltb (f (placeAt i)) (2 ^ width m an (placeAt i))) (λ k l. lt→ltb _ _ (h (placeAt k) (inside-placeAt k l))))
 
--- a record is accepted if what it says stands in a block
-pub good-accepted : (r : Record) → WellFormed (r .mode) (r .split) (says r) → packRefusal r ≡ 0
-unfolding packRefusal first
-good-accepted r g =
+-- a record packs if what it says stands in a block
+good-way : (r : Record) → WellFormed (r .mode) (r .split) (says r) → packedAs 0 (blockOf (r .mode) (r .split) (says r)) ≡ packed r
+good-way r g =
     let m = r .mode in
     let s = r .split in
-    let mode : ltb 7 m ≡ false = le-ltb 7 m (omega (arith, g .mode)) in
-    let kind : eqb (kindOf s) (kindOfMode m) ≡ true = eq-eqb _ _ (good-kind g) in
     let full : fits m [] (says r) ≡ true = fits-of m [] _ (λ x i. lt-of-lt-of-le (g .fits x i) (pow-mono (width-le m (anchors s) x))) in
     let anch : fits m (anchors s) (says r) ≡ true = fits-of m (anchors s) _ (g .fits) in
-    rw (mode, kind, full, anch)
+    way-packed r (omega (arith, g .mode)) (good-kind g) full anch
+
+pub good-accepted : (r : Record) → WellFormed (r .mode) (r .split) (says r) → packRefusal r ≡ 0
+unfolding packed
+good-accepted r g = sym (ap (λ (p : Packed). p .refusal) (good-way r g))
 
 -- WellFormed goes by the places there are
 pub good-ext : {m : ℕ} {s : Split} {f h : Place → ℕ} → ((x : Place) → T (inside x) → h x ≡ f x) → WellFormed m s f → WellFormed m s h
@@ -109,9 +112,8 @@ good-ext {m} {s} {f} {h} e g = record {
 
 -- what stands in a block is accepted
 pub good-packs : {m : ℕ} {s : Split} {f : Place → ℕ} → WellFormed m s f → packed (made m s f) ≡ packedAs 0 (blockOf m s f)
-unfolding packed made
-good-packs {m} {s} {f} g =
-    rw (good-accepted (made m s f) (good-ext (says-made g) g)) (ap (packedAs 0) (block-ext m s (says (made m s f)) f (says-made g)))
+unfolding made
+good-packs {m} {s} {f} g = sym (good-way (made m s f) (good-ext (says-made g) g)) ∙ ap (packedAs 0) (block-ext m s (says (made m s f)) f (says-made g))
 
 -- a record that packing accepts is what stands in a block
 pub packs-good : (r : Record) → packRefusal r ≡ 0 → WellFormed (r .mode) (r .split) (says r)

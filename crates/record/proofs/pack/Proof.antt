@@ -10,7 +10,8 @@ use Rattle.format.specs.Modes.{kindOfMode}
 use Rattle.format.specs.Splits.{kindOf}
 use Rattle.record_rules.specs.Records.{fits, says}
 use Rattle.record_widths.specs.declared.ModeRow.{ModeRow}
-use Rattle.record.proofs.Steps.{part-64, room, way-anchor, way-kind, way-mode, way-packed, way-width}
+use Rattle.record_rules.proofs.Ways.{way-kind, way-mode, way-width}
+use Rattle.record.proofs.Steps.{part-64, room, stored-anchor, stored-packed}
 use Rattle.record_widths.proofs.Pixels.{fits-none}
 use Rattle.record.proofs.pack.Statement.{statement}
 use Rattle.record.proofs.pack.Tie as tie
@@ -74,7 +75,7 @@ returns-4 c =
     let else3 = c .before .before .before .before in
     let else2 = else3 .before .before .before in
     c .refused4 .ensures
-    ∙ way-anchor _ (else2 .before .before .before .before .if1 .left) (same-kind else2) (full-fits else3) (c .before .before .before .anchors-of .ensures)
+    ∙ stored-anchor _ (else2 .before .before .before .before .if1 .left) (same-kind else2) (full-fits else3) (c .before .before .before .anchors-of .ensures)
     (sym (c .before .before .fit-widths2 .ensures) ∙ not-true _ (c .before .if4 .taken))
 
 write-places-requires : tie.Need-write-places-requires
@@ -92,7 +93,7 @@ returns-5 c =
     let else4 = c .before in
     let else3 = else4 .before .before .before in
     let else2 = else3 .before .before .before in
-    way-packed _ (else2 .before .before .before .before .if1 .left) (same-kind else2) (full-fits else3) (else4 .before .before .anchors-of .ensures)
+    stored-packed _ (else2 .before .before .before .before .if1 .left) (same-kind else2) (full-fits else3) (else4 .before .before .anchors-of .ensures)
     (sym (else4 .before .fit-widths2 .ensures) ∙ not-false _ (else4 .if4 .left)) (c .write-places .ensures)
 
 pub pack-spec : {M : Type 1} → statement M
