@@ -5,8 +5,8 @@ use mathlib.Core.List.{List, [], _∷_}
 use lib.Dec.{eqb}
 use Rattle.head.specs.declared.Head.{Head}
 use Rattle.head.specs.declared.HeadBytes.{HeadBytes}
-use Rattle.record.specs.declared.Packed.{Packed}
-use Rattle.record.specs.declared.Unpacked.{Unpacked}
+use Rattle.record_rules.specs.declared.Packed.{Packed}
+use Rattle.record_rules.specs.declared.Unpacked.{Unpacked}
 use Rattle.laws.specs.Tables.{pick}
 use Rattle.wire.specs.Wire.{recordBytes}
 

@@ -11,7 +11,7 @@ use Rattle.format.specs.Modes.{endpointCount, kindOfMode, modeRow}
 use Rattle.format.specs.Partitions.{anchors2, anchors3, digits, marks, strings2, strings3, subset2, subset3}
 use Rattle.format.specs.Places.{atPlace, blockOf, listOf, opened, placeAt, pos, width, widths}
 use Rattle.format.specs.Splits.{splitAt, splitOf}
-use Rattle.record.specs.Records.{made, recordOf, taken}
+use Rattle.record_rules.specs.Records.{made, recordOf, taken}
 use Rattle.head.specs.Numbers.{groups, raised, readGroups, readNumber}
 use Rattle.line.specs.Replace.{after, indexFits, lineFits, lineGiven, oriented, ownWidth, pFits, put, refusal, refusalIn, replaced, valueFits}
 use Rattle.document_01.specs.Claims.{answer, claims}

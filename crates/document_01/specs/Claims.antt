@@ -6,9 +6,9 @@ use lib.ListN.{replicate}
 use Rattle.head.specs.declared.Number.{Number}
 use Rattle.line.specs.declared.Replacement.{Replacement}
 use Rattle.line.specs.declared.Replaced.{Replaced}
-use Rattle.record.specs.declared.Unpacked.{Unpacked}
+use Rattle.record_rules.specs.declared.Unpacked.{Unpacked}
 use Rattle.format.specs.Lines.{pixels}
-use Rattle.record.specs.Records.{taken, unpackedAs, zeroRecord}
+use Rattle.record_rules.specs.Records.{taken, unpackedAs, zeroRecord}
 use Rattle.head.specs.Numbers.{found, noNumber, numberBytes, readNumber}
 use Rattle.line.specs.Replace.{replaced, replacedAs}
 

@@ -19,7 +19,7 @@ use Rattle.format.specs.Block.{eights, modeOf, trailing}
 use Rattle.format.specs.Lines.{Line}
 use Rattle.format.specs.Modes.{lines}
 use Rattle.format.specs.Splits.{splitOf}
-use Rattle.record.proofs.Packing.{open-mode}
+use Rattle.record_rules.proofs.Packing.{open-mode}
 use Rattle.line.specs.Acceptable.{Acceptable, Answer, Within, accepted, no-line, p-bits-differ, reserved, too-wide}
 use Rattle.line.specs.Replace.{Call, indexFits, lineFits, pFits, refusal, refusalIn, valueFits}
 

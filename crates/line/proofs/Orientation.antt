@@ -19,7 +19,7 @@ use Rattle.format.specs.Partitions.{subset3}
 use Rattle.format.specs.Splits.{partition}
 use Rattle.format.proofs.Modes.{good-64}
 use Rattle.format.proofs.Subsets.{good-lines}
-use Rattle.record.proofs.Widths.{fit, unfit}
+use Rattle.record_rules.proofs.Widths.{fit, unfit}
 use Rattle.bcn_data.specs.Maps.{map3}
 use Rattle.bcn_data.proofs.Maps.{anchor-in2, anchor-in3, anchors-in2, anchors-in3}
 use Rattle.line.specs.Coded.{LineOfBlock, givenAs, linesOf}

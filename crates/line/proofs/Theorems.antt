@@ -17,7 +17,7 @@ use Rattle.format.specs.Partitions.{among}
 use Rattle.format.specs.Places.{opened}
 use Rattle.format.specs.Splits.{splitOf}
 use Rattle.format.proofs.Opening.{opened-good}
-use Rattle.record.proofs.Packing.{open-mode}
+use Rattle.record_rules.proofs.Packing.{open-mode}
 use Rattle.line.specs.Acceptable.{Acceptable, Answer, OwnWidths, accepted}
 use Rattle.line.specs.Calls.{afterAll, last, lastOfEach, seen}
 use Rattle.line.specs.Replace.{Call, after, refusal, replaced}

@@ -13,8 +13,8 @@ use Rattle.format.specs.Places.{opened}
 use Rattle.format.specs.Splits.{splitOf}
 use Rattle.format.specs.WellFormed.{WellFormed}
 use Rattle.format.proofs.Opening.{block-ext, opened-good}
-use Rattle.record.specs.Records.{made, packed, packedAs, recordOf, says}
-use Rattle.record.proofs.Packing.{good-ext, good-packs, says-made}
+use Rattle.record_rules.specs.Records.{made, packed, packedAs, recordOf, says}
+use Rattle.record_rules.proofs.Packing.{good-ext, good-packs, says-made}
 use Rattle.line.specs.Replace.{Call, after, oriented, put, refusal}
 use Rattle.line.proofs.Blocks.{accepted-open}
 use Rattle.line.proofs.Put.{put-good}

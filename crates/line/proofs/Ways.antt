@@ -11,9 +11,9 @@ use borrow.Author.Tests.{eq-eqb, eqb-false, eqb-true, not-false, not-true}
 use lib.Dec.{T, eqb, ltb, ltb→lt, lit<}
 use lib.ListN.{getD}
 use Rattle.line.specs.declared.Replacement.{Replacement}
-use Rattle.record.specs.declared.Record.{Record}
-use Rattle.record.specs.declared.Unpacked.{Unpacked}
-use Rattle.record.specs.declared.Packed.{Packed}
+use Rattle.record_rules.specs.declared.Record.{Record}
+use Rattle.record_rules.specs.declared.Unpacked.{Unpacked}
+use Rattle.record_rules.specs.declared.Packed.{Packed}
 use Rattle.format.specs.declared.Split.{Split}
 use Rattle.laws.specs.Digits.{Fit}
 use Rattle.laws.specs.Tables.{below, both, pick}
@@ -25,8 +25,8 @@ use Rattle.format.specs.Modes.{lines}
 use Rattle.format.specs.Places.{Place, head, index, inside, opened, pbit, value}
 use Rattle.format.specs.Splits.{splitOf}
 use Rattle.format.proofs.Opening.{opened-good}
-use Rattle.record.specs.Records.{fits, made, packed, packedAs, recordOf, says, taken, unpackedAs, zeroRecord}
-use Rattle.record.proofs.Packing.{made-ext, open-mode}
+use Rattle.record_rules.specs.Records.{fits, made, packed, packedAs, recordOf, says, taken, unpackedAs, zeroRecord}
+use Rattle.record_rules.proofs.Packing.{made-ext, open-mode}
 use Rattle.line.specs.Acceptable.{Answer, Within, accepted, no-line, p-bits-differ, reserved, too-wide}
 use Rattle.line.specs.Coded.{LineOfBlock, givenAs}
 use Rattle.line.specs.Replace.{after, callOf, lineFits, lineGiven, oriented, put, refusal, replaced, replacedAs}

@@ -18,7 +18,7 @@ use Rattle.format.specs.Splits.{indexMode, isVector}
 use Rattle.format.proofs.Lens.{has-head, has-parts}
 use Rattle.format.proofs.Modes.{lines-le}
 use Rattle.format.proofs.Places.{placeAt-pos, pos-lt}
-use Rattle.record.proofs.Widths.{width-le-8}
+use Rattle.record_rules.proofs.Widths.{width-le-8}
 use Rattle.line.specs.Coded.{LineOfBlock}
 use Rattle.line.specs.Replace.{indexFits, lineFits, ownWidth, pFits, valueFits}
 use Rattle.line.proofs.Put.{own-width-le}

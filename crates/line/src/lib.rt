@@ -9,9 +9,9 @@ ghost use Rattle.line.specs.Replace.{replaced};
 use crate::fitting::line_fits;
 use crate::putting::with_line;
 use crate::turning::oriented;
-use record::modes::mode_row;
 use record::pack;
 use record::unpack;
+use record_widths::mode_row;
 
 pub mod fitting;
 pub mod owning;

@@ -12,9 +12,9 @@ ghost use Rattle.line.specs.Coded.{LineOfBlock};
 use bcn_data::partition_set_2;
 use bcn_data::partition_set_3;
 use format::Split;
-use record::modes::index_width;
-use record::modes::p_width;
-use record::modes::value_width;
+use record_widths::index_width;
+use record_widths::p_width;
+use record_widths::value_width;
 
 pub fn is_vector(split: Split) -> bool
     ensures { λ r. ⌜ r ≡ isVector split ⌝ }

@@ -4,14 +4,14 @@ ghost use Prim.Native.Nat.{_<_, _≤_};
 ghost use Rattle.laws.specs.Tables.{table};
 ghost use Rattle.format.specs.Lines.{laid, withLine};
 ghost use Rattle.format.specs.Places.{placeAt};
-ghost use Rattle.record.specs.Records.{made, says};
+ghost use Rattle.record_rules.specs.Records.{made, says};
 ghost use Rattle.line.specs.Replace.{lineGiven};
 ghost use Rattle.line.specs.Coded.{LineOfBlock};
 use crate::Replacement;
 use crate::owning::own_width;
-use record::Record;
-use record::places::record_of;
-use record::places::value_at;
+use record_places::places::record_of;
+use record_places::places::value_at;
+use record_rules::Record;
 
 // What a line has for a place, by its number in stored order.
 fn laid_at(mode: u8, new: Replacement, place: usize) -> u8

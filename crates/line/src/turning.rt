@@ -16,7 +16,7 @@ use crate::fitting::set_of;
 use bcn_data::anchor_2;
 use bcn_data::anchor_3;
 use format::Split;
-use record::modes::index_width;
+use record_widths::index_width;
 
 // The pixel that is the anchor of a line.
 fn anchor(split: Split, line: usize) -> usize

@@ -8,13 +8,13 @@ use borrow.Author.Tests.{lt-ltb, le-ltb}
 use lib.Dec.{lit<}
 use lib.ListN.{length, getD}
 use lib.Seq.{ext-getD}
-use Rattle.record.specs.declared.Record.{Record}
+use Rattle.record_rules.specs.declared.Record.{Record}
 use Rattle.format.specs.declared.Split.{Split}
 use Rattle.format.specs.declared.Split.the-variants.{Whole, Two, Three, Vector}
 use Rattle.laws.specs.Tables.{table}
 use Rattle.laws.proofs.Part.{getD-table, length-table}
 use Rattle.format.specs.Splits.{indexMode, kindOf, ofKind}
-use Rattle.record.specs.Records.{Shaped}
+use Rattle.record_rules.specs.Records.{Shaped}
 use Rattle.wire.specs.Wire.{recordByte, recordBytes, recordOfBytes, splitByte}
 
 same-split : (s : Split) → ofKind (kindOf s) (splitByte s) (splitByte s) (indexMode s) ≡ s

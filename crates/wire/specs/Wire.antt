@@ -5,13 +5,13 @@ use mathlib.Core.List.{List, [], _∷_}
 use lib.Dec.{ltb}
 use lib.ListN.{getD, replicate}
 use Rattle.line.specs.declared.Replacement.{Replacement}
-use Rattle.record.specs.declared.Record.{Record}
-use Rattle.record.specs.declared.Packed.{Packed}
+use Rattle.record_rules.specs.declared.Record.{Record}
+use Rattle.record_rules.specs.declared.Packed.{Packed}
 use Rattle.format.specs.declared.Split.{Split}
 use Rattle.format.specs.declared.Split.the-variants.{Whole, Two, Three, Vector}
 use Rattle.laws.specs.Tables.{pick, table}
 use Rattle.format.specs.Splits.{indexMode, kindOf, ofKind}
-use Rattle.record.specs.Records.{packed, packedAs}
+use Rattle.record_rules.specs.Records.{packed, packedAs}
 
 -- the partition or the rotation, whichever the split has
 abbrev pub splitByte : Split → ℕ

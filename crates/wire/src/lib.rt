@@ -8,12 +8,12 @@ ghost use Rattle.laws.specs.Tables.{table};
 ghost use Rattle.wire.specs.Wire.{replacementOf, splitByte, recordByte, recordBytes, recordOfBytes, packedBytes};
 use format::Split;
 use line::Replacement;
-use record::Packed;
-use record::Record;
 use record::pack;
-use record::splits::index_mode_of;
-use record::splits::kind_of;
-use record::splits::split_of_kind;
+use record_places::splits::index_mode_of;
+use record_places::splits::kind_of;
+use record_places::splits::split_of_kind;
+use record_rules::Packed;
+use record_rules::Record;
 
 // The partition or the rotation, whichever the split has.
 fn split_byte(split: Split) -> u8

@@ -2,7 +2,7 @@
 -- Assumes nothing.
 use mathlib.Core.Path.{sym, ap, _∙_}
 use borrow.Author.Tests.{eq-eqb, ne-eqb}
-use Rattle.record.specs.declared.Packed.{Packed}
+use Rattle.record_rules.specs.declared.Packed.{Packed}
 use borrow.Author.Needs.{needs}
 use Rattle.console.proofs.bc7_pack.Statement.{statement}
 use Rattle.console.proofs.bc7_pack.Tie as tie

@@ -2,7 +2,7 @@
 -- Assumes nothing.
 use mathlib.Core.Path.{sym, ap, _∙_}
 use borrow.Author.Tests.{eq-eqb, ne-eqb}
-use Rattle.record.specs.declared.Unpacked.{Unpacked}
+use Rattle.record_rules.specs.declared.Unpacked.{Unpacked}
 use borrow.Author.Needs.{needs}
 use Rattle.console.proofs.bc7_unpack.Statement.{statement}
 use Rattle.console.proofs.bc7_unpack.Tie as tie

@@ -8,12 +8,12 @@ use mir.Val.{Fits}
 use borrow.Author.Needs.{needs}
 use borrow.Author.Tests.{not-false, not-true}
 use lib.ListN.{length, getD}
-use Rattle.record.specs.declared.Unpacked.{Unpacked}
+use Rattle.record_rules.specs.declared.Unpacked.{Unpacked}
 use Rattle.laws.specs.Digits.{Fit}
 use Rattle.format.specs.Block.{eights}
 use Rattle.format.specs.Modes.{lines}
 use Rattle.format.proofs.Subsets.{sixteen-bytes}
-use Rattle.record.specs.Records.{taken}
+use Rattle.record_rules.specs.Records.{taken}
 use Rattle.line.specs.Coded.{LineOfBlock}
 use Rattle.line.specs.Replace.{lineFits, lineGiven}
 use Rattle.line.proofs.Accepting.{fits-within}

@@ -2,7 +2,7 @@
 -- Assumes nothing.
 use mathlib.Core.Path.{_∙_, ap}
 use borrow.Author.Tests.{lt-ltb, le-ltb}
-use Rattle.record.specs.Records.{packed}
+use Rattle.record_rules.specs.Records.{packed}
 use Rattle.wire.specs.Wire.{packedBytes}
 use borrow.Author.Needs.{needs}
 use Rattle.wire.proofs.pack_bytes.Statement.{statement}

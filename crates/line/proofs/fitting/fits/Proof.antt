@@ -2,7 +2,7 @@
 -- Assumes nothing.
 use mathlib.Core.Path.{sym}
 use borrow.Author.Needs.{needs}
-use Rattle.record.proofs.Widths.{fit, unfit}
+use Rattle.record_rules.proofs.Widths.{fit, unfit}
 use Rattle.line.proofs.fitting.fits.Statement.{statement}
 use Rattle.line.proofs.fitting.fits.Tie as tie
 

@@ -6,7 +6,7 @@ use Rattle.laws.proofs.Part.{getD-table}
 use Rattle.format.specs.Lines.{withLine}
 use Rattle.format.specs.Places.{pos}
 use Rattle.format.proofs.Places.{placeAt-pos, pos-lt}
-use Rattle.record.proofs.Packing.{made-ext}
+use Rattle.record_rules.proofs.Packing.{made-ext}
 use Rattle.line.proofs.putting.with_line.Statement.{statement}
 use Rattle.line.proofs.putting.with_line.Tie as tie
 
