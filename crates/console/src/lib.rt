@@ -4,7 +4,7 @@ ghost use mathlib.Core.Path.{_≡_};
 ghost use lib.ListN.{length};
 ghost use Rattle.format.specs.Lines.{pixels};
 ghost use Rattle.record_rules.specs.Records.{taken};
-ghost use Rattle.line.specs.Replace.{replaced};
+ghost use Rattle.line_rules.specs.Replace.{replaced};
 ghost use Rattle.wire.specs.Wire.{packedBytes, replacementOf};
 ghost use Rattle.head.specs.Heads.{readHead, writeHead};
 ghost use Rattle.sheet.specs.Rows.{rowRefusal, rowOut};

@@ -13,7 +13,7 @@ use Rattle.format.specs.Places.{atPlace, blockOf, listOf, opened, placeAt, pos,
 use Rattle.format.specs.Splits.{splitAt, splitOf}
 use Rattle.record_rules.specs.Records.{made, recordOf, taken}
 use Rattle.head.specs.Numbers.{groups, raised, readGroups, readNumber}
-use Rattle.line.specs.Replace.{after, indexFits, lineFits, lineGiven, oriented, ownWidth, pFits, put, refusal, refusalIn, replaced, valueFits}
+use Rattle.line_rules.specs.Replace.{after, indexFits, lineFits, lineGiven, oriented, ownWidth, pFits, put, refusal, refusalIn, replaced, valueFits}
 use Rattle.document_01.specs.Claims.{answer, claims}
 
 pub document-01-holds : map (λ c. answer (c .question)) claims ≡ map (λ c. c .expected) claims

@@ -1,13 +1,3 @@
-pub mod Accepting
-pub mod Put
-pub mod Draws
-pub mod Given
-pub mod Steps
-pub mod Blocks
-pub mod Sequences
 pub mod Widths
-pub mod Orientation
-pub mod OwnWidths
 pub mod ThroughRecord
 pub mod Ways
-pub mod Theorems

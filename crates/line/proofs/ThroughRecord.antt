@@ -15,9 +15,9 @@ use Rattle.format.specs.WellFormed.{WellFormed}
 use Rattle.format.proofs.Opening.{block-ext, opened-good}
 use Rattle.record_rules.specs.Records.{made, packed, packedAs, recordOf, says}
 use Rattle.record_rules.proofs.Packing.{good-ext, good-packs, says-made}
-use Rattle.line.specs.Replace.{Call, after, oriented, put, refusal}
-use Rattle.line.proofs.Blocks.{accepted-open}
-use Rattle.line.proofs.Put.{put-good}
+use Rattle.line_rules.specs.Replace.{Call, after, oriented, put, refusal}
+use Rattle.line_rules.proofs.Blocks.{accepted-open}
+use Rattle.line_rules.proofs.Put.{put-good}
 
 pub through-record : (bs : List ℕ) → Fit eights bs → (c : Call) → refusal bs c ≡ 0
     → packed (made (modeOf bs) (splitOf bs) (put (modeOf bs) (splitOf bs) (c .line) (c .given) (says (recordOf bs)))) ≡ packedAs 0 (after bs c)

@@ -10,13 +10,13 @@ use native.Mathlib.Omega.{arith}
 use borrow.Author.Tests.{eq-eqb, eqb-false, eqb-true, not-false, not-true}
 use lib.Dec.{T, eqb, ltb, ltb→lt, lit<}
 use lib.ListN.{getD}
-use Rattle.line.specs.declared.Replacement.{Replacement}
+use Rattle.line_rules.specs.declared.Replacement.{Replacement}
 use Rattle.record_rules.specs.declared.Record.{Record}
 use Rattle.record_rules.specs.declared.Unpacked.{Unpacked}
 use Rattle.record_rules.specs.declared.Packed.{Packed}
 use Rattle.format.specs.declared.Split.{Split}
 use Rattle.laws.specs.Digits.{Fit}
-use Rattle.laws.specs.Tables.{below, both, pick}
+use Rattle.laws.specs.Tables.{both, pick}
 use Rattle.laws.proofs.Part.{getD-table}
 use Rattle.laws.proofs.Tests.{both-left, both-right, both-true, no-both}
 use Rattle.format.specs.Block.{eights, modeOf}
@@ -25,15 +25,16 @@ use Rattle.format.specs.Modes.{lines}
 use Rattle.format.specs.Places.{Place, head, index, inside, opened, pbit, value}
 use Rattle.format.specs.Splits.{splitOf}
 use Rattle.format.proofs.Opening.{opened-good}
-use Rattle.record_rules.specs.Records.{fits, made, packed, packedAs, recordOf, says, taken, unpackedAs, zeroRecord}
+use Rattle.record_rules.specs.Records.{made, packed, packedAs, recordOf, says, taken, unpackedAs, zeroRecord}
 use Rattle.record_rules.proofs.Packing.{made-ext, open-mode}
-use Rattle.line.specs.Acceptable.{Answer, Within, accepted, no-line, p-bits-differ, reserved, too-wide}
-use Rattle.line.specs.Coded.{LineOfBlock, givenAs}
-use Rattle.line.specs.Replace.{after, callOf, lineFits, lineGiven, oriented, put, refusal, replaced, replacedAs}
-use Rattle.line.proofs.Accepting.{answer-is, fits-within, reserved-mode, second, within-fits, zero-byte}
-use Rattle.line.proofs.Blocks.{unchanged}
+use Rattle.line_rules.specs.Acceptable.{Answer, Within, accepted, no-line, p-bits-differ, reserved, too-wide}
+use Rattle.line_rules.specs.Coded.{LineOfBlock}
+use Rattle.line_rules.specs.Replace.{after, callOf, lineFits, lineGiven, oriented, put, refusal, replaced, replacedAs}
+use Rattle.line_rules.proofs.Accepting.{answer-is, fits-within, reserved-mode, second, within-fits, zero-byte}
+use Rattle.line_rules.proofs.Blocks.{unchanged}
+use Rattle.line_rules.proofs.Own.{pick-lt}
+use Rattle.line_turning.specs.Coded.{givenAs}
 use Rattle.line.proofs.ThroughRecord.{through-record}
-use Rattle.line.proofs.Widths.{pick-lt}
 
 -- a line as a replacement gives it is that line, at every place
 laid-given : (m : ℕ) (o : Line) (x : Place) → T (inside x) → laid m (lineGiven (givenAs o)) x ≡ laid m o x

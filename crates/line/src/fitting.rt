@@ -4,16 +4,16 @@ ghost use Prim.Native.Nat.{_+_, _*_, _^_, _<_, _≤_};
 ghost use lib.Dec.{eqb, ltb};
 ghost use Rattle.laws.specs.Tables.{below, pick};
 ghost use Rattle.format.specs.declared.Split.{Split};
-ghost use Rattle.format.specs.Lines.{arrayOf};
-ghost use Rattle.format.specs.Splits.{indexMode, isVector};
-ghost use Rattle.line.specs.Replace.{indexFits, lineFits, lineGiven, pFits, valueFits};
-ghost use Rattle.line.specs.Coded.{LineOfBlock};
-use crate::Replacement;
-use crate::owning::is_vector;
-use crate::owning::own_index_width;
-use crate::owning::own_p_width;
-use crate::owning::own_value_width;
+ghost use Rattle.format.specs.Splits.{isVector};
+ghost use Rattle.line_rules.specs.Replace.{indexFits, lineFits, lineGiven, pFits, valueFits};
+ghost use Rattle.line_rules.specs.Coded.{LineOfBlock};
 use format::Split;
+use line_places::is_vector;
+use line_places::own_index_width;
+use line_places::own_p_width;
+use line_places::own_value_width;
+use line_rules::Replacement;
+use line_turning::set_of;
 
 fn fits(value: u8, width: u32) -> bool
     requires { ⌜ width ≤ 8 ⌝ }
@@ -46,26 +46,6 @@ fn p_of(mode: u8, line: usize, k: usize) -> usize
         return line;
     }
     2 * line + k
-}
-
-// The index set of a line.
-pub fn set_of(split: Split, line: usize) -> usize
-    requires { ⌜ indexMode split < 2 ⌝ }
-    ensures { λ r. ⌜ r ≡ arrayOf split line ⌝ }
-{
-    match split {
-        Split::Whole => 0,
-        Split::Two(_) => 0,
-        Split::Three(_) => 0,
-        Split::Vector {
-            rotation: _,
-            index_mode,
-        } => if line == 0 {
-            index_mode as usize
-        } else {
-            1 - index_mode as usize
-        },
-    }
 }
 
 fn value_fits(

@@ -5,32 +5,18 @@ ghost use mathlib.Core.Bool.{not};
 ghost use lib.Dec.{eqb};
 ghost use lib.ListN.{getD};
 ghost use Rattle.laws.specs.Tables.{both};
-ghost use Rattle.line.specs.Replace.{replaced};
+ghost use Rattle.line_rules.specs.Replace.{replaced};
 use crate::fitting::line_fits;
 use crate::putting::with_line;
-use crate::turning::oriented;
+use line_rules::Replaced;
+use line_rules::Replacement;
+use line_turning::oriented;
 use record::pack;
 use record::unpack;
 use record_widths::mode_row;
 
 pub mod fitting;
-pub mod owning;
 pub mod putting;
-pub mod turning;
-
-// A line as it is given: endpoint k, channel c at 4 * k + c; an index of the line's full width for each pixel. What the line
-// hasn't got is zero.
-pub struct Replacement {
-    pub endpoints: [u8; 8],
-    pub p: [u8; 2],
-    pub indexes: [u8; 16],
-}
-
-// A refusal hands back the block that was given.
-pub struct Replaced {
-    pub refusal: u8,
-    pub block: [u8; 16],
-}
 
 // In mode 1 one p bit is stored for both endpoints.
 fn p_bits_differ(mode: u8, new: Replacement) -> bool

@@ -18,10 +18,10 @@ use Rattle.format.specs.Block.{eights}
 use Rattle.format.proofs.Subsets.{sixteen-bytes}
 use Rattle.head.specs.Heads.{readHead}
 use Rattle.head.specs.Numbers.{Bytes}
-use Rattle.line.specs.Calls.{afterAll}
-use Rattle.line.specs.Replace.{Call, after, refusal, replaced}
-use Rattle.line.proofs.Blocks.{after-sixteen}
-use Rattle.line.proofs.Theorems.{refused-same}
+use Rattle.line_rules.specs.Calls.{afterAll}
+use Rattle.line_rules.specs.Replace.{Call, after, refusal, replaced}
+use Rattle.line_rules.proofs.Blocks.{after-sixteen}
+use Rattle.line_rules.proofs.Theorems.{refused-same}
 use Rattle.sheet.specs.Calls.{SheetCall, WholeSheet, callsOn, onBlock, refusalOn, sheetWith, sheetWithAll}
 use Rattle.sheet.specs.Rows.{blockAt}
 use Rattle.sheet.specs.Sheets.{blockIn, blocksOf, findRefusal, placeOf, putBlock, replacedIn, sheetAfter}

@@ -12,7 +12,7 @@ use borrow.Author.Tests.{eq-eqb, ne-eqb, le-leb, lt-leb, leb-false, eqb-true, no
 use Rattle.laws.proofs.First.{first-here, first-none, first-skip, first-zero, refuse-no}
 use Rattle.head.specs.Heads.{Sized, sizeRefusal}
 use Rattle.head.proofs.Heading.{sized}
-use Rattle.line.specs.Replace.{after}
+use Rattle.line_rules.specs.Replace.{after}
 use Rattle.sheet.specs.Rows.{across, rowBytes, rowOut, rowRefusal, shown}
 
 -- the ways of `row_refusal`

@@ -10,11 +10,11 @@ use native.Mathlib.Omega.{arith}
 use lib.ListN.{length}
 use borrow.Author.Tests.{eq-eqb, ne-eqb, leb-false, eqb-true, not-false}
 use Rattle.sheet.specs.declared.Found.{Found}
-use Rattle.line.specs.declared.Replacement.{Replacement}
-use Rattle.line.specs.declared.Replaced.{Replaced}
+use Rattle.line_rules.specs.declared.Replacement.{Replacement}
+use Rattle.line_rules.specs.declared.Replaced.{Replaced}
 use Rattle.laws.proofs.First.{first-here, first-last, first-skip, first-zero, refuse-no}
 use Rattle.head.specs.Heads.{readHead}
-use Rattle.line.specs.Replace.{replaced}
+use Rattle.line_rules.specs.Replace.{replaced}
 use Rattle.sheet.specs.Rows.{blockAt}
 use Rattle.sheet.specs.Sheets.{blockIn, blocksOf, findBlock, findRefusal, placeOf, putBlock, replacedIn, sheetAfter, sheetRefusal}
 use Rattle.sheet.proofs.Finding.{none, one}

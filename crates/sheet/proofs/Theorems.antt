@@ -19,9 +19,9 @@ use Rattle.format.specs.Modes.{lines}
 use Rattle.format.specs.Splits.{splitOf}
 use Rattle.head.specs.Heads.{readHead}
 use Rattle.head.specs.Numbers.{Bytes}
-use Rattle.line.specs.Calls.{afterAll, last, seen}
-use Rattle.line.specs.Replace.{Call, after, refusal}
-use Rattle.line.proofs.Theorems.{accepted-draws, last-call-is-seen, others-keep, same-answer, same-last-calls, trade-places}
+use Rattle.line_rules.specs.Calls.{afterAll, last, seen}
+use Rattle.line_rules.specs.Replace.{Call, after, refusal}
+use Rattle.line_rules.proofs.Theorems.{accepted-draws, last-call-is-seen, others-keep, same-answer, same-last-calls, trade-places}
 use Rattle.sheet.specs.Calls.{SheetCall, WholeSheet, callsOn, onBlock, refusalOn, sheetWith, sheetWithAll}
 use Rattle.sheet.specs.Rows.{rowOut, rowRefusal}
 use Rattle.sheet.specs.Sheets.{blockIn, blocksOf, placeOf}

@@ -5,11 +5,11 @@ use mathlib.Core.Path.{_≡_}
 use mathlib.Core.List.{List, [], _∷_}
 use lib.Dec.{eqb}
 use lib.ListN.{length}
-use Rattle.line.specs.declared.Replacement.{Replacement}
+use Rattle.line_rules.specs.declared.Replacement.{Replacement}
 use Rattle.laws.specs.Tables.{pick}
 use Rattle.head.specs.Heads.{readHead}
 use Rattle.head.specs.Numbers.{Bytes}
-use Rattle.line.specs.Replace.{Call, callOf}
+use Rattle.line_rules.specs.Replace.{Call, callOf}
 use Rattle.sheet.specs.Sheets.{blocksOf, sheetAfter, sheetRefusal}
 
 -- a call of `replace_in_sheet`

@@ -6,13 +6,13 @@ use mathlib.Core.List.{List, [], _∷_}
 use lib.Dec.{eqb, leb}
 use lib.ListN.{length, getD}
 use Rattle.sheet.specs.declared.Found.{Found}
-use Rattle.line.specs.declared.Replacement.{Replacement}
-use Rattle.line.specs.declared.Replaced.{Replaced}
+use Rattle.line_rules.specs.declared.Replacement.{Replacement}
+use Rattle.line_rules.specs.declared.Replaced.{Replaced}
 use Rattle.head.specs.declared.Head.{Head}
 use Rattle.laws.specs.Refusals.{first, refuse}
 use Rattle.laws.specs.Tables.{over, pick}
 use Rattle.head.specs.Heads.{readHead}
-use Rattle.line.specs.Replace.{replaced}
+use Rattle.line_rules.specs.Replace.{replaced}
 use Rattle.sheet.specs.Rows.{across, blockAt}
 
 -- how many blocks a sheet has

@@ -203,7 +203,7 @@ fn find_block(sheet: &[u8], block: u32) -> Found
 }
 
 // A line of a block of a sheet, replaced. A refused call leaves the sheet as it was.
-pub fn replace_in_sheet(sheet: &mut [u8], block: u32, line: u32, new: line::Replacement) -> u8
+pub fn replace_in_sheet(sheet: &mut [u8], block: u32, line: u32, new: line_rules::Replacement) -> u8
     ensures { λ r. ⌜ r ≡ sheetRefusal (now (sheet .entry)) block line new ⌝ }
     ensures { λ _. ⌜ now (sheet .exit) ≡ sheetAfter (now (sheet .entry)) block line new ⌝ }
 {

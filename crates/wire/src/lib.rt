@@ -7,7 +7,7 @@ ghost use lib.ListN.{getD};
 ghost use Rattle.laws.specs.Tables.{table};
 ghost use Rattle.wire.specs.Wire.{replacementOf, splitByte, recordByte, recordBytes, recordOfBytes, packedBytes};
 use format::Split;
-use line::Replacement;
+use line_rules::Replacement;
 use record::pack;
 use record_places::splits::index_mode_of;
 use record_places::splits::kind_of;

@@ -1,8 +1,8 @@
 -- `bc7_replace_line`: what `replace_line` answers.
 -- Assumes nothing.
 use mathlib.Core.Path.{ap, _∙_}
-use Rattle.line.specs.declared.Replaced.{Replaced}
-use Rattle.line.specs.Replace.{replaced}
+use Rattle.line_rules.specs.declared.Replaced.{Replaced}
+use Rattle.line_rules.specs.Replace.{replaced}
 use borrow.Author.Needs.{needs}
 use Rattle.console.proofs.bc7_replace_line.Statement.{statement}
 use Rattle.console.proofs.bc7_replace_line.Tie as tie

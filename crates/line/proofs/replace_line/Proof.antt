@@ -14,9 +14,9 @@ use Rattle.format.specs.Block.{eights}
 use Rattle.format.specs.Modes.{lines}
 use Rattle.format.proofs.Subsets.{sixteen-bytes}
 use Rattle.record_rules.specs.Records.{taken}
-use Rattle.line.specs.Coded.{LineOfBlock}
-use Rattle.line.specs.Replace.{lineFits, lineGiven}
-use Rattle.line.proofs.Accepting.{fits-within}
+use Rattle.line_rules.specs.Coded.{LineOfBlock}
+use Rattle.line_rules.specs.Replace.{lineFits, lineGiven}
+use Rattle.line_rules.proofs.Accepting.{fits-within}
 use Rattle.line.proofs.Ways.{mode-below, the-line, way-1, way-2, way-3, way-4, way-5}
 use Rattle.line.proofs.replace_line.Statement.{statement}
 use Rattle.line.proofs.replace_line.Tie as tie

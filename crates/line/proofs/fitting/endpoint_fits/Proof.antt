@@ -5,10 +5,9 @@ use mathlib.Core.Path.{_≡_, _∙_, sym, refl, subst}
 use Prim.Native.Nat.{ℕ, _-_, _≤_}
 use native.Mathlib.Omega.{arith}
 use borrow.Author.Tests.{not-false, not-true}
-use Rattle.laws.specs.Digits.{split}
 use Rattle.laws.specs.Tables.{below}
 use Rattle.laws.proofs.Scan.{scan-fails, scan-more}
-use Rattle.line.specs.Replace.{lineGiven, valueFits}
+use Rattle.line_rules.specs.Replace.{lineGiven, valueFits}
 use Rattle.line.proofs.fitting.endpoint_fits.Statement.{statement}
 use Rattle.line.proofs.fitting.endpoint_fits.Tie as tie
 

@@ -5,8 +5,9 @@ use borrow.Author.Needs.{needs}
 use Rattle.format.specs.Lines.{indexPlace}
 use Rattle.format.specs.Places.{index}
 use Rattle.format.proofs.Modes.{good-index-mode}
-use Rattle.line.specs.Replace.{indexFits, lineGiven}
-use Rattle.line.proofs.Widths.{array-lt, inside-index, own-le-8}
+use Rattle.line_rules.specs.Replace.{indexFits, lineGiven}
+use Rattle.line_rules.proofs.Own.{inside-index}
+use Rattle.line.proofs.Widths.{array-lt, own-le-8}
 use Rattle.line.proofs.fitting.index_fits.Statement.{statement}
 use Rattle.line.proofs.fitting.index_fits.Tie as tie
 

@@ -4,7 +4,8 @@ use mathlib.Core.Path.{_∙_, sym}
 use borrow.Author.Needs.{needs}
 use borrow.Author.Tests.{not-false, not-true}
 use lib.Dec.{lit<}
-use Rattle.line.proofs.Widths.{line-below-3, line-fits-is}
+use Rattle.line_rules.proofs.Own.{line-below-3}
+use Rattle.line.proofs.Widths.{line-fits-is}
 use Rattle.line.proofs.fitting.line_fits.Statement.{statement}
 use Rattle.line.proofs.fitting.line_fits.Tie as tie
 

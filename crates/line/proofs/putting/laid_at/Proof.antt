@@ -4,7 +4,7 @@ use borrow.Author.Needs.{needs}
 use borrow.Author.Tests.{eq-eqb, ne-eqb, lt-ltb, le-ltb}
 use Rattle.format.specs.Lines.{laid}
 use Rattle.format.specs.Places.{placeAt}
-use Rattle.line.specs.Replace.{lineGiven}
+use Rattle.line_rules.specs.Replace.{lineGiven}
 use Rattle.line.proofs.putting.laid_at.Statement.{statement}
 use Rattle.line.proofs.putting.laid_at.Tie as tie
 

@@ -4,7 +4,8 @@ use mathlib.Core.Path.{_∙_, sym}
 use borrow.Author.Needs.{needs}
 use Rattle.format.specs.Lines.{withLine}
 use Rattle.format.specs.Places.{placeAt}
-use Rattle.line.proofs.Widths.{above-head, own-none, own-some}
+use Rattle.line_rules.proofs.Own.{own-none, own-some}
+use Rattle.line.proofs.Widths.{above-head}
 use Rattle.line.proofs.putting.value_after.Statement.{statement}
 use Rattle.line.proofs.putting.value_after.Tie as tie
 

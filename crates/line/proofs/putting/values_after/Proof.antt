@@ -7,7 +7,7 @@ use Rattle.laws.proofs.Filled.{Filled, filled-all, filled-next, filled-none}
 use Rattle.format.specs.Lines.{withLine}
 use Rattle.format.specs.Places.{placeAt}
 use Rattle.record_rules.specs.Records.{says}
-use Rattle.line.specs.Replace.{lineGiven}
+use Rattle.line_rules.specs.Replace.{lineGiven}
 use Rattle.line.proofs.putting.values_after.Statement.{statement}
 use Rattle.line.proofs.putting.values_after.Tie as tie
 

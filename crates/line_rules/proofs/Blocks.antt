@@ -1,0 +1,189 @@
+-- Calls on a block: what they leave at its places, and what is drawn.
+-- Assumes nothing.
+use mathlib.Core.Path.{_≡_, refl, sym, ap, _∙_, subst}
+use mathlib.Core.Logic.{_≢_, _⊎_, ⊎-elim}
+use mathlib.Core.Bool.{Bool, true, false}
+use mathlib.Core.List.{List, [], _∷_}
+use Prim.Native.Nat.{ℕ, zero, suc, _/_, _%_, _<_, _≤_}
+use native.Mathlib.Nat.{eq-or-lt-of-le}
+use native.Mathlib.Omega.{arith}
+use borrow.Author.Tests.{eqb-true, eq-eqb, ne-eqb}
+use lib.Dec.{eqb}
+use Rattle.format.specs.declared.Split.{Split}
+use Rattle.laws.specs.Digits.{Fit}
+use Rattle.laws.specs.Refusals.{first}
+use Rattle.laws.specs.Tables.{pick}
+use Rattle.format.specs.Block.{eights, modeOf, trailing}
+use Rattle.format.specs.Lines.{draws, has, isDrawn, laid, meant, pixel, rotated, shown, withLine}
+use Rattle.format.specs.Places.{Place, blockOf, opened}
+use Rattle.format.specs.Splits.{rotation, splitOf}
+use Rattle.format.specs.WellFormed.{WellFormed}
+use Rattle.format.proofs.Lens.{shown-ext, shown-none, shown-other}
+use Rattle.format.proofs.Opening.{block-ext, block-fits, block-opened, mode-block, opened-block, opened-good, split-block}
+use Rattle.line_rules.specs.Calls.{afterAll, isAccepted}
+use Rattle.line_rules.specs.Replace.{Call, after, oriented, put, refusal, refusalIn}
+use Rattle.line_rules.proofs.Draws.{drawn-by, no-alpha, no-rotation, not-drawn-by}
+use Rattle.line_rules.proofs.Given.{shown-given}
+use Rattle.line_rules.proofs.Put.{put-good}
+use Rattle.line_rules.proofs.Steps.{step, step-trade, steps}
+
+module _ {m : ℕ} {s : Split} {f : Place → ℕ} (g : WellFormed m s f) where
+  step-good : (c : Call) → WellFormed m s (step m s c f)
+  unfolding step isAccepted
+  step-good c = go (eqb (refusalIn m s (c .line) (c .given)) 0) refl
+    where
+      go : (a : Bool) → eqb (refusalIn m s (c .line) (c .given)) 0 ≡ a → WellFormed m s (pick a (put m s (c .line) (c .given) f) f)
+      go true e = put-good g (c .line) (c .given) (eqb-true _ 0 e)
+      go false e = g
+
+  -- a call on a block, by its places
+  after-shut : (c : Call) → after (blockOf m s f) c ≡ blockOf m s (step m s c f)
+  unfolding after refusal step isAccepted put withLine
+  after-shut c = rw (mode-block g, split-block g) (go (eqb (refusalIn m s (c .line) (c .given)) 0))
+    where
+      pc : (Place → ℕ) → Place → ℕ
+      pc h = withLine m s (c .line) (oriented m s (c .line) (c .given)) h
+
+      go : (a : Bool) → pick a (blockOf m s (pc (opened (blockOf m s f)))) (blockOf m s f) ≡ blockOf m s (pick a (pc f) f)
+      go true = block-ext m s _ _ (λ x i. ap (pick (has m s (c .line) x) (laid m (oriented m s (c .line) (c .given)) x)) (opened-block g x i))
+      go false = refl
+
+all-shut : {m : ℕ} {s : Split} {f : Place → ℕ} (g : WellFormed m s f) (cs : List Call) → afterAll (blockOf m s f) cs ≡ blockOf m s (steps m s cs f)
+unfolding afterAll steps
+all-shut g [] = refl
+all-shut g (c ∷ cs) = rw (after-shut g c) (all-shut (step-good g c) cs)
+
+-- blocks are reserved or not
+trailing-le : (k b : ℕ) → trailing k b ≤ k
+unfolding trailing
+trailing-le zero b = omega arith
+trailing-le (suc k) b = go (eqb (b % 2) 0) (trailing-le k (b / 2))
+  where
+    go : (t : Bool) → trailing k (b / 2) ≤ k → pick t (suc (trailing k (b / 2))) 0 ≤ suc k
+    go true h = omega arith
+    go false h = omega arith
+
+reserved-or : (bs : List ℕ) → (modeOf bs ≡ 8) ⊎ (modeOf bs < 8)
+unfolding modeOf
+reserved-or bs = eq-or-lt-of-le (trailing-le 8 _)
+
+-- a refused call changes nothing
+pub unchanged : (bs : List ℕ) (c : Call) → refusal bs c ≢ 0 → after bs c ≡ bs
+unfolding after
+unchanged bs c n = rw (ne-eqb (refusal bs c) 0 n)
+
+reserved-refuses : (bs : List ℕ) (c : Call) → modeOf bs ≡ 8 → refusal bs c ≡ 1
+unfolding refusal refusalIn first
+reserved-refuses bs c e = rw (eq-eqb (modeOf bs) 8 e)
+
+reserved-same : (bs : List ℕ) (c : Call) → modeOf bs ≡ 8 → after bs c ≡ bs
+reserved-same bs c e = unchanged bs c (λ z. let r : refusal bs c ≡ 1 = reserved-refuses bs c e in let y : ⊥ = omega arith in y)
+
+reserved-all : (bs : List ℕ) (cs : List Call) → modeOf bs ≡ 8 → afterAll bs cs ≡ bs
+unfolding afterAll
+reserved-all bs [] e = refl
+reserved-all bs (c ∷ cs) e = rw (reserved-same bs c e) (reserved-all bs cs e)
+
+pub accepted-open : (bs : List ℕ) (c : Call) → refusal bs c ≡ 0 → modeOf bs < 8
+accepted-open bs c e =
+    ⊎-elim (λ (z : modeOf bs ≡ 8). absurd (let r : refusal bs c ≡ 1 = reserved-refuses bs c z in let y : ⊥ = omega arith in y))
+    (λ (l : modeOf bs < 8). l) (reserved-or bs)
+
+module _ (bs : List ℕ) (sixteen : Fit eights bs) where
+  module _ (h : modeOf bs < 8) where
+    good : WellFormed (modeOf bs) (splitOf bs) (opened bs)
+    good = opened-good bs sixteen h
+
+    after-is : (c : Call) → after bs c ≡ blockOf (modeOf bs) (splitOf bs) (step (modeOf bs) (splitOf bs) c (opened bs))
+    after-is c = ap (λ (b : List ℕ). after b c) (sym (block-opened bs sixteen h)) ∙ after-shut good c
+
+    all-is : (cs : List Call) → afterAll bs cs ≡ blockOf (modeOf bs) (splitOf bs) (steps (modeOf bs) (splitOf bs) cs (opened bs))
+    all-is cs = ap (λ (b : List ℕ). afterAll b cs) (sym (block-opened bs sixteen h)) ∙ all-shut good cs
+
+  -- a call changes neither the mode nor the split, and leaves sixteen bytes
+  pub after-mode : (c : Call) → modeOf (after bs c) ≡ modeOf bs
+  after-mode c =
+      ⊎-elim (λ (z : modeOf bs ≡ 8). ap modeOf (reserved-same bs c z))
+      (λ (l : modeOf bs < 8). ap modeOf (after-is l c) ∙ mode-block (step-good (good l) c)) (reserved-or bs)
+
+  pub after-split : (c : Call) → splitOf (after bs c) ≡ splitOf bs
+  after-split c =
+      ⊎-elim (λ (z : modeOf bs ≡ 8). ap splitOf (reserved-same bs c z))
+      (λ (l : modeOf bs < 8). ap splitOf (after-is l c) ∙ split-block (step-good (good l) c)) (reserved-or bs)
+
+  pub after-sixteen : (c : Call) → Fit eights (after bs c)
+  after-sixteen c =
+      ⊎-elim (λ (z : modeOf bs ≡ 8). subst (Fit eights) (sym (reserved-same bs c z)) sixteen)
+      (λ (l : modeOf bs < 8). subst (Fit eights) (sym (after-is l c)) (block-fits (step-good (good l) c))) (reserved-or bs)
+
+  -- so what a call is answered does not depend on the call before it
+  pub same-refusal : (c d : Call) → refusal (after bs c) d ≡ refusal bs d
+  unfolding refusal
+  same-refusal c d = rw (after-mode c, after-split c)
+
+  -- the pixels after a call
+  shown-after : (c : Call) (q ch : ℕ) → modeOf bs < 8 → pixel (after bs c) q ch ≡ shown (modeOf bs) (splitOf bs) (step (modeOf bs) (splitOf bs) c (opened bs)) q ch
+  unfolding pixel
+  shown-after c q ch l =
+      let g = step-good (good l) c in
+      let n : modeOf bs ≢ 8 = λ z. omega arith in
+      rw (after-is l c, mode-block g, split-block g, ne-eqb (modeOf bs) 8 n)
+      (shown-ext (modeOf bs) (splitOf bs) (opened (blockOf (modeOf bs) (splitOf bs) (step (modeOf bs) (splitOf bs) c (opened bs)))) _ q ch (opened-block g))
+
+  -- an accepted call draws, wherever its line draws, what was given
+  pub given-drawn : (c : Call) (q ch : ℕ) → refusal bs c ≡ 0 → q < 16 → ch < 4 → draws (modeOf bs) (splitOf bs) (c .line) q ch ≡ true
+      → pixel (after bs c) q ch ≡ meant (modeOf bs) (splitOf bs) (c .line) (c .given) q ch
+  unfolding refusal step isAccepted meant
+  given-drawn c q ch e hq hc dr =
+      let l = accepted-open bs c e in
+      let p = drawn-by (modeOf bs) (splitOf bs) (c .line) q ch dr in
+      shown-after c q ch l
+      ∙ ap (λ (b : Bool). shown (modeOf bs) (splitOf bs) (pick b (put (modeOf bs) (splitOf bs) (c .line) (c .given) (opened bs)) (opened bs)) q ch) (eq-eqb _ 0 e)
+      ∙ shown-given (good l) (c .line) (c .given) q ch e hq hc (p .0) (p .1)
+
+  -- every other channel of every pixel is as it was
+  pub others-kept : (c : Call) (q ch : ℕ) → draws (modeOf bs) (splitOf bs) (c .line) q ch ≡ false → pixel (after bs c) q ch ≡ pixel bs q ch
+  unfolding pixel step put
+  others-kept c q ch n =
+      ⊎-elim (λ (z : modeOf bs ≡ 8). ap (λ (b : List ℕ). pixel b q ch) (reserved-same bs c z)) (λ (l : modeOf bs < 8). unlocked l) (reserved-or bs)
+    where
+      m : ℕ
+      m = modeOf bs
+
+      s : Split
+      s = splitOf bs
+
+      unlocked : modeOf bs < 8 → pixel (after bs c) q ch ≡ pixel bs q ch
+      unlocked l = shown-after c q ch l ∙ go (isAccepted m s c) (isDrawn m (rotated (rotation s) ch)) refl ∙ sym (rw (ne-eqb m 8 (λ z. let y : ⊥ = omega arith in y)))
+        where
+          pc : Place → ℕ
+          pc = withLine m s (c .line) (oriented m s (c .line) (c .given)) (opened bs)
+
+          go : (a b : Bool) → isDrawn m (rotated (rotation s) ch) ≡ b → shown m s (pick a pc (opened bs)) q ch ≡ shown m s (opened bs) q ch
+          go true true e = shown-other m s (c .line) (oriented m s (c .line) (c .given)) (opened bs) q ch (not-drawn-by m s (c .line) q ch e n)
+          go true false e = shown-none m s pc (opened bs) q ch e
+          go false b e = refl
+
+  -- calls on different lines trade places
+  pub bytes-trade : (c d : Call) → c .line ≢ d .line → after (after bs c) d ≡ after (after bs d) c
+  bytes-trade c d n =
+      ⊎-elim
+      (λ (z : modeOf bs ≡ 8). ap (λ (b : List ℕ). after b d) (reserved-same bs c z) ∙ reserved-same bs d z ∙ sym (ap (λ (b : List ℕ). after b c) (reserved-same bs d z) ∙ reserved-same bs c z))
+      (λ (l : modeOf bs < 8).
+      ap (λ (b : List ℕ). after b d) (after-is l c) ∙ after-shut (step-good (good l) c) d
+      ∙ block-ext (modeOf bs) (splitOf bs) _ _ (λ x i. step-trade (modeOf bs) (splitOf bs) c d (opened bs) x n)
+      ∙ sym (ap (λ (b : List ℕ). after b c) (after-is l d) ∙ after-shut (step-good (good l) d) c))
+      (reserved-or bs)
+
+  -- lists of calls that leave the same at the places leave the same bytes
+  pub all-same : (cs ds : List Call) → ((x : Place) → steps (modeOf bs) (splitOf bs) cs (opened bs) x ≡ steps (modeOf bs) (splitOf bs) ds (opened bs) x) → afterAll bs cs ≡ afterAll bs ds
+  all-same cs ds e =
+      ⊎-elim (λ (z : modeOf bs ≡ 8). reserved-all bs cs z ∙ sym (reserved-all bs ds z))
+      (λ (l : modeOf bs < 8). all-is l cs ∙ block-ext (modeOf bs) (splitOf bs) _ _ (λ x i. e x) ∙ sym (all-is l ds)) (reserved-or bs)
+
+-- the alpha of the modes 0 to 3
+pub full-alpha : (bs : List ℕ) → Fit eights bs → (q : ℕ) → modeOf bs < 4 → pixel bs q 3 ≡ 255
+unfolding pixel shown rotated
+full-alpha bs h q l =
+    let g = opened-good bs h (omega arith) in
+    rw (ne-eqb (modeOf bs) 8 (λ z. let y : ⊥ = omega arith in y), no-rotation g l, no-alpha (modeOf bs) l)

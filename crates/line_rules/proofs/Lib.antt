@@ -1,0 +1,10 @@
+pub mod Accepting
+pub mod Put
+pub mod Draws
+pub mod Given
+pub mod Steps
+pub mod Blocks
+pub mod Sequences
+pub mod Own
+pub mod OwnWidths
+pub mod Theorems

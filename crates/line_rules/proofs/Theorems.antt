@@ -1,0 +1,137 @@
+-- DEMAND 3: WHAT IS PROVED of replacing lines, in one place. `Fit eights bs` says that bs is sixteen bytes.
+-- Assumes nothing.
+use mathlib.Core.Path.{_≡_, refl, sym, ap, _∙_}
+use mathlib.Core.Logic.{_≢_, _↔_}
+use mathlib.Core.Bool.{true, false}
+use mathlib.Core.List.{List}
+use Prim.Native.Nat.{ℕ, _<_}
+use lib.Dec.{T}
+use lib.ListN.{getD}
+use Rattle.line_rules.specs.declared.Replacement.{Replacement}
+use Rattle.line_rules.specs.declared.Replaced.{Replaced}
+use Rattle.laws.specs.Digits.{Fit}
+use Rattle.format.specs.Block.{eights, modeOf}
+use Rattle.format.specs.Lines.{draws, meant, pixel, pixels}
+use Rattle.format.specs.Modes.{lines}
+use Rattle.format.specs.Partitions.{among}
+use Rattle.format.specs.Places.{opened}
+use Rattle.format.specs.Splits.{splitOf}
+use Rattle.format.proofs.Opening.{opened-good}
+use Rattle.record_rules.proofs.Packing.{open-mode}
+use Rattle.line_rules.specs.Acceptable.{Acceptable, Answer, OwnWidths, accepted}
+use Rattle.line_rules.specs.Calls.{afterAll, last, lastOfEach, seen}
+use Rattle.line_rules.specs.Replace.{Call, after, refusal, replaced}
+use Rattle.line_rules.proofs.Accepting.{answer-is, answered, reserved-mode, zero-byte}
+use Rattle.line_rules.proofs.Blocks.{after-mode, after-sixteen, after-split, all-same, bytes-trade, full-alpha, given-drawn, others-kept, same-refusal, unchanged}
+use Rattle.line_rules.proofs.Draws.{drawn-by-one}
+use Rattle.line_rules.proofs.OwnWidths.{own-widths}
+use Rattle.line_rules.proofs.Sequences.{all-mode, all-sixteen, all-split, sequence-draws}
+use Rattle.line_rules.proofs.Steps.{steps-last-of-each, steps-same}
+
+-- a call is accepted exactly when the first byte isn't zero, the line number is below the mode's count, every value is within
+-- the width that it has in that line, and in mode 1 the p bits are equal
+pub accepted-when : (bs : List ℕ) → Fit eights bs → (c : Call) → (refusal bs c ≡ 0) ↔ ((getD bs 0 0 ≢ 0) × Acceptable (modeOf bs) (splitOf bs) (c .line) (c .given))
+accepted-when bs h c = (λ e. parts (rw e at (answered bs h c)), λ a. answer-is bs h c (accepted (a .0) (a .1)))
+  where
+    parts : Answer bs c 0 → (getD bs 0 0 ≢ 0) × Acceptable (modeOf bs) (splitOf bs) (c .line) (c .given)
+    parts (accepted n a) = (n, a)
+
+-- those widths are, in a block whose first byte isn't zero
+pub the-widths : (bs : List ℕ) → Fit eights bs → getD bs 0 0 ≢ 0 → (l : ℕ) → l < lines (modeOf bs) → OwnWidths (modeOf bs) (splitOf bs) l
+the-widths bs h n l hl = own-widths (opened-good bs h (open-mode bs h n)) l hl
+
+-- each refusal number is given exactly when document 01 says (`Answer` has the words)
+pub refused-when : (bs : List ℕ) → Fit eights bs → (c : Call) (n : ℕ) → (refusal bs c ≡ n) ↔ Answer bs c n
+refused-when bs h c n = (λ e. rw e at (answered bs h c), answer-is bs h c)
+
+-- after an accepted call, whatever the line draws is what the given endpoints, p bits and full indexes mean, turned or not
+pub accepted-draws : (bs : List ℕ) → Fit eights bs → (c : Call) (q ch : ℕ) → q < 16 → ch < 4 → refusal bs c ≡ 0
+    → draws (modeOf bs) (splitOf bs) (c .line) q ch ≡ true → pixel (after bs c) q ch ≡ meant (modeOf bs) (splitOf bs) (c .line) (c .given) q ch
+accepted-draws bs h c q ch hq hc e d = given-drawn bs h c q ch e hq hc d
+
+-- what a call leaves as it was: every channel that its line doesn't draw, so those of the other lines and the alpha of the
+-- modes 0 to 3; the mode; the partition, or the rotation and the index mode
+pub record Kept (bs : List ℕ) (c : Call) : Type 0 where
+  pub channels : (q ch : ℕ) → draws (modeOf bs) (splitOf bs) (c .line) q ch ≡ false → pixel (after bs c) q ch ≡ pixel bs q ch
+  pub others : (k q ch : ℕ) → k ≢ c .line → draws (modeOf bs) (splitOf bs) k q ch ≡ true → pixel (after bs c) q ch ≡ pixel bs q ch
+  pub alpha : (q : ℕ) → modeOf bs < 4 → (pixel bs q 3 ≡ 255) × (pixel (after bs c) q 3 ≡ 255)
+  pub mode : modeOf (after bs c) ≡ modeOf bs
+  pub split : splitOf (after bs c) ≡ splitOf bs
+
+pub others-keep : (bs : List ℕ) → Fit eights bs → (c : Call) → Kept bs c
+others-keep bs h c = record {
+  channels = others-kept bs h c;
+  others = λ k q ch n d. others-kept bs h c q ch (drawn-by-one (modeOf bs) (splitOf bs) k (c .line) q ch n d);
+  alpha = λ q l. (full-alpha bs h q l, full-alpha (after bs c) (after-sixteen bs h c) q (rw (after-mode bs h c) l));
+  mode = after-mode bs h c;
+  split = after-split bs h c;
+}
+
+-- a refused call changes nothing
+pub refused-same : (bs : List ℕ) (c : Call) → refusal bs c ≢ 0 → after bs c ≡ bs
+refused-same = unchanged
+
+-- what a call is answered goes by the first block's mode and split alone, whatever calls came before it
+pub same-answer : (a bs : List ℕ) → Fit eights bs → modeOf a ≡ modeOf bs → splitOf a ≡ splitOf bs → (cs : List Call) (d : Call) → refusal (afterAll bs cs) d ≡ refusal a d
+unfolding refusal
+same-answer a bs h em es cs d = rw (all-mode cs bs h, all-split cs bs h, em, es)
+
+-- the first byte stays nonzero, so all this holds again at every step
+pub first-byte-stays : (bs : List ℕ) → Fit eights bs → (cs : List Call) → Fit eights (afterAll bs cs) × ((getD (afterAll bs cs) 0 0 ≡ 0) ↔ (getD bs 0 0 ≡ 0))
+first-byte-stays bs h cs = (
+  all-sixteen cs bs h,
+  (λ z. zero-byte bs h (sym (all-mode cs bs h) ∙ reserved-mode (afterAll bs cs) z), λ z. zero-byte (afterAll bs cs) (all-sixteen cs bs h) (all-mode cs bs h ∙ reserved-mode bs z)),
+)
+
+-- two neighbouring calls that name different lines: the same answers in either order, equal final bytes, and either order draws
+-- the same pixels: what each call means, wherever its line draws, and elsewhere what was there
+pub record Traded (bs : List ℕ) (c d : Call) : Type 0 where
+  pub first : refusal (after bs d) c ≡ refusal bs c
+  pub second : refusal (after bs c) d ≡ refusal bs d
+  pub bytes : after (after bs c) d ≡ after (after bs d) c
+  pub drawn : pixels (after (after bs c) d) ≡ pixels (after (after bs d) c)
+  pub first-seen : (q ch : ℕ) → q < 16 → ch < 4 → refusal bs c ≡ 0 → draws (modeOf bs) (splitOf bs) (c .line) q ch ≡ true
+      → pixel (after (after bs c) d) q ch ≡ meant (modeOf bs) (splitOf bs) (c .line) (c .given) q ch
+  pub second-seen : (q ch : ℕ) → q < 16 → ch < 4 → refusal bs d ≡ 0 → draws (modeOf bs) (splitOf bs) (d .line) q ch ≡ true
+      → pixel (after (after bs c) d) q ch ≡ meant (modeOf bs) (splitOf bs) (d .line) (d .given) q ch
+  pub rest : (q ch : ℕ) → draws (modeOf bs) (splitOf bs) (c .line) q ch ≡ false → draws (modeOf bs) (splitOf bs) (d .line) q ch ≡ false
+      → pixel (after (after bs c) d) q ch ≡ pixel bs q ch
+
+kept-twice : (bs : List ℕ) → Fit eights bs → (c d : Call) (q ch : ℕ) → draws (modeOf bs) (splitOf bs) (d .line) q ch ≡ false → pixel (after (after bs c) d) q ch ≡ pixel (after bs c) q ch
+kept-twice bs h c d q ch n = others-kept (after bs c) (after-sixteen bs h c) d q ch (rw (after-mode bs h c, after-split bs h c) n)
+
+seen-first : (bs : List ℕ) → Fit eights bs → (c d : Call) → c .line ≢ d .line → (q ch : ℕ) → q < 16 → ch < 4 → refusal bs c ≡ 0
+    → draws (modeOf bs) (splitOf bs) (c .line) q ch ≡ true → pixel (after (after bs c) d) q ch ≡ meant (modeOf bs) (splitOf bs) (c .line) (c .given) q ch
+seen-first bs h c d n q ch hq hc e z =
+    kept-twice bs h c d q ch (drawn-by-one (modeOf bs) (splitOf bs) (c .line) (d .line) q ch n z) ∙ accepted-draws bs h c q ch hq hc e z
+
+pub trade-places : (bs : List ℕ) → Fit eights bs → (c d : Call) → c .line ≢ d .line → Traded bs c d
+trade-places bs h c d n = record {
+  first = same-refusal bs h d c;
+  second = same-refusal bs h c d;
+  bytes = bytes-trade bs h c d n;
+  drawn = ap pixels (bytes-trade bs h c d n);
+  first-seen = seen-first bs h c d n;
+  second-seen = λ q ch hq hc e z. ap (λ (b : List ℕ). pixel b q ch) (bytes-trade bs h c d n) ∙ seen-first bs h d c (λ x. n (sym x)) q ch hq hc e z;
+  rest = λ q ch a b. kept-twice bs h c d q ch b ∙ others-kept bs h c q ch a;
+}
+
+-- any list of calls leaves the block that the last accepted call of each line makes of the first one, in whichever order ls names
+-- the lines
+pub last-calls-decide : (bs : List ℕ) → Fit eights bs → (cs : List Call) (ls : List ℕ) → ((l : ℕ) → l < lines (modeOf bs) → T (among l ls))
+    → afterAll bs cs ≡ afterAll bs (lastOfEach (modeOf bs) (splitOf bs) ls cs)
+last-calls-decide bs h cs ls all = all-same bs h cs _ (steps-last-of-each (modeOf bs) (splitOf bs) cs ls all (opened bs))
+
+-- so do two lists of calls whose last accepted calls are the same
+pub same-last-calls : (bs : List ℕ) → Fit eights bs → (cs ds : List Call) → ((l : ℕ) → l < lines (modeOf bs) → last (modeOf bs) (splitOf bs) l cs ≡ last (modeOf bs) (splitOf bs) l ds)
+    → afterAll bs cs ≡ afterAll bs ds
+same-last-calls bs h cs ds e = all-same bs h cs ds (steps-same (modeOf bs) (splitOf bs) cs ds e (opened bs))
+
+-- and every channel that line l draws shows what the last accepted call of l means, or what the first block shows where there is none
+pub last-call-is-seen : (bs : List ℕ) → Fit eights bs → (cs : List Call) (l q ch : ℕ) → q < 16 → ch < 4 → draws (modeOf bs) (splitOf bs) l q ch ≡ true
+    → pixel (afterAll bs cs) q ch ≡ seen (modeOf bs) (splitOf bs) l q ch (pixel bs q ch) (last (modeOf bs) (splitOf bs) l cs)
+last-call-is-seen bs h cs l q ch hq hc d = sequence-draws (modeOf bs) (splitOf bs) l q ch hq hc d cs bs h refl refl
+
+-- DEMAND 1: any two answers that the promise of `replace_line` admits coincide
+pub determined-replace-line : (bs : List ℕ) (l : ℕ) (g : Replacement) (a b : Replaced) → a ≡ replaced bs l g → b ≡ replaced bs l g → a ≡ b
+determined-replace-line bs l g a b ea eb = ea ∙ sym eb

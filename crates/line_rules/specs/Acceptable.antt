@@ -1,0 +1,44 @@
+-- Which answer a call gets, in document 01's words.
+-- Assumes nothing.
+use mathlib.Core.Path.{_≡_}
+use mathlib.Core.Logic.{_≢_}
+use mathlib.Core.List.{List}
+use Prim.Native.Nat.{ℕ, _^_, _<_, _≤_}
+use lib.Dec.{eqb}
+use lib.ListN.{getD}
+use Rattle.format.specs.declared.Split.{Split}
+use Rattle.laws.specs.Tables.{pick}
+use Rattle.format.specs.Block.{modeOf}
+use Rattle.format.specs.Lines.{Line, indexPlace, lineBits, pPlace, valuePlace}
+use Rattle.format.specs.Modes.{channelBits, lines, pCount}
+use Rattle.format.specs.Splits.{isVector, splitOf, subset}
+use Rattle.line_rules.specs.Replace.{Call, ownWidth}
+
+-- every value is within the width that it has in line l
+pub record Within (m : ℕ) (s : Split) (l : ℕ) (ln : Line) : Type 0 where
+  pub value : (k c : ℕ) → k < 2 → c < 4 → ln .value k c < 2 ^ ownWidth m s l (valuePlace s l k c)
+  pub p : (k : ℕ) → k < 2 → ln .p k < 2 ^ ownWidth m s l (pPlace m l k)
+  pub index : (q : ℕ) → q < 16 → ln .index q < 2 ^ ownWidth m s l (indexPlace s l q)
+
+-- what those widths are. Of a vector and a scalar, the vector has red, green and blue, and the scalar alpha; a subset has all
+-- channels of the mode, of which alpha may have no bits. A p bit has one bit, where the mode has p bits at all. An index has the
+-- line's width, at the pixels of the line
+pub record OwnWidths (m : ℕ) (s : Split) (l : ℕ) : Type 0 where
+  pub value : (k c : ℕ) → k < 2 → c < 4 → ownWidth m s l (valuePlace s l k c) ≡ pick (isVector s) (pick (eqb (pick (eqb c 3) 1 0) l) (channelBits m c) 0) (channelBits m c)
+  pub p : (k : ℕ) → k < 2 → ownWidth m s l (pPlace m l k) ≡ pick (eqb (pCount m) 0) 0 1
+  pub index : (q : ℕ) → q < 16 → ownWidth m s l (indexPlace s l q) ≡ pick (isVector s) (lineBits m s l) (pick (eqb (subset s q) l) (lineBits m s l) 0)
+
+-- a line that a block of mode m and split s takes: its number is below the mode's count, and in mode 1 its p bits are equal
+pub record Acceptable (m : ℕ) (s : Split) (l : ℕ) (ln : Line) : Type 0 where
+  pub line : l < lines m
+  pub within : Within m s l ln
+  pub same-p : m ≡ 1 → ln .p 0 ≡ ln .p 1
+
+-- the refusal number of a call on a block, 0 where it is accepted: each is given exactly when
+pub data Answer (bs : List ℕ) (c : Call) : ℕ → Type 0 where
+  reserved : getD bs 0 0 ≡ 0 → Answer bs c 1
+  no-line : getD bs 0 0 ≢ 0 → lines (modeOf bs) ≤ c .line → Answer bs c 2
+  too-wide : getD bs 0 0 ≢ 0 → c .line < lines (modeOf bs) → (Within (modeOf bs) (splitOf bs) (c .line) (c .given) → ⊥) → Answer bs c 3
+  p-bits-differ : getD bs 0 0 ≢ 0 → c .line < lines (modeOf bs) → Within (modeOf bs) (splitOf bs) (c .line) (c .given) → modeOf bs ≡ 1 → c .given .p 0 ≢ c .given .p 1
+      → Answer bs c 4
+  accepted : getD bs 0 0 ≢ 0 → Acceptable (modeOf bs) (splitOf bs) (c .line) (c .given) → Answer bs c 0
