@@ -1,15 +1,7 @@
 // The C face: every public call for the consoles' display code, over the calls by value. A refused call changes nothing that it
-// was lent. include/rinchovek.h declares these functions; `rt staticlib console` writes the archive.
-ghost use mathlib.Core.Path.{_≡_};
-ghost use lib.ListN.{length};
-ghost use Rattle.format.specs.Lines.{pixels};
-ghost use Rattle.record_rules.specs.Records.{taken};
-ghost use Rattle.line_rules.specs.Replace.{replaced};
-ghost use Rattle.wire.specs.Wire.{packedBytes, replacementOf};
-ghost use Rattle.head.specs.Heads.{readHead, writeHead};
-ghost use Rattle.sheet.specs.Rows.{rowRefusal, rowOut};
-ghost use Rattle.sheet.specs.Sheets.{sheetRefusal, sheetAfter};
-ghost use Rattle.console.specs.Lent.{blockLeft, countLeft, headBytesLeft, headLeft, recordLeft};
+// was lent. What a call promises has one name, in specs/Promises. include/rinchovek.h declares these functions; `rt staticlib
+// console` writes the archive.
+ghost use Rattle.console.specs.Promises.{Decodes, DecodesRow, Packs, ReadsHead, Replaces, ReplacesIn, Unpacks, WritesHead};
 use bc7::decode_bc7_block;
 use head::read_head;
 use head::write_head;
@@ -21,17 +13,18 @@ use wire::pack_bytes;
 use wire::record_bytes;
 use wire::replacement_of;
 
+// The sixteen pixels of a block, red green blue alpha each.
 #[no_mangle]
 pub extern "C" fn bc7_decode_block(block: &[u8; 16], out: &mut [[u8; 4]; 16])
-    ensures { λ _. ⌜ now (out .exit) ≡ pixels (now (block .entry)) ⌝ }
+    ensures { λ _. ⌜ Decodes (now (block .entry)) (now (out .exit)) ⌝ }
 {
     *out = decode_bc7_block(*block);
 }
 
+// A block taken apart into the 66 bytes of its record.
 #[no_mangle]
 pub extern "C" fn bc7_unpack(block: &[u8; 16], bytes: &mut [u8; 66]) -> u32
-    ensures { λ r. ⌜ r ≡ taken (now (block .entry)) .refusal ⌝ }
-    ensures { λ _. ⌜ now (bytes .exit) ≡ recordLeft (taken (now (block .entry))) (now (bytes .entry)) ⌝ }
+    ensures { λ r. ⌜ Unpacks (now (block .entry)) (now (bytes .entry)) r (now (bytes .exit)) ⌝ }
 {
     let unpacked = unpack(*block);
     if unpacked.refusal != 0 {
@@ -42,10 +35,10 @@ pub extern "C" fn bc7_unpack(block: &[u8; 16], bytes: &mut [u8; 66]) -> u32
     0
 }
 
+// The block of a record that is given in 66 bytes.
 #[no_mangle]
 pub extern "C" fn bc7_pack(bytes: &[u8; 66], block: &mut [u8; 16]) -> u32
-    ensures { λ r. ⌜ r ≡ packedBytes (now (bytes .entry)) .refusal ⌝ }
-    ensures { λ _. ⌜ now (block .exit) ≡ blockLeft (packedBytes (now (bytes .entry))) (now (block .entry)) ⌝ }
+    ensures { λ r. ⌜ Packs (now (bytes .entry)) (now (block .entry)) r (now (block .exit)) ⌝ }
 {
     let packed = pack_bytes(*bytes);
     if packed.refusal != 0 {
@@ -56,10 +49,10 @@ pub extern "C" fn bc7_pack(bytes: &[u8; 66], block: &mut [u8; 16]) -> u32
     0
 }
 
+// A line of a block replaced in its place, by a replacement of 26 bytes.
 #[no_mangle]
 pub extern "C" fn bc7_replace_line(block: &mut [u8; 16], line: u32, replacement: &[u8; 26]) -> u32
-    ensures { λ r. ⌜ r ≡ replaced (now (block .entry)) line (replacementOf (now (replacement .entry))) .refusal ⌝ }
-    ensures { λ _. ⌜ now (block .exit) ≡ replaced (now (block .entry)) line (replacementOf (now (replacement .entry))) .block ⌝ }
+    ensures { λ r. ⌜ Replaces (now (block .entry)) line (now (replacement .entry)) r (now (block .exit)) ⌝ }
 {
     let answer = replace_line(*block, line, replacement_of(*replacement));
     let bytes = answer.block;
@@ -67,10 +60,10 @@ pub extern "C" fn bc7_replace_line(block: &mut [u8; 16], line: u32, replacement:
     answer.refusal as u32
 }
 
+// Width, height and the place of the first block, from the bytes of a sheet.
 #[no_mangle]
 pub extern "C" fn sheet_read_head(sheet: &[u8], head: &mut [u32; 3]) -> u32
-    ensures { λ r. ⌜ r ≡ readHead (now (sheet .entry)) .refusal ⌝ }
-    ensures { λ _. ⌜ now (head .exit) ≡ headLeft (readHead (now (sheet .entry))) (now (head .entry)) ⌝ }
+    ensures { λ r. ⌜ ReadsHead (now (sheet .entry)) (now (head .entry)) r (now (head .exit)) ⌝ }
 {
     let read = read_head(sheet);
     if read.refusal != 0 {
@@ -80,6 +73,7 @@ pub extern "C" fn sheet_read_head(sheet: &[u8], head: &mut [u32; 3]) -> u32
     0
 }
 
+// The bytes of a head, zeros behind, and how many of the seven they are.
 #[no_mangle]
 pub extern "C" fn sheet_write_head(
     width: u32,
@@ -87,9 +81,7 @@ pub extern "C" fn sheet_write_head(
     head: &mut [u8; 7],
     count: &mut u32,
 ) -> u32
-    ensures { λ r. ⌜ r ≡ writeHead width height .refusal ⌝ }
-    ensures { λ _. ⌜ now (head .exit) ≡ headBytesLeft (writeHead width height) (now (head .entry)) ⌝ }
-    ensures { λ _. ⌜ now (count .exit) ≡ countLeft (writeHead width height) (now (count .entry)) ⌝ }
+    ensures { λ r. ⌜ WritesHead width height (now (head .entry), now (count .entry)) r (now (head .exit), now (count .exit)) ⌝ }
 {
     let written = write_head(width, height);
     if written.refusal != 0 {
@@ -101,6 +93,7 @@ pub extern "C" fn sheet_write_head(
     0
 }
 
+// One row of blocks as rows of pixels, cut at the edges of the picture.
 #[no_mangle]
 pub extern "C" fn sheet_decode_row(
     width: u32,
@@ -109,12 +102,12 @@ pub extern "C" fn sheet_decode_row(
     blocks: &[u8],
     out: &mut [u8],
 ) -> u32
-    ensures { λ r. ⌜ r ≡ rowRefusal width height row (length (now (blocks .entry))) (length (now (out .entry))) ⌝ }
-    ensures { λ _. ⌜ now (out .exit) ≡ rowOut width height row (now (blocks .entry)) (now (out .entry)) ⌝ }
+    ensures { λ r. ⌜ DecodesRow width height row (now (blocks .entry)) (now (out .entry)) r (now (out .exit)) ⌝ }
 {
     decode_row(width, height, row, blocks, out) as u32
 }
 
+// A line of one block replaced in a sheet; no byte of another block changes.
 #[no_mangle]
 pub extern "C" fn sheet_replace_line(
     sheet: &mut [u8],
@@ -122,8 +115,7 @@ pub extern "C" fn sheet_replace_line(
     line: u32,
     replacement: &[u8; 26],
 ) -> u32
-    ensures { λ r. ⌜ r ≡ sheetRefusal (now (sheet .entry)) block line (replacementOf (now (replacement .entry))) ⌝ }
-    ensures { λ _. ⌜ now (sheet .exit) ≡ sheetAfter (now (sheet .entry)) block line (replacementOf (now (replacement .entry))) ⌝ }
+    ensures { λ r. ⌜ ReplacesIn (now (sheet .entry)) block line (now (replacement .entry)) r (now (sheet .exit)) ⌝ }
 {
     replace_in_sheet(sheet, block, line, replacement_of(*replacement)) as u32
 }

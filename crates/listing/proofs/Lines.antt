@@ -11,7 +11,7 @@ use Rattle.text.specs.declared.Line.{Line}
 use Rattle.laws.specs.Padding.{padded, stored}
 use Rattle.laws.proofs.Padding.{sets-append, stored-append}
 use Rattle.text.specs.Lines.{lineOf}
-use Rattle.sheet.specs.Rows.{blockAt}
+use Rattle.sheet_rules.specs.Rows.{blockAt}
 use Rattle.listing.specs.Listing.{blockText, blocksText}
 
 -- the first bytes of an array, one more

@@ -14,7 +14,7 @@ use borrow.Author.Tests.{eq-eqb, eqb-false, eqb-true, le-leb, lt-leb, ne-eqb}
 use Rattle.laws.specs.Tables.{pick}
 use Rattle.laws.proofs.Cases.{lt-or}
 use Rattle.text.specs.Lines.{refusedLine}
-use Rattle.sheet.specs.Rows.{blockAt}
+use Rattle.sheet_rules.specs.Rows.{blockAt}
 use Rattle.listing.specs.Listing.{blockText, blocksListing, blocksText, listed, rowsListing}
 
 -- blocks in the first of two lists, and in the second

@@ -17,8 +17,8 @@ use Rattle.format.specs.Splits.{splitAt, splitOf}
 use Rattle.head.specs.Heads.{formIn, headRefusal, heightIn, readHead, sizeRefusal, widthIn}
 use Rattle.head.specs.Numbers.{raised, readGroups, readNumber}
 use Rattle.text.specs.Lines.{ascii, blockLine, channels, decimal, digitsIn, newline, opacityMark, refusedLine, sheetLine}
-use Rattle.sheet.specs.Rows.{across, blockAt}
-use Rattle.sheet.specs.Sheets.{blocksOf}
+use Rattle.sheet_rules.specs.Rows.{across, blockAt}
+use Rattle.sheet_rules.specs.Sheets.{blocksOf}
 use Rattle.listing.specs.Taking.{headLength}
 use Rattle.listing.specs.Listing.{blockText, blocksListing, blocksText, listed, listing, rowsListing}
 use Rattle.listing.proofs.Taking.{blocks-start}

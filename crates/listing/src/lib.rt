@@ -6,13 +6,13 @@ ghost use Prim.Native.Nat.{_+_, _*_, _/_, _^_, _≤_, _<_};
 ghost use lib.ListN.{length, take};
 ghost use Rattle.head.specs.Heads.{Sized, limit, readHead};
 ghost use Rattle.laws.specs.Padding.{stored};
-ghost use Rattle.sheet.specs.Rows.{across};
+ghost use Rattle.sheet_rules.specs.Rows.{across};
 ghost use Rattle.listing.specs.Listing.{blockText, listed};
 ghost use Rattle.listing.specs.Taking.{fresh, goesOn, headTaken, withByte};
 use bc7::decode_bc7_block;
 use head::Head;
 use record::reading::mode_of;
-use sheet::load;
+use sheet_blocks::load;
 
 // The bytes of a head that were taken so far, with zeros behind, their count, and how many numbers have still to end.
 pub struct HeadReader {

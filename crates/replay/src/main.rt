@@ -1,6 +1,7 @@
 // The test program: calls in on standard input, their answers out on standard output, until the input ends. A letter names
 // the call; docs/REPLAY.md has the bytes of each. It decides nothing: what is answered comes from the libraries alone.
-ghost use Prim.Native.Nat.{_+_, _*_, _≤_, _<_};
+ghost use Prim.Native.Nat.{_+_, _≤_, _<_};
+ghost use lib.ListN.{length};
 use bc7::decode_bc7_block;
 use head::read_head;
 use head::write_head;
@@ -17,10 +18,9 @@ use wire::replacement_of;
 // The longest input or output that a call may name.
 const MOST: u32 = 65536;
 
-// The four bytes of a number, low byte first, or the end of the input.
-enum Number {
-    Is(u32),
-    End,
+// Whether the input had enough bytes to fill the whole slice.
+fn filled(bytes: &mut [u8]) -> bool {
+    io::read_full(STDIN_FILENO, bytes) == bytes.len()
 }
 
 fn wide(byte: u8) -> u32
@@ -29,12 +29,12 @@ fn wide(byte: u8) -> u32
     byte as u32
 }
 
-fn read_u32() -> Number {
-    let mut b = [0u8; 4];
-    if io::read_full(STDIN_FILENO, &mut b) != 4 {
-        return Number::End;
-    }
-    Number::Is(wide(b[0]) + wide(b[1]) * 256 + wide(b[2]) * 65536 + wide(b[3]) * 16777216)
+// The number that four bytes say, low byte first.
+fn number(bytes: &[u8], at: usize) -> u32
+    requires { ⌜ at + 4 ≤ length (now bytes) ⌝ }
+{
+    let low = wide(bytes[at]) + wide(bytes[at + 1]) * 256;
+    low + wide(bytes[at + 2]) * 65536 + wide(bytes[at + 3]) * 16777216
 }
 
 fn write_u32(n: u32) {
@@ -62,7 +62,7 @@ fn flat(pixels: [[u8; 4]; 16]) -> [u8; 64] {
 
 fn decode_call() -> bool {
     let mut block = [0u8; 16];
-    if io::read_full(STDIN_FILENO, &mut block) != 16 {
+    if !filled(&mut block) {
         return false;
     }
     let bytes = flat(decode_bc7_block(block));
@@ -71,7 +71,7 @@ fn decode_call() -> bool {
 
 fn unpack_call() -> bool {
     let mut block = [0u8; 16];
-    if io::read_full(STDIN_FILENO, &mut block) != 16 {
+    if !filled(&mut block) {
         return false;
     }
     let unpacked = unpack(block);
@@ -82,7 +82,7 @@ fn unpack_call() -> bool {
 
 fn pack_call() -> bool {
     let mut record = [0u8; 66];
-    if io::read_full(STDIN_FILENO, &mut record) != 66 {
+    if !filled(&mut record) {
         return false;
     }
     if 3 < record[1] {
@@ -96,25 +96,21 @@ fn pack_call() -> bool {
 
 fn replace_call() -> bool {
     let mut block = [0u8; 16];
-    if io::read_full(STDIN_FILENO, &mut block) != 16 {
+    if !filled(&mut block) {
         return false;
     }
-    let Number::Is(line) = read_u32() else {
+    let mut line = [0u8; 4];
+    if !filled(&mut line) {
         return false;
-    };
+    }
     let mut given = [0u8; 26];
-    if io::read_full(STDIN_FILENO, &mut given) != 26 {
+    if !filled(&mut given) {
         return false;
     }
-    let replaced = replace_line(block, line, replacement_of(given));
+    let replaced = replace_line(block, number(&line, 0), replacement_of(given));
     write_u8(replaced.refusal);
     let after = replaced.block;
     io::write_all(STDOUT_FILENO, &after)
-}
-
-// Whether the input had enough bytes to fill the whole slice.
-fn filled(bytes: &mut [u8]) -> bool {
-    io::read_full(STDIN_FILENO, bytes) == bytes.len()
 }
 
 fn read_head_of(sheet: &mut [u8]) -> bool {
@@ -131,7 +127,7 @@ fn read_head_of(sheet: &mut [u8]) -> bool {
 
 fn read_head_call() -> bool {
     let mut length = [0u8; 1];
-    if io::read_full(STDIN_FILENO, &mut length) != 1 {
+    if !filled(&mut length) {
         return false;
     }
     let n = wide(length[0]) as usize;
@@ -140,13 +136,11 @@ fn read_head_call() -> bool {
 }
 
 fn write_head_call() -> bool {
-    let Number::Is(width) = read_u32() else {
+    let mut size = [0u8; 8];
+    if !filled(&mut size) {
         return false;
-    };
-    let Number::Is(height) = read_u32() else {
-        return false;
-    };
-    let head = write_head(width, height);
+    }
+    let head = write_head(number(&size, 0), number(&size, 4));
     write_u8(head.refusal);
     write_u8(head.count);
     let bytes = head.bytes;
@@ -165,38 +159,34 @@ fn row_call_of(width: u32, height: u32, row: u32, blocks: &mut [u8], out: &mut [
     io::write_all(STDOUT_FILENO, out)
 }
 
+// A row whose blocks are n bytes and whose output is m.
+fn row_call_within(width: u32, height: u32, row: u32, n: usize, m: usize) -> bool
+    requires { ⌜ (n ≤ 65536) × (m ≤ 65536) ⌝ }
+{
+    let mut blocks = [0u8; 65536];
+    let mut out = [0u8; 65536];
+    row_call_of(width, height, row, &mut blocks[..n], &mut out[..m])
+}
+
 fn row_call() -> bool {
-    let Number::Is(width) = read_u32() else {
+    let mut given = [0u8; 20];
+    if !filled(&mut given) {
         return false;
-    };
-    let Number::Is(height) = read_u32() else {
-        return false;
-    };
-    let Number::Is(row) = read_u32() else {
-        return false;
-    };
-    let Number::Is(n) = read_u32() else {
-        return false;
-    };
-    let Number::Is(m) = read_u32() else {
-        return false;
-    };
+    }
+    let n = number(&given, 12);
     if MOST < n {
         return false;
     }
+    let m = number(&given, 16);
     if MOST < m {
         return false;
     }
-    let blocks_end = n as usize;
-    let out_end = m as usize;
-    let mut blocks = [0u8; 65536];
-    let mut out = [0u8; 65536];
-    row_call_of(
-        width,
-        height,
-        row,
-        &mut blocks[..blocks_end],
-        &mut out[..out_end],
+    row_call_within(
+        number(&given, 0),
+        number(&given, 4),
+        number(&given, 8),
+        n as usize,
+        m as usize,
     )
 }
 
@@ -204,24 +194,26 @@ fn sheet_call_of(sheet: &mut [u8]) -> bool {
     if !filled(sheet) {
         return false;
     }
-    let Number::Is(block) = read_u32() else {
-        return false;
-    };
-    let Number::Is(line) = read_u32() else {
-        return false;
-    };
-    let mut given = [0u8; 26];
-    if io::read_full(STDIN_FILENO, &mut given) != 26 {
+    let mut place = [0u8; 8];
+    if !filled(&mut place) {
         return false;
     }
+    let mut given = [0u8; 26];
+    if !filled(&mut given) {
+        return false;
+    }
+    let block = number(&place, 0);
+    let line = number(&place, 4);
     write_u8(replace_in_sheet(sheet, block, line, replacement_of(given)));
     io::write_all(STDOUT_FILENO, sheet)
 }
 
 fn sheet_call() -> bool {
-    let Number::Is(n) = read_u32() else {
+    let mut length = [0u8; 4];
+    if !filled(&mut length) {
         return false;
-    };
+    }
+    let n = number(&length, 0);
     if MOST < n {
         return false;
     }
@@ -247,7 +239,7 @@ fn call(letter: u8) -> bool {
 
 fn next_call() -> bool {
     let mut letter = [0u8; 1];
-    if io::read_full(STDIN_FILENO, &mut letter) != 1 {
+    if !filled(&mut letter) {
         return false;
     }
     call(letter[0])

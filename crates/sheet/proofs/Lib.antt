@@ -1,9 +1,2 @@
-pub mod Blocks
-pub mod Columns
-pub mod Refusing
-pub mod Finding
+pub mod Decoding
 pub mod Replacing
-pub mod Pictures
-pub mod Storing
-pub mod Calling
-pub mod Theorems

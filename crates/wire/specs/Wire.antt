@@ -32,15 +32,19 @@ recordByte r i =
 unfoldable pub recordBytes : Record → List ℕ
 recordBytes r = table 66 (recordByte r)
 
+-- n bytes from a place on
+abbrev pub bytesFrom : List ℕ → ℕ → ℕ → List ℕ
+bytesFrom bs at n = table n (λ i. getD bs (at + i) 0)
+
 -- the record that 66 bytes say
 unfoldable pub recordOfBytes : List ℕ → Record
 recordOfBytes bs = record {
   mode = getD bs 0 0;
   split = ofKind (getD bs 1 0) (getD bs 2 0) (getD bs 2 0) (getD bs 3 0);
-  endpoints = table 24 (λ i. getD bs (4 + i) 0);
-  p = table 6 (λ i. getD bs (28 + i) 0);
-  first = table 16 (λ i. getD bs (34 + i) 0);
-  second = table 16 (λ i. getD bs (50 + i) 0);
+  endpoints = bytesFrom bs 4 24;
+  p = bytesFrom bs 28 6;
+  first = bytesFrom bs 34 16;
+  second = bytesFrom bs 50 16;
 }
 
 -- packing those bytes: a byte that names no kind is refused as a wrong kind is
@@ -50,7 +54,7 @@ packedBytes bs = pick (ltb 3 (getD bs 1 0)) (packedAs 5 (replicate 16 0)) (packe
 -- the replacement that 26 bytes say: 8 endpoint values, 2 p bits, 16 indexes
 unfoldable pub replacementOf : List ℕ → Replacement
 replacementOf bs = record {
-  endpoints = table 8 (λ i. getD bs i 0);
+  endpoints = bytesFrom bs 0 8;
   p = getD bs 8 0 ∷ getD bs 9 0 ∷ [];
-  indexes = table 16 (λ i. getD bs (10 + i) 0);
+  indexes = bytesFrom bs 10 16;
 }

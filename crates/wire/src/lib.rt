@@ -3,9 +3,8 @@
 // 6 p bits, 16 first and 16 second indexes.
 ghost use mathlib.Core.Path.{_≡_};
 ghost use Prim.Native.Nat.{_<_, _+_, _≤_};
-ghost use lib.ListN.{getD};
-ghost use Rattle.laws.specs.Tables.{table};
-ghost use Rattle.wire.specs.Wire.{replacementOf, splitByte, recordByte, recordBytes, recordOfBytes, packedBytes};
+ghost use lib.ListN.{length};
+ghost use Rattle.wire.specs.Wire.{bytesFrom, packedBytes, recordByte, recordBytes, recordOfBytes, replacementOf, splitByte};
 use format::Split;
 use line_rules::Replacement;
 use record::pack;
@@ -30,6 +29,7 @@ fn split_byte(split: Split) -> u8
     }
 }
 
+// One of the 66 bytes of a record.
 fn record_byte(from: Record, i: usize) -> u8
     requires { ⌜ i < 66 ⌝ }
     ensures { λ r. ⌜ r ≡ recordByte from i ⌝ }
@@ -56,6 +56,7 @@ fn record_byte(from: Record, i: usize) -> u8
     from.second[i - 50]
 }
 
+// The bytes of a record.
 pub fn record_bytes(from: Record) -> [u8; 66]
     ensures { λ r. ⌜ r ≡ recordBytes from ⌝ }
 {
@@ -66,48 +67,35 @@ pub fn record_bytes(from: Record) -> [u8; 66]
     bytes
 }
 
-fn endpoints_of(bytes: [u8; 66]) -> [u8; 24]
-    ensures { λ r. ⌜ r ≡ table 24 (λ i. getD bytes (4 + i) 0) ⌝ }
+// The bytes from a place on, as many as there is room for.
+fn copy_from(bytes: &[u8], at: usize, values: &mut [u8])
+    requires { ⌜ at + length (now values) ≤ length (now bytes) ⌝ }
+    ensures { λ _. ⌜ now (values .exit) ≡ bytesFrom (now (bytes .entry)) at (length (now (values .entry))) ⌝ }
 {
-    let mut values = [0u8; 24];
-    for i in 0..24usize {
-        values[i] = bytes[4 + i];
+    for i in 0..values.len() {
+        values[i] = bytes[at + i];
     }
-    values
-}
-
-fn p_of(bytes: [u8; 66]) -> [u8; 6]
-    ensures { λ r. ⌜ r ≡ table 6 (λ i. getD bytes (28 + i) 0) ⌝ }
-{
-    let mut values = [0u8; 6];
-    for i in 0..6usize {
-        values[i] = bytes[28 + i];
-    }
-    values
-}
-
-fn indexes_of(bytes: [u8; 66], from: usize) -> [u8; 16]
-    requires { ⌜ from ≤ 50 ⌝ }
-    ensures { λ r. ⌜ r ≡ table 16 (λ i. getD bytes (from + i) 0) ⌝ }
-{
-    let mut values = [0u8; 16];
-    for i in 0..16usize {
-        values[i] = bytes[from + i];
-    }
-    values
 }
 
 // The record of 66 bytes. A kind above 3 is read as 3: `pack_bytes` refuses it before.
 fn record_of_bytes(bytes: [u8; 66]) -> Record
     ensures { λ r. ⌜ r ≡ recordOfBytes bytes ⌝ }
 {
+    let mut endpoints = [0u8; 24];
+    copy_from(&bytes, 4, &mut endpoints);
+    let mut p = [0u8; 6];
+    copy_from(&bytes, 28, &mut p);
+    let mut first = [0u8; 16];
+    copy_from(&bytes, 34, &mut first);
+    let mut second = [0u8; 16];
+    copy_from(&bytes, 50, &mut second);
     Record {
         mode: bytes[0],
         split: split_of_kind(bytes[1], bytes[2], bytes[2], bytes[3]),
-        endpoints: endpoints_of(bytes),
-        p: p_of(bytes),
-        first: indexes_of(bytes, 34),
-        second: indexes_of(bytes, 50),
+        endpoints: endpoints,
+        p: p,
+        first: first,
+        second: second,
     }
 }
 
@@ -124,33 +112,17 @@ pub fn pack_bytes(bytes: [u8; 66]) -> Packed
     pack(record_of_bytes(bytes))
 }
 
-fn given_endpoints(bytes: [u8; 26]) -> [u8; 8]
-    ensures { λ r. ⌜ r ≡ table 8 (λ i. getD bytes i 0) ⌝ }
-{
-    let mut values = [0u8; 8];
-    for i in 0..8usize {
-        values[i] = bytes[i];
-    }
-    values
-}
-
-fn given_indexes(bytes: [u8; 26]) -> [u8; 16]
-    ensures { λ r. ⌜ r ≡ table 16 (λ i. getD bytes (10 + i) 0) ⌝ }
-{
-    let mut values = [0u8; 16];
-    for i in 0..16usize {
-        values[i] = bytes[10 + i];
-    }
-    values
-}
-
 // The replacement of 26 bytes: 8 endpoint values, 2 p bits, 16 indexes.
 pub fn replacement_of(bytes: [u8; 26]) -> Replacement
     ensures { λ r. ⌜ r ≡ replacementOf bytes ⌝ }
 {
+    let mut endpoints = [0u8; 8];
+    copy_from(&bytes, 0, &mut endpoints);
+    let mut indexes = [0u8; 16];
+    copy_from(&bytes, 10, &mut indexes);
     Replacement {
-        endpoints: given_endpoints(bytes),
+        endpoints: endpoints,
         p: [bytes[8], bytes[9]],
-        indexes: given_indexes(bytes),
+        indexes: indexes,
     }
 }

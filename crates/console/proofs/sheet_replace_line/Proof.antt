@@ -1,7 +1,7 @@
 -- `sheet_replace_line`: what `replace_in_sheet` answers and leaves.
 -- Assumes nothing.
 use mathlib.Core.Path.{ap, _∙_}
-use Rattle.sheet.specs.Sheets.{sheetAfter, sheetRefusal}
+use Rattle.sheet_rules.specs.Sheets.{sheetAfter, sheetRefusal}
 use borrow.Author.Needs.{needs}
 use Rattle.console.proofs.sheet_replace_line.Statement.{statement}
 use Rattle.console.proofs.sheet_replace_line.Tie as tie

@@ -1,17 +1,15 @@
 -- `read_head_call`: the part that is lent is as long as the byte says.
 -- Assumes nothing.
-use mathlib.Core.Path.{sym}
-use lib.ListN.{replicate}
-use lib.Seq.{length-take-le}
+use Rattle.replay.proofs.Prefix.{lent-length}
 use borrow.Author.Needs.{needs}
 use Rattle.replay.proofs.read_head_call.Statement.{statement}
 use Rattle.replay.proofs.read_head_call.Tie as tie
 
-slice-aggregate-read-full : tie.Need-slice-aggregate-read-full
-slice-aggregate-read-full c = search needs
+slice-aggregate-filled : tie.Need-slice-aggregate-filled
+slice-aggregate-filled c = search needs
 
-read-full-requires : tie.Need-read-full-requires
-read-full-requires c κs = search needs
+filled-requires : tie.Need-filled-requires
+filled-requires c κs = search needs
 
 returns : tie.Need-returns
 returns c = search needs
@@ -29,7 +27,7 @@ array-borrow-prefix-sheet : tie.Need-array-borrow-prefix-sheet
 array-borrow-prefix-sheet c = search needs
 
 slice-aggregate-read-head-of : tie.Need-slice-aggregate-read-head-of
-slice-aggregate-read-head-of c = sym (length-take-le (c .before .wide .result) (replicate 256 0) (search needs))
+slice-aggregate-read-head-of c = lent-length _ 256 (search needs)
 
 read-head-of-requires : tie.Need-read-head-of-requires
 read-head-of-requires c κs = search needs
@@ -41,8 +39,8 @@ pub read-head-call-spec : {M : Type 1} → statement M
 read-head-call-spec =
     tie.close
     (tie.spec
-    slice-aggregate-read-full
-    read-full-requires
+    slice-aggregate-filled
+    filled-requires
     returns
     array-read-wide
     wide-requires

@@ -1,11 +1,10 @@
 -- `sheet::decode_row` meets its contract.
 -- Assumes nothing.
 use mathlib.Core.Path.{_∙_, ap, sym}
-use Prim.Native.Nat.{ℕ, _-_, _*_}
+use Prim.Native.Nat.{ℕ, _*_}
 use native.Mathlib.Omega.{arith}
-use lib.ListN.{length}
 use borrow.Author.Needs.{needs}
-use Rattle.sheet.proofs.Refusing.{drawn-by, kept, told-by}
+use Rattle.sheet.proofs.Decoding.{drawn-by, kept, told-by}
 use Rattle.sheet.proofs.decode_row.Statement.{statement}
 use Rattle.sheet.proofs.decode_row.Tie as tie
 

@@ -1,9 +1,8 @@
 -- `sheet::replace_in_sheet` meets its contract.
 -- Assumes nothing.
-use Prim.Native.Nat.{_-_}
-use lib.ListN.{length}
 use borrow.Author.Needs.{needs}
-use Rattle.sheet.proofs.Replacing.{has-room, not-found, not-replaced, replaced-stored}
+use Rattle.sheet_blocks.proofs.Finding.{has-room}
+use Rattle.sheet.proofs.Replacing.{not-found, not-replaced, replaced-stored}
 use Rattle.sheet.proofs.replace_in_sheet.Statement.{statement}
 use Rattle.sheet.proofs.replace_in_sheet.Tie as tie
 

@@ -1,0 +1,54 @@
+-- What each call for C promises, under one name: its answer and every byte that it was lent to write, from what stood there and
+-- what else was given. What is lent to be read alone cannot change.
+-- Assumes nothing.
+use Prim.Native.Nat.{ℕ}
+use mathlib.Core.Path.{_≡_}
+use mathlib.Core.List.{List, [], _∷_}
+use lib.Dec.{eqb}
+use lib.ListN.{length}
+use Rattle.laws.specs.Tables.{pick}
+use Rattle.format.specs.Lines.{pixels}
+use Rattle.head.specs.Heads.{readHead, writeHead}
+use Rattle.line_rules.specs.Replace.{replaced}
+use Rattle.record_rules.specs.Records.{taken}
+use Rattle.sheet_rules.specs.Rows.{rowOut, rowRefusal}
+use Rattle.sheet_rules.specs.Sheets.{sheetAfter, sheetRefusal}
+use Rattle.wire.specs.Wire.{packedBytes, recordBytes, replacementOf}
+
+-- this number is answered, and this is left
+abbrev pub Gives : {A : Type 0} → ℕ → A → ℕ → A → Type 0
+Gives refusal left answer after = (answer ≡ refusal) × (after ≡ left)
+
+-- this number is answered, and this is written where it is 0: else what stood there before is left
+abbrev pub Writes : {A : Type 0} → ℕ → A → A → ℕ → A → Type 0
+Writes refusal value before = Gives refusal (pick (eqb refusal 0) value before)
+
+abbrev pub Decodes : List ℕ → List (List ℕ) → Type 0
+Decodes block after = after ≡ pixels block
+
+abbrev pub Unpacks : List ℕ → List ℕ → ℕ → List ℕ → Type 0
+Unpacks block before = Writes (taken block .refusal) (recordBytes (taken block .«record»)) before
+
+abbrev pub Packs : List ℕ → List ℕ → ℕ → List ℕ → Type 0
+Packs bytes before = Writes (packedBytes bytes .refusal) (packedBytes bytes .block) before
+
+abbrev pub Replaces : List ℕ → ℕ → List ℕ → ℕ → List ℕ → Type 0
+Replaces block line bytes = Gives (replaced block line (replacementOf bytes) .refusal) (replaced block line (replacementOf bytes) .block)
+
+-- width, height and where the blocks start
+abbrev pub ReadsHead : List ℕ → List ℕ → ℕ → List ℕ → Type 0
+ReadsHead sheet before = Writes (readHead sheet .refusal) (readHead sheet .width ∷ readHead sheet .height ∷ readHead sheet .start ∷ []) before
+
+-- the head's bytes and their count
+abbrev pub WritesHead : ℕ → ℕ → List ℕ × ℕ → ℕ → List ℕ × ℕ → Type 0
+WritesHead width height before = Writes (writeHead width height .refusal) (writeHead width height .bytes, writeHead width height .count) before
+
+abbrev pub DecodesRow : ℕ → ℕ → ℕ → List ℕ → List ℕ → ℕ → List ℕ → Type 0
+DecodesRow width height row blocks before = Gives (rowRefusal width height row (length blocks) (length before)) (rowOut width height row blocks before)
+
+abbrev pub ReplacesIn : List ℕ → ℕ → ℕ → List ℕ → ℕ → List ℕ → Type 0
+ReplacesIn sheet block line bytes = Gives (sheetRefusal sheet block line (replacementOf bytes)) (sheetAfter sheet block line (replacementOf bytes))
+
+-- a promise admits one answer, and one state of what was lent
+abbrev pub Determined : {A : Type 0} → (ℕ → A → Type 0) → Type 0
+Determined {A} promise = (a b : ℕ) (x y : A) → promise a x → promise b y → (a ≡ b) × (x ≡ y)

@@ -1,0 +1,74 @@
+-- The ways of `find_block`, and what its answer says.
+-- Assumes nothing.
+use mathlib.Core.Path.{_≡_, refl, _∙_, ap, sym}
+use mathlib.Core.Logic.{⊎-elim}
+use mathlib.Core.List.{List}
+use Prim.Native.Nat.{ℕ, _+_, _*_, _<_, _≤_}
+use native.Mathlib.Nat.{eq-zero-or-pos, mul-le-mul}
+use native.Mathlib.Omega.{arith}
+use lib.ListN.{length}
+use borrow.Author.Tests.{eq-eqb, ne-eqb}
+use Rattle.sheet_blocks.specs.declared.Found.{Found}
+use Rattle.head.specs.declared.Head.{Head}
+use Rattle.head.specs.Heads.{Sized, limit, readHead}
+use Rattle.head.proofs.Theorems.{head-sized}
+use Rattle.sheet_rules.specs.Rows.{across}
+use Rattle.sheet_rules.specs.Sheets.{blocksOf, findRefusal, placeOf}
+use Rattle.sheet_rules.proofs.Finding.{inside, refusal-0, refusal-1, refusal-2, refusal-3, room}
+use Rattle.sheet_blocks.specs.Found.{findBlock, foundAt}
+
+-- as many blocks as the largest sheet has
+pub few : {w h : ℕ} → Sized w h → across h * across w ≤ across limit * across limit
+few z = mul-le-mul {n₂ = across limit} {m₂ = across limit} (omega (arith, z .within-high)) (omega (arith, z .within-wide))
+
+module _ (s : List ℕ) (b : ℕ) where
+  none : {r : ℕ} → findRefusal s b ≡ r → (r ≡ 0 → ⊥) → foundAt r 0 ≡ findBlock s b
+  unfolding findBlock
+  none {r} e ne = rw (e, ne-eqb r 0 ne)
+
+  one : findRefusal s b ≡ 0 → foundAt 0 (placeOf (readHead s) b) ≡ findBlock s b
+  unfolding findBlock
+  one e = rw (eq-eqb (findRefusal s b) 0 e)
+
+  -- the ways of `find_block`
+  module _ {h : Head} (eh : h ≡ readHead s) where
+    pub head-refused : (h .refusal ≡ 0 → ⊥) → foundAt (h .refusal) 0 ≡ findBlock s b
+    head-refused ne = rw eh (none (refusal-1 s b (λ z. ne (rw eh z))) (λ z. ne (rw eh z)))
+
+    module _ (a : h .refusal ≡ 0) where
+      ha : readHead s .refusal ≡ 0
+      ha = rw eh at a
+
+      pub size-is : Sized (h .width) (h .height)
+      size-is = rw eh (head-sized s ha)
+
+      pub length-wrong : (length s ≡ h .start + 16 * (across (h .height) * across (h .width)) → ⊥) → foundAt 10 0 ≡ findBlock s b
+      unfolding blocksOf
+      length-wrong ne = none (refusal-2 s b ha (λ z. ne (rw eh z))) (λ z. omega arith)
+
+      module _ (l : length s ≡ h .start + 16 * (across (h .height) * across (h .width))) where
+        pub number-beyond : across (h .height) * across (h .width) ≤ b → foundAt 12 0 ≡ findBlock s b
+        unfolding blocksOf
+        number-beyond n = none (refusal-3 s b ha (rw eh at l) (rw eh at n)) (λ z. omega arith)
+
+        pub block-found : b < across (h .height) * across (h .width) → foundAt 0 (h .start + 16 * b) ≡ findBlock s b
+        unfolding blocksOf placeOf
+        block-found n = rw eh (one (refusal-0 s b ha (rw eh at l) (rw eh at n)))
+
+-- what `find_block` answered
+module _ (s : List ℕ) (b : ℕ) {f : Found} (ef : f ≡ findBlock s b) where
+  pub refusal-is : f .refusal ≡ findRefusal s b
+  refusal-is =
+      ap (λ (g : Found). g .refusal) ef
+      ∙ ⊎-elim (λ z. sym (ap (λ (g : Found). g .refusal) (one s b z)) ∙ sym z) (λ p. sym (ap (λ (g : Found). g .refusal) (none s b refl (λ q. omega arith))))
+      (eq-zero-or-pos (findRefusal s b))
+
+  module _ (a : f .refusal ≡ 0) where
+    pub told : findRefusal s b ≡ 0
+    told = sym refusal-is ∙ a
+
+    pub at-is : f .at ≡ placeOf (readHead s) b
+    at-is = ap (λ (g : Found). g .at) (ef ∙ sym (one s b told))
+
+    pub has-room : f .at + 16 ≤ length s
+    has-room = rw at-is (room s b (inside s b told))

@@ -1,0 +1,97 @@
+-- `sheet_blocks::find_block` meets its contract.
+-- Assumes nothing.
+use mathlib.Core.Path.{_∙_}
+use native.Mathlib.Omega.{arith}
+use borrow.Author.Needs.{needs}
+use Rattle.sheet_blocks.proofs.Finding.{block-found, few, head-refused, length-wrong, number-beyond, size-is}
+use Rattle.sheet_blocks.proofs.find_block.Statement.{statement}
+use Rattle.sheet_blocks.proofs.find_block.Tie as tie
+
+read-head-requires : tie.Need-read-head-requires
+read-head-requires c κs = search needs
+
+not-found-requires : tie.Need-not-found-requires
+not-found-requires c κs = search needs
+
+returns : tie.Need-returns
+returns c = c .not-found .ensures ∙ head-refused _ _ (c .before .before .before .read-head .ensures) (c .before .if1 .taken)
+
+cast-w : tie.Need-cast-w
+cast-w c = search needs
+
+cast-h : tie.Need-cast-h
+cast-h c = search needs
+
+cast-start : tie.Need-cast-start
+cast-start c = search needs
+
+add-blocks : tie.Need-add-blocks
+add-blocks c = search needs
+
+add-blocks-2 : tie.Need-add-blocks-2
+add-blocks-2 c = search needs
+
+mul-blocks : tie.Need-mul-blocks
+mul-blocks c =
+    let e = c .before .before .before in
+    omega (arith, few (size-is _ 0 (e .before .before .read-head .ensures) (e .if1 .left)))
+
+mul-if2 : tie.Need-mul-if2
+mul-if2 c =
+    let e = c .before .before .before in
+    omega (arith, few (size-is _ 0 (e .before .before .read-head .ensures) (e .if1 .left)))
+
+add-if2 : tie.Need-add-if2
+add-if2 c =
+    let e = c .before .before .before in
+    omega (arith, few (size-is _ 0 (e .before .before .read-head .ensures) (e .if1 .left)))
+
+not-found-requires-2 : tie.Need-not-found-requires-2
+not-found-requires-2 c κs = search needs
+
+returns-2 : tie.Need-returns-2
+returns-2 c =
+    let e = c .before .before .before .before .before in
+    c .not-found2 .ensures ∙ length-wrong _ _ (e .before .before .read-head .ensures) (e .if1 .left) (c .before .if2 .taken)
+
+not-found-requires-3 : tie.Need-not-found-requires-3
+not-found-requires-3 c κs = search needs
+
+returns-3 : tie.Need-returns-3
+returns-3 c =
+    let e = c .before .before .before .before .before .before in
+    c .not-found3 .ensures ∙ number-beyond _ _ (e .before .before .read-head .ensures) (e .if1 .left) (c .before .before .if2 .left) (c .before .if3 .taken)
+
+mul-t11 : tie.Need-mul-t11
+mul-t11 c = search needs
+
+add-t10 : tie.Need-add-t10
+add-t10 c = search needs
+
+returns-4 : tie.Need-returns-4
+returns-4 c =
+    let e = c .before .before .before .before .before in
+    block-found _ _ (e .before .before .read-head .ensures) (e .if1 .left) (c .before .if2 .left) (c .if3 .left)
+
+pub find-block-spec : {M : Type 1} → statement M
+find-block-spec =
+    tie.close
+    (tie.spec
+    read-head-requires
+    not-found-requires
+    returns
+    cast-w
+    cast-h
+    cast-start
+    add-blocks
+    add-blocks-2
+    mul-blocks
+    mul-if2
+    add-if2
+    not-found-requires-2
+    returns-2
+    not-found-requires-3
+    returns-3
+    mul-t11
+    add-t10
+    returns-4)

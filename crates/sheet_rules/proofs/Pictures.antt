@@ -1,0 +1,159 @@
+-- The rows of all row numbers together are the picture, and every byte of it is a channel of a shown pixel.
+-- Assumes nothing.
+use mathlib.Core.Path.{_≡_, refl, _∙_, ap, sym}
+use mathlib.Core.List.{List, [], _++_}
+use Prim.Native.Nat.{ℕ, zero, suc, _+_, _*_, _/_, _%_, _<_, _≤_, min}
+use native.Mathlib.Nat.{div-add-mod', div-lt-iff-lt-mul, mod-lt, add-assoc, mul-left-comm, mul-assoc, mul-le-mul-right, add-mul, zero-mul}
+use native.Mathlib.Omega.{arith}
+use lib.Arith.{digits-lt, digits-div, digits-mod}
+use lib.ListN.{length, getD, take, drop, length-take, length-drop}
+use lib.Seq.{getD-take, getD-drop, ext-getD}
+use Rattle.laws.specs.Tables.{table, tableFrom}
+use Rattle.laws.proofs.Joining.{table-append, table-same}
+use Rattle.laws.proofs.Part.{getD-table, length-table}
+use Rattle.format.specs.Lines.{pixel, pixels}
+use Rattle.head.specs.Heads.{Sized}
+use Rattle.head.proofs.Heading.{size-0}
+use Rattle.sheet_rules.specs.Pictures.{blockShowing, decodedRows, picture, pictureByte, pixelIn, rowOf}
+use Rattle.sheet_rules.specs.Rows.{across, blockAt, channel, rowByte, rowBytes, rowOut, rowRefusal, shown}
+use Rattle.sheet_rules.proofs.Refusing.{drawn, row-accepted}
+
+-- a part of a part is a part of the whole
+part-get : (s : List ℕ) (at n i : ℕ) → i < n → getD (take n (drop at s)) i 0 ≡ getD s (at + i) 0
+part-get s at n i h = getD-take n (drop at s) i 0 h ∙ getD-drop at s i 0
+
+part-part : (s : List ℕ) (m n at c : ℕ) → at + c ≤ n → take c (drop at (take n (drop m s))) ≡ take c (drop (m + at) s)
+part-part s m n at c h =
+    ext-getD 0 _ _ (simp (length-take, length-drop) (omega arith))
+    (λ i l. let l' : i < c = omega (arith, simp (length-take, length-drop) at l) in
+    part-get (take n (drop m s)) at c i l' ∙ part-get s m n (at + i) (omega arith) ∙ ap (λ (k : ℕ). getD s k 0) (sym (add-assoc m at i)) ∙ sym (part-get s (m + at) c i l'))
+
+block-of-part : (s : List ℕ) (m n at : ℕ) → at + 16 ≤ n → blockAt (take n (drop m s)) at ≡ blockAt s (m + at)
+unfolding blockAt
+block-of-part s m n at h = part-part s m n at 16 h
+
+-- byte k of row n of blocks is a byte of the picture
+module _ (w : ℕ) (pos : 0 < w) (all : List ℕ) (n k : ℕ) (four : k / (4 * w) < 4) where
+  inside : k % (4 * w) < 4 * w
+  inside = mod-lt k (omega arith)
+
+  at : 4 * n * (4 * w) + k ≡ (4 * n + k / (4 * w)) * (4 * w) + k % (4 * w)
+  at = omega (arith, div-add-mod' k (4 * w), add-mul (4 * n) (k / (4 * w)) (4 * w))
+
+  row-byte : rowByte w (rowOf w all n) k ≡ pictureByte w all (4 * n * (4 * w) + k)
+  unfolding rowByte pictureByte rowOf
+  row-byte =
+      let d : (4 * n * (4 * w) + k) / (4 * w) ≡ 4 * n + k / (4 * w) = ap (λ (m : ℕ). m / (4 * w)) at ∙ digits-div (4 * n + k / (4 * w)) inside in
+      let m : (4 * n * (4 * w) + k) % (4 * w) ≡ k % (4 * w) = ap (λ (j : ℕ). j % (4 * w)) at ∙ digits-mod (4 * n + k / (4 * w)) inside in
+      let low : (4 * n * (4 * w) + k) % 4 ≡ k % 4 = omega (arith, mul-assoc 4 n (4 * w)) in
+      let there : 16 * (n * across w) + 16 * (k % (4 * w) / 4 / 4) ≡ 16 * (n * across w + k % (4 * w) / 4 / 4) = omega arith in
+      let up : (4 * n + k / (4 * w)) / 4 ≡ n = omega arith in
+      let down : (4 * n + k / (4 * w)) % 4 ≡ k / (4 * w) = omega arith in
+      ap (λ (b : List ℕ). channel (pixels b) (4 * (k / (4 * w)) + k % (4 * w) / 4 % 4) (k % 4))
+      (block-of-part all (16 * (n * across w)) (16 * across w) (16 * (k % (4 * w) / 4 / 4)) (omega (arith, inside))
+      ∙ ap (blockAt all) there)
+      ∙ sym (rw (d, m, low, up, down))
+
+-- one row more
+module _ (w h : ℕ) (pos : 0 < w) (all : List ℕ) (n : ℕ) where
+  next-byte : (k : ℕ) → k < shown h n * (4 * w) → rowByte w (rowOf w all n) k ≡ pictureByte w all (min (4 * n) h * (4 * w) + k)
+  next-byte k l =
+      let q : k / (4 * w) < shown h n = div-lt-iff-lt-mul {k = 4 * w} {x = k} {y = shown h n} (omega arith) .1 l in
+      let e : 4 * n ≡ min (4 * n) h = omega arith in
+      row-byte w pos all n k (omega arith) ∙ ap (λ (m : ℕ). pictureByte w all (m * (4 * w) + k)) e
+
+  next-row : table (min (4 * n) h * (4 * w)) (pictureByte w all) ++ table (shown h n * (4 * w)) (rowByte w (rowOf w all n)) ≡ table (min (4 * suc n) h * (4 * w)) (pictureByte w all)
+  next-row =
+      let e : min (4 * n) h + shown h n ≡ min (4 * suc n) h = omega arith in
+      ap (λ (t : List ℕ). table (min (4 * n) h * (4 * w)) (pictureByte w all) ++ t)
+      (table-same 0 (shown h n * (4 * w)) (rowByte w (rowOf w all n)) (λ k. pictureByte w all (min (4 * n) h * (4 * w) + k)) next-byte)
+      ∙ table-append 0 (min (4 * n) h * (4 * w)) (shown h n * (4 * w)) (pictureByte w all)
+      ∙ ap (λ (m : ℕ). table m (pictureByte w all)) (sym (add-mul (min (4 * n) h) (shown h n) (4 * w)) ∙ ap (λ (m : ℕ). m * (4 * w)) e)
+
+nothing : (f : ℕ → ℕ) → table 0 f ≡ []
+unfolding table tableFrom
+nothing f = refl
+
+-- decoding row n of a whole sheet's blocks is never refused, and writes that row's lines
+module _ (w h : ℕ) (z : Sized w h) (all : List ℕ) (whole : length all ≡ 16 * (across h * across w)) where
+  module _ (n : ℕ) (below : n < across h) where
+    row-long : length (rowOf w all n) ≡ 16 * across w
+    unfolding rowOf
+    row-long =
+        simp (length-take, length-drop)
+        (omega (arith, whole, mul-le-mul-right {m = n + 1} {n = across h} (across w) (omega arith), add-mul n 1 (across w)))
+
+    row-told : (out : List ℕ) → length out ≡ shown h n * (4 * w) → rowRefusal w h n (length (rowOf w all n)) (length out) ≡ 0
+    row-told out room = row-accepted w h n (length (rowOf w all n)) (length out) (size-0 w h z) below row-long room
+
+    pub row-decoded : (out : List ℕ) → length out ≡ shown h n * (4 * w)
+        → (rowRefusal w h n (length (rowOf w all n)) (length out) ≡ 0) × (rowOut w h n (rowOf w all n) out ≡ rowBytes w (shown h n) (rowOf w all n))
+    row-decoded out room = (row-told out room, drawn w h n (rowOf w all n) out (row-told out room))
+
+  module _ (outs : ℕ → List ℕ) (room : (n : ℕ) → n < across h → length (outs n) ≡ shown h n * (4 * w)) where
+    rows-are : (n : ℕ) → n ≤ across h → decodedRows w h all outs n ≡ table (min (4 * n) h * (4 * w)) (pictureByte w all)
+    unfolding decodedRows rowBytes
+    rows-are zero l =
+        let e : 0 ≡ min (4 * 0) h = omega arith in
+        sym (nothing (pictureByte w all)) ∙ ap (λ (m : ℕ). table m (pictureByte w all)) (sym (zero-mul (4 * w)) ∙ ap (λ (m : ℕ). m * (4 * w)) e)
+    rows-are (suc n) l = rw (rows-are n (omega arith), row-decoded n l (outs n) (room n l) .1) (next-row w h (z .wide) all n)
+
+    -- all rows together are the picture, whatever the outputs held
+    pub rows-are-picture : decodedRows w h all outs (across h) ≡ picture w h all
+    unfolding picture
+    rows-are-picture =
+        let e : min (4 * across h) h ≡ h = omega arith in
+        rows-are (across h) (omega arith) ∙ ap (λ (m : ℕ). table (m * (4 * w)) (pictureByte w all)) e
+
+-- a channel of the pixels is a channel of the format's pixel
+channel-is : (bs : List ℕ) (q c : ℕ) → q < 16 → c < 4 → channel (pixels bs) q c ≡ pixel bs q c
+unfolding channel pixels
+channel-is bs q c hq hc = rw (getD-table 16 (λ q. table 4 (pixel bs q)) [] q hq) (getD-table 4 (pixel bs q) 0 c hc)
+
+-- every shown pixel: the four bytes at x, y are the format's pixel of its block
+pub picture-shows : (w h : ℕ) (all : List ℕ) (x y c : ℕ) → x < w → y < h → c < 4 → getD (picture w h all) (y * (4 * w) + (4 * x + c)) 0 ≡ pixel (blockShowing w all x y) (pixelIn x y) c
+unfolding picture pictureByte
+picture-shows w h all x y c lx ly lc =
+    let l : 4 * x + c < 4 * w = omega arith in
+    let low : (y * (4 * w) + (4 * x + c)) % 4 ≡ c = omega (arith, mul-left-comm y 4 w) in
+    let px : (4 * x + c) / 4 ≡ x = omega arith in
+    getD-table (h * (4 * w)) (pictureByte w all) 0 (y * (4 * w) + (4 * x + c)) (digits-lt ly l)
+    ∙ rw (digits-mod y l, digits-div y l, low, px) (channel-is (blockShowing w all x y) (pixelIn x y) c (omega arith) lc)
+
+-- each byte is a channel of exactly one shown pixel
+pub record Shown (w h : ℕ) (all : List ℕ) (k : ℕ) : Type 0 where
+  pub x : ℕ
+  pub y : ℕ
+  pub c : ℕ
+  pub across-it : x < w
+  pub down-it : y < h
+  pub of-four : c < 4
+  pub place : k ≡ y * (4 * w) + (4 * x + c)
+  pub byte : getD (picture w h all) k 0 ≡ pixel (blockShowing w all x y) (pixelIn x y) c
+
+pub picture-long : (w h : ℕ) (all : List ℕ) → length (picture w h all) ≡ h * (4 * w)
+unfolding picture
+picture-long w h all = length-table (h * (4 * w)) (pictureByte w all)
+
+pub each-byte : (w h : ℕ) (all : List ℕ) (k : ℕ) → 0 < w → k < h * (4 * w) → Shown w h all k
+each-byte w h all k pos l =
+    let in-line : k % (4 * w) < 4 * w = mod-lt k (omega arith) in
+    let line : k / (4 * w) < h = div-lt-iff-lt-mul {k = 4 * w} {x = k} {y = h} (omega arith) .1 l in
+    let at : k ≡ k / (4 * w) * (4 * w) + (4 * (k % (4 * w) / 4) + k % (4 * w) % 4) = omega (arith, div-add-mod' k (4 * w)) in
+    record {
+      x = k % (4 * w) / 4;
+      y = k / (4 * w);
+      c = k % (4 * w) % 4;
+      across-it = omega arith;
+      down-it = line;
+      of-four = omega arith;
+      place = at;
+      byte = ap (λ (m : ℕ). getD (picture w h all) m 0) at ∙ picture-shows w h all (k % (4 * w) / 4) (k / (4 * w)) (k % (4 * w) % 4) (omega arith) line (omega arith);
+    }
+
+pub one-place : (w x y c u v d : ℕ) → x < w → c < 4 → u < w → d < 4 → y * (4 * w) + (4 * x + c) ≡ v * (4 * w) + (4 * u + d) → (x ≡ u) × (y ≡ v) × (c ≡ d)
+one-place w x y c u v d hx hc hu hd e =
+    let a : 4 * x + c < 4 * w = omega arith in
+    let b : 4 * u + d < 4 * w = omega arith in
+    let low : 4 * x + c ≡ 4 * u + d = sym (digits-mod y a) ∙ ap (λ (m : ℕ). m % (4 * w)) e ∙ digits-mod v b in
+    (omega arith, sym (digits-div y a) ∙ ap (λ (m : ℕ). m / (4 * w)) e ∙ digits-div v b, omega arith)

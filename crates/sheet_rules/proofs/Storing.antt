@@ -1,0 +1,105 @@
+-- What a block that was stored changes, and what not.
+-- Assumes nothing.
+use mathlib.Core.Path.{_≡_, _∙_, ap, sym}
+use mathlib.Core.Logic.{_⊎_, inl, inr, ⊎-elim}
+use mathlib.Core.List.{List, _++_}
+use Prim.Native.Nat.{ℕ, _+_, _-_, _*_, _<_, _≤_}
+use native.Mathlib.Omega.{arith}
+use lib.ListN.{length, getD, take, drop, length-take, length-drop, take-append-drop}
+use lib.Seq.{getD-take, getD-drop, ext-getD, take-at}
+use Rattle.head.specs.declared.Head.{Head}
+use Rattle.laws.proofs.Cases.{lt-or}
+use Rattle.laws.proofs.Over.{length-over, over-in, over-out, take-over}
+use Rattle.head.specs.Heads.{Sized, headBytes, headOf, readHead}
+use Rattle.head.specs.Numbers.{Bytes}
+use Rattle.head.proofs.Theorems.{head-one-form, head-read-back}
+use Rattle.sheet_rules.specs.Rows.{blockAt}
+use Rattle.sheet_rules.specs.Sheets.{placeOf, putBlock}
+
+module _ (s : List ℕ) (at : ℕ) (block : List ℕ) where
+  pub put-long : length (putBlock s at block) ≡ length s
+  unfolding putBlock
+  put-long = length-over s at 16 (λ j. getD block j 0)
+
+  pub put-inside : (j : ℕ) → at + 16 ≤ length s → j < 16 → getD (putBlock s at block) (at + j) 0 ≡ getD block j 0
+  unfolding putBlock
+  put-inside j h l = over-in s at 16 (λ j. getD block j 0) 0 j h l
+
+  pub put-outside : (k : ℕ) → ((at ≤ k) × (k < at + 16) → ⊥) → getD (putBlock s at block) k 0 ≡ getD s k 0
+  unfolding putBlock
+  put-outside k h = over-out s at 16 (λ j. getD block j 0) 0 k h
+
+-- what is read of a block
+pub block-get : (s : List ℕ) (at j : ℕ) → j < 16 → getD (blockAt s at) j 0 ≡ getD s (at + j) 0
+unfolding blockAt
+block-get s at j h = getD-take 16 (drop at s) j 0 h ∙ getD-drop at s j 0
+
+pub block-long : (s : List ℕ) (at : ℕ) → at + 16 ≤ length s → length (blockAt s at) ≡ 16
+unfolding blockAt
+block-long s at h = simp (length-take, length-drop) (omega arith)
+
+pub same-block : (s : List ℕ) (at : ℕ) (block : List ℕ) → length block ≡ 16 → at + 16 ≤ length s → blockAt (putBlock s at block) at ≡ block
+same-block s at block e h =
+    let long = block-long (putBlock s at block) at (omega (arith, put-long s at block)) in
+    ext-getD 0 (blockAt (putBlock s at block) at) block (long ∙ sym e) (λ j l.
+    let l' : j < 16 = omega (arith, long) in block-get (putBlock s at block) at j l' ∙ put-inside s at block j h l')
+
+pub other-block : (s : List ℕ) (at other : ℕ) (block : List ℕ) → at + 16 ≤ length s → other + 16 ≤ length s → (at + 16 ≤ other) ⊎ (other + 16 ≤ at)
+    → blockAt (putBlock s at block) other ≡ blockAt s other
+other-block s at other block h g apart =
+    let long = block-long (putBlock s at block) other (omega (arith, put-long s at block)) in
+    ext-getD 0 (blockAt (putBlock s at block) other) (blockAt s other) (long ∙ sym (block-long s other g)) (λ j l.
+    let l' : j < 16 = omega (arith, long) in
+    block-get (putBlock s at block) other j l' ∙ put-outside s at block (other + j) (λ w. ⊎-elim (λ a. omega (arith, w .0, w .1)) (λ a. omega (arith, w .0, w .1)) apart)
+    ∙ sym (block-get s other j l'))
+
+-- a block stored where it stands
+pub put-same : (s : List ℕ) (at : ℕ) → at + 16 ≤ length s → putBlock s at (blockAt s at) ≡ s
+put-same s at h =
+    ext-getD 0 (putBlock s at (blockAt s at)) s (put-long s at (blockAt s at)) (λ k l.
+    ⊎-elim (λ p. put-outside s at (blockAt s at) k (λ w. omega (arith, w .0)))
+    (λ p. ⊎-elim (λ q. stored-again k p q) (λ q. put-outside s at (blockAt s at) k (λ w. omega (arith, w .1))) (lt-or k (at + 16))) (lt-or k at))
+  where
+    stored-again : (k : ℕ) → at ≤ k → k < at + 16 → getD (putBlock s at (blockAt s at)) k 0 ≡ getD s k 0
+    stored-again k p q =
+        let e : at + (k - at) ≡ k = omega arith in
+        ap (λ (m : ℕ). getD (putBlock s at (blockAt s at)) m 0) (sym e) ∙ put-inside s at (blockAt s at) (k - at) h (omega arith)
+        ∙ block-get s at (k - at) (omega arith) ∙ ap (λ (m : ℕ). getD s m 0) e
+
+-- different blocks stand apart
+pub places-apart : (h : Head) (a b : ℕ) → (a ≡ b → ⊥) → (placeOf h a + 16 ≤ placeOf h b) ⊎ (placeOf h b + 16 ≤ placeOf h a)
+unfolding placeOf
+places-apart h a b ne = ⊎-elim (λ l. inl (omega arith)) (λ l. inr (omega arith)) (lt-or a b)
+
+-- the head stays: no byte of it is a block's
+module _ (s : List ℕ) (bytes : Bytes s) (told : readHead s .refusal ≡ 0) where
+  w : ℕ
+  w = readHead s .width
+
+  h : ℕ
+  h = readHead s .height
+
+  size : Sized w h
+  unfolding w h
+  size = head-one-form s bytes told .0
+
+  spelt : s ≡ headBytes w h ++ drop (readHead s .start) s
+  unfolding w h
+  spelt = head-one-form s bytes told .1
+
+  head-is : readHead s ≡ headOf 0 w h (length (headBytes w h))
+  head-is = ap readHead spelt ∙ head-read-back w h size (drop (readHead s .start) s)
+
+  start-is : readHead s .start ≡ length (headBytes w h)
+  start-is = ap (λ (x : Head). x .start) head-is
+
+  front : take (readHead s .start) s ≡ headBytes w h
+  front = ap (take (readHead s .start)) spelt ∙ take-at (headBytes w h) (drop (readHead s .start) s) (readHead s .start) (sym start-is)
+
+  pub head-kept : (b : ℕ) (block : List ℕ) → readHead (putBlock s (placeOf (readHead s) b) block) ≡ readHead s
+  unfolding putBlock placeOf
+  head-kept b block =
+      let t = putBlock s (placeOf (readHead s) b) block in
+      let n = readHead s .start in
+      ap readHead (sym (take-append-drop n t) ∙ ap (λ (x : List ℕ). x ++ drop n t) (take-over s (n + 16 * b) 16 (λ j. getD block j 0) n (omega arith) ∙ front))
+      ∙ head-read-back w h size (drop n t) ∙ sym head-is

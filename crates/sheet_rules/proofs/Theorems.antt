@@ -1,0 +1,176 @@
+-- DEMAND 3 ON A SHEET, in one place: what holds of a call on a block holds of the block that a call on a sheet names, and every
+-- other byte stays. `Bytes s` says that s is a list of bytes, which each slice of the code is; `WholeSheet s` that it has a head
+-- and all its blocks.
+-- Assumes nothing.
+use mathlib.Core.Path.{_≡_, refl, _∙_, ap, sym, subst}
+use mathlib.Core.Logic.{_⊎_, ⊎-elim, _≢_}
+use mathlib.Core.Bool.{true, false}
+use mathlib.Core.List.{List, [], _∷_}
+use Prim.Native.Nat.{ℕ, _+_, _<_, _≤_}
+use native.Mathlib.Nat.{eq-zero-or-pos}
+use native.Mathlib.Decide.{ℕ-discrete}
+use native.Mathlib.Omega.{arith}
+use lib.ListN.{length, getD}
+use Rattle.laws.specs.Digits.{Fit}
+use Rattle.laws.proofs.Cases.{lt-or}
+use Rattle.format.specs.Block.{eights, modeOf}
+use Rattle.format.specs.Lines.{draws, meant, pixel}
+use Rattle.format.specs.Modes.{lines}
+use Rattle.format.specs.Splits.{splitOf}
+use Rattle.head.specs.Heads.{readHead}
+use Rattle.head.specs.Numbers.{Bytes}
+use Rattle.line_rules.specs.Calls.{afterAll, last, seen}
+use Rattle.line_rules.specs.Replace.{Call, after, refusal}
+use Rattle.line_rules.proofs.Theorems.{accepted-draws, last-call-is-seen, others-keep, same-answer, same-last-calls, trade-places}
+use Rattle.sheet_rules.specs.Calls.{SheetCall, WholeSheet, callsOn, onBlock, refusalOn, sheetWith, sheetWithAll}
+use Rattle.sheet_rules.specs.Rows.{rowOut, rowRefusal}
+use Rattle.sheet_rules.specs.Sheets.{blockIn, blocksOf, placeOf}
+use Rattle.sheet_rules.proofs.Calling.{after-two, all-block, all-kept, answered-as-block, beyond, no-calls, none-changes, off-it, on-it, same-sheet, sixteen, unchanged, whole-or, with-kept, with-named, with-other}
+use Rattle.sheet_rules.proofs.Replacing.{accepted-is}
+use Rattle.sheet_rules.proofs.Storing.{put-long, put-outside}
+
+-- whatever the sheet and the call: the length stays, and every byte that isn't one of the named block's sixteen
+pub others-stay : (s : List ℕ) (c : SheetCall) → (length (sheetWith s c) ≡ length s)
+    × ((k : ℕ) → ((placeOf (readHead s) (c .block) ≤ k) × (k < placeOf (readHead s) (c .block) + 16) → ⊥) → getD (sheetWith s c) k 0 ≡ getD s k 0)
+others-stay s c = ⊎-elim taken (λ p. left (λ q. omega arith)) (eq-zero-or-pos (refusalOn s c))
+  where
+    taken : refusalOn s c ≡ 0 → (length (sheetWith s c) ≡ length s)
+        × ((k : ℕ) → ((placeOf (readHead s) (c .block) ≤ k) × (k < placeOf (readHead s) (c .block) + 16) → ⊥) → getD (sheetWith s c) k 0 ≡ getD s k 0)
+    taken e =
+        let p = accepted-is s (c .block) (c .line) (c .given) e in
+        (ap length p ∙ put-long s _ _, λ k n. ap (λ (t : List ℕ). getD t k 0) p ∙ put-outside s _ _ k n)
+
+    left : refusalOn s c ≢ 0 → (length (sheetWith s c) ≡ length s)
+        × ((k : ℕ) → ((placeOf (readHead s) (c .block) ≤ k) × (k < placeOf (readHead s) (c .block) + 16) → ⊥) → getD (sheetWith s c) k 0 ≡ getD s k 0)
+    left ne = let p = unchanged s c ne in (ap length p, λ k n. ap (λ (t : List ℕ). getD t k 0) p)
+
+-- a refused call changes nothing
+pub refused-stays : (s : List ℕ) (c : SheetCall) → refusalOn s c ≢ 0 → sheetWith s c ≡ s
+refused-stays = unchanged
+
+-- on a whole sheet a call is answered as on the block it names, and leaves in that block's place what the block's call leaves; the
+-- head and the other blocks stay
+pub record Replaces (s : List ℕ) (c : SheetCall) : Type 0 where
+  pub answer : refusalOn s c ≡ refusal (blockIn s (c .block)) (onBlock c)
+  pub named : blockIn (sheetWith s c) (c .block) ≡ after (blockIn s (c .block)) (onBlock c)
+  pub others : (b : ℕ) → b < blocksOf (readHead s) → c .block ≢ b → blockIn (sheetWith s c) b ≡ blockIn s b
+  pub head : readHead (sheetWith s c) ≡ readHead s
+  pub whole : WholeSheet (sheetWith s c)
+
+pub replaces-the-block : (s : List ℕ) → WholeSheet s → (c : SheetCall) → c .block < blocksOf (readHead s) → Replaces s c
+replaces-the-block s z c l = record {
+  answer = answered-as-block s z c l;
+  named = with-named s z c (c .block) l refl;
+  others = with-other s z c;
+  head = with-kept s z c .head;
+  whole = with-kept s z c .whole;
+}
+
+-- after an accepted call, whatever the line draws in the named block is what was given; every other channel of it stays
+module _ (s : List ℕ) (z : WholeSheet s) (c : SheetCall) (l : c .block < blocksOf (readHead s)) where
+  pub sheet-accepted-draws : (q ch : ℕ) → q < 16 → ch < 4 → refusalOn s c ≡ 0
+      → draws (modeOf (blockIn s (c .block))) (splitOf (blockIn s (c .block))) (c .line) q ch ≡ true
+      → pixel (blockIn (sheetWith s c) (c .block)) q ch ≡ meant (modeOf (blockIn s (c .block))) (splitOf (blockIn s (c .block))) (c .line) (onBlock c .given) q ch
+  sheet-accepted-draws q ch hq hc e d =
+      ap (λ (b : List ℕ). pixel b q ch) (with-named s z c (c .block) l refl)
+      ∙ accepted-draws (blockIn s (c .block)) (sixteen s z (c .block) l) (onBlock c) q ch hq hc (sym (answered-as-block s z c l) ∙ e) d
+
+  pub sheet-others-keep : (q ch : ℕ) → draws (modeOf (blockIn s (c .block))) (splitOf (blockIn s (c .block))) (c .line) q ch ≡ false
+      → pixel (blockIn (sheetWith s c) (c .block)) q ch ≡ pixel (blockIn s (c .block)) q ch
+  sheet-others-keep q ch d =
+      ap (λ (b : List ℕ). pixel b q ch) (with-named s z c (c .block) l refl) ∙ others-keep (blockIn s (c .block)) (sixteen s z (c .block) l) (onBlock c) .channels q ch d
+
+-- any list of calls: the head stays, and each block is what the calls that name it leave of it, in their order
+pub calls-by-block : (s : List ℕ) → WholeSheet s → (cs : List SheetCall)
+    → (readHead (sheetWithAll s cs) ≡ readHead s) × ((b : ℕ) → b < blocksOf (readHead s) → blockIn (sheetWithAll s cs) b ≡ afterAll (blockIn s b) (callsOn b cs))
+calls-by-block s z cs = (all-kept cs s z .head, all-block cs s z)
+
+-- what a call is answered doesn't depend on the calls before it
+answer-in : (s : List ℕ) → WholeSheet s → (cs : List SheetCall) (d : SheetCall) → refusalOn (sheetWithAll s cs) d ≡ refusalOn s d
+answer-in s z cs d =
+    let k = all-kept cs s z in
+    ⊎-elim (λ l. let l' : d .block < blocksOf (readHead (sheetWithAll s cs)) = rw (k .head) l in
+    answered-as-block (sheetWithAll s cs) (k .whole) d l' ∙ ap (λ (b : List ℕ). refusal b (onBlock d)) (all-block cs s z (d .block) l)
+    ∙ same-answer (blockIn s (d .block)) (blockIn s (d .block)) (sixteen s z (d .block) l) refl refl (callsOn (d .block) cs) (onBlock d)
+    ∙ sym (answered-as-block s z d l))
+    (λ l. beyond (sheetWithAll s cs) (k .whole) d (rw (k .head) l) ∙ sym (beyond s z d l)) (lt-or (d .block) (blocksOf (readHead s)))
+
+pub sheet-same-answer : (s : List ℕ) → Bytes s → (cs : List SheetCall) (d : SheetCall) → refusalOn (sheetWithAll s cs) d ≡ refusalOn s d
+sheet-same-answer s y cs d = ⊎-elim (λ z. answer-in s z cs d) (λ never. ap (λ (t : List ℕ). refusalOn t d) (none-changes s never cs)) (whole-or s y)
+
+-- two lists of calls that leave every block alike leave the same sheet
+alike : (s : List ℕ) → Bytes s → (cs ds : List SheetCall) → ((z : WholeSheet s) (b : ℕ) → b < blocksOf (readHead s) → afterAll (blockIn s b) (callsOn b cs) ≡ afterAll (blockIn s b) (callsOn b ds))
+    → sheetWithAll s cs ≡ sheetWithAll s ds
+alike s y cs ds e =
+    ⊎-elim (λ z. same-sheet (all-kept cs s z) (all-kept ds s z) (λ b l. all-block cs s z b l ∙ e z b l ∙ sym (all-block ds s z b l)))
+    (λ never. none-changes s never cs ∙ sym (none-changes s never ds)) (whole-or s y)
+
+-- two neighbouring calls on different blocks, or on different lines of one block: the same answers in either order, and equal bytes
+abbrev pub Apart : SheetCall → SheetCall → Type 0
+Apart c d = (c .block ≢ d .block) ⊎ (c .line ≢ d .line)
+
+pub record SheetTraded (s : List ℕ) (c d : SheetCall) : Type 0 where
+  pub first : refusalOn (sheetWith s d) c ≡ refusalOn s c
+  pub second : refusalOn (sheetWith s c) d ≡ refusalOn s d
+  pub bytes : sheetWith (sheetWith s c) d ≡ sheetWith (sheetWith s d) c
+
+one-call : (s : List ℕ) (c : SheetCall) → sheetWithAll s (c ∷ []) ≡ sheetWith s c
+unfolding sheetWithAll
+one-call s c = refl
+
+two-calls : (s : List ℕ) (c d : SheetCall) → sheetWithAll s (c ∷ d ∷ []) ≡ sheetWith (sheetWith s c) d
+unfolding sheetWithAll
+two-calls s c d = refl
+
+module _ (c d : SheetCall) (b : ℕ) where
+  -- of two calls at most one names the block, or both do and their lines differ
+  traded-on : (bs : List ℕ) → Fit eights bs → Apart c d → afterAll bs (callsOn b (c ∷ d ∷ [])) ≡ afterAll bs (callsOn b (d ∷ c ∷ []))
+  traded-on bs f apart = go (ℕ-discrete (c .block) b) (ℕ-discrete (d .block) b)
+    where
+      go : Dec (c .block ≡ b) → Dec (d .block ≡ b) → afterAll bs (callsOn b (c ∷ d ∷ [])) ≡ afterAll bs (callsOn b (d ∷ c ∷ []))
+      go (no n) k = ap (afterAll bs) (off-it b c (d ∷ []) n ∙ sym (with-last n k))
+        where
+          with-last : c .block ≢ b → Dec (d .block ≡ b) → callsOn b (d ∷ c ∷ []) ≡ callsOn b (d ∷ [])
+          with-last n (yes e) = on-it b d (c ∷ []) e ∙ ap {B = List Call} (λ cs. onBlock d ∷ cs) (off-it b c [] n) ∙ sym (on-it b d [] e)
+          with-last n (no m) = off-it b d (c ∷ []) m ∙ off-it b c [] n ∙ sym (off-it b d [] m)
+      go (yes e) (no n) = ap (afterAll bs) (on-it b c (d ∷ []) e ∙ ap {B = List Call} (λ cs. onBlock c ∷ cs) (off-it b d [] n) ∙ sym (on-it b c [] e) ∙ sym (off-it b d (c ∷ []) n))
+      go (yes e) (yes k) =
+          ap (afterAll bs) (both-on c d e k) ∙ traded-lines (⊎-elim (λ n. absurd (n (e ∙ sym k))) (λ n. n) apart) ∙ sym (ap (afterAll bs) (both-on d c k e))
+        where
+          both-on : (x y : SheetCall) → x .block ≡ b → y .block ≡ b → callsOn b (x ∷ y ∷ []) ≡ onBlock x ∷ onBlock y ∷ []
+          both-on x y p q = on-it b x (y ∷ []) p ∙ ap {B = List Call} (λ cs. onBlock x ∷ cs) (on-it b y [] q ∙ ap {B = List Call} (λ cs. onBlock y ∷ cs) (no-calls b))
+
+          traded-lines : c .line ≢ d .line → afterAll bs (onBlock c ∷ onBlock d ∷ []) ≡ afterAll bs (onBlock d ∷ onBlock c ∷ [])
+          traded-lines n = after-two bs (onBlock c) (onBlock d) ∙ trade-places bs f (onBlock c) (onBlock d) n .bytes ∙ sym (after-two bs (onBlock d) (onBlock c))
+
+pub sheet-trade-places : (s : List ℕ) → Bytes s → (c d : SheetCall) → Apart c d → SheetTraded s c d
+sheet-trade-places s y c d apart = record {
+  first = subst (λ (t : List ℕ). refusalOn t c ≡ refusalOn s c) (one-call s d) (sheet-same-answer s y (d ∷ []) c);
+  second = subst (λ (t : List ℕ). refusalOn t d ≡ refusalOn s d) (one-call s c) (sheet-same-answer s y (c ∷ []) d);
+  bytes = sym (two-calls s c d) ∙ alike s y (c ∷ d ∷ []) (d ∷ c ∷ []) (λ z b l. traded-on c d b (blockIn s b) (sixteen s z b l) apart) ∙ two-calls s d c;
+}
+
+-- any two lists of calls whose last accepted calls on each line of each block are the same leave the same sheet
+pub sheet-last-calls-decide : (s : List ℕ) → Bytes s → (cs ds : List SheetCall)
+    → ((b l : ℕ) → b < blocksOf (readHead s) → l < lines (modeOf (blockIn s b))
+    → last (modeOf (blockIn s b)) (splitOf (blockIn s b)) l (callsOn b cs) ≡ last (modeOf (blockIn s b)) (splitOf (blockIn s b)) l (callsOn b ds))
+    → sheetWithAll s cs ≡ sheetWithAll s ds
+sheet-last-calls-decide s y cs ds e = alike s y cs ds (λ z b l. same-last-calls (blockIn s b) (sixteen s z b l) (callsOn b cs) (callsOn b ds) (λ k lk. e b k l lk))
+
+-- and every channel that a line of a block draws shows what the last accepted call on it means, or what the first sheet shows
+pub sheet-last-call-is-seen : (s : List ℕ) → WholeSheet s → (cs : List SheetCall) (b : ℕ) → b < blocksOf (readHead s) → (l q ch : ℕ) → q < 16 → ch < 4
+    → draws (modeOf (blockIn s b)) (splitOf (blockIn s b)) l q ch ≡ true
+    → pixel (blockIn (sheetWithAll s cs) b) q ch
+    ≡ seen (modeOf (blockIn s b)) (splitOf (blockIn s b)) l q ch (pixel (blockIn s b) q ch) (last (modeOf (blockIn s b)) (splitOf (blockIn s b)) l (callsOn b cs))
+sheet-last-call-is-seen s z cs b lb l q ch hq hc d =
+    ap (λ (x : List ℕ). pixel x q ch) (all-block cs s z b lb) ∙ last-call-is-seen (blockIn s b) (sixteen s z b lb) (callsOn b cs) l q ch hq hc d
+
+-- DEMAND 1: any two results that a call's promise admits coincide
+pub determined-decode-row : (w h row : ℕ) (blocks out : List ℕ) (r s : ℕ) (a b : List ℕ)
+    → (r ≡ rowRefusal w h row (length blocks) (length out)) × (a ≡ rowOut w h row blocks out) → (s ≡ rowRefusal w h row (length blocks) (length out)) × (b ≡ rowOut w h row blocks out)
+    → (r ≡ s) × (a ≡ b)
+determined-decode-row w h row blocks out r s a b p q = (p .0 ∙ sym (q .0), p .1 ∙ sym (q .1))
+
+pub determined-replace-in-sheet : (sheet : List ℕ) (c : SheetCall) (r s : ℕ) (a b : List ℕ)
+    → (r ≡ refusalOn sheet c) × (a ≡ sheetWith sheet c) → (s ≡ refusalOn sheet c) × (b ≡ sheetWith sheet c) → (r ≡ s) × (a ≡ b)
+determined-replace-in-sheet sheet c r s a b p q = (p .0 ∙ sym (q .0), p .1 ∙ sym (q .1))

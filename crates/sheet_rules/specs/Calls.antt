@@ -1,0 +1,45 @@
+-- Calls on a sheet, one after another.
+-- Assumes nothing.
+use Prim.Native.Nat.{ℕ, _+_, _*_}
+use mathlib.Core.Path.{_≡_}
+use mathlib.Core.List.{List, [], _∷_}
+use lib.Dec.{eqb}
+use lib.ListN.{length}
+use Rattle.line_rules.specs.declared.Replacement.{Replacement}
+use Rattle.laws.specs.Tables.{pick}
+use Rattle.head.specs.Heads.{readHead}
+use Rattle.head.specs.Numbers.{Bytes}
+use Rattle.line_rules.specs.Replace.{Call, callOf}
+use Rattle.sheet_rules.specs.Sheets.{blocksOf, sheetAfter, sheetRefusal}
+
+-- a call of `replace_in_sheet`
+pub record SheetCall : Type 0 where
+  pub block : ℕ
+  pub line : ℕ
+  pub given : Replacement
+
+-- what it is answered, and the sheet it leaves
+abbrev pub refusalOn : List ℕ → SheetCall → ℕ
+refusalOn s c = sheetRefusal s (c .block) (c .line) (c .given)
+
+abbrev pub sheetWith : List ℕ → SheetCall → List ℕ
+sheetWith s c = sheetAfter s (c .block) (c .line) (c .given)
+
+-- the sheet after a list of calls
+unfoldable pub sheetWithAll : List ℕ → List SheetCall → List ℕ
+sheetWithAll s [] = s
+sheetWithAll s (c ∷ cs) = sheetWithAll (sheetWith s c) cs
+
+-- the same call on the block that it names, and those of a list that name block b
+abbrev pub onBlock : SheetCall → Call
+onBlock c = callOf (c .line) (c .given)
+
+unfoldable pub callsOn : ℕ → List SheetCall → List Call
+callsOn b [] = []
+callsOn b (c ∷ cs) = pick (eqb (c .block) b) (onBlock c ∷ callsOn b cs) (callsOn b cs)
+
+-- a sheet with all its blocks: what is neither refused with 7, 8 or 9 nor with 10
+pub record WholeSheet (s : List ℕ) : Type 0 where
+  pub bytes : Bytes s
+  pub told : readHead s .refusal ≡ 0
+  pub long : length s ≡ readHead s .start + 16 * blocksOf (readHead s)

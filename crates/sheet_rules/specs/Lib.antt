@@ -1,0 +1,5 @@
+-- What rows, sheets, pictures and calls mean.
+pub mod Rows
+pub mod Sheets
+pub mod Pictures
+pub mod Calls

@@ -1,0 +1,49 @@
+-- A row of blocks as bytes: which block, which pixel, which channel.
+-- Assumes nothing.
+use Prim.Native.Nat.{ℕ, _+_, _-_, _*_, _/_, _%_, min}
+use mathlib.Core.Bool.{not}
+use mathlib.Core.List.{List, [], _∷_}
+use lib.Dec.{eqb, leb}
+use lib.ListN.{length, getD, take, drop}
+use Rattle.laws.specs.Refusals.{first, refuse}
+use Rattle.laws.specs.Tables.{pick, table}
+use Rattle.format.specs.Lines.{pixels}
+use Rattle.head.specs.Heads.{sizeRefusal}
+
+-- columns of blocks in a width, rows of blocks in a height
+abbrev pub across : ℕ → ℕ
+across n = (n + 3) / 4
+
+-- the block at a place of a list of bytes
+unfoldable pub blockAt : List ℕ → ℕ → List ℕ
+blockAt s at = take 16 (drop at s)
+
+-- channel c of pixel q
+unfoldable pub channel : List (List ℕ) → ℕ → ℕ → ℕ
+channel px q c = getD (getD px q []) c 0
+
+-- byte k of a row of blocks, whose lines are 4 · w bytes long: column x, line y, channel
+unfoldable pub rowByte : ℕ → List ℕ → ℕ → ℕ
+rowByte w blocks k =
+    let x = k % (4 * w) / 4 in
+    let y = k / (4 * w) in
+    channel (pixels (blockAt blocks (16 * (x / 4)))) (4 * y + x % 4) (k % 4)
+
+-- how many lines of a row of blocks are shown
+abbrev pub shown : ℕ → ℕ → ℕ
+shown h row = min 4 (h - 4 * row)
+
+unfoldable pub rowBytes : ℕ → ℕ → List ℕ → List ℕ
+rowBytes w lines blocks = table (lines * (4 * w)) (rowByte w blocks)
+
+-- 9, 12, 10, 11; of the block bytes and the output only the lengths matter
+unfoldable pub rowRefusal : ℕ → ℕ → ℕ → ℕ → ℕ → ℕ
+rowRefusal w h row given room =
+    first
+    (sizeRefusal w h
+    ∷ refuse 12 (leb (across h) row) ∷ refuse 10 (not (eqb given (16 * across w)))
+    ∷ refuse 11 (not (eqb room (shown h row * (4 * w)))) ∷ [])
+
+-- the output afterwards
+unfoldable pub rowOut : ℕ → ℕ → ℕ → List ℕ → List ℕ → List ℕ
+rowOut w h row blocks out = pick (eqb (rowRefusal w h row (length blocks) (length out)) 0) (rowBytes w (shown h row) blocks) out

@@ -1,0 +1,49 @@
+-- Where the blocks of a sheet stand, and what replacing in one of them leaves.
+-- Assumes nothing.
+use Prim.Native.Nat.{ℕ, _+_, _*_}
+use mathlib.Core.Bool.{not}
+use mathlib.Core.List.{List, [], _∷_}
+use lib.Dec.{eqb, leb}
+use lib.ListN.{length, getD}
+use Rattle.line_rules.specs.declared.Replacement.{Replacement}
+use Rattle.line_rules.specs.declared.Replaced.{Replaced}
+use Rattle.head.specs.declared.Head.{Head}
+use Rattle.laws.specs.Refusals.{first, refuse}
+use Rattle.laws.specs.Tables.{over, pick}
+use Rattle.head.specs.Heads.{readHead}
+use Rattle.line_rules.specs.Replace.{replaced}
+use Rattle.sheet_rules.specs.Rows.{across, blockAt}
+
+-- how many blocks a sheet has
+unfoldable pub blocksOf : Head → ℕ
+blocksOf h = across (h .height) * across (h .width)
+
+-- where block b stands: THE place of a block in a sheet
+unfoldable pub placeOf : Head → ℕ → ℕ
+placeOf h b = h .start + 16 * b
+
+-- block b of a sheet
+unfoldable pub blockIn : List ℕ → ℕ → List ℕ
+blockIn s b = blockAt s (placeOf (readHead s) b)
+
+-- the head's refusal, then 10, then 12
+unfoldable pub findRefusal : List ℕ → ℕ → ℕ
+findRefusal s b =
+    let h = readHead s in
+    first (h .refusal ∷ refuse 10 (not (eqb (length s) (h .start + 16 * blocksOf h))) ∷ refuse 12 (leb (blocksOf h) b) ∷ [])
+
+-- what replacing in the block answers
+unfoldable pub replacedIn : List ℕ → ℕ → ℕ → Replacement → Replaced
+replacedIn s b l new = replaced (blockIn s b) l new
+
+-- the sixteen bytes from a place on are now those of a block
+unfoldable pub putBlock : List ℕ → ℕ → List ℕ → List ℕ
+putBlock s at block = over s at 16 (λ j. getD block j 0)
+
+-- the head's refusal, 10, 12, then as for a block
+unfoldable pub sheetRefusal : List ℕ → ℕ → ℕ → Replacement → ℕ
+sheetRefusal s b l new = first (findRefusal s b ∷ replacedIn s b l new .refusal ∷ [])
+
+-- the sheet afterwards
+unfoldable pub sheetAfter : List ℕ → ℕ → ℕ → Replacement → List ℕ
+sheetAfter s b l new = pick (eqb (sheetRefusal s b l new) 0) (putBlock s (placeOf (readHead s) b) (replacedIn s b l new .block)) s
