@@ -1,2 +1,4 @@
 pub mod Places
 pub mod Showing
+pub mod Making
+pub mod Pictures

@@ -21,8 +21,8 @@ use Rattle.format.specs.Places.{atPlace, index, inside, pbit, placeAt, pos, val
 use Rattle.format.specs.Splits.{anchors}
 use Rattle.format.proofs.Places.{placeAt-pos}
 use Rattle.format.proofs.Starts.{at-field, start, start-next}
-use Rattle.bcn_util.specs.Indexes.{expanded, indexWidth, indexWidths, part}
-use Rattle.bcn_util.proofs.Anchors.{part-expanded}
+use Rattle.bcn_indexes.specs.Indexes.{expanded, indexWidth, indexWidths, part}
+use Rattle.bcn_indexes.proofs.Anchors.{part-expanded}
 use Rattle.bc7_fields.specs.Fields.{headEnd, pStart, valueStart}
 
 -- where the values and the p bits start: one computed test over mode, channel and endpoint

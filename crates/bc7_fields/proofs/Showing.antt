@@ -7,9 +7,8 @@ use mathlib.Core.List.{List, []}
 use Prim.Native.Nat.{ℕ, _+_, _-_, _*_, _/_, _≤_, _<_}
 use native.Mathlib.Nat.{lt-of-lt-of-le}
 use native.Mathlib.Omega.{arith}
-use borrow.Author.Tests.{eq-eqb, eqb-false, ne-eqb}
+use borrow.Author.Tests.{eqb-false, ne-eqb}
 use lib.Dec.{T, eqb}
-use lib.ListN.{replicate}
 use lib.Pow.{pow-mono}
 use Rattle.format.specs.declared.Split.{Split}
 use Rattle.format.specs.declared.Split.the-variants.{Whole, Two, Three, Vector}
@@ -143,10 +142,3 @@ module _ (bs : List ℕ) (sixteen : Fit eights bs) (low : modeOf bs < 8) where
   unfolding pixels directPixels table tableFrom
   pixels-are =
       table-same [] 16 (λ q. table 4 (pixel bs q)) (λ q. table 4 (direct (modeOf bs) (splitAt (modeOf bs) (number bs)) (number bs) q)) (λ q hq. table-same 0 4 _ _ (λ c hc. pixel-is q c hq hc))
-
--- a reserved block
-pub reserved : (bs : List ℕ) → modeOf bs ≡ 8 → pixels bs ≡ replicate 16 (replicate 4 0)
-unfolding pixels pixel table tableFrom
-reserved bs e =
-    table-same [] 16 (λ q. table 4 (pixel bs q)) (λ q. table 4 (λ c. 0))
-    (λ q hq. table-same 0 4 _ _ (λ c hc. ap (λ (b : Bool). pick b 0 (shown (modeOf bs) (splitOf bs) (opened bs) q c)) (eq-eqb (modeOf bs) 8 e)))

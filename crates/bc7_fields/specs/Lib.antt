@@ -1,2 +1,3 @@
 -- The definitions that the decoder's contracts cite.
 pub mod Fields
+pub mod Painting

@@ -1,3 +1,3 @@
-pub mod Channels
+pub mod Mixing
 pub mod Weights
-pub mod Pictures
+pub mod Keys

@@ -8,7 +8,8 @@ use lib.ListN.{List·getD-map, getD}
 use Rattle.format.specs.Drawing.{drawn, weightOf, weights}
 use Rattle.format.proofs.Drawing.{scaled, weight-le}
 use Rattle.bc7_fields.specs.Fields.{four}
-use Rattle.bc7_palette.specs.Colors.{between, lerped}
+use Rattle.bc7_fields.specs.Painting.{between}
+use Rattle.bc7_palette.specs.Colors.{lerped}
 
 -- a table of four times the weights
 pub weight-at : (b i : ℕ) → getD (map (λ (x : ℕ). 4 * x) (weights b)) i 0 ≡ 4 * weightOf b i

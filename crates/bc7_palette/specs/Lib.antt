@@ -1,3 +1,2 @@
--- The definitions that the contracts cite.
+-- The definitions that the contracts cite, beside those of `bc7_fields`.
 pub mod Colors
-pub mod Painting

@@ -95,6 +95,7 @@ pub fn partition_set_2(id: u8) -> Subset2Map
     }
 }
 
+// The fields one by one, for a decoder that wants no more of a table than it reads.
 pub fn subset_indexes_2(id: u8) -> u16
     requires { ⌜ id < 64 ⌝ }
     ensures { λ r. ⌜ r ≡ map2 id .«subset_indexes» ⌝ }
@@ -128,6 +129,7 @@ pub fn subset_indexes_3(id: u8) -> u32
     PARTITION_SET_3_SUBSETS[id as usize]
 }
 
+// Both anchors behind pixel 0, in the order of the pixels and not of the subsets.
 pub struct Fixups {
     pub fixup_index_2: u8,
     pub fixup_index_3: u8,
@@ -162,6 +164,7 @@ pub fn anchor_2(id: u8, subset: u8) -> u8
     fixup_index_2(id)
 }
 
+// The fixups are in pixel order, so the subset of the first one decides which is whose.
 pub fn anchor_3(id: u8, subset: u8) -> u8
     requires { ⌜ (id < 64) × (subset < 3) ⌝ }
     ensures { λ r. ⌜ r ≡ anchorOf (Three id) subset ⌝ }

@@ -1,7 +1,5 @@
 pub mod Words
 pub mod Bytes
 pub mod On
-pub mod Insert
-pub mod Anchors
 pub mod BitList
 pub mod Puts

@@ -10,10 +10,9 @@ use Rattle.bcn_util.specs.declared.stream.BitStream.{BitStream}
 use Rattle.bcn_util.specs.declared.stream.Bits8.{Bits8}
 use Rattle.bcn_util.specs.declared.stream.Bits64.{Bits64}
 use Rattle.bcn_util.specs.declared.stream.Values2.{Values2}
-use Rattle.bcn_util.specs.declared.stream.Values4.{Values4}
 use Rattle.laws.specs.Digits.{split, total}
 use Rattle.laws.specs.Tables.{table}
-use Rattle.laws.proofs.Rows.{split-table, table-none, total-more, total-room}
+use Rattle.laws.proofs.Rows.{split-table, table-none, total-more}
 use Rattle.format.specs.Block.{field}
 use Rattle.bcn_util.specs.Stream.{consumed2, consumed4, consumed64, consumed8, held, skipped}
 
@@ -67,30 +66,6 @@ module _ {n a : ℕ} {s : BitStream} (o : On n a s) (w : ℕ) where
   pub got-on : {r : Bits64} → r ≡ consumed64 s w → On n (a + w) (r .stream)
   got-on e = rw e (on-skipped o w)
 
-  pub two-a : {r : Values2} → r ≡ consumed2 s w → r .a ≡ field n a w
-  two-a e = rw e (next-is o w)
-
-  pub two-b : {r : Values2} → r ≡ consumed2 s w → r .b ≡ field n (a + w) w
-  two-b e = rw e (next-is (on-skipped o w) w)
-
-  pub two-on : {r : Values2} → r ≡ consumed2 s w → On n (a + 2 * w) (r .stream)
-  two-on e = rw e (on-skipped o (2 * w))
-
-  pub four-a : {r : Values4} → r ≡ consumed4 s w → r .a ≡ field n a w
-  four-a e = rw e (next-is o w)
-
-  pub four-b : {r : Values4} → r ≡ consumed4 s w → r .b ≡ field n (a + w) w
-  four-b e = rw e (next-is (on-skipped o w) w)
-
-  pub four-c : {r : Values4} → r ≡ consumed4 s w → r .c ≡ field n (a + 2 * w) w
-  four-c e = rw e (next-is (on-skipped o (2 * w)) w)
-
-  pub four-d : {r : Values4} → r ≡ consumed4 s w → r .d ≡ field n (a + 3 * w) w
-  four-d e = rw e (next-is (on-skipped o (3 * w)) w)
-
-  pub four-on : {r : Values4} → r ≡ consumed4 s w → On n (a + 4 * w) (r .stream)
-  four-on e = rw e (on-skipped o (4 * w))
-
 -- a loop that reads values of the widths f 0, f 1, .., from the start of n: after i turns it stands at the total of the first i
 module _ (f : ℕ → ℕ) {n : ℕ} {s : BitStream} where
   pub row-start : On n 0 s → On n (total (table 0 f)) s
@@ -98,9 +73,6 @@ module _ (f : ℕ → ℕ) {n : ℕ} {s : BitStream} where
 
   pub row-next : (i : ℕ) → On n (total (table i f) + f i) s → On n (total (table (i + 1) f)) s
   row-next i o = rw (add-one, total-more i f) o
-
-  pub row-room : (i k : ℕ) → On n (total (table i f)) s → i < k → s .at + f i ≤ total (table k f)
-  row-room i k o h = rw (o .stands) (total-room f i k h)
 
 -- and the values that it has read are the digits of n
 pub split-fields : (k : ℕ) (f : ℕ → ℕ) (n : ℕ) → split (table k f) n ≡ table k (λ i. field n (total (table i f)) (f i))

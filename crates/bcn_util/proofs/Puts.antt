@@ -10,12 +10,12 @@ use lib.Arith.{lt-one}
 use lib.Pow.{pow-pos, pow-add, pow-mono, shl-exact, shr-lt, shr-shr, high, low}
 use lib.Bits.{bitOr, or-lt, or-shifted-r}
 use Rattle.bcn_util.specs.declared.writer.BitWriter.{BitWriter}
-use Rattle.laws.specs.Digits.{Fit, join, split, total}
+use Rattle.laws.specs.Digits.{join, split, total}
 use Rattle.laws.specs.Tables.{table, tableFrom}
-use Rattle.laws.proofs.Digits.{join-lt, join-split, split-join}
+use Rattle.laws.proofs.Digits.{join-lt}
 use Rattle.laws.proofs.Joining.{table-same}
 use Rattle.laws.proofs.Rows.{fit-table, join-more, table-none, total-more, total-room, total-same}
-use Rattle.format.specs.Block.{bytesOf, eights, field, number}
+use Rattle.format.specs.Block.{bytesOf, eights, field}
 use Rattle.bcn_util.specs.Writer.{pushed, writerOf, written}
 use Rattle.bcn_util.proofs.On.{split-fields}
 use Rattle.bcn_util.proofs.Words.{shl-keeps}
@@ -107,10 +107,3 @@ unfolding bytesOf
 bytes-fields n =
     ap (λ (ws : List ℕ). split ws n) (sym eights-table) ∙ split-fields 16 (λ k. 8) n
     ∙ table-same 0 16 _ _ (λ k h. ap (λ (a : ℕ). field n a 8) (total-same (λ j. 8) 8 k (λ j l. refl) ∙ mul-comm k 8))
-
--- so what is written and finished reads back
-pub read-back : (f v : ℕ → ℕ) (n : ℕ) → ((k : ℕ) → k < n → v k < 2 ^ f k) → total (table n f) ≤ 128 → split (table n f) (number (bytesOf (join (table n f) (table n v)))) ≡ table n v
-unfolding number bytesOf
-read-back f v n fits room =
-    let fit : Fit (table n f) (table n v) = fit-table n f v fits in
-    ap (split (table n f)) (join-split eights (join (table n f) (table n v)) (lt-of-lt-of-le (join-lt fit) (pow-mono {i = total (table n f)} {j = 128} room))) ∙ split-join fit

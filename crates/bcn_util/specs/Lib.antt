@@ -1,4 +1,3 @@
 -- The definitions that the contracts cite.
 pub mod Stream
-pub mod Indexes
 pub mod Writer

@@ -2,18 +2,20 @@
 // back the stream past what was read.
 ghost use mathlib.Core.Path.{_≡_};
 ghost use mathlib.Core.List.{[], _∷_};
-ghost use Prim.Native.Nat.{ℕ, _+_, _*_, _/_, _%_, _^_, _≤_, _<_};
+ghost use Prim.Native.Nat.{_+_, _*_, _/_, _%_, _^_, _≤_, _<_};
 ghost use lib.ListN.{replicate};
 ghost use Rattle.laws.specs.Digits.{join};
 ghost use Rattle.format.specs.Block.{number, field};
 ghost use Rattle.bcn_util.specs.Stream.{held, skipped, consumed1, consumed8, consumed64, consumed2, consumed4};
 
+// Bits count from the lowest of `low`, which is byte 0's, to the highest of `high`. Past 128 there are zeros.
 pub struct BitStream {
     pub low: u64,
     pub high: u64,
     pub at: u32,
 }
 
+// What was read, and the stream behind it.
 pub struct Bit {
     pub value: bool,
     pub stream: BitStream,
@@ -100,6 +102,7 @@ impl BitStream {
         }
     }
 
+    // The next eight bits; the stream stays where it is.
     pub fn low_u8(self) -> u8
         ensures { λ r. ⌜ r ≡ field (held self) (self .at) 8 ⌝ }
     {

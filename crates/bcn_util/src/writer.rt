@@ -1,6 +1,6 @@
 // The writer, the reader's inverse: two halves and the position that the next value goes to.
 ghost use mathlib.Core.Path.{_≡_};
-ghost use Prim.Native.Nat.{ℕ, _+_, _^_, _≤_, _<_};
+ghost use Prim.Native.Nat.{_+_, _^_, _≤_, _<_};
 ghost use Rattle.format.specs.Block.{bytesOf};
 ghost use Rattle.bcn_util.specs.Writer.{pushed, writerOf, written};
 use crate::stream::BitStream;

@@ -2,10 +2,9 @@
 -- Assumes nothing.
 use mathlib.Core.Path.{_≡_, refl, sym}
 use mathlib.Core.Logic.{_≢_}
-use mathlib.Core.Bool.{true, false}
+use mathlib.Core.Bool.{true}
 use Prim.Native.Nat.{ℕ, _<_}
 use borrow.Author.Tests.{eqb-false, not-true}
-use lib.Dec.{eqb}
 use Rattle.format.specs.declared.Split.{Split}
 use Rattle.format.specs.Lines.{Line, has, indexPlace, isDrawn, lineAt, lineOf, means, own, pPlace, rotated, shown, valuePlace}
 use Rattle.format.specs.Modes.{channelBits, lines, pCount}

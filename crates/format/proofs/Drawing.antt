@@ -1,17 +1,15 @@
 -- The laws of drawing.
 -- Assumes nothing.
-use mathlib.Core.Path.{_≡_, _∙_, ap, sym, subst}
+use mathlib.Core.Path.{_≡_, _∙_, ap}
 use mathlib.Core.Bool.{Bool}
-use Prim.Native.Nat.{ℕ, zero, suc, _+_, _-_, _*_, _/_, _%_, _^_, _<_, _≤_}
-use native.Mathlib.Nat.{mul-le-mul-left, mul-assoc, add-comm, le-of-suc-le-suc}
+use Prim.Native.Nat.{ℕ, zero, suc, _+_, _-_, _*_, _/_, _^_, _<_, _≤_}
+use native.Mathlib.Nat.{mul-le-mul-left, mul-assoc, le-of-suc-le-suc}
 use native.Mathlib.Omega.{arith}
 use lib.Dec.{T, eqb, eqb→eq}
 use lib.Arith.{sub-sub-self}
-use lib.Bits.{bitOr, or-shifted}
-use lib.Pow.{shl-exact, shl-lt, shr-lt}
 use Rattle.laws.specs.Tables.{below}
 use Rattle.laws.proofs.Tests.{at}
-use Rattle.format.specs.Drawing.{drawn, promoted, weightOf, weights}
+use Rattle.format.specs.Drawing.{drawn, weightOf, weights}
 
 -- a weighted mean of two bytes, not yet divided, fits sixteen bits
 pub mean : (a b x y : ℕ) → a + b ≡ 256 → x < 256 → y < 256 → a * x + b * y ≤ 65280
@@ -60,12 +58,3 @@ pub symmetric : (b i e0 e1 : ℕ) → 2 ≤ b → b ≤ 4 → i < 2 ^ b → draw
 symmetric b i e0 e1 h l p =
     let e : weightOf b ((2 ^ b - 1) - i) ≡ 64 - weightOf b i = omega (arith, opposite b i h l p) in
     ap (drawn e1 e0) e ∙ turned-drawn (weightOf b i) e0 e1 (weight-le b i h l p)
-
--- the shifted value and its own top do not overlap
-pub widened : (b x : ℕ) → 4 ≤ b → b ≤ 8 → x < 2 ^ b → bitOr (x * 2 ^ (8 - b) % 2 ^ 8) (x * 2 ^ (8 - b) % 2 ^ 8 / 2 ^ b) ≡ promoted b x
-unfolding promoted
-widened b x h l p =
-    let e : b + (8 - b) ≡ 8 = omega arith in
-    let exact : x * 2 ^ (8 - b) % 2 ^ 8 ≡ x * 2 ^ (8 - b) = shl-exact b (8 - b) 8 p (omega arith) in
-    let top : x * 2 ^ (8 - b) < 2 ^ ((8 - b) + b) = subst (λ (n : ℕ). x * 2 ^ (8 - b) < 2 ^ n) (add-comm b (8 - b)) (shl-lt b (8 - b) p) in
-    ap (λ (n : ℕ). bitOr n (n / 2 ^ b)) exact ∙ or-shifted x (8 - b) (x * 2 ^ (8 - b) / 2 ^ b) (shr-lt (8 - b) b top)

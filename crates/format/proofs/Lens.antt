@@ -50,15 +50,6 @@ module _ (m : ℕ) (s : Split) where
   unfolding withLine
   set-trade l k a b f x d = trade (has m s l x) (has m s k x) (laid m a x) (laid m b x) (f x) (has-one l k x d)
 
-  -- SET twice: the later holds
-  twice : (b : Bool) (u v w : ℕ) → pick b u (pick b v w) ≡ pick b u w
-  twice true u v w = refl
-  twice false u v w = refl
-
-  pub set-set : (l : ℕ) (a b : Line) (f : Place → ℕ) (x : Place) → withLine m s l a (withLine m s l b f) x ≡ withLine m s l a f x
-  unfolding withLine
-  set-set l a b f x = twice (has m s l x) (laid m a x) (laid m b x) (f x)
-
   -- GET of another line than was SET
   pub own-other : (l k : ℕ) (a : Line) (f : Place → ℕ) (x : Place) → l ≢ k → own m s k (withLine m s l a f) x ≡ own m s k f x
   unfolding own withLine

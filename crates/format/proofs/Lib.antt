@@ -2,6 +2,7 @@ pub mod Drawing
 pub mod Anchors
 pub mod Places
 pub mod Opening
+pub mod Reserved
 pub mod Modes
 pub mod Starts
 pub mod Lens

@@ -2,17 +2,16 @@
 -- Assumes nothing.
 use mathlib.Core.Path.{_≡_, refl, sym, ap, _∙_, subst}
 use mathlib.Core.List.{List, [], _∷_}
-use Prim.Native.Nat.{ℕ, zero, suc, _+_, _-_, _*_, _/_, _%_, _^_, _<_}
+use Prim.Native.Nat.{ℕ, zero, suc, _+_, _/_, _%_, _^_, _<_}
 use native.Mathlib.Nat.{not-suc-le-zero, le-of-suc-le-suc}
 use native.Mathlib.Omega.{arith}
 use lib.Dec.{T}
-use lib.ListN.{length, getD, take, replicate}
+use lib.ListN.{length, getD, take}
 use Rattle.format.specs.declared.Split.{Split}
-use Rattle.laws.specs.Digits.{join, total}
+use Rattle.laws.specs.Digits.{total}
 use Rattle.laws.specs.Tables.{table, tableFrom}
 use Rattle.laws.proofs.Digits.{split-at-place}
 use Rattle.laws.proofs.Part.{getD-table}
-use Rattle.format.specs.Block.{number}
 use Rattle.format.specs.Modes.{endpointCount, modeRow}
 use Rattle.format.specs.Places.{Place, atPlace, inside, placeAt, pos, width, widths}
 use Rattle.format.specs.Splits.{anchors}
@@ -51,16 +50,3 @@ index-start (suc (suc (suc (suc (suc zero))))) s h = refl
 index-start (suc (suc (suc (suc (suc (suc zero)))))) s h = refl
 index-start (suc (suc (suc (suc (suc (suc (suc zero))))))) s h = refl
 index-start (suc (suc (suc (suc (suc (suc (suc (suc m)))))))) s h = absurd (let z : ⊥ = omega arith in z)
-
--- the number of the bytes, byte 0 lowest, by its own recursion
-abbrev pub num : List ℕ → ℕ
-num [] = 0
-num (b ∷ bs) = num bs * 2 ^ 8 + b
-
-num-join : (bs : List ℕ) → join (replicate (length bs) 8) bs ≡ num bs
-num-join [] = refl
-num-join (b ∷ bs) = ap (λ (n : ℕ). n * 2 ^ 8 + b) (num-join bs)
-
-pub number-num : (bs : List ℕ) → length bs ≡ 16 → number bs ≡ num bs
-unfolding number
-number-num bs e = subst (λ (k : ℕ). join (replicate k 8) bs ≡ num bs) e (num-join bs)

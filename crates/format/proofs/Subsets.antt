@@ -1,6 +1,6 @@
 -- That the statements are not empty: bytes of an array fit, every channel has a line of the mode, every line has its anchor.
 -- Assumes nothing.
-use mathlib.Core.Path.{_≡_, refl, sym, ap, _∙_, subst}
+use mathlib.Core.Path.{_≡_, sym, ap, _∙_}
 use mathlib.Core.Bool.{Bool, true, false}
 use mathlib.Core.List.{List, [], _∷_}
 use Prim.Native.Nat.{ℕ, zero, suc, _<_}
@@ -10,14 +10,14 @@ use lib.ListN.{length, getD, replicate}
 use Rattle.format.specs.declared.Split.{Split}
 use Rattle.format.specs.declared.Split.the-variants.{Whole, Two, Three, Vector}
 use Rattle.laws.specs.Digits.{Fit, more, none}
-use Rattle.laws.specs.Tables.{below, both, pick}
-use Rattle.laws.proofs.Tests.{at, both-left, both-right}
+use Rattle.laws.specs.Tables.{below, pick}
+use Rattle.laws.proofs.Tests.{at}
 use Rattle.format.specs.Block.{eights}
-use Rattle.format.specs.Lines.{anchorOf, firstIn, lineAt}
+use Rattle.format.specs.Lines.{lineAt}
 use Rattle.format.specs.Modes.{kindOfMode, lines, modeRow}
-use Rattle.format.specs.Partitions.{among, anchors2, anchors3, digits, marks, strings2, strings3, subset2, subset3}
+use Rattle.format.specs.Partitions.{digits, strings2, strings3, subset2, subset3}
 use Rattle.format.specs.Places.{Place}
-use Rattle.format.specs.Splits.{anchors, isVector, kindOf, partition, subset}
+use Rattle.format.specs.Splits.{isVector, kindOf, partition, subset}
 use Rattle.format.specs.WellFormed.{WellFormed}
 use Rattle.format.proofs.Modes.{good-64}
 use Rattle.format.proofs.Opening.{good-kind}
@@ -70,27 +70,3 @@ module _ {m : ℕ} {s : Split} {f : Place → ℕ} (g : WellFormed m s f) where
       go (Two a) h = h
       go (Three a) h = h
       go (Vector r i) h = first (eqb d 3)
-
--- the anchor of a line is an anchor, and in its line
-abbrev holds : (ℕ → ℕ) → List ℕ → ℕ → Bool
-holds sub an k = both (among (firstIn sub k an) an) (eqb (sub (firstIn sub k an)) k)
-
-two-hold : T (below 64 (λ a. below 2 (λ k. holds (subset2 a) (anchors2 a) k)))
-unfolding digits marks strings2 subset2 anchors2
-two-hold = tt
-
-three-hold : T (below 64 (λ a. below 3 (λ k. holds (subset3 a) (anchors3 a) k)))
-unfolding digits marks strings3 subset3 anchors3
-three-hold = tt
-
-pub anchor-in-line : (s : Split) (l : ℕ) → partition s < 64 → isVector s ≡ false → l < getD (1 ∷ 2 ∷ 3 ∷ 2 ∷ []) (kindOf s) 0 → T (among (anchorOf s l) (anchors s)) × (subset s (anchorOf s l) ≡ l)
-unfolding anchorOf
-anchor-in-line Whole zero ha v h = (tt, refl)
-anchor-in-line Whole (suc l) ha v h = absurd (let z : ⊥ = omega arith in z)
-anchor-in-line (Two a) l ha v h =
-    let t = at 2 (λ k. holds (subset2 a) (anchors2 a) k) (at 64 (λ a. below 2 (λ k. holds (subset2 a) (anchors2 a) k)) two-hold a ha) l h in
-    (both-left (among (firstIn (subset2 a) l (anchors2 a)) (anchors2 a)) _ t, eqb→eq _ l (both-right (among (firstIn (subset2 a) l (anchors2 a)) (anchors2 a)) _ t))
-anchor-in-line (Three a) l ha v h =
-    let t = at 3 (λ k. holds (subset3 a) (anchors3 a) k) (at 64 (λ a. below 3 (λ k. holds (subset3 a) (anchors3 a) k)) three-hold a ha) l h in
-    (both-left (among (firstIn (subset3 a) l (anchors3 a)) (anchors3 a)) _ t, eqb→eq _ l (both-right (among (firstIn (subset3 a) l (anchors3 a)) (anchors3 a)) _ t))
-anchor-in-line (Vector r i) l ha v h = absurd (subst T v tt)

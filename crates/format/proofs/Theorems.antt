@@ -5,14 +5,14 @@ use mathlib.Core.List.{List, map}
 use Prim.Native.Nat.{ℕ, zero, suc, _+_, _-_, _*_, _/_, _^_, _<_, _≤_}
 use native.Mathlib.Omega.{arith}
 use lib.Dec.{T, eqb, eqb→eq}
-use lib.ListN.{List·getD-map}
+use lib.ListN.{List·getD-map, getD, replicate}
 use Rattle.format.specs.declared.Split.{Split}
 use Rattle.laws.specs.Digits.{Fit, join, split, total}
 use Rattle.laws.specs.Tables.{below, both}
 use Rattle.laws.proofs.Digits.{join-split, split-join}
 use Rattle.laws.proofs.Tests.{at, both-left, both-right}
 use Rattle.format.specs.Drawing.{drawn, weightOf, weightOf256, weights, weights256}
-use Rattle.format.specs.Lines.{Line, lineBits, means, turned}
+use Rattle.format.specs.Lines.{Line, lineBits, means, pixels, turned}
 use Rattle.format.specs.Modes.{kindOfMode, partitionBits}
 use Rattle.format.specs.Partitions.{OneAnchor, anchors2, anchors3, digits, strings2, strings3, subset2, subset3}
 use Rattle.format.specs.Places.{Place, widths}
@@ -22,10 +22,15 @@ use Rattle.format.proofs.Anchors.{one-anchor2, one-anchor3}
 use Rattle.format.proofs.Drawing.{opposite, scaled, weight-le}
 use Rattle.format.proofs.Meaning.{line-bits, turned-means}
 use Rattle.format.proofs.Places.{total-128}
+use Rattle.format.proofs.Reserved.{nothing-shown, reserved-mode}
 
 -- every block has 128 bits, whatever its mode and its partition
 pub widths-sum-to-128 : (m : ℕ) (s : Split) → m < 8 → kindOf s ≡ kindOfMode m → partition s < 2 ^ partitionBits m → total (widths m s) ≡ 128
 widths-sum-to-128 = total-128
+
+-- a reserved block, one whose first byte is zero, shows sixteen pixels 0 0 0 0
+pub reserved-shows-nothing : (bs : List ℕ) → getD bs 0 0 ≡ 0 → pixels bs ≡ replicate 16 (replicate 4 0)
+reserved-shows-nothing bs e = nothing-shown bs (reserved-mode bs e)
 
 -- every subset of every partition holds exactly one anchor
 pub one-anchor-in-every-subset : ((a k : ℕ) → a < 64 → k < 2 → OneAnchor (anchors2 a) (subset2 a) k) × ((a k : ℕ) → a < 64 → k < 3 → OneAnchor (anchors3 a) (subset3 a) k)

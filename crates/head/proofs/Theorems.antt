@@ -4,10 +4,10 @@ use mathlib.Core.Path.{_≡_, refl, _∙_, ap, ap₂, sym, subst}
 use mathlib.Core.Logic.{_⊎_, inl, inr, ⊎-elim}
 use mathlib.Core.List.{List, [], _∷_, _++_, append-assoc}
 use Prim.Native.Nat.{ℕ, zero, suc, _+_, _-_, _*_, _/_, _%_, _^_, _<_, _≤_}
-use native.Mathlib.Nat.{div-lt-iff-lt-mul, eq-zero-or-pos, le-of-suc-le-suc, not-suc-le-zero, pow-suc, suc-add, zero-add}
+use native.Mathlib.Nat.{div-lt-iff-lt-mul, eq-zero-or-pos, pow-suc, zero-add}
 use native.Mathlib.Omega.{arith}
-use lib.ListN.{length, getD, take, drop, length-append}
-use lib.Seq.{take-nil, drop-drop, drop-append-seam, getD-drop}
+use lib.ListN.{length, drop, length-append}
+use lib.Seq.{drop-drop, drop-append-seam, getD-drop}
 use Rattle.head.specs.declared.Number.{Number}
 use Rattle.head.specs.declared.Head.{Head}
 use Rattle.head.specs.declared.HeadBytes.{HeadBytes}
@@ -15,7 +15,7 @@ use Rattle.laws.proofs.Cases.{lt-or}
 use Rattle.head.specs.Heads.{Sized, form, formIn, headBytes, headOf, headRefusal, heightIn, readHead, sizeRefusal, widthIn, writeHead}
 use Rattle.head.specs.Numbers.{Bytes, found, groups, noNumber, numberBytes, numbersEnd, raised, readGroups, readNumber}
 use Rattle.head.proofs.Heading.{accepted, head-1, head-2, head-3, head-4, head-5, refused, size-0, sized}
-use Rattle.head.proofs.Reading.{every-number, near, raised-some, read-last, read-more}
+use Rattle.head.proofs.Reading.{every-number, raised-some, read-last, read-more}
 use Rattle.head.proofs.Writing.{groups-last, groups-more, one-byte}
 
 -- what was written is read, with its end
@@ -172,65 +172,6 @@ module _ (s : List ℕ) where
       let z = sym refusal-is ∙ e in
       let p = parts z in
       subst (λ (r : Head). Sized (r .width) (r .height) × (s ≡ headBytes (r .width) (r .height) ++ drop (r .start) s)) (accepted s z) (p .size, spelt s p y)
-
--- no head is longer than seven bytes, so a sheet's first seven decide
-taken : (k at n : ℕ) (bs : List ℕ) → k ≤ n → readGroups k at (take n bs) ≡ readGroups k at bs
-unfolding readGroups
-taken zero at n bs h = refl
-taken (suc k) at zero bs h = absurd (not-suc-le-zero h)
-taken (suc k) at (suc n) [] h = refl
-taken (suc k) at (suc n) (b ∷ bs) h = rw (taken k (at + 1) n bs (le-of-suc-le-suc h))
-
-pub drop-take : (m n : ℕ) (l : List ℕ) → drop m (take (m + n) l) ≡ take n (drop m l)
-drop-take zero n l = rw zero-add
-drop-take (suc m) n [] = rw (suc-add, take-nil)
-drop-take (suc m) n (x ∷ l) = rw suc-add (drop-take m n l)
-
-number-taken : (s : List ℕ) (at n : ℕ) → at + 3 ≤ n → readNumber (take n s) at ≡ readNumber s at
-unfolding readNumber
-number-taken s at n h =
-    let e : n ≡ at + (n - at) = omega arith in
-    ap (λ (m : ℕ). readGroups 3 at (drop at (take m s))) e ∙ ap (readGroups 3 at) (drop-take at (n - at) s) ∙ taken 3 at (n - at) (drop at s) (omega arith)
-
-short : (k at : ℕ) (bs : List ℕ) → readGroups k at bs .refusal ≡ 0 → readGroups k at bs .value < 128 → readGroups k at bs .next ≡ at + 1
-short =
-    every-number (λ k at bs r. r .refusal ≡ 0 → r .value < 128 → r .next ≡ at + 1) (λ k at bs z l. absurd (let q : ⊥ = omega arith in q)) (λ k at b bs l z s. refl)
-    (λ k at b bs r l ne h z s. absurd (let q : ⊥ = omega arith in q))
-
-module _ (s : List ℕ) where
-  form-taken : formIn (take 7 s) ≡ formIn s
-  unfolding formIn
-  form-taken = number-taken s 0 7 (omega arith)
-
-  form-ends : formIn s .refusal ≡ 0 → formIn s .value ≡ form → formIn s .next ≡ 1
-  unfolding formIn readNumber
-  form-ends z e = short 3 0 (drop 0 s) z (omega arith)
-
-  width-taken : formIn s .next ≡ 1 → widthIn (take 7 s) ≡ widthIn s
-  unfolding widthIn
-  width-taken e = ap (λ (r : Number). readNumber (take 7 s) (r .next)) form-taken ∙ number-taken s (formIn s .next) 7 (omega arith)
-
-  width-near : widthIn s .next ≤ formIn s .next + 3
-  unfolding widthIn
-  width-near = near s (formIn s .next) refl
-
-  height-taken : formIn s .next ≡ 1 → heightIn (take 7 s) ≡ heightIn s
-  unfolding heightIn
-  height-taken e =
-      ap (λ (r : Number). readNumber (take 7 s) (r .next)) (width-taken e) ∙ number-taken s (widthIn s .next) 7 (omega (arith, width-near, e))
-
-  whole : formIn s .next ≡ 1 → readHead (take 7 s) ≡ readHead s
-  unfolding readHead headRefusal
-  whole e = rw (form-taken, width-taken e, height-taken e)
-
-  pub seven-bytes-decide : readHead (take 7 s) ≡ readHead s
-  seven-bytes-decide =
-      ⊎-elim (λ a. ⊎-elim (λ b. whole (form-ends a b)) (λ b. same (head-2 (take 7 s) (rw form-taken a) (rw form-taken b)) (head-2 s a b) (λ q. omega arith)) (one-or (formIn s .value)))
-      (λ a. let ne : formIn s .refusal ≡ 0 → ⊥ = λ q. omega arith in same (head-1 (take 7 s) (rw form-taken ne) ∙ ap (λ (r : Number). r .refusal) form-taken) (head-1 s ne) ne)
-      (eq-zero-or-pos (formIn s .refusal))
-    where
-      same : {r : ℕ} → headRefusal (take 7 s) ≡ r → headRefusal s ≡ r → (r ≡ 0 → ⊥) → readHead (take 7 s) ≡ readHead s
-      same p q ne = sym (refused (take 7 s) _ p ne) ∙ refused s _ q ne
 
 -- any two results that a call's promise admits coincide: each promise is an equation
 pub determined-read-head : (s : List ℕ) (a b : Head) → a ≡ readHead s → b ≡ readHead s → a ≡ b

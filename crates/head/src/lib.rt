@@ -2,7 +2,7 @@
 // largest side of a sheet are named here, and nowhere else in the code.
 ghost use mathlib.Core.Path.{_≡_};
 ghost use mathlib.Core.List.{[], _∷_};
-ghost use Prim.Native.Nat.{_+_, _^_, _≤_, _<_};
+ghost use Prim.Native.Nat.{_+_, _≤_, _<_};
 ghost use lib.ListN.{drop};
 ghost use Rattle.head.specs.Numbers.{numberBytes, numbersEnd, readGroups, readNumber};
 ghost use Rattle.head.specs.Heads.{headOf, noBytes, readHead, sizeRefusal, withBytes, writeHead};
@@ -114,7 +114,7 @@ fn refused_head(refusal: u8) -> Head
     }
 }
 
-// The head of a sheet, or of its first seven bytes: no head is longer.
+// The head that the bytes of a sheet start with.
 pub fn read_head(sheet: &[u8]) -> Head
     ensures { λ r. ⌜ r ≡ readHead (now (sheet .entry)) ⌝ }
 {

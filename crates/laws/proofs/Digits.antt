@@ -2,7 +2,7 @@
 -- Assumes nothing.
 use mathlib.Core.Path.{_≡_, refl, sym, ap, ap₂, _∙_}
 use mathlib.Core.List.{List, [], _∷_, _++_}
-use Prim.Native.Nat.{ℕ, zero, suc, _+_, _-_, _*_, _/_, _%_, _^_, _<_}
+use Prim.Native.Nat.{ℕ, zero, suc, _+_, _*_, _/_, _%_, _^_, _<_}
 use native.Mathlib.Nat.{mod-lt, mod-eq-of-lt, mod-one, add-zero, zero-add, add-comm, add-assoc, div-one, zero-lt-suc, not-suc-le-zero, le-of-suc-le-suc, mul-one, add-mul, mul-assoc}
 use native.Mathlib.Omega.{arith}
 use lib.ListN.{length, getD, take}
@@ -47,12 +47,6 @@ split-at-place (w ∷ ws) n (suc k) h =
 pub total-append : (us ws : List ℕ) → total (us ++ ws) ≡ total us + total ws
 total-append [] ws = sym (zero-add (total ws))
 total-append (u ∷ us) ws = let e : total (us ++ ws) ≡ total us + total ws = total-append us ws in omega arith
-
-pub split-append : (us ws : List ℕ) (n : ℕ) → split (us ++ ws) n ≡ split us n ++ split ws (n / 2 ^ total us)
-split-append [] ws n = ap (split ws) (sym (div-one n))
-split-append (u ∷ us) ws n =
-    ap {B = List ℕ} (λ l. n % 2 ^ u ∷ l)
-    (split-append us ws (n / 2 ^ u) ∙ ap {B = List ℕ} (λ x. split us (n / 2 ^ u) ++ split ws x) (shr-shr n u (total us) ∙ ap (λ (x : ℕ). n / 2 ^ x) (add-comm u (total us))))
 
 pub join-append : {us xs : List ℕ} → Fit us xs → (ws vs : List ℕ) → join (us ++ ws) (xs ++ vs) ≡ join ws vs * 2 ^ total us + join us xs
 join-append none ws vs = sym (add-zero (join ws vs * 1) ∙ mul-one (join ws vs))

@@ -25,12 +25,13 @@ use Rattle.format.specs.Modes.{lines}
 use Rattle.format.specs.Places.{Place, head, index, inside, opened, pbit, value}
 use Rattle.format.specs.Splits.{splitOf}
 use Rattle.format.proofs.Opening.{opened-good}
+use Rattle.format.proofs.Reserved.{open-mode, reserved-mode, zero-byte}
 use Rattle.record_rules.specs.Records.{made, packed, packedAs, recordOf, says, taken, unpackedAs, zeroRecord}
-use Rattle.record_rules.proofs.Packing.{made-ext, open-mode}
+use Rattle.record_rules.proofs.Packing.{made-ext}
 use Rattle.line_rules.specs.Acceptable.{Answer, Within, accepted, no-line, p-bits-differ, reserved, too-wide}
 use Rattle.line_rules.specs.Coded.{LineOfBlock}
 use Rattle.line_rules.specs.Replace.{after, callOf, lineFits, lineGiven, oriented, put, refusal, replaced, replacedAs}
-use Rattle.line_rules.proofs.Accepting.{answer-is, fits-within, reserved-mode, second, within-fits, zero-byte}
+use Rattle.line_rules.proofs.Accepting.{answer-is, fits-within, second, within-fits}
 use Rattle.line_rules.proofs.Blocks.{unchanged}
 use Rattle.line_rules.proofs.Own.{pick-lt}
 use Rattle.line_turning.specs.Coded.{givenAs}

@@ -107,6 +107,7 @@ fn indexes_fit(mode: u8, split: Split, line: usize, new: Replacement) -> bool
     true
 }
 
+// All of it, in the order of the record's parts.
 pub fn line_fits(mode: u8, split: Split, line: usize, new: Replacement) -> bool
     requires { ⌜ LineOfBlock mode split line ⌝ }
     ensures { λ r. ⌜ r ≡ lineFits mode split line (lineGiven new) ⌝ }

@@ -56,6 +56,7 @@ fn values_after(before: Record, line: usize, new: Replacement) -> [u8; 66]
     values
 }
 
+// The record with a line put in.
 pub fn with_line(before: Record, line: usize, new: Replacement) -> Record
     requires { ⌜ LineOfBlock (before .mode) (before .split) line ⌝ }
     ensures { λ r. ⌜ r ≡ made (before .mode) (before .split) (withLine (before .mode) (before .split) line (lineGiven new) (says before)) ⌝ }

@@ -17,6 +17,7 @@ use record_widths::index_width;
 use record_widths::p_width;
 use record_widths::value_width;
 
+// Vector and scalar, the split of modes 4 and 5.
 pub fn is_vector(split: Split) -> bool
     ensures { λ r. ⌜ r ≡ isVector split ⌝ }
 {

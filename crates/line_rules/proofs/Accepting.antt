@@ -1,11 +1,10 @@
 -- Which answer a call gets.
 -- Assumes nothing.
-use mathlib.Core.Path.{_≡_, refl, ap, subst}
+use mathlib.Core.Path.{_≡_, refl, subst}
 use mathlib.Core.Logic.{_≢_}
 use mathlib.Core.Bool.{Bool, true, false, not}
 use mathlib.Core.List.{List, [], _∷_}
 use Prim.Native.Nat.{ℕ}
-use native.Mathlib.Omega.{arith}
 use borrow.Author.Tests.{eqb-true, eqb-false, eq-eqb, ne-eqb, not-false, ltb-true, ltb-false, lt-ltb, le-ltb}
 use lib.Dec.{T, eqb, ltb, ltb→lt, lt→ltb}
 use lib.ListN.{getD}
@@ -15,11 +14,11 @@ use Rattle.laws.specs.Refusals.{first, refuse}
 use Rattle.laws.specs.Tables.{below, both}
 use Rattle.laws.proofs.First.{first-zero, refuse-no}
 use Rattle.laws.proofs.Tests.{T-true, at, below-intro, both-intro, both-true, no-both, true-T}
-use Rattle.format.specs.Block.{eights, modeOf, trailing}
+use Rattle.format.specs.Block.{eights, modeOf}
 use Rattle.format.specs.Lines.{Line}
 use Rattle.format.specs.Modes.{lines}
 use Rattle.format.specs.Splits.{splitOf}
-use Rattle.record_rules.proofs.Packing.{open-mode}
+use Rattle.format.proofs.Reserved.{reserved-mode, zero-byte}
 use Rattle.line_rules.specs.Acceptable.{Acceptable, Answer, Within, accepted, no-line, p-bits-differ, reserved, too-wide}
 use Rattle.line_rules.specs.Replace.{Call, indexFits, lineFits, pFits, refusal, refusalIn, valueFits}
 
@@ -61,18 +60,6 @@ module _ (m : ℕ) (s : Split) (l : ℕ) (ln : Line) where
         within = fits-within (not-false _ (refuse-no 2 _ (c .0)));
         same-p = λ z. eqb-true (ln .p 0) (ln .p 1) (not-false _ (second (eqb m 1) _ (eq-eqb m 1 z) (refuse-no 3 _ (d .0))));
       }
-
--- the reserved blocks are those whose first byte is zero
-pub reserved-mode : (bs : List ℕ) → getD bs 0 0 ≡ 0 → modeOf bs ≡ 8
-unfolding modeOf trailing
-reserved-mode bs e = ap (trailing 8) e
-
-pub zero-byte : (bs : List ℕ) → Fit eights bs → modeOf bs ≡ 8 → getD bs 0 0 ≡ 0
-zero-byte bs sixteen e = go (eqb (getD bs 0 0) 0) refl
-  where
-    go : (b : Bool) → eqb (getD bs 0 0) 0 ≡ b → getD bs 0 0 ≡ 0
-    go true z = eqb-true _ 0 z
-    go false z = absurd (let l = open-mode bs sixteen (eqb-false _ 0 z) in let y : ⊥ = omega arith in y)
 
 never-true : (b : Bool) → (b ≡ true → ⊥) → b ≡ false
 never-true true n = absurd (n refl)

@@ -17,11 +17,11 @@ use Rattle.format.specs.Partitions.{among}
 use Rattle.format.specs.Places.{opened}
 use Rattle.format.specs.Splits.{splitOf}
 use Rattle.format.proofs.Opening.{opened-good}
-use Rattle.record_rules.proofs.Packing.{open-mode}
+use Rattle.format.proofs.Reserved.{open-mode, reserved-mode, zero-byte}
 use Rattle.line_rules.specs.Acceptable.{Acceptable, Answer, OwnWidths, accepted}
 use Rattle.line_rules.specs.Calls.{afterAll, last, lastOfEach, seen}
 use Rattle.line_rules.specs.Replace.{Call, after, refusal, replaced}
-use Rattle.line_rules.proofs.Accepting.{answer-is, answered, reserved-mode, zero-byte}
+use Rattle.line_rules.proofs.Accepting.{answer-is, answered}
 use Rattle.line_rules.proofs.Blocks.{after-mode, after-sixteen, after-split, all-same, bytes-trade, full-alpha, given-drawn, others-kept, same-refusal, unchanged}
 use Rattle.line_rules.proofs.Draws.{drawn-by-one}
 use Rattle.line_rules.proofs.OwnWidths.{own-widths}

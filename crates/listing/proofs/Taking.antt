@@ -5,12 +5,12 @@ use mathlib.Core.Bool.{Bool, true, false}
 use mathlib.Core.Logic.{_⊎_, inl, inr, ⊎-elim}
 use mathlib.Core.List.{List, [], _∷_}
 use Prim.Native.Nat.{ℕ, zero, suc, _+_, _-_, _*_, _%_, _<_, _≤_}
-use native.Mathlib.Nat.{add-assoc, le-of-suc-le-suc, not-suc-le-zero, zero-add}
+use native.Mathlib.Nat.{add-assoc, le-of-suc-le-suc, not-suc-le-zero, suc-add, zero-add}
 use native.Mathlib.Numerals.{one-add}
 use native.Mathlib.Omega.{arith}
 use lib.Dec.{ltb}
 use lib.ListN.{take, drop}
-use lib.Seq.{drop-drop}
+use lib.Seq.{drop-drop, take-nil}
 use borrow.Author.Tests.{le-ltb, lt-ltb}
 use Rattle.head.specs.declared.Head.{Head}
 use Rattle.head.specs.declared.Number.{Number}
@@ -19,7 +19,7 @@ use Rattle.head.specs.Heads.{formIn, headRefusal, heightIn, readHead, widthIn}
 use Rattle.head.specs.Numbers.{found, noNumber, raised, readGroups, readNumber}
 use Rattle.head.proofs.Heading.{accepted}
 use Rattle.head.proofs.Reading.{every-number}
-use Rattle.head.proofs.Theorems.{drop-take, parts, refusal-is}
+use Rattle.head.proofs.Theorems.{parts, refusal-is}
 use Rattle.listing.specs.Taking.{headLength, reach}
 
 -- a number is read from the bytes that are taken as it is from all of them
@@ -85,6 +85,11 @@ told = every-number Told (λ k at bs. inl refl) last more
 number-told : (s : List ℕ) (at : ℕ) → Told 3 at (drop at s) (readNumber s at)
 unfolding readNumber
 number-told s at = told 3 at (drop at s)
+
+drop-take : (m n : ℕ) (l : List ℕ) → drop m (take (m + n) l) ≡ take n (drop m l)
+drop-take zero n l = rw zero-add
+drop-take (suc m) n [] = rw (suc-add, take-nil)
+drop-take (suc m) n (x ∷ l) = rw suc-add (drop-take m n l)
 
 -- what is taken of an input
 module _ (s : List ℕ) where

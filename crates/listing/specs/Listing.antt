@@ -9,7 +9,7 @@ use Rattle.format.specs.Block.{modeOf}
 use Rattle.format.specs.Lines.{pixels}
 use Rattle.head.specs.Heads.{readHead}
 use Rattle.text.specs.Lines.{blockLine, refusedLine, sheetLine}
-use Rattle.sheet_rules.specs.Rows.{across, blockAt}
+use Rattle.sheet_rules.specs.Rows.{blockAt}
 use Rattle.sheet_rules.specs.Sheets.{blocksOf}
 
 -- the line of a block

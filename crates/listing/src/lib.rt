@@ -21,6 +21,7 @@ pub struct HeadReader {
     pub numbers: u8,
 }
 
+// A reader that has taken nothing.
 pub fn start() -> HeadReader
     ensures { λ r. ⌜ r ≡ fresh ⌝ }
     ensures { λ r. ⌜ r .count ≡ 0 ⌝ }

@@ -3,6 +3,7 @@ ghost use mathlib.Core.Path.{_≡_};
 ghost use Rattle.format.specs.Splits.{kindOf, partition, rotation, indexMode, ofKind};
 use format::Split;
 
+// 0 whole, 1 two subsets, 2 three, 3 vector and scalar.
 pub fn kind_of(split: Split) -> u8
     ensures { λ r. ⌜ r ≡ kindOf split ⌝ }
 {

@@ -1,27 +1,26 @@
 -- The record and the places say the same of each other; what packing accepts is what a block holds.
 -- Assumes nothing.
 use mathlib.Core.Path.{_≡_, refl, sym, ap, ap₂, _∙_, subst}
-use mathlib.Core.Logic.{_≢_}
-use mathlib.Core.Bool.{Bool, true, not}
+use mathlib.Core.Bool.{true}
 use mathlib.Core.List.{List, []}
 use Prim.Native.Nat.{ℕ, zero, suc, _+_, _-_, _*_, _/_, _%_, _^_, _<_}
 use native.Mathlib.Nat.{lt-of-lt-of-le}
 use native.Mathlib.Omega.{arith}
 use borrow.Author.Tests.{ltb-false, ne-eqb, not-false, eqb-true}
-use lib.Dec.{T, eqb, ltb, ltb→lt, lt→ltb}
+use lib.Dec.{T, ltb, ltb→lt, lt→ltb}
 use lib.ListN.{length, getD}
 use lib.Pow.{pow-mono}
 use Rattle.record_rules.specs.declared.Record.{Record}
 use Rattle.record_rules.specs.declared.Packed.{Packed}
 use Rattle.format.specs.declared.Split.{Split}
-use Rattle.laws.specs.Digits.{Fit, more}
+use Rattle.laws.specs.Digits.{Fit}
 use Rattle.laws.specs.Refusals.{first}
-use Rattle.laws.specs.Tables.{below, implies, table}
+use Rattle.laws.specs.Tables.{table}
 use Rattle.laws.proofs.First.{first-zero, refuse-no}
 use Rattle.laws.proofs.Joining.{table-same}
 use Rattle.laws.proofs.Part.{getD-table, part-all}
-use Rattle.laws.proofs.Tests.{T-true, at, below-intro, both-intro, both-left, both-right, implied, true-T}
-use Rattle.format.specs.Block.{eights, modeOf, trailing}
+use Rattle.laws.proofs.Tests.{T-true, at, below-intro, both-intro, both-left, both-right, true-T}
+use Rattle.format.specs.Block.{eights, modeOf}
 use Rattle.format.specs.Modes.{kindOfMode}
 use Rattle.format.specs.Places.{Place, blockOf, head, index, inside, opened, pbit, placeAt, pos, value, width}
 use Rattle.format.specs.Splits.{anchors, indexMode, kindOf, ofKind, partition, rotation}
@@ -132,17 +131,6 @@ packs-good r e =
       splits = sym (split-of-kind s ∙ ap (λ (k : ℕ). ofKind k (partition s) (rotation s) (indexMode s)) k);
       fits = fits-at m (anchors s) (says r) (not-false _ (refuse-no 5 _ (d .0)));
     }
-
-nonzero-mode : T (below 256 (λ b. implies (not (eqb b 0)) (ltb (trailing 8 b) 8)))
-unfolding trailing implies
-nonzero-mode = tt
-
--- the reserved blocks are those whose first byte is zero
-pub open-mode : (bs : List ℕ) → Fit eights bs → getD bs 0 0 ≢ 0 → modeOf bs < 8
-unfolding modeOf
-open-mode bs (more {v = b} h f) n =
-    ltb→lt (trailing 8 b) 8 (implied (not (eqb b 0)) (ltb (trailing 8 b) 8) (at 256 (λ b. implies (not (eqb b 0)) (ltb (trailing 8 b) 8)) nonzero-mode b h)
-    (subst (λ (t : Bool). T (not t)) (sym (ne-eqb b 0 n)) tt))
 
 pub taken-open : (bs : List ℕ) → modeOf bs < 8 → taken bs ≡ unpackedAs 0 (recordOf bs)
 unfolding taken

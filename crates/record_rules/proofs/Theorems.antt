@@ -18,8 +18,9 @@ use Rattle.format.specs.Splits.{splitOf}
 use Rattle.format.specs.WellFormed.{WellFormed}
 use Rattle.format.proofs.Lens.{shown-ext}
 use Rattle.format.proofs.Opening.{block-opened, mode-block, opened-block, opened-good, split-block}
+use Rattle.format.proofs.Reserved.{open-mode}
 use Rattle.record_rules.specs.Records.{Shaped, made, packed, packedAs, recordOf, says, taken, unpackedAs}
-use Rattle.record_rules.proofs.Packing.{good-accepted, good-packs, made-ext, made-says, open-mode, packs-good, record-says, taken-open}
+use Rattle.record_rules.proofs.Packing.{good-accepted, good-packs, made-ext, made-says, packs-good, record-says, taken-open}
 
 -- packing what taking apart answers gives the block back
 pub pack-unpack : (bs : List ℕ) → Fit eights bs → getD bs 0 0 ≢ 0 → packed (taken bs .«record») ≡ packedAs 0 bs

@@ -44,6 +44,7 @@ fn not_found(refusal: u8) -> Found
     }
 }
 
+// Where block `block` stands, or the first refusal that applies: the head's, 10, 12.
 pub fn find_block(sheet: &[u8], block: u32) -> Found
     ensures { λ r. ⌜ r ≡ findBlock (now (sheet .entry)) block ⌝ }
 {

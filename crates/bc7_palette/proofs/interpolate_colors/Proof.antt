@@ -7,8 +7,8 @@ use borrow.Author.Needs.{needs}
 use lib.ListN.{getD}
 use mir.Syntax.{w8}
 use mir.Val.{Fits}
-use Rattle.bc7_palette.proofs.Channels.{lerped-word, sums-fit}
-use Rattle.bc7_palette.specs.Colors.{bytesAt, laned}
+use Rattle.bc7_palette.proofs.Mixing.{lerped-word, sums-fit}
+use Rattle.bc7_color.specs.Colors.{bytesAt, laned}
 use Rattle.bc7_palette.proofs.interpolate_colors.Statement.{statement}
 use Rattle.bc7_palette.proofs.interpolate_colors.Tie as tie
 

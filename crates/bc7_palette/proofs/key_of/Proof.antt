@@ -4,8 +4,8 @@ use mathlib.Core.Path.{ap, ap₂, _∙_}
 use Prim.Native.Nat.{ℕ, _+_, _*_, _^_}
 use native.Mathlib.Omega.{arith}
 use borrow.Author.Needs.{needs}
-use Rattle.bc7_palette.proofs.Channels.{above-index, key-below}
-use Rattle.bc7_palette.specs.Painting.{key}
+use Rattle.bc7_palette.proofs.Keys.{above-index, key-below}
+use Rattle.bc7_fields.specs.Painting.{key}
 use Rattle.bc7_palette.proofs.key_of.Statement.{statement}
 use Rattle.bc7_palette.proofs.key_of.Tie as tie
 

@@ -2,24 +2,24 @@
 -- Assumes nothing.
 use mathlib.Core.Path.{refl, ap}
 use mathlib.Core.List.{[]}
-use Prim.Native.Nat.{ℕ, _-_, _≤_}
+use Prim.Native.Nat.{ℕ, _-_}
 use native.Mathlib.Omega.{arith}
 use lib.ListN.{getD}
 use lib.Pow.{pow-mono}
-use Rattle.laws.proofs.Filled.{Filled, filled-all, filled-next, filled-none}
-use Rattle.bcn_util.specs.Indexes.{part}
-use Rattle.bc7_palette.specs.Painting.{painted}
+use Rattle.bcn_indexes.specs.Indexes.{part}
+use Rattle.bc7_fields.specs.Painting.{painted}
+use Rattle.bc7_fields.proofs.Making.{Made, made-all, made-next, made-none}
 use Rattle.bc7_palette.proofs.paint_1.Statement.{statement}
 use Rattle.bc7_palette.proofs.paint_1.Tie as tie
 
 abbrev Inv-loop : tie.InvT-loop
-Inv-loop bits x p output₀ i₀ output i = (i ≤ 16) × Filled 16 [] (λ q. getD p (part x bits q) []) i output
+Inv-loop bits x p output₀ i₀ output i = Made (λ q. getD p (part x bits q) []) i output
 
 abbrev μ-loop : tie.MeasureT-loop
 μ-loop bits x p output₀ i₀ output i = 16 - i
 
 loop-holds : tie.Need-loop-holds Inv-loop μ-loop
-loop-holds c = (omega arith, filled-none refl)
+loop-holds c = made-none refl
 
 part-of-requires : tie.Need-part-of-requires Inv-loop μ-loop
 part-of-requires c κs = omega arith
@@ -45,12 +45,11 @@ loop-less c = omega arith
 loop-again : tie.Need-loop-again Inv-loop μ-loop
 loop-again c =
     let at = c .before .before in
-    let i = at .before .loop .i in
-    (omega arith, filled-next i _ (at .before .loop .inv .1) (at .loop-test .taken) (ap (λ (k : ℕ). getD (at .before .before .args .t2) k []) (c .before .part-of .ensures .0)))
+    made-next (at .before .loop .inv) (at .loop-test .taken) (ap (λ (k : ℕ). getD (at .before .before .args .t2) k []) (c .before .part-of .ensures .0))
 
 returns : tie.Need-returns Inv-loop μ-loop
 unfolding painted
-returns c = filled-all (c .before .loop .inv .1) (omega arith)
+returns c = made-all (c .before .loop .inv) (omega arith)
 
 pub paint-1-spec : {M : Type 1} → statement M
 paint-1-spec =

@@ -9,7 +9,7 @@ use Rattle.laws.specs.Tables.{over}
 use Rattle.laws.proofs.Over.{over-more, over-none}
 use Rattle.bcn_util.proofs.Words.{one-shl}
 use Rattle.bc7_palette.proofs.Weights.{between-is, weight-256}
-use Rattle.bc7_palette.specs.Colors.{between}
+use Rattle.bc7_fields.specs.Painting.{between}
 use Rattle.bc7_palette.proofs.palette.Statement.{statement}
 use Rattle.bc7_palette.proofs.palette.Tie as tie
 

@@ -10,7 +10,7 @@ use Rattle.laws.specs.Tables.{over}
 use Rattle.laws.proofs.Over.{over-more, over-none}
 use Rattle.format.specs.Drawing.{weights}
 use Rattle.bc7_palette.proofs.Weights.{between-is, weight-256, weight-at}
-use Rattle.bc7_palette.specs.Colors.{between}
+use Rattle.bc7_fields.specs.Painting.{between}
 use Rattle.bc7_palette.proofs.palette_4.Statement.{statement}
 use Rattle.bc7_palette.proofs.palette_4.Tie as tie
 

@@ -5,7 +5,7 @@ use native.Mathlib.Nat.{mod-lt, mul-le-mul-right}
 use native.Mathlib.Omega.{arith}
 use borrow.Author.Needs.{needs}
 use lib.Pow.{pow-pos}
-use Rattle.bcn_util.specs.Indexes.{part}
+use Rattle.bcn_indexes.specs.Indexes.{part}
 use Rattle.bcn_util.proofs.Words.{one-shl}
 use Rattle.bc7_palette.proofs.part_of.Statement.{statement}
 use Rattle.bc7_palette.proofs.part_of.Tie as tie

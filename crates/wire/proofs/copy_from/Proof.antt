@@ -1,7 +1,7 @@
 -- `copy_from`: what is copied so far stands at its place.
 -- Assumes nothing.
 use mathlib.Core.Path.{refl}
-use Prim.Native.Nat.{ℕ, _+_, _-_, _≤_}
+use Prim.Native.Nat.{_+_, _-_, _≤_}
 use native.Mathlib.Omega.{arith}
 use lib.ListN.{length, getD}
 use Rattle.laws.proofs.Filled.{Filled, filled-all, filled-next, filled-none}

@@ -1,7 +1,7 @@
 -- `record_bytes`: the bytes so far are the record's.
 -- Assumes nothing.
 use mathlib.Core.Path.{refl}
-use Prim.Native.Nat.{ℕ, _-_, _≤_}
+use Prim.Native.Nat.{_-_, _≤_}
 use native.Mathlib.Omega.{arith}
 use Rattle.laws.proofs.Filled.{Filled, filled-all, filled-next, filled-none}
 use Rattle.wire.specs.Wire.{recordByte, recordBytes}

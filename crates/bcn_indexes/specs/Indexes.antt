@@ -1,0 +1,37 @@
+-- Sixteen indexes of one width, and how they are stored where the anchors have a bit less.
+-- Assumes nothing.
+use mathlib.Core.List.{List, []}
+use Prim.Native.Nat.{ℕ, _+_, _-_, _*_, _/_, _%_, _^_}
+use Rattle.bcn_indexes.specs.declared.Indexes.{Indexes}
+use Rattle.bcn_indexes.specs.declared.NewIndexes.{NewIndexes}
+use Rattle.bcn_util.specs.declared.stream.BitStream.{BitStream}
+use Rattle.laws.specs.Digits.{join, split}
+use Rattle.laws.specs.Tables.{pick, table}
+use Rattle.format.specs.Partitions.{among}
+use Rattle.bcn_util.specs.Stream.{nextBits, skipped}
+
+-- how many bits the index of pixel i has, of indexes of w bits with these anchors
+abbrev pub indexWidth : ℕ → List ℕ → ℕ → ℕ
+indexWidth w an i = pick (among i an) (w - 1) w
+
+unfoldable pub indexWidths : ℕ → List ℕ → List ℕ
+indexWidths w an = table 16 (indexWidth w an)
+
+-- the indexes that stand in n at these widths, at w bits each: an anchor's top bit is zero
+unfoldable pub expanded : ℕ → List ℕ → ℕ → ℕ
+expanded w an n = join (indexWidths w []) (split (indexWidths w an) n)
+
+abbrev pub indexesOf : ℕ → List ℕ → ℕ → Indexes
+indexesOf w an n = record { uncompressed = expanded w an n; bits = w }
+
+-- the indexes that stand in the next t bits of a stream
+abbrev pub newIndexes : ℕ → List ℕ → BitStream → ℕ → NewIndexes
+newIndexes w an s t = record { indexes = indexesOf w an (nextBits s t); stream = skipped s t }
+
+-- part i of a number of parts of w bits
+unfoldable pub part : ℕ → ℕ → ℕ → ℕ
+part x w i = x / 2 ^ (i * w) % 2 ^ w
+
+-- a zero put in at bit p
+unfoldable pub inserted : ℕ → ℕ → ℕ
+inserted n p = n / 2 ^ p * 2 ^ (p + 1) + n % 2 ^ p
