@@ -1,4 +1,5 @@
-// A row of blocks: why it is refused, how many of its lines are shown, and its blocks decoded and laid into the output.
+// A row of blocks: why it is refused, how many of its lines are shown, and its blocks decoded and laid into the output. Blocks go
+// straight from the decoder to their columns, so no buffer stands between.
 ghost use mathlib.Core.Path.{_≡_};
 ghost use Prim.Native.Nat.{_*_, _≤_, _<_};
 ghost use lib.ListN.{length};
