@@ -111,7 +111,7 @@ def difference(data, want, got):
 
 
 def compare(command, seed, with_largest=True):
-    """Rows of (what, number of inputs, difference or None, seconds, note)."""
+    """Rows of (what, number of inputs, difference or None, note)."""
     for what, many in inputs(seed):
         yield row(what, [(data, printed(command, data)) for data in many])
     dice = Dice(seed + 1)

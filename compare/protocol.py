@@ -1,5 +1,5 @@
-"""The byte protocol of the program `replay`: calls from Python values, answers to Python values, and the answer that
-the model gives to a call.
+"""The byte protocol of the program `replay`: calls from Python values, and the answer that the model gives to a
+call.
 
 A call is (letter, arguments..):
   D block            decode a block
@@ -22,9 +22,6 @@ LARGEST_LENGTH = 65536  # a longer slice ends the run
 def number(value):
     return value.to_bytes(4, "little")
 
-
-def read_number(data, at):
-    return int.from_bytes(data[at : at + 4], "little")
 
 
 def record_bytes(record, spare=(0, 0)):
@@ -61,12 +58,6 @@ def call_bytes(call):
     return letter.encode() + body
 
 
-def answer_size(call):
-    fixed = {"D": 64, "U": 1 + RECORD, "P": 17, "R": 17, "H": 13, "W": 9}
-    if call[0] == "O":
-        return 1 + len(call[5])
-    return 1 + len(call[1]) if call[0] == "S" else fixed[call[0]]
-
 
 def model_answer(call):
     """The bytes that a right `replay` writes for the call."""
@@ -93,20 +84,6 @@ def model_answer(call):
     return bytes([refusal]) + rest
 
 
-def parse_answer(call, data):
-    """An answer's bytes as values, the refusal first (D refuses nothing)."""
-    assert len(data) == answer_size(call)
-    letter, rest = call[0], data[1:]
-    if letter == "D":
-        return [tuple(data[at : at + 4]) for at in range(0, 64, 4)]
-    if letter == "U":
-        return data[0], record_from(rest)
-    if letter == "H":
-        return data[0], *(read_number(rest, at) for at in (0, 4, 8))
-    if letter == "W":
-        return data[0], rest[1 : 1 + rest[0]], rest[1 + rest[0] :]
-    return data[0], rest
-
 
 def words(call, most=400):
     """A call for a person to read and to try again."""
@@ -115,53 +92,3 @@ def words(call, most=400):
         text = given.hex() if isinstance(given, bytes) else str(given)
         shown.append(text if len(text) <= most else "%s.. (%d bytes)" % (text[:most], len(given)))
     return " ".join(shown)
-
-
-def calls_in(data):
-    """The calls that a stream holds, up to the first that isn't one: a cut-off call, an unknown letter, a kind above 3
-    or a length above 65,536."""
-    at = 0
-
-    def take(count):
-        nonlocal at
-        if at + count > len(data):
-            raise EOFError
-        at += count
-        return bytes(data[at - count : at])
-
-    def take_number():
-        return int.from_bytes(take(4), "little")
-
-    def take_length():
-        length = take_number()
-        if length > LARGEST_LENGTH:
-            raise EOFError
-        return length
-
-    try:
-        while True:
-            letter = take(1).decode("latin-1")
-            if letter in "DU":
-                yield letter, take(16)
-            elif letter == "P":
-                record = take(RECORD)
-                if record[1] > 3:
-                    return
-                yield letter, record
-            elif letter == "R":
-                yield letter, take(16), take_number(), take(REPLACEMENT)
-            elif letter == "H":
-                yield letter, take(take(1)[0])
-            elif letter == "W":
-                yield letter, take_number(), take_number()
-            elif letter == "O":
-                width, height, row = take_number(), take_number(), take_number()
-                blocks, out = take_length(), take_length()
-                yield letter, width, height, row, take(blocks), take(out)
-            elif letter == "S":
-                sheet = take(take_length())
-                yield letter, sheet, take_number(), take_number(), take(REPLACEMENT)
-            else:
-                return
-    except EOFError:
-        return

@@ -1,8 +1,8 @@
 /* The C face of Rinchovek: BC7 blocks and sheets of them, decoded and corrected. Link target/staticlib/libconsole.a, which
  * `rt staticlib console` writes for x86-64.
  *
- * No call asks anything of its caller beyond valid pointers to the lengths that are shown, none of which overlap. Each answers 0,
- * or a refusal number (docs/REFUSALS.md); where it refuses, nothing that was lent has changed. docs/REPLAY.md has the bytes of a
+ * No call asks anything of its caller beyond valid pointers to the lengths that are shown, none of which overlap. Each but
+ * bc7_decode_block, which refuses nothing, answers 0, or a refusal number (docs/REFUSALS.md); where it refuses, nothing that was lent has changed. docs/REPLAY.md has the bytes of a
  * record and of a replacement.
  */
 #ifndef RINCHOVEK_H

@@ -37,7 +37,7 @@ pub fn decode_bc7_block(block: [u8; 16]) -> [[u8; 4]; 16]
     }
 }
 
-// The stream isn't moved: each mode skips its own marker, so that its positions are literals.
+// The stream isn't moved: each arm above skips the marker of its mode, so that positions are literals.
 fn extract_mode(stream: BitStream) -> u32
     ensures { λ r. ⌜ r ≡ trailing 8 (field (held stream) (stream .at) 8) ⌝ }
 {

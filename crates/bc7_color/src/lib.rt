@@ -46,7 +46,7 @@ fn with_p(v: u64, p: u64, bits: u32) -> u64
     v * 2 + p
 }
 
-// An endpoint without alpha, and with a p bit below each value.
+// An endpoint without alpha; `opaque_p` has a p bit below each value.
 pub fn opaque(r: u64, g: u64, b: u64, bits: u32) -> [u8; 4]
     requires { ⌜ (4 ≤ bits) × (bits ≤ 8) × (r < 2 ^ bits) × (g < 2 ^ bits) × (b < 2 ^ bits) ⌝ }
     ensures { λ e. ⌜ e ≡ promoted bits r ∷ promoted bits g ∷ promoted bits b ∷ 255 ∷ [] ⌝ }
@@ -73,7 +73,7 @@ pub fn with_alpha(color: [u8; 4], alpha: [u8; 4]) -> [u8; 4]
     [color[0], color[1], color[2], alpha[3]]
 }
 
-// An endpoint with alpha of a width of its own, and with a p bit below each value.
+// An endpoint with alpha of a width of its own; in `clear_p` alpha has the colours' width, and a p bit stands below each value.
 pub fn clear(r: u64, g: u64, b: u64, a: u64, bits: u32, alpha_bits: u32) -> [u8; 4]
     requires { ⌜ (4 ≤ bits) × (bits ≤ 8) × (4 ≤ «alpha_bits») × («alpha_bits» ≤ 8) × (r < 2 ^ bits) × (g < 2 ^ bits) × (b < 2 ^ bits) × (a < 2 ^ «alpha_bits») ⌝ }
     ensures { λ e. ⌜ e ≡ promoted bits r ∷ promoted bits g ∷ promoted bits b ∷ promoted «alpha_bits» a ∷ [] ⌝ }

@@ -1,2 +1,2 @@
--- The definitions that the contracts cite, beside those of `bc7_fields`.
+-- The definitions that the contracts cite, beside those of the crates below.
 pub mod Colors

@@ -1,2 +1,2 @@
--- The definitions that the contracts cite, beside those of `format` and `bcn_util`.
+-- The definitions that the contracts cite, beside those of the crates below.
 pub mod Taken

@@ -1,6 +1,6 @@
 // The index expansion of the Rust's `bcn_util.rs`: sixteen indexes of one width in one number. They are stored with a bit less
 // at each anchor, and expanded whole before use, as the Rust does, so that drawing is a loop over equal parts. The Rust keeps
-// the mask beside the width; here it is `1 << bits`.
+// a mask beside the width; here an index is the rest by `1 << bits`.
 ghost use mathlib.Core.Path.{_≡_};
 ghost use mathlib.Core.List.{[], _∷_};
 ghost use Prim.Native.Nat.{_+_, _-_, _*_, _^_, _≤_, _<_};

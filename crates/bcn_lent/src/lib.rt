@@ -2,7 +2,7 @@
 // function by value of `bcn_util`, and stores the stream that comes back; its promise names what that function gives. The
 // decoder reads by value.
 ghost use mathlib.Core.Path.{_≡_};
-ghost use Prim.Native.Nat.{ℕ, _+_, _^_, _≤_, _<_};
+ghost use Prim.Native.Nat.{_+_, _^_, _≤_, _<_};
 ghost use Rattle.format.specs.Block.{number};
 ghost use Rattle.bcn_util.specs.Stream.{skipped, consumed1, consumed8, consumed64};
 ghost use Rattle.bcn_lent.specs.Opening.{openingAt, openingOf};

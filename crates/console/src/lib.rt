@@ -1,4 +1,4 @@
-// The C face: every public call for the consoles' display code, over the calls by value. A refused call changes nothing that it
+// The C face: the public calls of blocks and sheets, for the consoles' display code. A refused call changes nothing that it
 // was lent. What a call promises has one name, in specs/Promises. include/rinchovek.h declares these functions; `rt staticlib
 // console` writes the archive.
 ghost use Rattle.console.specs.Promises.{Decodes, DecodesRow, Packs, ReadsHead, Replaces, ReplacesIn, Unpacks, WritesHead};

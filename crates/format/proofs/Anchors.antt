@@ -1,4 +1,4 @@
--- Every subsetOf of every partition holds exactly one anchor: one computed test over each whole table.
+-- Every subset of every partition holds exactly one anchor: one computed test over each whole table.
 -- Assumes nothing.
 use mathlib.Core.Path.{subst}
 use mathlib.Core.Bool.{Bool}

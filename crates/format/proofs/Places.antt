@@ -10,8 +10,9 @@ use lib.ListN.{length, getD}
 use lib.Seq.{ext-getD}
 use Rattle.format.specs.declared.Split.{Split}
 use Rattle.format.specs.declared.Split.the-variants.{Whole, Two, Three, Vector}
-use Rattle.laws.specs.Digits.{Fit, more, none, total}
+use Rattle.laws.specs.Digits.{Fit, total}
 use Rattle.laws.specs.Tables.{below, table, tableFrom}
+use Rattle.laws.proofs.Fitting.{fit-get}
 use Rattle.laws.proofs.Part.{getD-table, length-table}
 use Rattle.laws.proofs.Rows.{fit-table}
 use Rattle.laws.proofs.Tests.{at, both-left, both-right}
@@ -78,17 +79,9 @@ pub fit-list : (m : ℕ) (s : Split) (f : Place → ℕ) → ((x : Place) → T 
 unfolding widths listOf table
 fit-list m s f h = fit-table 66 _ _ (λ k l. h (placeAt k) (inside-placeAt k l))
 
-fit-getD : {ws vs : List ℕ} → Fit ws vs → (i : ℕ) → getD vs i 0 < 2 ^ getD ws i 0
-fit-getD none i = lit
-  where
-    lit : 0 < 2 ^ 0
-    lit = omega arith
-fit-getD (more h f) zero = h
-fit-getD (more h f) (suc i) = fit-getD f i
-
 pub fit-at : (m : ℕ) (s : Split) (vs : List ℕ) → Fit (widths m s) vs → (x : Place) → T (inside x) → getD vs (pos x) 0 < 2 ^ width m (anchors s) x
 unfolding widths
-fit-at m s vs f x h = rw (getD-table 66 (λ i. width m (anchors s) (placeAt i)) 0 (pos x) (pos-lt x h), placeAt-pos x h) at (fit-getD f (pos x))
+fit-at m s vs f x h = rw (getD-table 66 (λ i. width m (anchors s) (placeAt i)) 0 (pos x) (pos-lt x h), placeAt-pos x h) at (fit-get f (pos x))
 
 pub length-widths : (m : ℕ) (s : Split) → length (widths m s) ≡ 66
 unfolding widths

@@ -1,5 +1,5 @@
 // The lines of a sheet's listing, as bytes by value: numbers in decimal, single spaces, and the end of the line. What a line
-// says about a block stands here; where the bytes go is the program's.
+// says about a block stands here; where the bytes go is for `listing` and the program.
 ghost use mathlib.Core.Path.{_≡_};
 ghost use mathlib.Core.List.{[], _∷_};
 ghost use Prim.Native.Nat.{_+_, _≤_};
