@@ -8,14 +8,14 @@ use Prim.Native.Nat.{ℕ, zero, suc, _/_, _%_, _<_, _≤_}
 use native.Mathlib.Nat.{eq-or-lt-of-le}
 use native.Mathlib.Omega.{arith}
 use borrow.Author.Tests.{eqb-true, eq-eqb, ne-eqb}
-use lib.Dec.{eqb}
+use lib.Dec.{T, eqb}
 use Rattle.format.specs.declared.Split.{Split}
 use Rattle.laws.specs.Digits.{Fit}
 use Rattle.laws.specs.Refusals.{first}
 use Rattle.laws.specs.Tables.{pick}
 use Rattle.format.specs.Block.{eights, modeOf, trailing}
 use Rattle.format.specs.Lines.{draws, has, isDrawn, laid, meant, pixel, rotated, shown, withLine}
-use Rattle.format.specs.Places.{Place, blockOf, opened}
+use Rattle.format.specs.Places.{Place, blockOf, inside, opened}
 use Rattle.format.specs.Splits.{rotation, splitOf}
 use Rattle.format.specs.WellFormed.{WellFormed}
 use Rattle.format.proofs.Lens.{shown-ext, shown-none, shown-other}
@@ -120,6 +120,25 @@ module _ (bs : List ℕ) (sixteen : Fit eights bs) where
   pub same-refusal : (c d : Call) → refusal (after bs c) d ≡ refusal bs d
   unfolding refusal
   same-refusal c d = rw (after-mode c, after-split c)
+
+  -- what stands at the places after a call: what was there, and at those of an accepted call's line what the line has for them
+  opened-after : (c : Call) (x : Place) → modeOf bs < 8 → T (inside x) → opened (after bs c) x ≡ step (modeOf bs) (splitOf bs) c (opened bs) x
+  opened-after c x l i = ap (λ (b : List ℕ). opened b x) (after-is l c) ∙ opened-block (step-good (good l) c) x i
+
+  pub places-kept : (c : Call) (x : Place) → T (inside x) → has (modeOf bs) (splitOf bs) (c .line) x ≡ false → opened (after bs c) x ≡ opened bs x
+  unfolding step put withLine
+  places-kept c x i n =
+      ⊎-elim (λ (z : modeOf bs ≡ 8). ap (λ (b : List ℕ). opened b x) (reserved-same bs c z))
+      (λ (l : modeOf bs < 8). opened-after c x l i ∙ go (isAccepted (modeOf bs) (splitOf bs) c)) (reserved-or bs)
+    where
+      go : (a : Bool) → pick a (put (modeOf bs) (splitOf bs) (c .line) (c .given) (opened bs)) (opened bs) x ≡ opened bs x
+      go true = rw n
+      go false = refl
+
+  pub places-stored : (c : Call) (x : Place) → refusal bs c ≡ 0 → T (inside x) → has (modeOf bs) (splitOf bs) (c .line) x ≡ true
+      → opened (after bs c) x ≡ laid (modeOf bs) (oriented (modeOf bs) (splitOf bs) (c .line) (c .given)) x
+  unfolding refusal step isAccepted put withLine
+  places-stored c x e i h = opened-after c x (accepted-open bs c e) i ∙ rw (eq-eqb (refusalIn (modeOf bs) (splitOf bs) (c .line) (c .given)) 0 e, h)
 
   -- the pixels after a call
   shown-after : (c : Call) (q ch : ℕ) → modeOf bs < 8 → pixel (after bs c) q ch ≡ shown (modeOf bs) (splitOf bs) (step (modeOf bs) (splitOf bs) c (opened bs)) q ch

@@ -11,18 +11,18 @@ use Rattle.line_rules.specs.declared.Replacement.{Replacement}
 use Rattle.line_rules.specs.declared.Replaced.{Replaced}
 use Rattle.laws.specs.Digits.{Fit}
 use Rattle.format.specs.Block.{eights, modeOf}
-use Rattle.format.specs.Lines.{draws, meant, pixel, pixels}
+use Rattle.format.specs.Lines.{draws, has, laid, meant, pixel, pixels}
 use Rattle.format.specs.Modes.{lines}
 use Rattle.format.specs.Partitions.{among}
-use Rattle.format.specs.Places.{opened}
+use Rattle.format.specs.Places.{Place, inside, opened}
 use Rattle.format.specs.Splits.{splitOf}
 use Rattle.format.proofs.Opening.{opened-good}
 use Rattle.format.proofs.Reserved.{open-mode, reserved-mode, zero-byte}
 use Rattle.line_rules.specs.Acceptable.{Acceptable, Answer, OwnWidths, accepted}
 use Rattle.line_rules.specs.Calls.{afterAll, last, lastOfEach, seen}
-use Rattle.line_rules.specs.Replace.{Call, after, refusal, replaced}
+use Rattle.line_rules.specs.Replace.{Call, after, oriented, refusal, replaced}
 use Rattle.line_rules.proofs.Accepting.{answer-is, answered}
-use Rattle.line_rules.proofs.Blocks.{after-mode, after-sixteen, after-split, all-same, bytes-trade, full-alpha, given-drawn, others-kept, same-refusal, unchanged}
+use Rattle.line_rules.proofs.Blocks.{after-mode, after-sixteen, after-split, all-same, bytes-trade, full-alpha, given-drawn, others-kept, places-kept, places-stored, same-refusal, unchanged}
 use Rattle.line_rules.proofs.Draws.{drawn-by-one}
 use Rattle.line_rules.proofs.OwnWidths.{own-widths}
 use Rattle.line_rules.proofs.Sequences.{all-mode, all-sixteen, all-split, sequence-draws}
@@ -48,6 +48,17 @@ refused-when bs h c n = (λ e. rw e at (answered bs h c), answer-is bs h c)
 pub accepted-draws : (bs : List ℕ) → Fit eights bs → (c : Call) (q ch : ℕ) → q < 16 → ch < 4 → refusal bs c ≡ 0
     → draws (modeOf bs) (splitOf bs) (c .line) q ch ≡ true → pixel (after bs c) q ch ≡ meant (modeOf bs) (splitOf bs) (c .line) (c .given) q ch
 accepted-draws bs h c q ch hq hc e d = given-drawn bs h c q ch e hq hc d
+
+-- it stores, at every place that the line has, the line as it is given, or turned round where the index at its anchor has its top
+-- bit set (`oriented`), also where both endpoints are equal
+pub stored-as-oriented : (bs : List ℕ) → Fit eights bs → (c : Call) (x : Place) → refusal bs c ≡ 0 → T (inside x) → has (modeOf bs) (splitOf bs) (c .line) x ≡ true
+    → opened (after bs c) x ≡ laid (modeOf bs) (oriented (modeOf bs) (splitOf bs) (c .line) (c .given)) x
+stored-as-oriented = places-stored
+
+-- and nothing else in the block changes: what stands at a place that the line hasn't got is what stood there
+pub nothing-else-changes : (bs : List ℕ) → Fit eights bs → (c : Call) (x : Place) → T (inside x) → has (modeOf bs) (splitOf bs) (c .line) x ≡ false
+    → opened (after bs c) x ≡ opened bs x
+nothing-else-changes = places-kept
 
 -- what a call leaves as it was: every channel that its line doesn't draw, so those of the other lines and the alpha of the
 -- modes 0 to 3; the mode; the partition, or the rotation and the index mode

@@ -3,7 +3,7 @@
 -- and all its blocks.
 -- Assumes nothing.
 use mathlib.Core.Path.{_≡_, refl, _∙_, ap, sym, subst}
-use mathlib.Core.Logic.{_⊎_, ⊎-elim, _≢_}
+use mathlib.Core.Logic.{_⊎_, inl, inr, ⊎-elim, _≢_}
 use mathlib.Core.Bool.{true, false}
 use mathlib.Core.List.{List, [], _∷_}
 use Prim.Native.Nat.{ℕ, _+_, _<_, _≤_}
@@ -21,6 +21,7 @@ use Rattle.head.specs.Heads.{readHead}
 use Rattle.head.specs.Numbers.{Bytes}
 use Rattle.line_rules.specs.Calls.{afterAll, last, seen}
 use Rattle.line_rules.specs.Replace.{Call, after, refusal}
+use Rattle.line_rules.proofs.Draws.{drawn-by-one}
 use Rattle.line_rules.proofs.Theorems.{accepted-draws, last-call-is-seen, others-keep, same-answer, same-last-calls, trade-places}
 use Rattle.sheet_rules.specs.Calls.{SheetCall, WholeSheet, callsOn, onBlock, refusalOn, sheetWith, sheetWithAll}
 use Rattle.sheet_rules.specs.Rows.{rowOut, rowRefusal}
@@ -66,6 +67,26 @@ replaces-the-block s z c l = record {
   whole = with-kept s z c .whole;
 }
 
+-- a call leaves every block its mode and its split, and every channel that its line doesn't draw in the block it names
+module _ (s : List ℕ) (z : WholeSheet s) (c : SheetCall) (b : ℕ) (l : b < blocksOf (readHead s)) where
+  mode-stays : (modeOf (blockIn (sheetWith s c) b) ≡ modeOf (blockIn s b)) × (splitOf (blockIn (sheetWith s c) b) ≡ splitOf (blockIn s b))
+  mode-stays = go (ℕ-discrete (c .block) b)
+    where
+      go : Dec (c .block ≡ b) → (modeOf (blockIn (sheetWith s c) b) ≡ modeOf (blockIn s b)) × (splitOf (blockIn (sheetWith s c) b) ≡ splitOf (blockIn s b))
+      go (yes e) =
+          let p = with-named s z c b l e in
+          let k = others-keep (blockIn s b) (sixteen s z b l) (onBlock c) in
+          (ap modeOf p ∙ k .mode, ap splitOf p ∙ k .split)
+      go (no n) = let p = with-other s z c b l n in (ap modeOf p, ap splitOf p)
+
+  undrawn-stays : (q ch : ℕ) → (c .block ≡ b → draws (modeOf (blockIn s b)) (splitOf (blockIn s b)) (c .line) q ch ≡ false)
+      → pixel (blockIn (sheetWith s c) b) q ch ≡ pixel (blockIn s b) q ch
+  undrawn-stays q ch d = go (ℕ-discrete (c .block) b)
+    where
+      go : Dec (c .block ≡ b) → pixel (blockIn (sheetWith s c) b) q ch ≡ pixel (blockIn s b) q ch
+      go (yes e) = ap (λ (x : List ℕ). pixel x q ch) (with-named s z c b l e) ∙ others-keep (blockIn s b) (sixteen s z b l) (onBlock c) .channels q ch (d e)
+      go (no n) = ap (λ (x : List ℕ). pixel x q ch) (with-other s z c b l n)
+
 -- after an accepted call, whatever the line draws in the named block is what was given; every other channel of it stays
 module _ (s : List ℕ) (z : WholeSheet s) (c : SheetCall) (l : c .block < blocksOf (readHead s)) where
   pub sheet-accepted-draws : (q ch : ℕ) → q < 16 → ch < 4 → refusalOn s c ≡ 0
@@ -77,8 +98,7 @@ module _ (s : List ℕ) (z : WholeSheet s) (c : SheetCall) (l : c .block < block
 
   pub sheet-others-keep : (q ch : ℕ) → draws (modeOf (blockIn s (c .block))) (splitOf (blockIn s (c .block))) (c .line) q ch ≡ false
       → pixel (blockIn (sheetWith s c) (c .block)) q ch ≡ pixel (blockIn s (c .block)) q ch
-  sheet-others-keep q ch d =
-      ap (λ (b : List ℕ). pixel b q ch) (with-named s z c (c .block) l refl) ∙ others-keep (blockIn s (c .block)) (sixteen s z (c .block) l) (onBlock c) .channels q ch d
+  sheet-others-keep q ch d = undrawn-stays s z c (c .block) l q ch (λ e. d)
 
 -- any list of calls: the head stays, and each block is what the calls that name it leave of it, in their order
 pub calls-by-block : (s : List ℕ) → WholeSheet s → (cs : List SheetCall)
@@ -105,7 +125,8 @@ alike s y cs ds e =
     ⊎-elim (λ z. same-sheet (all-kept cs s z) (all-kept ds s z) (λ b l. all-block cs s z b l ∙ e z b l ∙ sym (all-block ds s z b l)))
     (λ never. none-changes s never cs ∙ sym (none-changes s never ds)) (whole-or s y)
 
--- two neighbouring calls on different blocks, or on different lines of one block: the same answers in either order, and equal bytes
+-- two neighbouring calls on different blocks, or on different lines of one block: the same answers in either order, equal bytes, and
+-- either order shows the same: what each accepted call means, wherever its line draws in its block, and elsewhere what was there
 abbrev pub Apart : SheetCall → SheetCall → Type 0
 Apart c d = (c .block ≢ d .block) ⊎ (c .line ≢ d .line)
 
@@ -113,6 +134,14 @@ pub record SheetTraded (s : List ℕ) (c d : SheetCall) : Type 0 where
   pub first : refusalOn (sheetWith s d) c ≡ refusalOn s c
   pub second : refusalOn (sheetWith s c) d ≡ refusalOn s d
   pub bytes : sheetWith (sheetWith s c) d ≡ sheetWith (sheetWith s d) c
+  pub first-seen : (q ch : ℕ) → q < 16 → ch < 4 → refusalOn s c ≡ 0 → draws (modeOf (blockIn s (c .block))) (splitOf (blockIn s (c .block))) (c .line) q ch ≡ true
+      → pixel (blockIn (sheetWith (sheetWith s c) d) (c .block)) q ch ≡ meant (modeOf (blockIn s (c .block))) (splitOf (blockIn s (c .block))) (c .line) (onBlock c .given) q ch
+  pub second-seen : (q ch : ℕ) → q < 16 → ch < 4 → refusalOn s d ≡ 0 → draws (modeOf (blockIn s (d .block))) (splitOf (blockIn s (d .block))) (d .line) q ch ≡ true
+      → pixel (blockIn (sheetWith (sheetWith s c) d) (d .block)) q ch ≡ meant (modeOf (blockIn s (d .block))) (splitOf (blockIn s (d .block))) (d .line) (onBlock d .given) q ch
+  pub rest : (b q ch : ℕ) → b < blocksOf (readHead s)
+      → (c .block ≡ b → draws (modeOf (blockIn s b)) (splitOf (blockIn s b)) (c .line) q ch ≡ false)
+      → (d .block ≡ b → draws (modeOf (blockIn s b)) (splitOf (blockIn s b)) (d .line) q ch ≡ false)
+      → pixel (blockIn (sheetWith (sheetWith s c) d) b) q ch ≡ pixel (blockIn s b) q ch
 
 one-call : (s : List ℕ) (c : SheetCall) → sheetWithAll s (c ∷ []) ≡ sheetWith s c
 unfolding sheetWithAll
@@ -143,11 +172,48 @@ module _ (c d : SheetCall) (b : ℕ) where
           traded-lines : c .line ≢ d .line → afterAll bs (onBlock c ∷ onBlock d ∷ []) ≡ afterAll bs (onBlock d ∷ onBlock c ∷ [])
           traded-lines n = after-two bs (onBlock c) (onBlock d) ∙ trade-places bs f (onBlock c) (onBlock d) n .bytes ∙ sym (after-two bs (onBlock d) (onBlock c))
 
+-- an accepted call names a block of a whole sheet
+accepted-in : (s : List ℕ) → Bytes s → (c : SheetCall) → refusalOn s c ≡ 0 → WholeSheet s × (c .block < blocksOf (readHead s))
+accepted-in s y c e =
+    ⊎-elim (λ z. (z, ⊎-elim (λ l. l) (λ l. absurd (let q : ⊥ = omega (arith, e, beyond s z c l) in q)) (lt-or (c .block) (blocksOf (readHead s)))))
+    (λ never. absurd (never c e)) (whole-or s y)
+
+module _ (s : List ℕ) (y : Bytes s) (c d : SheetCall) where
+  -- a call after it on another block or line leaves what it draws
+  seen-through : Apart c d → (q ch : ℕ) → q < 16 → ch < 4 → refusalOn s c ≡ 0 → draws (modeOf (blockIn s (c .block))) (splitOf (blockIn s (c .block))) (c .line) q ch ≡ true
+      → pixel (blockIn (sheetWith (sheetWith s c) d) (c .block)) q ch ≡ meant (modeOf (blockIn s (c .block))) (splitOf (blockIn s (c .block))) (c .line) (onBlock c .given) q ch
+  seen-through apart q ch hq hc e dr =
+      let w = accepted-in s y c e in
+      let k = with-kept s (w .0) c in
+      let m = mode-stays s (w .0) c (c .block) (w .1) in
+      undrawn-stays (sheetWith s c) (k .whole) d (c .block) (rw (k .head) (w .1)) q ch
+      (λ same. rw (m .0, m .1) (drawn-by-one _ _ (c .line) (d .line) q ch (⊎-elim (λ n. absurd (n (sym same))) (λ n. n) apart) dr))
+      ∙ sheet-accepted-draws s (w .0) c (w .1) q ch hq hc e dr
+
+  undrawn-stays-twice : (b q ch : ℕ) → b < blocksOf (readHead s)
+      → (c .block ≡ b → draws (modeOf (blockIn s b)) (splitOf (blockIn s b)) (c .line) q ch ≡ false)
+      → (d .block ≡ b → draws (modeOf (blockIn s b)) (splitOf (blockIn s b)) (d .line) q ch ≡ false)
+      → pixel (blockIn (sheetWith (sheetWith s c) d) b) q ch ≡ pixel (blockIn s b) q ch
+  undrawn-stays-twice b q ch l nc nd =
+      ⊎-elim (λ z.
+      let k = with-kept s z c in
+      let m = mode-stays s z c b l in
+      undrawn-stays (sheetWith s c) (k .whole) d b (rw (k .head) l) q ch (λ e. rw (m .0, m .1) (nd e)) ∙ undrawn-stays s z c b l q ch nc)
+      (λ never. ap (λ (t : List ℕ). pixel (blockIn t b) q ch) (sym (two-calls s c d) ∙ none-changes s never (c ∷ d ∷ []))) (whole-or s y)
+
+  bytes-traded : Apart c d → sheetWith (sheetWith s c) d ≡ sheetWith (sheetWith s d) c
+  bytes-traded apart =
+      sym (two-calls s c d) ∙ alike s y (c ∷ d ∷ []) (d ∷ c ∷ []) (λ z b l. traded-on c d b (blockIn s b) (sixteen s z b l) apart) ∙ two-calls s d c
+
 pub sheet-trade-places : (s : List ℕ) → Bytes s → (c d : SheetCall) → Apart c d → SheetTraded s c d
 sheet-trade-places s y c d apart = record {
   first = subst (λ (t : List ℕ). refusalOn t c ≡ refusalOn s c) (one-call s d) (sheet-same-answer s y (d ∷ []) c);
   second = subst (λ (t : List ℕ). refusalOn t d ≡ refusalOn s d) (one-call s c) (sheet-same-answer s y (c ∷ []) d);
-  bytes = sym (two-calls s c d) ∙ alike s y (c ∷ d ∷ []) (d ∷ c ∷ []) (λ z b l. traded-on c d b (blockIn s b) (sixteen s z b l) apart) ∙ two-calls s d c;
+  bytes = bytes-traded s y c d apart;
+  first-seen = seen-through s y c d apart;
+  second-seen = λ q ch hq hc e z.
+      ap (λ (t : List ℕ). pixel (blockIn t (d .block)) q ch) (bytes-traded s y c d apart) ∙ seen-through s y d c (⊎-elim (λ n. inl (λ p. n (sym p))) (λ n. inr (λ p. n (sym p))) apart) q ch hq hc e z;
+  rest = undrawn-stays-twice s y c d;
 }
 
 -- any two lists of calls whose last accepted calls on each line of each block are the same leave the same sheet
