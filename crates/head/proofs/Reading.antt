@@ -51,7 +51,7 @@ module _ (P : ℕ → ℕ → List ℕ → Number → Type 0) (none : (k at : �
           (eq-zero-or-pos (r .value))
 
 -- k groups have seven bits each, and end at most k places on
-value-small : (k at : ℕ) (bs : List ℕ) → readGroups k at bs .value < 128 ^ k
+pub value-small : (k at : ℕ) (bs : List ℕ) → readGroups k at bs .value < 128 ^ k
 value-small =
     every-number (λ k at bs r. r .value < 128 ^ k) (λ k at bs. one-le-pow k 128 (omega arith)) (λ k at b bs l. omega (arith, pow-suc 128 k, one-le-pow k 128 (omega arith)))
     (λ k at b bs r l ne h. omega (arith, pow-suc 128 k, h))

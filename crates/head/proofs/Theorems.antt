@@ -1,7 +1,7 @@
 -- A number that was written is read back, with its end; an accepted number has exactly one form; the same for heads.
 -- Assumes nothing.
 use mathlib.Core.Path.{_≡_, refl, _∙_, ap, ap₂, sym, subst}
-use mathlib.Core.Logic.{_⊎_, inl, inr, ⊎-elim}
+use mathlib.Core.Logic.{_↔_, _⊎_, inl, inr, ⊎-elim}
 use mathlib.Core.List.{List, [], _∷_, _++_, append-assoc}
 use Prim.Native.Nat.{ℕ, zero, suc, _+_, _-_, _*_, _/_, _%_, _^_, _<_, _≤_}
 use native.Mathlib.Nat.{div-lt-iff-lt-mul, eq-zero-or-pos, pow-suc, zero-add}
@@ -15,7 +15,7 @@ use Rattle.laws.proofs.Cases.{lt-or}
 use Rattle.head.specs.Heads.{Sized, form, formIn, headBytes, headOf, headRefusal, heightIn, readHead, sizeRefusal, widthIn, writeHead}
 use Rattle.head.specs.Numbers.{Bytes, found, groups, noNumber, numberBytes, numbersEnd, raised, readGroups, readNumber}
 use Rattle.head.proofs.Heading.{accepted, head-1, head-2, head-3, head-4, head-5, refused, size-0, sized}
-use Rattle.head.proofs.Reading.{every-number, raised-some, read-last, read-more}
+use Rattle.head.proofs.Reading.{every-number, raised-some, read-last, read-more, value-small}
 use Rattle.head.proofs.Writing.{groups-last, groups-more, one-byte}
 
 -- what was written is read, with its end
@@ -78,6 +78,32 @@ unfolding readNumber
 number-one-form s at y e =
     let o = one-form 3 at (drop at s) (λ i. rw getD-drop (y (at + i))) e in
     o .whole ∙ ap (λ (t : List ℕ). numberBytes ((readGroups 3 at (drop at s)) .value) ++ t) (drop-drop _ at s ∙ ap (λ (m : ℕ). drop m s) (sym (o .ends)))
+
+-- a number stands at a place: the bytes that writing it gives, in three groups at most, and whatever follows
+pub record Standing (s : List ℕ) (at : ℕ) : Type 0 where
+  pub number : ℕ
+  pub rest : List ℕ
+  pub small : number < numbersEnd
+  pub bytes : drop at s ≡ numberBytes number ++ rest
+
+-- a number is read exactly when one stands there, and refused with 7 exactly when none does
+module _ (s : List ℕ) (at : ℕ) where
+  pub zero-or-seven : (readNumber s at .refusal ≡ 0) ⊎ (readNumber s at .refusal ≡ 7)
+  unfolding readNumber Told
+  zero-or-seven = ⊎-elim (λ n. inr (ap (λ (r : Number). r .refusal) n)) (λ o. inl (o .0)) (told 3 at (drop at s))
+
+  pub number-read-when : Bytes s → (readNumber s at .refusal ≡ 0) ↔ Standing s at
+  unfolding readNumber
+  number-read-when y = (
+    λ e. record { number = readNumber s at .value; rest = drop (readNumber s at .next) s; small = value-small 3 at (drop at s); bytes = number-one-form s at y e },
+    λ n. rw (n .bytes) (ap (λ (r : Number). r .refusal) (groups-read 2 (n .number) at (n .rest) (n .small))),
+  )
+
+  pub number-refused-when : Bytes s → (readNumber s at .refusal ≡ 7) ↔ (Standing s at → ⊥)
+  number-refused-when y = (
+    λ e n. let z = number-read-when y .1 n in let q : ⊥ = omega (arith, e, z) in q,
+    λ n. ⊎-elim (λ z. absurd (n (number-read-when y .0 z))) (λ e. e) zero-or-seven,
+  )
 
 -- a head that was written is read back, with where the blocks start
 module _ (w h : ℕ) (z : Sized w h) (rest : List ℕ) where

@@ -1,4 +1,5 @@
 pub mod Widths
 pub mod Ways
 pub mod Packing
+pub mod Answering
 pub mod Theorems

@@ -11,7 +11,6 @@ use lib.Dec.{T, ltb, ltb→lt, lt→ltb}
 use lib.ListN.{length, getD}
 use lib.Pow.{pow-mono}
 use Rattle.record_rules.specs.declared.Record.{Record}
-use Rattle.record_rules.specs.declared.Packed.{Packed}
 use Rattle.format.specs.declared.Split.{Split}
 use Rattle.laws.specs.Digits.{Fit}
 use Rattle.laws.specs.Refusals.{first}
@@ -30,7 +29,7 @@ use Rattle.format.proofs.Opening.{block-ext, good-kind, opened-good}
 use Rattle.format.proofs.Places.{inside-placeAt, placeAt-pos, pos-lt, split-of-kind}
 use Rattle.record_rules.specs.Records.{Shaped, fits, made, packRefusal, packed, packedAs, recordOf, says, taken, unpackedAs}
 use Rattle.record_rules.proofs.Widths.{width-le}
-use Rattle.record_rules.proofs.Ways.{way-packed}
+use Rattle.record_rules.proofs.Ways.{same-refusal, way-packed}
 
 module _ {m : ℕ} {s : Split} {f : Place → ℕ} (g : WellFormed m s f) where
   -- the record of what stands at the places says just that
@@ -98,7 +97,7 @@ good-way r g =
 
 pub good-accepted : (r : Record) → WellFormed (r .mode) (r .split) (says r) → packRefusal r ≡ 0
 unfolding packed
-good-accepted r g = sym (ap (λ (p : Packed). p .refusal) (good-way r g))
+good-accepted r g = same-refusal r (good-way r g)
 
 -- WellFormed goes by the places there are
 pub good-ext : {m : ℕ} {s : Split} {f h : Place → ℕ} → ((x : Place) → T (inside x) → h x ≡ f x) → WellFormed m s f → WellFormed m s h

@@ -1,11 +1,12 @@
 -- DEMAND 2, in one place. `Fit eights bs` says that bs is sixteen bytes, `Shaped r` that the record's arrays have their lengths.
 -- Assumes nothing.
 use mathlib.Core.Path.{_≡_, sym, ap, _∙_}
-use mathlib.Core.Logic.{_≢_, _↔_}
+use mathlib.Core.Logic.{_≢_, _↔_, ⊎-elim}
 use mathlib.Core.List.{List}
 use Prim.Native.Nat.{ℕ, _<_}
+use native.Mathlib.Nat.{eq-zero-or-pos}
 use native.Mathlib.Omega.{arith}
-use borrow.Author.Tests.{ne-eqb}
+use borrow.Author.Tests.{eq-eqb, ne-eqb}
 use lib.ListN.{getD}
 use Rattle.record_rules.specs.declared.Record.{Record}
 use Rattle.record_rules.specs.declared.Unpacked.{Unpacked}
@@ -18,9 +19,23 @@ use Rattle.format.specs.Splits.{splitOf}
 use Rattle.format.specs.WellFormed.{WellFormed}
 use Rattle.format.proofs.Lens.{shown-ext}
 use Rattle.format.proofs.Opening.{block-opened, mode-block, opened-block, opened-good, split-block}
-use Rattle.format.proofs.Reserved.{open-mode}
-use Rattle.record_rules.specs.Records.{Shaped, made, packed, packedAs, recordOf, says, taken, unpackedAs}
+use Rattle.format.proofs.Reserved.{open-mode, reserved-mode}
+use Rattle.record_rules.specs.Answers.{PackAnswer}
+use Rattle.record_rules.specs.Records.{Shaped, made, packed, packedAs, recordOf, says, taken, unpackedAs, zeroRecord}
+use Rattle.record_rules.proofs.Answering.{answer-is, answered}
 use Rattle.record_rules.proofs.Packing.{good-accepted, good-packs, made-ext, made-says, packs-good, record-says, taken-open}
+
+-- taking apart refuses a block exactly when it is reserved, and then answers 1 and the zero record
+pub refused-when-reserved : (bs : List ℕ) → Fit eights bs → (taken bs ≡ unpackedAs 1 zeroRecord) ↔ (getD bs 0 0 ≡ 0)
+unfolding taken
+refused-when-reserved bs h = (
+  λ e. ⊎-elim (λ z. z) (λ p. absurd (let n = ap (λ (u : Unpacked). u .refusal) (sym e ∙ taken-open bs (open-mode bs h (λ z. omega arith))) in let y : ⊥ = omega (arith, n) in y)) (eq-zero-or-pos (getD bs 0 0)),
+  λ z. rw (eq-eqb (modeOf bs) 8 (reserved-mode bs z)),
+)
+
+-- every other block is accepted
+pub taken-when-open : (bs : List ℕ) → Fit eights bs → getD bs 0 0 ≢ 0 → taken bs ≡ unpackedAs 0 (recordOf bs)
+taken-when-open bs h n = taken-open bs (open-mode bs h n)
 
 -- packing what taking apart answers gives the block back
 pub pack-unpack : (bs : List ℕ) → Fit eights bs → getD bs 0 0 ≢ 0 → packed (taken bs .«record») ≡ packedAs 0 bs
@@ -41,6 +56,10 @@ unpack-pack r sh e =
 pub well-formed-is-accepted : (r : Record) → (packed r .refusal ≡ 0) ↔ WellFormed (r .mode) (r .split) (says r)
 unfolding packed
 well-formed-is-accepted r = (packs-good r, good-accepted r)
+
+-- each refusal number of packing is given exactly when document 01 says (`PackAnswer` has the words)
+pub packing-refused-when : (r : Record) (n : ℕ) → (packed r .refusal ≡ n) ↔ PackAnswer r n
+packing-refused-when r n = (λ e. rw e at (answered r), answer-is r)
 
 -- drawing the record of a block gives the block's pixels
 pub record-draws-block : (bs : List ℕ) → Fit eights bs → getD bs 0 0 ≢ 0 → (q c : ℕ) → shown (recordOf bs .mode) (recordOf bs .split) (says (recordOf bs)) q c ≡ pixel bs q c

@@ -1,7 +1,7 @@
 -- The ways out of packing, each by the tests on it: the first refusal that applies, of 5, 3 and 6, or the block.
 -- Assumes nothing.
 use mathlib.Core.Bool.{true, false}
-use mathlib.Core.Path.{_≡_}
+use mathlib.Core.Path.{_≡_, sym, ap}
 use mathlib.Core.Logic.{_≢_}
 use mathlib.Core.List.{[]}
 use Prim.Native.Nat.{ℕ, _≤_, _<_}
@@ -19,6 +19,9 @@ abbrev pub refusedWith : ℕ → Packed
 refusedWith n = packedAs n (replicate 16 0)
 
 module _ (r : Record) where
+  pub same-refusal : {p : Packed} → p ≡ packed r → packed r .refusal ≡ p .refusal
+  same-refusal e = sym (ap (λ (p : Packed). p .refusal) e)
+
   pub way-mode : 7 < r .mode → refusedWith 5 ≡ packed r
   unfolding packed packRefusal first
   way-mode h = rw (lt-ltb 7 (r .mode) h)

@@ -1,2 +1,3 @@
 -- The record of a block, taking apart and packing.
 pub mod Records
+pub mod Answers
