@@ -7,7 +7,6 @@ use mathlib.Core.List.{List, []}
 use Prim.Native.Nat.{ℕ, _+_, _^_, _≤_, _<_}
 use native.Mathlib.Nat.{le-of-eq, lt-of-lt-of-le}
 use native.Mathlib.Omega.{arith}
-use borrow.Author.Tests.{eq-eqb}
 use lib.ListN.{getD}
 use lib.Pow.{pow-mono}
 use Rattle.record_rules.specs.declared.Record.{Record}
@@ -25,7 +24,7 @@ use Rattle.format.proofs.Places.{inside-placeAt, total-128}
 use Rattle.format.proofs.Trailing.{mode-le-8}
 use Rattle.record_rules.specs.Records.{fits, made, packed, packedAs, recordOf, says, taken, unpackedAs, zeroRecord}
 use Rattle.record_widths.specs.Rows.{anchorsOf, pixelsOf, widthsWith}
-use Rattle.record_rules.proofs.Packing.{fits-at, taken-open}
+use Rattle.record_rules.proofs.Packing.{fits-at, taken-open, taken-reserved}
 use Rattle.record_rules.proofs.Ways.{refusedWith, way-anchor, way-packed}
 use Rattle.record_widths.proofs.Pixels.{fits-split, widths-split}
 use Rattle.bcn_util.specs.Writer.{pushed, written}
@@ -33,8 +32,7 @@ use Rattle.bcn_util.proofs.Puts.{row-asks, row-more, row-written, rowWriter}
 
 -- TAKING APART
 pub reserved : (bs : List ℕ) {m : ℕ} → m ≡ modeOf bs → m ≡ 8 → unpackedAs 1 zeroRecord ≡ taken bs
-unfolding taken
-reserved bs e h = rw (eq-eqb (modeOf bs) 8 (sym e ∙ h))
+reserved bs e h = sym (taken-reserved bs (sym e ∙ h))
 
 module _ (bs : List ℕ) (sixteen : Fit eights bs) {m : ℕ} (em : m ≡ modeOf bs) (not-8 : m ≢ 8) where
   low : modeOf bs < 8

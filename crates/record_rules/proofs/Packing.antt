@@ -1,20 +1,21 @@
 -- The record and the places say the same of each other; what packing accepts is what a block holds.
 -- Assumes nothing.
 use mathlib.Core.Path.{_≡_, refl, sym, ap, ap₂, _∙_, subst}
-use mathlib.Core.Bool.{true}
+use mathlib.Core.Bool.{Bool, true}
 use mathlib.Core.List.{List, []}
 use Prim.Native.Nat.{ℕ, zero, suc, _+_, _-_, _*_, _/_, _%_, _^_, _<_}
 use native.Mathlib.Nat.{lt-of-lt-of-le}
 use native.Mathlib.Omega.{arith}
-use borrow.Author.Tests.{ltb-false, ne-eqb, not-false, eqb-true}
+use borrow.Author.Tests.{eq-eqb, ltb-false, ne-eqb, not-false, eqb-true}
 use lib.Dec.{T, ltb, ltb→lt, lt→ltb}
 use lib.ListN.{length, getD}
 use lib.Pow.{pow-mono}
 use Rattle.record_rules.specs.declared.Record.{Record}
+use Rattle.record_rules.specs.declared.Unpacked.{Unpacked}
 use Rattle.format.specs.declared.Split.{Split}
 use Rattle.laws.specs.Digits.{Fit}
 use Rattle.laws.specs.Refusals.{first}
-use Rattle.laws.specs.Tables.{table}
+use Rattle.laws.specs.Tables.{pick, table}
 use Rattle.laws.proofs.First.{first-zero, refuse-no}
 use Rattle.laws.proofs.Joining.{table-same}
 use Rattle.laws.proofs.Part.{getD-table, part-all}
@@ -27,7 +28,7 @@ use Rattle.format.specs.WellFormed.{WellFormed}
 use Rattle.format.proofs.Modes.{good-parts}
 use Rattle.format.proofs.Opening.{block-ext, good-kind, opened-good}
 use Rattle.format.proofs.Places.{inside-placeAt, placeAt-pos, pos-lt, split-of-kind}
-use Rattle.record_rules.specs.Records.{Shaped, fits, made, packRefusal, packed, packedAs, recordOf, says, taken, unpackedAs}
+use Rattle.record_rules.specs.Records.{Shaped, fits, made, packRefusal, packed, packedAs, recordOf, says, taken, unpackedAs, zeroRecord}
 use Rattle.record_rules.proofs.Widths.{width-le}
 use Rattle.record_rules.proofs.Ways.{same-refusal, way-packed}
 
@@ -131,9 +132,18 @@ packs-good r e =
       fits = fits-at m (anchors s) (says r) (not-false _ (refuse-no 5 _ (d .0)));
     }
 
-pub taken-open : (bs : List ℕ) → modeOf bs < 8 → taken bs ≡ unpackedAs 0 (recordOf bs)
-unfolding taken
-taken-open bs o = rw (ne-eqb (modeOf bs) 8 (λ z. let y : ⊥ = omega arith in y))
+-- what taking apart answers, by the test of its mode
+module _ (bs : List ℕ) where
+  abbrev answer : Bool → Unpacked
+  answer b = pick b (unpackedAs 1 zeroRecord) (unpackedAs 0 (recordOf bs))
+
+  pub taken-reserved : modeOf bs ≡ 8 → taken bs ≡ unpackedAs 1 zeroRecord
+  unfolding taken
+  taken-reserved e = ap answer (eq-eqb (modeOf bs) 8 e)
+
+  pub taken-open : modeOf bs < 8 → taken bs ≡ unpackedAs 0 (recordOf bs)
+  unfolding taken
+  taken-open o = ap answer (ne-eqb (modeOf bs) 8 (λ z. let y : ⊥ = omega arith in y))
 
 -- the record of a block says what stands in the block
 pub record-says : (bs : List ℕ) → Fit eights bs → modeOf bs < 8 → (x : Place) → T (inside x) → says (recordOf bs) x ≡ opened bs x

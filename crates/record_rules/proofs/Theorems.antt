@@ -6,7 +6,7 @@ use mathlib.Core.List.{List}
 use Prim.Native.Nat.{ℕ, _<_}
 use native.Mathlib.Nat.{eq-zero-or-pos}
 use native.Mathlib.Omega.{arith}
-use borrow.Author.Tests.{eq-eqb, ne-eqb}
+use borrow.Author.Tests.{ne-eqb}
 use lib.ListN.{getD}
 use Rattle.record_rules.specs.declared.Record.{Record}
 use Rattle.record_rules.specs.declared.Unpacked.{Unpacked}
@@ -23,14 +23,13 @@ use Rattle.format.proofs.Reserved.{open-mode, reserved-mode}
 use Rattle.record_rules.specs.Answers.{PackAnswer}
 use Rattle.record_rules.specs.Records.{Shaped, made, packed, packedAs, recordOf, says, taken, unpackedAs, zeroRecord}
 use Rattle.record_rules.proofs.Answering.{answer-is, answered}
-use Rattle.record_rules.proofs.Packing.{good-accepted, good-packs, made-ext, made-says, packs-good, record-says, taken-open}
+use Rattle.record_rules.proofs.Packing.{good-accepted, good-packs, made-ext, made-says, packs-good, record-says, taken-open, taken-reserved}
 
 -- taking apart refuses a block exactly when it is reserved, and then answers 1 and the zero record
 pub refused-when-reserved : (bs : List ℕ) → Fit eights bs → (taken bs ≡ unpackedAs 1 zeroRecord) ↔ (getD bs 0 0 ≡ 0)
-unfolding taken
 refused-when-reserved bs h = (
   λ e. ⊎-elim (λ z. z) (λ p. absurd (let n = ap (λ (u : Unpacked). u .refusal) (sym e ∙ taken-open bs (open-mode bs h (λ z. omega arith))) in let y : ⊥ = omega (arith, n) in y)) (eq-zero-or-pos (getD bs 0 0)),
-  λ z. rw (eq-eqb (modeOf bs) 8 (reserved-mode bs z)),
+  λ z. taken-reserved bs (reserved-mode bs z),
 )
 
 -- every other block is accepted
