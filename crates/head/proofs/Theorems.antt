@@ -1,4 +1,5 @@
--- A number that was written is read back, with its end; an accepted number has exactly one form; the same for heads.
+-- A number that was written is read back, with its end; an accepted number has exactly one form; the same for heads. A number is
+-- refused exactly when none stands there.
 -- Assumes nothing.
 use mathlib.Core.Path.{_≡_, refl, _∙_, ap, ap₂, sym, subst}
 use mathlib.Core.Logic.{_↔_, _⊎_, inl, inr, ⊎-elim}

@@ -1,4 +1,5 @@
--- DEMAND 2, in one place. `Fit eights bs` says that bs is sixteen bytes, `Shaped r` that the record's arrays have their lengths.
+-- DEMAND 2, and when taking apart and packing refuse, in one place. `Fit eights bs` says that bs is sixteen bytes, `Shaped r` that
+-- the record's arrays have their lengths.
 -- Assumes nothing.
 use mathlib.Core.Path.{_≡_, sym, ap, _∙_}
 use mathlib.Core.Logic.{_≢_, _↔_, ⊎-elim}
