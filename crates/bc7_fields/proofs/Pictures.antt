@@ -30,7 +30,7 @@ use Rattle.bc7_fields.specs.Fields.{direct, directPixels, endByte, four}
 use Rattle.bc7_fields.proofs.Places.{index-at}
 use Rattle.bc7_fields.specs.Painting.{between, merged, painted, swapped, turned}
 
-pub part-lt : (x k q : ℕ) → part x k q < 2 ^ k
+part-lt : (x k q : ℕ) → part x k q < 2 ^ k
 unfolding part
 part-lt x k q = mod-lt (x / 2 ^ (q * k)) (pow-pos k)
 

@@ -7,19 +7,19 @@ use Prim.Native.Nat.{ℕ, zero, suc, _+_, _*_, _/_, _%_, _^_, _≤_, _<_}
 use native.Mathlib.Nat.{lt-of-lt-of-le}
 use native.Mathlib.Omega.{arith}
 use borrow.Author.Tests.{lt-ltb}
-use lib.Dec.{T, eqb, eqb→eq, leb, leb→le, ltb}
+use lib.Dec.{T, eqb, eqb→eq, leb, leb→le, ltb, lt→ltb}
 use lib.Pow.{shr-shr}
 use Rattle.format.specs.declared.Split.{Split}
 use Rattle.laws.specs.Digits.{join, total}
 use Rattle.laws.specs.Refusals.{first}
 use Rattle.laws.specs.Tables.{below, implies, pick, table, tableFrom}
 use Rattle.laws.proofs.Rows.{split-mod, total-more}
-use Rattle.laws.proofs.Tests.{at, both-intro, implied, true-T}
+use Rattle.laws.proofs.Tests.{at, implied}
 use Rattle.format.specs.Block.{field}
 use Rattle.format.specs.Modes.{channelBits, endpointCount, indexBits, modeRow, pCount}
-use Rattle.format.specs.Places.{atPlace, index, inside, pbit, placeAt, pos, value, width, widths}
+use Rattle.format.specs.Places.{atPlace, index, pbit, placeAt, pos, value, width, widths}
 use Rattle.format.specs.Splits.{anchors}
-use Rattle.format.proofs.Places.{placeAt-pos}
+use Rattle.format.proofs.Places.{inside-index, inside-pbit, inside-value, placeAt-pos}
 use Rattle.format.proofs.Starts.{at-field, start, start-next}
 use Rattle.bcn_indexes.specs.Indexes.{expanded, indexWidth, indexWidths, part}
 use Rattle.bcn_indexes.proofs.Anchors.{part-expanded}
@@ -48,17 +48,14 @@ six-ps : (m : ℕ) → m < 8 → pCount m ≤ 6
 unfolding modeRow
 six-ps m h = leb→le _ 6 (at 8 (λ m. leb (pCount m) 6) tt m h)
 
-below-T : (a b : ℕ) → a < b → T (ltb a b)
-below-T a b h = true-T (ltb a b) (lt-ltb a b h)
-
 module _ (m : ℕ) (s : Split) (n : ℕ) (hm : m < 8) where
   pub value-at : (c e : ℕ) → c < 4 → e < endpointCount m → atPlace m s n (value c e) ≡ field n (valueStart m c e) (channelBits m c)
   unfolding field width valueTest
   value-at c e hc he =
       let six : e < 6 = lt-of-lt-of-le he (six-ends m hm) in
       let test : T (valueTest s m c e) = at 6 (valueTest s m c) (at 4 (λ c. below 6 (valueTest s m c)) (at 8 (λ m. below 4 (λ c. below 6 (valueTest s m c))) (values-start s) m hm) c hc) e six in
-      let begins : start m s (pos (value c e)) ≡ valueStart m c e = eqb→eq _ _ (implied (ltb e (endpointCount m)) _ test (below-T e (endpointCount m) he)) in
-      at-field m s n (value c e) (both-intro (ltb c 4) (ltb e 6) (below-T c 4 hc) (below-T e 6 six))
+      let begins : start m s (pos (value c e)) ≡ valueStart m c e = eqb→eq _ _ (implied (ltb e (endpointCount m)) _ test (lt→ltb e (endpointCount m) he)) in
+      at-field m s n (value c e) (inside-value hc six)
       ∙ ap₂ (λ (x y : ℕ). n / 2 ^ x % 2 ^ y) begins (ap (λ (b : Bool). pick b (channelBits m c) 0) (lt-ltb e (endpointCount m) he))
 
   pub p-at : (e : ℕ) → e < 6 → pick (eqb m 1) (e / 2) e < pCount m → atPlace m s n (pbit (pick (eqb m 1) (e / 2) e)) ≡ field n (pStart m e) 1
@@ -66,8 +63,8 @@ module _ (m : ℕ) (s : Split) (n : ℕ) (hm : m < 8) where
   p-at e he hk =
       let k : ℕ = pick (eqb m 1) (e / 2) e in
       let test : T (pTest s m e) = at 6 (pTest s m) (at 8 (λ m. below 6 (pTest s m)) (ps-start s) m hm) e he in
-      let begins : start m s (pos (pbit k)) ≡ pStart m e = eqb→eq _ _ (implied (ltb k (pCount m)) _ test (below-T k (pCount m) hk)) in
-      at-field m s n (pbit k) (below-T k 6 (lt-of-lt-of-le hk (six-ps m hm)))
+      let begins : start m s (pos (pbit k)) ≡ pStart m e = eqb→eq _ _ (implied (ltb k (pCount m)) _ test (lt→ltb k (pCount m) hk)) in
+      at-field m s n (pbit k) (inside-pbit (lt-of-lt-of-le hk (six-ps m hm)))
       ∙ ap₂ (λ (x y : ℕ). n / 2 ^ x % 2 ^ y) begins (ap (λ (b : Bool). pick {A = ℕ} b 1 0) (lt-ltb k (pCount m) hk))
 
 -- the indexes of set a, one after the other
@@ -75,12 +72,9 @@ module _ (m : ℕ) (s : Split) (a : ℕ) (ha : a < 2) where
   abbrev wide : ℕ → ℕ
   wide q = indexWidth (indexBits m a) (anchors s) q
 
-  pub there : (q : ℕ) → q < 16 → T (inside (index a q))
-  there q hq = both-intro (ltb a 2) (ltb q 16) (below-T a 2 ha) (below-T q 16 hq)
-
   wide-is : (q : ℕ) → q < 16 → width m (anchors s) (placeAt (34 + (16 * a + q))) ≡ wide q
   unfolding pos width
-  wide-is q hq = ap (width m (anchors s)) (placeAt-pos (index a q) (there q hq))
+  wide-is q hq = ap (width m (anchors s)) (placeAt-pos (index a q) (inside-index ha hq))
 
   begins : (q : ℕ) → q ≤ 16 → start m s (34 + (16 * a + q)) ≡ start m s (34 + (16 * a + 0)) + total (table q wide)
   unfolding table tableFrom
@@ -102,4 +96,4 @@ module _ (m : ℕ) (s : Split) (a : ℕ) (ha : a < 2) where
       ap (λ (l : List ℕ). part (join (indexWidths w []) l) w q) (split-mod (indexWidths w (anchors s)) (n / 2 ^ first))
       ∙ part-expanded w (anchors s) (n / 2 ^ first) q hq
       ∙ ap (λ (x : ℕ). x % 2 ^ wide q) (shr-shr n first (total (table q wide)) ∙ ap (λ (x : ℕ). n / 2 ^ x) (sym (begins q (omega arith))))
-      ∙ sym (at-field m s n (index a q) (there q hq))
+      ∙ sym (at-field m s n (index a q) (inside-index ha hq))

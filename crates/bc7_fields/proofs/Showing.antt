@@ -7,39 +7,32 @@ use mathlib.Core.List.{List, []}
 use Prim.Native.Nat.{ℕ, _+_, _-_, _*_, _/_, _≤_, _<_}
 use native.Mathlib.Nat.{lt-of-lt-of-le}
 use native.Mathlib.Omega.{arith}
-use borrow.Author.Tests.{eqb-false, ne-eqb}
+use borrow.Author.Tests.{ne-eqb}
 use lib.Dec.{T, eqb}
 use lib.Pow.{pow-mono}
 use Rattle.format.specs.declared.Split.{Split}
 use Rattle.format.specs.declared.Split.the-variants.{Whole, Two, Three, Vector}
 use Rattle.laws.specs.Digits.{Fit}
 use Rattle.laws.specs.Tables.{pick, table, tableFrom}
+use Rattle.laws.proofs.Cases.{pick-less}
 use Rattle.laws.proofs.Joining.{table-same}
 use Rattle.format.specs.Block.{eights, field, modeOf, number}
-use Rattle.format.specs.Drawing.{drawn, eight, promoted, weightOf}
+use Rattle.format.specs.Drawing.{drawn, eight, weightOf}
 use Rattle.format.specs.Lines.{arrayOf, indexPlace, isDrawn, lineAt, lineBits, lineOf, means, pPlace, pixel, pixels, rotated, shown, valuePlace}
 use Rattle.format.specs.Modes.{channelBits, indexBits, lines, pCount}
 use Rattle.format.specs.Partitions.{among}
 use Rattle.format.specs.Places.{atPlace, index, opened, pbit, value, width}
-use Rattle.format.specs.Splits.{anchors, indexMode, isVector, rotation, splitAt, splitOf, subset}
+use Rattle.format.specs.Splits.{anchors, isVector, rotation, splitAt, splitOf, subset}
 use Rattle.format.specs.WellFormed.{WellFormed}
 use Rattle.format.proofs.Direct.{plainLine, shown-direct}
 use Rattle.format.proofs.Drawing.{weight-le}
-use Rattle.format.proofs.Meaning.{good-rotation, line-bits, rotated-lt}
+use Rattle.format.proofs.Meaning.{array-lt, eight-ext, good-rotation, line-bits, rotated-lt}
 use Rattle.format.proofs.Modes.{good-index-mode, good-subset, good-vector, p-count}
 use Rattle.format.proofs.Opening.{opened-good}
+use Rattle.format.proofs.Places.{inside-index}
 use Rattle.format.proofs.Subsets.{line-below}
 use Rattle.bc7_fields.specs.Fields.{direct, directPixels, endByte, pStart, valueStart}
-use Rattle.bc7_fields.proofs.Places.{p-at, there, value-at}
-
--- p counts only where the mode has one
-eight-go : (b : Bool) (w v v' p p' : ℕ) → v ≡ v' → (b ≡ false → p ≡ p') → pick b (promoted w v) (promoted (w + 1) (v * 2 + p)) ≡ pick b (promoted w v') (promoted (w + 1) (v' * 2 + p'))
-eight-go true w v v' p p' e f = ap (promoted w) e
-eight-go false w v v' p p' e f = ap₂ (λ (x y : ℕ). promoted (w + 1) (x * 2 + y)) e (f refl)
-
-eight-ext : (m c v v' p p' : ℕ) → v ≡ v' → (pCount m ≢ 0 → p ≡ p') → eight m c v p ≡ eight m c v' p'
-unfolding eight
-eight-ext m c v v' p p' e f = eight-go (eqb (pCount m) 0) (channelBits m c) v v' p p' e (λ z. f (eqb-false (pCount m) 0 z))
+use Rattle.bc7_fields.proofs.Places.{p-at, value-at}
 
 -- between 255 and 255 there is nothing else
 opaque : (w : ℕ) → w ≤ 64 → drawn 255 255 w ≡ 255
@@ -51,15 +44,6 @@ vector-subset Whole q e = refl
 vector-subset (Two a) q e = absurd (subst (λ (b : Bool). T (not b)) e tt)
 vector-subset (Three a) q e = absurd (subst (λ (b : Bool). T (not b)) e tt)
 vector-subset (Vector r i) q e = refl
-
-array-two : (b c : Bool) (i : ℕ) → i < 2 → pick b (pick c i (1 - i)) 0 < 2
-array-two true true i h = h
-array-two true false i h = omega arith
-array-two false c i h = omega arith
-
-index-narrow : (b : Bool) (w : ℕ) → pick b (w - 1) w ≤ w
-index-narrow true w = omega arith
-index-narrow false w = omega arith
 
 p-below : (b : Bool) (l j k n : ℕ) → pick b k (2 * k) ≡ n → l < k → j < 2 → pick b ((2 * l + j) / 2) (2 * l + j) < n
 p-below true l j k n e h hj = omega arith
@@ -105,9 +89,9 @@ module _ (m : ℕ) (s : Split) (n : ℕ) (g : WellFormed m s (atPlace m s n)) (q
   weight-64 =
       let a : ℕ = arrayOf s (lineAt s q d) in
       let bits = line-bits g (lineAt s q d) in
-      let two : a < 2 = array-two (isVector s) (eqb (lineAt s q d) 0) (indexMode s) (good-index-mode g) in
-      let narrow : pick (among q (anchors s)) (indexBits m a - 1) (indexBits m a) ≤ indexBits m a = index-narrow (among q (anchors s)) (indexBits m a) in
-      weight-le (indexBits m a) _ (bits .0) (bits .1) (lt-of-lt-of-le (g .fits (index a q) (there m s a two q hq)) (pow-mono narrow))
+      let two : a < 2 = array-lt s (lineAt s q d) (good-index-mode g) in
+      let narrow : pick (among q (anchors s)) (indexBits m a - 1) (indexBits m a) ≤ indexBits m a = pick-less (among q (anchors s)) (indexBits m a) in
+      weight-le (indexBits m a) _ (bits .0) (bits .1) (lt-of-lt-of-le (g .fits (index a q) (inside-index two hq)) (pow-mono narrow))
 
   both-ends : (b : Bool) → isDrawn m d ≡ b → pick b (means m s (lineAt s q d) (plainLine m s (lineAt s q d) (atPlace m s n)) q d) 255 ≡ drawn (endByte m n (2 * subset s q + 0) d) (endByte m n (2 * subset s q + 1) d) weight
   unfolding means plainLine weight lineBits indexPlace endByte

@@ -2,7 +2,6 @@
 -- Assumes nothing.
 use mathlib.Core.Path.{_≡_, refl, sym, ap, ap₂, _∙_, subst}
 use mathlib.Core.Logic.{_≢_}
-use mathlib.Core.Bool.{Bool, true, false}
 use mathlib.Core.List.{List, [], _∷_, _++_}
 use Prim.Native.Nat.{ℕ, suc, _+_, _-_, _*_, _/_, _%_, _^_, _≤_, _<_}
 use native.Mathlib.Nat.{add-comm, le-refl, lt-irrefl, lt-of-lt-of-le, mod-lt, mul-le-mul-right}
@@ -11,7 +10,8 @@ use borrow.Author.Tests.{eq-eqb, ne-eqb}
 use lib.ListN.{getD}
 use lib.Pow.{pow-pos, pow-mono}
 use Rattle.laws.specs.Digits.{Fit, join, split, total}
-use Rattle.laws.specs.Tables.{pick, table}
+use Rattle.laws.specs.Tables.{table}
+use Rattle.laws.proofs.Cases.{pick-less}
 use Rattle.laws.proofs.Digits.{join-split, split-join, total-append}
 use Rattle.laws.proofs.Joining.{table-same}
 use Rattle.laws.proofs.Part.{getD-table}
@@ -85,7 +85,7 @@ module _ (w a : ℕ) (cs : List ℕ) (hw : 0 < w) (ha : a < 16) (up : Above a cs
       (total-row (indexWidth w (a ∷ cs)) (indexWidth w cs) a (15 - a) same-width wider)
 
 -- how many bits the stored indexes have
-pub size-none : (w : ℕ) → total (indexWidths w []) ≡ 16 * w
+size-none : (w : ℕ) → total (indexWidths w []) ≡ 16 * w
 unfolding indexWidths
 size-none w = total-same (indexWidth w []) w 16 (λ k l. refl)
 
@@ -106,7 +106,7 @@ size-3 w p q hw h0 hp hq =
     )
 
 -- with no anchor left the indexes are as they stand
-pub expanded-none : (w n : ℕ) → n < 2 ^ (16 * w) → expanded w [] n ≡ n
+expanded-none : (w n : ℕ) → n < 2 ^ (16 * w) → expanded w [] n ≡ n
 unfolding expanded
 expanded-none w n h = join-split (indexWidths w []) n (rw (size-none w) h)
 
@@ -147,11 +147,7 @@ spare-bit w k n hw hk h = lt-of-lt-of-le h (pow-mono {i = 16 * w - k} {j = 63} (
 
 -- the sixteen indexes are the stored fields
 full-width : (w : ℕ) (an : List ℕ) (k : ℕ) → indexWidth w an k ≤ w
-full-width w an k = go (among k an)
-  where
-    go : (b : Bool) → pick b (w - 1) w ≤ w
-    go true = omega arith
-    go false = le-refl w
+full-width w an k = pick-less (among k an) w
 
 pub part-expanded : (w : ℕ) (an : List ℕ) (n q : ℕ) → q < 16 → part (expanded w an n) w q ≡ n / 2 ^ total (table q (indexWidth w an)) % 2 ^ indexWidth w an q
 unfolding expanded part indexWidths

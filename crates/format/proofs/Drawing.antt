@@ -27,7 +27,7 @@ scaled v e0 e1 h =
     omega arith
 
 -- the endpoints exchanged and the weight turned draw the same
-pub turned-drawn : (v e0 e1 : ℕ) → v ≤ 64 → drawn e1 e0 (64 - v) ≡ drawn e0 e1 v
+turned-drawn : (v e0 e1 : ℕ) → v ≤ 64 → drawn e1 e0 (64 - v) ≡ drawn e0 e1 v
 unfolding drawn
 turned-drawn v e0 e1 h =
     let p : (64 - (64 - v)) * e1 ≡ v * e1 = ap (λ (n : ℕ). n * e1) (sub-sub-self h) in

@@ -11,7 +11,8 @@ use lib.Dec.{eqb, ltb, lt→ltb, leb, leb→le}
 use lib.Pow.{pow-mono}
 use Rattle.format.specs.declared.Split.{Split}
 use Rattle.laws.specs.Tables.{pick}
-use Rattle.laws.proofs.Tests.{at, both-intro}
+use Rattle.laws.proofs.Cases.{pick-lt}
+use Rattle.laws.proofs.Tests.{at}
 use Rattle.format.specs.Drawing.{drawn, eight, weightOf}
 use Rattle.format.specs.Lines.{Line, arrayOf, has, indexPlace, laid, lineBits, means, pPlace, rotated, turned, valuePlace}
 use Rattle.format.specs.Modes.{channelBits, endpointCount, firstBits, indexBits, lines, modeRow, pCount, rotationBits, secondBits}
@@ -20,6 +21,7 @@ use Rattle.format.specs.Splits.{indexMode, isVector, rotation, subset}
 use Rattle.format.specs.WellFormed.{WellFormed}
 use Rattle.format.proofs.Drawing.{symmetric}
 use Rattle.format.proofs.Lens.{has-intro}
+use Rattle.format.proofs.Places.{inside-index, inside-value}
 use Rattle.format.proofs.Modes.{ByVector, good-index-mode, good-parts, good-subset, good-vector, p-count}
 
 -- turning leaves the meaning
@@ -29,7 +31,7 @@ unfolding means turned
 turned-means m s l ln q c h2 h4 hi = symmetric (lineBits m s l) (ln .index q) (eight m c (ln .value 0 c) (ln .p 0)) (eight m c (ln .value 1 c) (ln .p 1)) h2 h4 hi
 
 -- the p bits matter only where the mode has some
-eight-ext : (m c v v' p p' : ℕ) → v ≡ v' → (pCount m ≢ 0 → p ≡ p') → eight m c v p ≡ eight m c v' p'
+pub eight-ext : (m c v v' p p' : ℕ) → v ≡ v' → (pCount m ≢ 0 → p ≡ p') → eight m c v p ≡ eight m c v' p'
 unfolding eight
 eight-ext m c v v' p p' ev ep = go (eqb (pCount m) 0) refl
   where
@@ -45,6 +47,10 @@ means-ext m s l a b q c ev ep ei =
     let h1 : 1 < 2 = omega arith in
     ap₂ (λ (x y : ℕ). drawn x y (weightOf (lineBits m s l) (a .index q))) (eight-ext m c _ _ _ _ (ev 0 h0) (λ n. ep n 0 h0)) (eight-ext m c _ _ _ _ (ev 1 h1) (λ n. ep n 1 h1))
     ∙ ap (λ (i : ℕ). drawn (eight m c (b .value 0 c) (b .p 0)) (eight m c (b .value 1 c) (b .p 1)) (weightOf (lineBits m s l) i)) ei
+
+pub array-lt : (s : Split) (l : ℕ) → indexMode s < 2 → arrayOf s l < 2
+unfolding arrayOf
+array-lt s l h = pick-lt (isVector s) (pick (eqb l 0) (indexMode s) (1 - indexMode s)) 0 2 (pick-lt (eqb l 0) (indexMode s) (1 - indexMode s) 2 h (omega arith)) (omega arith)
 
 -- what a line has for its own places
 pub laid-value : (m : ℕ) (s : Split) (l : ℕ) (o : Line) (k c : ℕ) → k < 2 → laid m o (valuePlace s l k c) ≡ o .value k c
@@ -115,11 +121,11 @@ module _ {m : ℕ} {s : Split} {f : Place → ℕ} (g : WellFormed m s f) where
 
         go : (v : Bool) → isVector s ≡ v → has m s l (value c (pick v k (2 * l + k))) ≡ true
         go true e =
-            has-intro m s l (value c k) (both-intro (ltb c 4) (ltb k 6) (lt→ltb c 4 hc) (lt→ltb k 6 (omega arith)))
+            has-intro m s l (value c k) (inside-value {e = k} hc (omega arith))
             (wide k (omega (arith, good-vector g e .ends))) (rw e (hv e))
         go false e =
             let y = good-subset g e in
-            has-intro m s l (value c (2 * l + k)) (both-intro (ltb c 4) (ltb (2 * l + k) 6) (lt→ltb c 4 hc) (lt→ltb (2 * l + k) 6 (omega arith)))
+            has-intro m s l (value c (2 * l + k)) (inside-value {e = 2 * l + k} hc (omega arith))
             (wide (2 * l + k) (omega arith)) (rw e (let z : (2 * l + k) / 2 ≡ l = omega arith in z))
 
     pub has-p : (k : ℕ) → k < 2 → pCount m ≢ 0 → has m s l (pPlace m l k) ≡ true
@@ -142,7 +148,7 @@ module _ {m : ℕ} {s : Split} {f : Place → ℕ} (g : WellFormed m s f) where
 
     pub has-index : (q : ℕ) → q < 16 → (isVector s ≡ false → subset s q ≡ l) → has m s l (indexPlace s l q) ≡ true
     unfolding indexPlace width lineBits arrayOf
-    has-index q hq sub = has-intro m s l (index (arrayOf s l) q) (both-intro (ltb (arrayOf s l) 2) (ltb q 16) (lt→ltb (arrayOf s l) 2 small) (lt→ltb q 16 hq)) some mine
+    has-index q hq sub = has-intro m s l (index (arrayOf s l) q) (inside-index (array-lt s l (good-index-mode g)) hq) some mine
       where
         some : indexBits m (arrayOf s l) ≢ 0
         some z = omega (arith, line-bits l .0)
@@ -152,14 +158,6 @@ module _ {m : ℕ} {s : Split} {f : Place → ℕ} (g : WellFormed m s f) where
 
         hi : i < 2
         hi = good-index-mode g
-
-        small : arrayOf s l < 2
-        small = go (isVector s) (eqb l 0)
-          where
-            go : (a b : Bool) → pick a (pick b i (1 - i)) 0 < 2
-            go true true = hi
-            go true false = omega arith
-            go false b = omega arith
 
         mine : pick (isVector s) (pick (eqb (arrayOf s l) i) 0 1) (subset s q) ≡ l
         mine = go (isVector s) refl

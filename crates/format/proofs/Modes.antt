@@ -143,16 +143,19 @@ anchors-3 : T (below 64 (λ a. below 16 (λ q. implies (among q (anchors3 a)) (e
 unfolding digits marks strings3 subset3 anchors3 implies
 anchors-3 = tt
 
+pub first-only : (l : ℕ) → firstIn (λ (q : ℕ). 0) l (0 ∷ []) ≡ 0
+first-only l = same (eqb 0 l)
+  where
+    same : (b : Bool) → _≡_ {A = ℕ} (pick b 0 0) 0
+    same true = refl
+    same false = refl
+
 only-zero : (q l : ℕ) → T (among q (0 ∷ [])) → q ≡ firstIn (λ (q : ℕ). 0) l (0 ∷ [])
-only-zero q l t = eqb→eq q 0 (or-false (eqb q 0) t) ∙ sym (same (eqb 0 l))
+only-zero q l t = eqb→eq q 0 (or-false (eqb q 0) t) ∙ sym (first-only l)
   where
     or-false : (b : Bool) → T (or b false) → T b
     or-false true t = t
     or-false false t = t
-
-    same : (b : Bool) → _≡_ {A = ℕ} (pick b 0 0) 0
-    same true = refl
-    same false = refl
 
 pub the-anchor : (s : Split) (q l : ℕ) → partition s < 64 → q < 16 → T (among q (anchors s)) → (isVector s ≡ false → subset s q ≡ l) → q ≡ anchorOf s l
 unfolding anchorOf

@@ -5,7 +5,7 @@ use mathlib.Core.List.{List}
 use Prim.Native.Nat.{ℕ, zero, suc, _+_, _-_, _*_, _/_, _%_, _^_, _<_}
 use native.Mathlib.Omega.{arith}
 use borrow.Author.Tests.{lt-ltb, le-ltb}
-use lib.Dec.{T, eqb, eqb→eq, ltb, ltb→lt}
+use lib.Dec.{T, eqb, eqb→eq, ltb, ltb→lt, lt→ltb}
 use lib.ListN.{length, getD}
 use lib.Seq.{ext-getD}
 use Rattle.format.specs.declared.Split.{Split}
@@ -13,13 +13,24 @@ use Rattle.format.specs.declared.Split.the-variants.{Whole, Two, Three, 
 use Rattle.laws.specs.Digits.{Fit, total}
 use Rattle.laws.specs.Tables.{below, table, tableFrom}
 use Rattle.laws.proofs.Fitting.{fit-get}
+use Rattle.laws.proofs.Joining.{table-same}
 use Rattle.laws.proofs.Part.{getD-table, length-table}
 use Rattle.laws.proofs.Rows.{fit-table}
-use Rattle.laws.proofs.Tests.{at, both-left, both-right}
+use Rattle.laws.proofs.Tests.{at, both-intro, both-left, both-right}
 use Rattle.format.specs.Modes.{endpointCount, kindOfMode, modeRow, partitionBits}
 use Rattle.format.specs.Partitions.{anchors2, anchors3, digits, marks, strings2, strings3}
 use Rattle.format.specs.Places.{Place, head, index, inside, listOf, pbit, placeAt, pos, value, width, widths}
 use Rattle.format.specs.Splits.{anchors, indexMode, kindOf, ofKind, partition, rotation}
+
+-- the places that code names are there
+pub inside-value : {c e : ℕ} → c < 4 → e < 6 → T (inside (value c e))
+inside-value {c} {e} hc he = both-intro (ltb c 4) (ltb e 6) (lt→ltb c 4 hc) (lt→ltb e 6 he)
+
+pub inside-pbit : {k : ℕ} → k < 6 → T (inside (pbit k))
+inside-pbit {k} h = lt→ltb k 6 h
+
+pub inside-index : {a q : ℕ} → a < 2 → q < 16 → T (inside (index a q))
+inside-index {a} {q} ha hq = both-intro (ltb a 2) (ltb q 16) (lt→ltb a 2 ha) (lt→ltb q 16 hq)
 
 pub pos-lt : (x : Place) → T (inside x) → pos x < 66
 unfolding pos
@@ -62,10 +73,7 @@ at-list f x h = getD-table 66 (λ i. f (placeAt i)) 0 (pos x) (pos-lt x h) ∙ a
 
 pub list-ext : (f g : Place → ℕ) → ((x : Place) → T (inside x) → f x ≡ g x) → listOf f ≡ listOf g
 unfolding listOf
-list-ext f g h =
-    ext-getD 0 _ _ (length-table 66 (λ i. f (placeAt i)) ∙ sym (length-table 66 (λ i. g (placeAt i)))) (λ i l.
-    let l' : i < 66 = rw (length-table 66 (λ i. f (placeAt i))) at l in
-    getD-table 66 (λ i. f (placeAt i)) 0 i l' ∙ h (placeAt i) (inside-placeAt i l') ∙ sym (getD-table 66 (λ i. g (placeAt i)) 0 i l'))
+list-ext f g h = table-same 0 66 _ _ (λ i l. h (placeAt i) (inside-placeAt i l))
 
 pub list-at : (vs : List ℕ) → length vs ≡ 66 → listOf (λ x. getD vs (pos x) 0) ≡ vs
 unfolding listOf

@@ -16,7 +16,7 @@ split-fits [] n = none
 split-fits (w ∷ ws) n = more (mod-lt n (pow-pos w)) (split-fits ws (n / 2 ^ w))
 
 -- joining a split gives back the low bits of the number that the widths reach
-pub join-split-mod : (ws : List ℕ) (n : ℕ) → join ws (split ws n) ≡ n % 2 ^ total ws
+join-split-mod : (ws : List ℕ) (n : ℕ) → join ws (split ws n) ≡ n % 2 ^ total ws
 join-split-mod [] n = sym (mod-one n)
 join-split-mod (w ∷ ws) n = ap (λ (x : ℕ). x * 2 ^ w + n % 2 ^ w) (join-split-mod ws (n / 2 ^ w)) ∙ sym (mod-pow-add n (total ws) w)
 

@@ -49,7 +49,7 @@ module _ {A : Type 0} where
 pub total-more : (n : ℕ) (f : ℕ → ℕ) → total (table (suc n) f) ≡ total (table n f) + f n
 total-more n f = ap total (table-more n f) ∙ total-append (table n f) (f n ∷ []) ∙ ap (λ (x : ℕ). total (table n f) + x) (zero-add (f n))
 
-pub total-mono : (f : ℕ → ℕ) (i n : ℕ) → i ≤ n → total (table i f) ≤ total (table n f)
+total-mono : (f : ℕ → ℕ) (i n : ℕ) → i ≤ n → total (table i f) ≤ total (table n f)
 total-mono f i n h =
     le-ind (λ (m : ℕ). total (table i f) ≤ total (table m f)) (le-refl (total (table i f)))
     (λ m k e. omega (arith, total-more m f)) n h

@@ -18,6 +18,10 @@ true-T b e = subst T (sym e) tt
 pub no-both : {b : Bool} → b ≡ true → b ≡ false → ⊥
 no-both p q = subst T q (subst T (sym p) tt)
 
+pub not-so : (b : Bool) → (b ≡ true → ⊥) → b ≡ false
+not-so true n = absurd (n refl)
+not-so false n = refl
+
 pub eqb-of : (a b : ℕ) → a ≡ b → T (eqb a b)
 eqb-of a b e = subst (λ (x : ℕ). T (eqb a x)) e (eqb-refl a)
 

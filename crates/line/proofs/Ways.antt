@@ -17,6 +17,7 @@ use Rattle.record_rules.specs.declared.Packed.{Packed}
 use Rattle.format.specs.declared.Split.{Split}
 use Rattle.laws.specs.Digits.{Fit}
 use Rattle.laws.specs.Tables.{both, pick}
+use Rattle.laws.proofs.Cases.{pick-lt}
 use Rattle.laws.proofs.Part.{getD-table}
 use Rattle.laws.proofs.Tests.{both-left, both-right, both-true, no-both}
 use Rattle.format.specs.Block.{eights, modeOf}
@@ -33,7 +34,6 @@ use Rattle.line_rules.specs.Coded.{LineOfBlock}
 use Rattle.line_rules.specs.Replace.{after, callOf, lineFits, lineGiven, oriented, put, refusal, replaced, replacedAs}
 use Rattle.line_rules.proofs.Accepting.{answer-is, fits-within, second, within-fits}
 use Rattle.line_rules.proofs.Blocks.{unchanged}
-use Rattle.line_rules.proofs.Own.{pick-lt}
 use Rattle.line_turning.specs.Coded.{givenAs}
 use Rattle.line.proofs.ThroughRecord.{through-record}
 

@@ -4,21 +4,22 @@ use mathlib.Core.Path.{_≡_, refl, _∙_, ap, subst}
 use mathlib.Core.Logic.{_≢_}
 use mathlib.Core.Bool.{Bool, true, false}
 use mathlib.Core.List.{[]}
-use Prim.Native.Nat.{ℕ, _+_, _-_, _*_, _<_, _≤_}
+use Prim.Native.Nat.{ℕ, _+_, _*_, _<_, _≤_}
 use native.Mathlib.Nat.{le-trans}
 use native.Mathlib.Omega.{arith}
 use borrow.Author.Tests.{ltb-false}
 use lib.Dec.{T, eqb, ltb}
 use Rattle.format.specs.declared.Split.{Split}
 use Rattle.laws.specs.Tables.{below, both, pick}
-use Rattle.format.specs.Lines.{Line, arrayOf}
+use Rattle.laws.proofs.Cases.{pick-lt}
+use Rattle.format.specs.Lines.{Line}
 use Rattle.format.specs.Places.{Place, inside, placeAt, pos, width}
-use Rattle.format.specs.Splits.{indexMode, isVector}
+use Rattle.format.specs.Splits.{isVector}
 use Rattle.format.proofs.Places.{placeAt-pos, pos-lt}
 use Rattle.record_rules.proofs.Widths.{width-le-8}
 use Rattle.line_rules.specs.Coded.{LineOfBlock}
 use Rattle.line_rules.specs.Replace.{indexFits, lineFits, ownWidth, pFits, valueFits}
-use Rattle.line_rules.proofs.Own.{line-below-3, own-head, pick-lt}
+use Rattle.line_rules.proofs.Own.{line-below-3, own-head}
 use Rattle.line_rules.proofs.Put.{own-width-le}
 
 -- no place is wider than a byte
@@ -31,10 +32,6 @@ endpoint-lt s l k hl hk = pick-lt (isVector s) k (2 * l + k) 6 (omega arith) (om
 
 pub p-lt : (m l k : ℕ) → l < 3 → k < 2 → pick (eqb m 1) l (2 * l + k) < 6
 p-lt m l k hl hk = pick-lt (eqb m 1) l (2 * l + k) 6 (omega arith) (omega arith)
-
-pub array-lt : (s : Split) (l : ℕ) → indexMode s < 2 → arrayOf s l < 2
-unfolding arrayOf
-array-lt s l h = pick-lt (isVector s) (pick (eqb l 0) (indexMode s) (1 - indexMode s)) 0 2 (pick-lt (eqb l 0) (indexMode s) (1 - indexMode s) 2 h (omega arith)) (omega arith)
 
 -- the test of a line in the order of the code
 two : (f : ℕ → Bool) → below 2 f ≡ both (f 0) (f 1)

@@ -7,12 +7,12 @@ use mathlib.Core.List.{[]}
 use Prim.Native.Nat.{ℕ, _<_}
 use native.Mathlib.Omega.{arith}
 use borrow.Author.Tests.{eq-eqb, eqb-true, ne-eqb}
-use lib.Dec.{T, eqb, ltb, lt→ltb}
+use lib.Dec.{T, eqb}
 use Rattle.format.specs.declared.Split.{Split}
 use Rattle.laws.specs.Tables.{both, pick}
-use Rattle.laws.proofs.Tests.{T-true, both-intro}
+use Rattle.laws.proofs.Tests.{T-true, not-so}
 use Rattle.format.specs.Lines.{has, lineOfPlace}
-use Rattle.format.specs.Places.{Place, head, index, inside, pbit, value, width}
+use Rattle.format.specs.Places.{Place, head, inside, width}
 use Rattle.format.proofs.Lens.{has-head, has-parts}
 use Rattle.format.proofs.Modes.{lines-le}
 use Rattle.line_rules.specs.Coded.{LineOfBlock}
@@ -43,11 +43,7 @@ own-head m s l k h = rw (has-head m s l k h)
 -- a line has a place exactly where the place has bits in it
 pub own-none : (m : ℕ) (s : Split) (l : ℕ) (x : Place) → ownWidth m s l x ≡ 0 → has m s l x ≡ false
 unfolding ownWidth
-own-none m s l x e = go (has m s l x) refl
-  where
-    go : (b : Bool) → has m s l x ≡ b → b ≡ false
-    go true t = absurd (has-parts m s l x t .1 (rw t at e))
-    go false t = refl
+own-none m s l x e = not-so (has m s l x) (λ t. has-parts m s l x t .1 (rw t at e))
 
 pub own-some : (m : ℕ) (s : Split) (l : ℕ) (x : Place) → ownWidth m s l x ≢ 0 → has m s l x ≡ true
 unfolding ownWidth
@@ -59,18 +55,3 @@ own-some m s l x n = go (has m s l x) refl
 
 pub line-below-3 : {m : ℕ} {s : Split} {l : ℕ} → LineOfBlock m s l → l < 3
 line-below-3 {m} h = omega (arith, h .line, lines-le m (h .holds .mode))
-
--- the places that code names are there
-pub inside-value : {c e : ℕ} → c < 4 → e < 6 → T (inside (value c e))
-inside-value {c} {e} hc he = both-intro (ltb c 4) (ltb e 6) (lt→ltb c 4 hc) (lt→ltb e 6 he)
-
-pub inside-pbit : {k : ℕ} → k < 6 → T (inside (pbit k))
-inside-pbit {k} h = lt→ltb k 6 h
-
-pub inside-index : {a q : ℕ} → a < 2 → q < 16 → T (inside (index a q))
-inside-index {a} {q} ha hq = both-intro (ltb a 2) (ltb q 16) (lt→ltb a 2 ha) (lt→ltb q 16 hq)
-
--- of two numbers below n, either
-pub pick-lt : (b : Bool) (x y n : ℕ) → x < n → y < n → pick b x y < n
-pick-lt true x y n hx hy = hx
-pick-lt false x y n hx hy = hy

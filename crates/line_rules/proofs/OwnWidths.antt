@@ -10,6 +10,7 @@ use borrow.Author.Tests.{eqb-false, eqb-true, lt-ltb, le-ltb}
 use lib.Dec.{eqb, ltb}
 use Rattle.format.specs.declared.Split.{Split}
 use Rattle.laws.specs.Tables.{pick}
+use Rattle.laws.proofs.Cases.{pick-lt}
 use Rattle.laws.proofs.Tests.{no-both}
 use Rattle.format.specs.Lines.{arrayOf, has, indexPlace, lineBits, lineOfPlace, pPlace, valuePlace}
 use Rattle.format.specs.Modes.{channelBits, endpointCount, indexBits, lines, pCount}
@@ -18,9 +19,10 @@ use Rattle.format.specs.Splits.{isVector, subset}
 use Rattle.format.specs.WellFormed.{WellFormed}
 use Rattle.format.proofs.Meaning.{has-index}
 use Rattle.format.proofs.Modes.{good-subset, good-vector, lines-le, p-count}
+use Rattle.format.proofs.Places.{inside-pbit, inside-value}
 use Rattle.line_rules.specs.Acceptable.{OwnWidths}
 use Rattle.line_rules.specs.Replace.{ownWidth}
-use Rattle.line_rules.proofs.Own.{inside-pbit, inside-value, own-is, own-not, pick-lt}
+use Rattle.line_rules.proofs.Own.{own-is, own-not}
 
 module _ {m : ℕ} {s : Split} {f : Place → ℕ} (g : WellFormed m s f) (l : ℕ) (hl : l < lines m) where
   h3 : l < 3

@@ -10,7 +10,7 @@ use borrow.Author.Tests.{eqb-true, eqb-false, ne-eqb, ltb-true, ltb-false}
 use lib.Dec.{T, eqb, ltb}
 use Rattle.format.specs.declared.Split.{Split}
 use Rattle.laws.specs.Tables.{both, pick}
-use Rattle.laws.proofs.Tests.{T-true, both-true, no-both}
+use Rattle.laws.proofs.Tests.{T-true, both-true, no-both, not-so}
 use Rattle.format.specs.Lines.{has, laid, lineOfPlace, withLine}
 use Rattle.format.specs.Modes.{lines}
 use Rattle.format.specs.Partitions.{among, or}
@@ -121,17 +121,10 @@ module _ (m : ℕ) (s : Split) where
       nowhere : ((l : ℕ) → l < lines m → has m s l x ≡ false) → steps m s cs f x ≡ steps m s ds f x
       nowhere n = steps-none cs f x n ∙ sym (steps-none ds f x n)
 
-      else : (l : ℕ) → (has m s l x ≡ true → ⊥) → has m s l x ≡ false
-      else l n = go (has m s l x) refl
-        where
-          go : (b : Bool) → has m s l x ≡ b → b ≡ false
-          go true e = absurd (n e)
-          go false e = refl
-
       go : (l : ℕ) (a b : Bool) → lineOfPlace m s x ≡ l → ltb l (lines m) ≡ a → has m s l x ≡ b → steps m s cs f x ≡ steps m s ds f x
       go l true true i p q = steps-last l cs f x q ∙ ap (λ (c : List Call). steps m s c f x) (e l (ltb-true l (lines m) p)) ∙ sym (steps-last l ds f x q)
-      go l true false i p q = nowhere (λ k h. else k (λ t. no-both (subst (λ (j : ℕ). has m s j x ≡ true) (sym (has-parts m s k x t .2) ∙ i) t) q))
-      go l false b i p q = nowhere (λ k h. else k (λ t. let z : lineOfPlace m s x ≡ k = has-parts m s k x t .2 in let y : lines m ≤ l = ltb-false l (lines m) p in let w : ⊥ = omega arith in w))
+      go l true false i p q = nowhere (λ k h. not-so (has m s k x) (λ t. no-both (subst (λ (j : ℕ). has m s j x ≡ true) (sym (has-parts m s k x t .2) ∙ i) t) q))
+      go l false b i p q = nowhere (λ k h. not-so (has m s k x) (λ t. let z : lineOfPlace m s x ≡ k = has-parts m s k x t .2 in let y : lines m ≤ l = ltb-false l (lines m) p in let w : ⊥ = omega arith in w))
 
   -- of two lists of one call or none: the first, or else the second
   orElse : List Call → List Call → List Call

@@ -1,4 +1,4 @@
--- What the code goes by.
+-- A line of a block, as the code asks for it.
 -- Assumes nothing.
 use Prim.Native.Nat.{ℕ, _<_}
 use Rattle.format.specs.declared.Split.{Split}

@@ -1,8 +1,7 @@
 -- The anchor of a line, and the line turned round, as code finds them.
 -- Assumes nothing.
 use mathlib.Core.Path.{_≡_, refl, ap, subst}
-use mathlib.Core.Bool.{Bool, true, false}
-use mathlib.Core.List.{List, [], _∷_}
+use mathlib.Core.List.{List}
 use Prim.Native.Nat.{ℕ, _+_, _-_, _*_, _/_, _%_, _^_, _<_, _≤_}
 use native.Mathlib.Omega.{arith}
 use borrow.Author.Tests.{le-leb, lt-leb, ltb-false, ltb-true}
@@ -11,40 +10,33 @@ use lib.ListN.{length, getD}
 use Rattle.line_rules.specs.declared.Replacement.{Replacement}
 use Rattle.format.specs.declared.Split.{Split}
 use Rattle.format.specs.declared.Split.the-variants.{Whole, Two, Three, Vector}
-use Rattle.laws.specs.Tables.{pick, table}
+use Rattle.laws.specs.Tables.{table}
+use Rattle.laws.proofs.Cases.{pick-lt}
 use Rattle.laws.proofs.Part.{part-all}
 use Rattle.laws.proofs.Tests.{at}
-use Rattle.format.specs.Lines.{Line, anchorOf, firstIn, lineBits, turned}
+use Rattle.format.specs.Lines.{Line, anchorOf, lineBits, turned}
 use Rattle.format.specs.Partitions.{subset3}
 use Rattle.format.specs.Splits.{partition}
-use Rattle.format.proofs.Modes.{good-64}
+use Rattle.format.proofs.Modes.{first-only, good-64}
 use Rattle.format.proofs.Subsets.{good-lines}
 use Rattle.record_rules.proofs.Widths.{fit, unfit}
 use Rattle.bcn_data.specs.Maps.{map3}
 use Rattle.bcn_data.proofs.Maps.{anchor-in2, anchor-in3, anchors-in2, anchors-in3}
 use Rattle.line_rules.specs.Coded.{LineOfBlock}
 use Rattle.line_rules.specs.Replace.{lineGiven, oriented}
-use Rattle.line_rules.proofs.Own.{pick-lt}
 use Rattle.line_turning.specs.Coded.{givenAs, linesOf}
 
 -- the line's number is below the count of its kind
 pub line-of-kind : {m : ℕ} {s : Split} {l : ℕ} → LineOfBlock m s l → l < linesOf s
 line-of-kind {m} {s} {l} h = subst (λ (n : ℕ). l < n) (good-lines (h .holds)) (h .line)
 
-only : (l : ℕ) → firstIn (λ (q : ℕ). 0) l (0 ∷ []) ≡ 0
-only l = go (eqb 0 l)
-  where
-    go : (b : Bool) → _≡_ {A = ℕ} (pick b 0 0) 0
-    go true = refl
-    go false = refl
-
 pub anchor-whole : (l : ℕ) → anchorOf Whole l ≡ 0
 unfolding anchorOf
-anchor-whole l = only l
+anchor-whole l = first-only l
 
 pub anchor-vector : (r i l : ℕ) → anchorOf (Vector r i) l ≡ 0
 unfolding anchorOf
-anchor-vector r i l = only l
+anchor-vector r i l = first-only l
 
 pub anchor-lt : {m : ℕ} {s : Split} {l : ℕ} → LineOfBlock m s l → anchorOf s l < 16
 anchor-lt {m} {s} {l} h = go s (good-64 (h .holds)) (line-of-kind h)

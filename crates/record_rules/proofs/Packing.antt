@@ -3,7 +3,7 @@
 use mathlib.Core.Path.{_≡_, refl, sym, ap, ap₂, _∙_, subst}
 use mathlib.Core.Bool.{Bool, true}
 use mathlib.Core.List.{List, []}
-use Prim.Native.Nat.{ℕ, zero, suc, _+_, _-_, _*_, _/_, _%_, _^_, _<_}
+use Prim.Native.Nat.{ℕ, zero, suc, _+_, _*_, _/_, _%_, _^_, _<_}
 use native.Mathlib.Nat.{lt-of-lt-of-le}
 use native.Mathlib.Omega.{arith}
 use borrow.Author.Tests.{eq-eqb, ltb-false, ne-eqb, not-false, eqb-true}
@@ -19,7 +19,7 @@ use Rattle.laws.specs.Tables.{pick, table}
 use Rattle.laws.proofs.First.{first-zero, refuse-no}
 use Rattle.laws.proofs.Joining.{table-same}
 use Rattle.laws.proofs.Part.{getD-table, part-all}
-use Rattle.laws.proofs.Tests.{T-true, at, below-intro, both-intro, both-left, both-right, true-T}
+use Rattle.laws.proofs.Tests.{T-true, at, below-intro, both-left, both-right, true-T}
 use Rattle.format.specs.Block.{eights, modeOf}
 use Rattle.format.specs.Modes.{kindOfMode}
 use Rattle.format.specs.Places.{Place, blockOf, head, index, inside, opened, pbit, placeAt, pos, value, width}
@@ -27,7 +27,7 @@ use Rattle.format.specs.Splits.{anchors, indexMode, kindOf, ofKind, partition, 
 use Rattle.format.specs.WellFormed.{WellFormed}
 use Rattle.format.proofs.Modes.{good-parts}
 use Rattle.format.proofs.Opening.{block-ext, good-kind, opened-good}
-use Rattle.format.proofs.Places.{inside-placeAt, placeAt-pos, pos-lt, split-of-kind}
+use Rattle.format.proofs.Places.{inside-placeAt, inside-value, placeAt-pos, pos-lt, split-of-kind}
 use Rattle.record_rules.specs.Records.{Shaped, fits, made, packRefusal, packed, packedAs, recordOf, says, taken, unpackedAs, zeroRecord}
 use Rattle.record_rules.proofs.Widths.{width-le}
 use Rattle.record_rules.proofs.Ways.{same-refusal, way-packed}
@@ -59,7 +59,7 @@ pub made-ext : (m : ℕ) (s : Split) (f g : Place → ℕ) → ((x : Place) → 
 unfolding made
 made-ext m s f g h =
     let v : table 24 (λ i. f (value (i % 4) (i / 4))) ≡ table 24 (λ i. g (value (i % 4) (i / 4))) =
-    table-same 0 24 _ _ (λ i l. h (value (i % 4) (i / 4)) (both-intro (ltb (i % 4) 4) (ltb (i / 4) 6) (lt→ltb (i % 4) 4 (omega arith)) (lt→ltb (i / 4) 6 (omega arith)))) in
+    table-same 0 24 _ _ (λ i l. h (value (i % 4) (i / 4)) (inside-value {c = i % 4} {e = i / 4} (omega arith) (omega arith))) in
     let p : table 6 (λ k. f (pbit k)) ≡ table 6 (λ k. g (pbit k)) = table-same 0 6 _ _ (λ k l. h (pbit k) (lt→ltb _ 6 l)) in
     let a : table 16 (λ q. f (index 0 q)) ≡ table 16 (λ q. g (index 0 q)) = table-same 0 16 _ _ (λ q l. h (index 0 q) (lt→ltb _ 16 l)) in
     let b : table 16 (λ q. f (index 1 q)) ≡ table 16 (λ q. g (index 1 q)) = table-same 0 16 _ _ (λ q l. h (index 1 q) (lt→ltb _ 16 l)) in
@@ -83,7 +83,7 @@ fits-at m an f e x h =
     subst (λ (y : Place). f y < 2 ^ width m an y) (placeAt-pos x h)
     (ltb→lt _ _ (at 66 (λ i. ltb (f (placeAt i)) (2 ^ width m an (placeAt i))) (true-T _ e) (pos x) (pos-lt x h)))
 
-pub fits-of : (m : ℕ) (an : List ℕ) (f : Place → ℕ) → ((x : Place) → T (inside x) → f x < 2 ^ width m an x) → fits m an f ≡ true
+fits-of : (m : ℕ) (an : List ℕ) (f : Place → ℕ) → ((x : Place) → T (inside x) → f x < 2 ^ width m an x) → fits m an f ≡ true
 unfolding fits
 fits-of m an f h = T-true _ (below-intro 66 (λ i. ltb (f (placeAt i)) (2 ^ width m an (placeAt i))) (λ k l. lt→ltb _ _ (h (placeAt k) (inside-placeAt k l))))
 

@@ -1,14 +1,15 @@
 -- Widths: none is above eight bits, they go by which pixels are anchors, and what it is to fit one.
 -- Assumes nothing.
 use mathlib.Core.Path.{_≡_, refl, sym, ap, subst}
-use mathlib.Core.Bool.{Bool, true, false}
+use mathlib.Core.Bool.{true, false}
 use mathlib.Core.List.{List, []}
-use Prim.Native.Nat.{ℕ, _-_, _/_, _^_, _≤_, _<_}
-use native.Mathlib.Nat.{div-eq-of-lt, div-lt-iff-lt-mul, le-of-suc-le-suc, le-refl, le-trans, lt-of-not-le, one-mul, sub-le}
+use Prim.Native.Nat.{ℕ, _/_, _^_, _≤_, _<_}
+use native.Mathlib.Nat.{div-eq-of-lt, div-lt-iff-lt-mul, le-of-suc-le-suc, le-refl, le-trans, lt-of-not-le, one-mul}
 use borrow.Author.Tests.{le-ltb, lt-ltb}
 use lib.Dec.{T, leb, leb→le, lit<, ltb, ltb→lt}
 use lib.Pow.{pow-pos}
-use Rattle.laws.specs.Tables.{below, pick}
+use Rattle.laws.specs.Tables.{below}
+use Rattle.laws.proofs.Cases.{pick-less}
 use Rattle.laws.proofs.Scan.{scan-same}
 use Rattle.laws.proofs.Tests.{at, both-right}
 use Rattle.format.specs.Modes.{endpointCount, indexBits, modeRow}
@@ -17,17 +18,13 @@ use Rattle.format.specs.Places.{Place, head, index, inside, pbit, placeAt, valu
 use Rattle.format.proofs.Places.{inside-placeAt}
 use Rattle.record_rules.specs.Records.{fits}
 
-pick-le : (b : Bool) (w : ℕ) → pick b (w - 1) w ≤ w
-pick-le true w = sub-le w 1
-pick-le false w = le-refl w
-
 -- an anchor's width is no more than the full one
 pub width-le : (m : ℕ) (an : List ℕ) (x : Place) → width m an x ≤ width m [] x
 unfolding width
 width-le m an (head k) = le-refl _
 width-le m an (value c e) = le-refl _
 width-le m an (pbit k) = le-refl _
-width-le m an (index a q) = pick-le (among q an) (indexBits m a)
+width-le m an (index a q) = pick-less (among q an) (indexBits m a)
 
 all-8 : T (below 8 (λ m. below 66 (λ i. leb (width m [] (placeAt i)) 8)))
 unfolding placeAt width modeRow endpointCount

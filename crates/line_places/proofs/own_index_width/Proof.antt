@@ -3,7 +3,8 @@
 use mathlib.Core.Path.{_∙_, sym}
 use Rattle.format.specs.Places.{index, width}
 use Rattle.format.proofs.Modes.{good-64}
-use Rattle.line_rules.proofs.Own.{inside-index, own-is, own-not}
+use Rattle.format.proofs.Places.{inside-index}
+use Rattle.line_rules.proofs.Own.{own-is, own-not}
 use Rattle.line_places.proofs.own_index_width.Statement.{statement}
 use Rattle.line_places.proofs.own_index_width.Tie as tie
 

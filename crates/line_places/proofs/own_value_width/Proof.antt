@@ -3,7 +3,8 @@
 use mathlib.Core.Path.{_∙_, sym}
 use borrow.Author.Needs.{needs}
 use Rattle.format.specs.Places.{value}
-use Rattle.line_rules.proofs.Own.{inside-value, own-is, own-not}
+use Rattle.format.proofs.Places.{inside-value}
+use Rattle.line_rules.proofs.Own.{own-is, own-not}
 use Rattle.line_places.proofs.own_value_width.Statement.{statement}
 use Rattle.line_places.proofs.own_value_width.Tie as tie
 

@@ -4,10 +4,11 @@ use Prim.Native.Nat.{_<_}
 use borrow.Author.Needs.{needs}
 use Rattle.format.specs.Lines.{indexPlace}
 use Rattle.format.specs.Places.{index}
+use Rattle.format.proofs.Meaning.{array-lt}
 use Rattle.format.proofs.Modes.{good-index-mode}
+use Rattle.format.proofs.Places.{inside-index}
 use Rattle.line_rules.specs.Replace.{indexFits, lineGiven}
-use Rattle.line_rules.proofs.Own.{inside-index}
-use Rattle.line.proofs.Widths.{array-lt, own-le-8}
+use Rattle.line.proofs.Widths.{own-le-8}
 use Rattle.line.proofs.fitting.index_fits.Statement.{statement}
 use Rattle.line.proofs.fitting.index_fits.Tie as tie
 

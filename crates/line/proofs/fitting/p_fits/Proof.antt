@@ -6,7 +6,7 @@ use Rattle.format.specs.declared.Split.the-variants.{Whole}
 use Rattle.format.specs.Lines.{pPlace}
 use Rattle.format.specs.Places.{pbit}
 use Rattle.line_rules.specs.Replace.{lineGiven, pFits}
-use Rattle.line_rules.proofs.Own.{inside-pbit}
+use Rattle.format.proofs.Places.{inside-pbit}
 use Rattle.line.proofs.Widths.{own-le-8, p-lt}
 use Rattle.line.proofs.fitting.p_fits.Statement.{statement}
 use Rattle.line.proofs.fitting.p_fits.Tie as tie

@@ -5,7 +5,8 @@ use borrow.Author.Needs.{needs}
 use Rattle.format.specs.Lines.{valuePlace}
 use Rattle.format.specs.Places.{value}
 use Rattle.line_rules.specs.Replace.{lineGiven, valueFits}
-use Rattle.line_rules.proofs.Own.{inside-value, line-below-3}
+use Rattle.format.proofs.Places.{inside-value}
+use Rattle.line_rules.proofs.Own.{line-below-3}
 use Rattle.line.proofs.Widths.{endpoint-lt, own-le-8}
 use Rattle.line.proofs.fitting.value_fits.Statement.{statement}
 use Rattle.line.proofs.fitting.value_fits.Tie as tie
