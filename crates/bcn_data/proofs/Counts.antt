@@ -22,7 +22,7 @@ bitsUnder k [] = 0
 bitsUnder k (d ∷ ds) = bitsUnder k ds + ones (bitAnd d k)
 
 -- of a word of n shares of b bits, under a mask that has k in each share
-pub ones-under : (b k : ℕ) → k < 2 ^ b → (n w : ℕ) → ones (bitAnd w (join (replicate n b) (replicate n k))) ≡ bitsUnder k (split (replicate n b) w)
+ones-under : (b k : ℕ) → k < 2 ^ b → (n w : ℕ) → ones (bitAnd w (join (replicate n b) (replicate n k))) ≡ bitsUnder k (split (replicate n b) w)
 unfolding bitsUnder ones
 ones-under b k hk zero w = ap ones (and-zero-r w)
 ones-under b k hk (suc n) w =
@@ -34,17 +34,17 @@ ones-under b k hk (suc n) w =
     ∙ ap (λ (x : ℕ). x + ones (bitAnd (w % 2 ^ b) k)) (ones-under b k hk n (w / 2 ^ b))
 
 -- numbers below 2, and below 4, by how often each stands among them
-pub record Counts2 (n : ℕ) (ds : List ℕ) : Type 0 where
+record Counts2 (n : ℕ) (ds : List ℕ) : Type 0 where
   pub all : howMany 0 ds + howMany 1 ds ≡ n
   pub set : bitsUnder 1 ds ≡ howMany 1 ds
 
-pub record Counts4 (n : ℕ) (ds : List ℕ) : Type 0 where
+record Counts4 (n : ℕ) (ds : List ℕ) : Type 0 where
   pub all : howMany 0 ds + howMany 1 ds + howMany 2 ds + howMany 3 ds ≡ n
   pub low : bitsUnder 1 ds ≡ howMany 1 ds + howMany 3 ds
   pub high : bitsUnder 2 ds ≡ howMany 2 ds + howMany 3 ds
   pub both : bitsUnder 3 ds ≡ howMany 1 ds + howMany 2 ds + 2 * howMany 3 ds
 
-pub counts2 : (n w : ℕ) → Counts2 n (split (replicate n 1) w)
+counts2 : (n w : ℕ) → Counts2 n (split (replicate n 1) w)
 unfolding bitsUnder ones
 counts2 zero w = record { all = refl; set = refl }
 counts2 (suc n) w = go (w % 2) (split (replicate n 1) (w / 2)) (mod-lt w (pow-pos 1)) (counts2 n (w / 2))
@@ -54,7 +54,7 @@ counts2 (suc n) w = go (w % 2) (split (replicate n 1) (w / 2)) (mod-lt w (pow-po
     go (suc zero) ds h r = record { all = omega arith; set = omega arith }
     go (suc (suc d)) ds h r = absurd (let z : ⊥ = omega arith in z)
 
-pub counts4 : (n w : ℕ) → Counts4 n (split (replicate n 2) w)
+counts4 : (n w : ℕ) → Counts4 n (split (replicate n 2) w)
 unfolding bitsUnder ones
 counts4 zero w = record { all = refl; low = refl; high = refl; both = refl }
 counts4 (suc n) w = go (w % 4) (split (replicate n 2) (w / 4)) (mod-lt w (pow-pos 2)) (counts4 n (w / 4))

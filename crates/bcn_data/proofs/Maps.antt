@@ -85,16 +85,9 @@ module _ (a : ℕ) (h : a < 64) where
   unfolding subsets map3
   digits3 = split-join (fit 2 2 (getD strings3 a "") is3)
 
-  -- so the counts are those of the string's digits
-  pub size2 : (k : ℕ) → howMany k (subsets 1 (map2 a .«subset_indexes»)) ≡ howMany k (digits (getD strings2 a ""))
-  size2 k = ap (howMany k) digits2
-
-  pub size3 : (k : ℕ) → howMany k (subsets 2 (map3 a .«subset_indexes»)) ≡ howMany k (digits (getD strings3 a ""))
-  size3 k = ap (howMany k) digits3
-
   -- no pixel has the number 3, as the counts of three subsets ask
   pub none-3 : howMany 3 (subsets 2 (map3 a .«subset_indexes»)) ≡ 0
-  none-3 = size3 3 ∙ no-3 2 2 (getD strings3 a "") is3
+  none-3 = ap (howMany 3) digits3 ∙ no-3 2 2 (getD strings3 a "") is3
 
 -- the share of a pixel in a word
 shareOf : (b n w q : ℕ) → q < n → w / 2 ^ (b * q) % 2 ^ b ≡ getD (split (replicate n b) w) q 0
@@ -104,7 +97,7 @@ shareOf b (suc n) w (suc q) h =
     ap (λ (x : ℕ). x % 2 ^ b) (ap (λ (x : ℕ). w / 2 ^ x) (let z : b * suc q ≡ b + b * q = mul-suc b q ∙ add-comm (b * q) b in z) ∙ sym (shr-shr w b (b * q)))
     ∙ shareOf b n (w / 2 ^ b) q (le-of-suc-le-suc h)
 
-pub share : (b w q : ℕ) → q < 16 → field w (b * q) b ≡ getD (subsets b w) q 0
+share : (b w q : ℕ) → q < 16 → field w (b * q) b ≡ getD (subsets b w) q 0
 unfolding subsets field
 share b w q h = shareOf b 16 w q h
 
