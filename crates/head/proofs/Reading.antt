@@ -14,7 +14,7 @@ use Rattle.head.specs.declared.Number.{Number}
 use Rattle.laws.proofs.Cases.{lt-or}
 use Rattle.head.specs.Numbers.{found, noNumber, raised, readGroups, readNumber}
 
-pub raised-none : (b : ℕ) (r : Number) → r .value ≡ 0 → raised b r ≡ noNumber
+raised-none : (b : ℕ) (r : Number) → r .value ≡ 0 → raised b r ≡ noNumber
 unfolding raised
 raised-none b r e = rw (eq-eqb (r .value) 0 e)
 

@@ -1,9 +1,9 @@
 -- The bytes of a number and of a head, one after the other.
 -- Assumes nothing.
 use mathlib.Core.Path.{_≡_, refl, _∙_, ap, sym}
-use mathlib.Core.Logic.{_⊎_, ⊎-elim}
+use mathlib.Core.Logic.{⊎-elim}
 use mathlib.Core.List.{List, [], _∷_, _++_, append-assoc}
-use Prim.Native.Nat.{ℕ, zero, suc, _+_, _-_, _/_, _%_, _<_, _≤_}
+use Prim.Native.Nat.{ℕ, zero, suc, _+_, _/_, _%_, _<_, _≤_}
 use native.Mathlib.Omega.{arith}
 use lib.ListN.{length, length-append}
 use borrow.Author.Tests.{lt-ltb, le-ltb, eq-eqb, ne-eqb}
@@ -29,7 +29,7 @@ few (suc k) n =
     ⊎-elim (λ h. rw (groups-last k n h) (omega arith)) (λ h. rw (groups-more k n h) (omega (arith, few k (n / 128)))) (lt-or n 128)
 
 -- bytes behind bytes
-pub with-append : (h : HeadBytes) (xs ys : List ℕ) → withBytes (withBytes h xs) ys ≡ withBytes h (xs ++ ys)
+with-append : (h : HeadBytes) (xs ys : List ℕ) → withBytes (withBytes h xs) ys ≡ withBytes h (xs ++ ys)
 with-append h xs ys = ap (λ (p : List ℕ × ℕ). record { refusal = h .refusal; bytes = p .0; count = p .1 }) (stored-append (h .bytes, h .count) xs ys)
 
 pub same-count : {g h : HeadBytes} → g ≡ h → g .count ≡ h .count

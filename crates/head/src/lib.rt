@@ -8,10 +8,10 @@ ghost use Rattle.head.specs.Numbers.{numberBytes, numbersEnd, readGroups
 ghost use Rattle.head.specs.Heads.{headOf, noBytes, readHead, sizeRefusal, withBytes, writeHead};
 
 // The form of a sheet whose blocks stand row by row.
-pub const FORM: u32 = 1;
+const FORM: u32 = 1;
 
 // The largest width and height.
-pub const LIMIT: u32 = 4096;
+const LIMIT: u32 = 4096;
 
 // A number, and the place behind its last byte; zeros where it is refused.
 pub struct Number {
@@ -78,7 +78,7 @@ fn read_groups(most: u32, s: &[u8], at: usize) -> Number
 }
 
 // The number at a place.
-pub fn read_number(s: &[u8], at: usize) -> Number
+fn read_number(s: &[u8], at: usize) -> Number
     ensures { λ r. ⌜ r ≡ readNumber (now (s .entry)) at ⌝ }
 {
     read_groups(3, s, at)
