@@ -1,5 +1,5 @@
 // The lines of a sheet's listing, as bytes by value: numbers in decimal, single spaces, and the end of the line. What a line
-// says about a block stands here; where the bytes go is for `listing` and the program.
+// says about a block stands here; which blocks are listed is said in `listing`.
 ghost use mathlib.Core.Path.{_≡_};
 ghost use mathlib.Core.List.{[], _∷_};
 ghost use Prim.Native.Nat.{_+_, _≤_};
@@ -92,7 +92,7 @@ pub fn sheet_line(width: u32, height: u32) -> Line
 }
 
 // `o` where the mode stores no alpha, so that the block is opaque.
-pub fn opacity_mark(mode: u8) -> u8
+fn opacity_mark(mode: u8) -> u8
     ensures { λ r. ⌜ r ≡ opacityMark mode ⌝ }
 {
     if mode < 4 { b'o' } else { b'-' }
