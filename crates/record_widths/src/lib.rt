@@ -150,7 +150,7 @@ pub fn mode_row(mode: u8) -> ModeRow
 }
 
 // The widths of what stands at the head of a block: marker, partition, rotation, index mode.
-pub fn head_width(mode: u8, part: usize) -> u32
+fn head_width(mode: u8, part: usize) -> u32
     requires { ⌜ (mode < 8) × (part < 4) ⌝ }
     ensures { λ r. ⌜ r ≡ width mode [] (head part) ⌝ }
 {
@@ -223,7 +223,7 @@ fn is_anchor(anchors: Anchors, pixel: usize) -> bool
 }
 
 // The width of an index as it is stored: an anchor's has one bit less.
-pub fn stored_index_width(mode: u8, anchors: Anchors, set: usize, pixel: usize) -> u32
+fn stored_index_width(mode: u8, anchors: Anchors, set: usize, pixel: usize) -> u32
     requires { ⌜ mode < 8 ⌝ }
     ensures { λ r. ⌜ r ≡ width mode (pixelsOf anchors) (index set pixel) ⌝ }
 {
