@@ -73,7 +73,7 @@ window-high lo hi c hl hh h =
     ∙ ap (λ (x : ℕ). x / 2 ^ (c - 64) % 2 ^ 64) (sym (high hi 64 hl))
     ∙ ap (λ (x : ℕ). x % 2 ^ 64) (rw e at (shr-shr (hi * 2 ^ 64 + lo) 64 (c - 64)))
 
-pub wide-lt : (lo hi : ℕ) → lo < 2 ^ 64 → hi < 2 ^ 64 → hi * 2 ^ 64 + lo < 2 ^ 128
+wide-lt : (lo hi : ℕ) → lo < 2 ^ 64 → hi < 2 ^ 64 → hi * 2 ^ 64 + lo < 2 ^ 128
 wide-lt lo hi hl hh = digits-lt {m = 2 ^ 64} {c = 2 ^ 64} hh hl
 
 pub window-none : (lo hi c : ℕ) → lo < 2 ^ 64 → hi < 2 ^ 64 → 128 ≤ c → 0 ≡ (hi * 2 ^ 64 + lo) / 2 ^ c % 2 ^ 64
