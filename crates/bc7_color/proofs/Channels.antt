@@ -55,10 +55,10 @@ at-width P p4 p5 p6 p7 p8 (suc (suc (suc (suc (suc (suc (suc zero))))))) l h = p
 at-width P p4 p5 p6 p7 p8 (suc (suc (suc (suc (suc (suc (suc (suc zero)))))))) l h = p8
 at-width P p4 p5 p6 p7 p8 (suc (suc (suc (suc (suc (suc (suc (suc (suc n))))))))) l h = absurd (let z : ⊥ = omega arith in z)
 
-abbrev pub Doubled : ℕ → Type 0
+abbrev Doubled : ℕ → Type 0
 Doubled n = (v : ℕ) → v < 2 ^ n → ((2 ^ n + 1) * v < 2 ^ (8 + (2 * n - 8))) × ((2 ^ n + 1) * v / 2 ^ (2 * n - 8) ≡ promoted n v)
 
-pub doubled : (n : ℕ) → 4 ≤ n → n ≤ 8 → Doubled n
+doubled : (n : ℕ) → 4 ≤ n → n ≤ 8 → Doubled n
 unfolding promoted
 doubled = at-width Doubled (λ v h. (omega arith, omega arith)) (λ v h. (omega arith, omega arith)) (λ v h. (omega arith, omega arith)) (λ v h. (omega arith, omega arith)) (λ v h. (omega arith, omega arith))
 

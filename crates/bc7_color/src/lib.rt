@@ -46,7 +46,7 @@ fn with_p(v: u64, p: u64, bits: u32) -> u64
     v * 2 + p
 }
 
-// An endpoint without alpha; `opaque_p` has a p bit below each value.
+// An endpoint without alpha.
 pub fn opaque(r: u64, g: u64, b: u64, bits: u32) -> [u8; 4]
     requires { ⌜ (4 ≤ bits) × (bits ≤ 8) × (r < 2 ^ bits) × (g < 2 ^ bits) × (b < 2 ^ bits) ⌝ }
     ensures { λ e. ⌜ e ≡ promoted bits r ∷ promoted bits g ∷ promoted bits b ∷ 255 ∷ [] ⌝ }
@@ -54,6 +54,7 @@ pub fn opaque(r: u64, g: u64, b: u64, bits: u32) -> [u8; 4]
     promote(r, g, b, (1u64 << bits) - 1, bits)
 }
 
+// The same with a p bit below each value.
 pub fn opaque_p(r: u64, g: u64, b: u64, p: u64, bits: u32) -> [u8; 4]
     requires { ⌜ (3 ≤ bits) × (bits ≤ 7) × (r < 2 ^ bits) × (g < 2 ^ bits) × (b < 2 ^ bits) × (p < 2) ⌝ }
     ensures { λ e. ⌜ e ≡ promoted (bits + 1) (r * 2 + p) ∷ promoted (bits + 1) (g * 2 + p) ∷ promoted (bits + 1) (b * 2 + p) ∷ 255 ∷ [] ⌝ }
@@ -73,7 +74,7 @@ pub fn with_alpha(color: [u8; 4], alpha: [u8; 4]) -> [u8; 4]
     [color[0], color[1], color[2], alpha[3]]
 }
 
-// An endpoint with alpha of a width of its own; in `clear_p` alpha has the colours' width, and a p bit stands below each value.
+// An endpoint with alpha, which has a width of its own.
 pub fn clear(r: u64, g: u64, b: u64, a: u64, bits: u32, alpha_bits: u32) -> [u8; 4]
     requires { ⌜ (4 ≤ bits) × (bits ≤ 8) × (4 ≤ «alpha_bits») × («alpha_bits» ≤ 8) × (r < 2 ^ bits) × (g < 2 ^ bits) × (b < 2 ^ bits) × (a < 2 ^ «alpha_bits») ⌝ }
     ensures { λ e. ⌜ e ≡ promoted bits r ∷ promoted bits g ∷ promoted bits b ∷ promoted «alpha_bits» a ∷ [] ⌝ }
@@ -81,6 +82,7 @@ pub fn clear(r: u64, g: u64, b: u64, a: u64, bits: u32, alpha_bits: u32) -> [u8;
     with_alpha(promote(r, g, b, 0, bits), promote(0, 0, 0, a, alpha_bits))
 }
 
+// An endpoint with alpha of the same width as the colours, and a p bit below each value.
 pub fn clear_p(r: u64, g: u64, b: u64, a: u64, p: u64, bits: u32) -> [u8; 4]
     requires { ⌜ (3 ≤ bits) × (bits ≤ 7) × (r < 2 ^ bits) × (g < 2 ^ bits) × (b < 2 ^ bits) × (a < 2 ^ bits) × (p < 2) ⌝ }
     ensures { λ e. ⌜ e ≡ promoted (bits + 1) (r * 2 + p) ∷ promoted (bits + 1) (g * 2 + p) ∷ promoted (bits + 1) (b * 2 + p) ∷ promoted (bits + 1) (a * 2 + p) ∷ [] ⌝ }
