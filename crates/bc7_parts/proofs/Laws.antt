@@ -24,7 +24,7 @@ use Rattle.bc7_fields.proofs.Pictures.{indexes-at, stack, subset-law}
 use Rattle.bc7_parts.specs.Taken.{Fixes2, Fixes3, Maps}
 
 -- where the first indexes of a mode start
-abbrev pub indexStart : ℕ → ℕ
+abbrev indexStart : ℕ → ℕ
 indexStart m = getD (83 ∷ 82 ∷ 99 ∷ 98 ∷ 50 ∷ 66 ∷ 65 ∷ 98 ∷ []) m 0
 
 -- a mode with subsets: the palettes of all, looked up by a map and a word of indexes without the top bit of each anchor

@@ -52,7 +52,7 @@ pub fn extract_partition_set_id(mode: u8, stream: BitStream) -> Bits8
     value(stream, 6)
 }
 
-// Sixteen indexes read whole and expanded, and the subsets of the sixteen pixels.
+// Sixteen indexes, read whole and expanded, with one, two or three anchors.
 pub fn indexes_1(bits: u32, stream: BitStream) -> u64
     requires { ⌜ (2 ≤ bits) × (bits ≤ 4) × (stream .at + 64 < 2 ^ 32) ⌝ }
     ensures { λ r. ⌜ r ≡ expanded bits (0 ∷ []) (nextBits stream (16 * bits - 1)) ⌝ }
