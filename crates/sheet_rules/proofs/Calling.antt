@@ -173,7 +173,7 @@ all-block (c ∷ cs) s z b l = step (ℕ-discrete (c .block) b) (all-block cs (s
     step (no n) h = h ∙ ap (λ (k : List ℕ). afterAll k (callsOn b cs)) (with-other s z c b l n) ∙ ap (afterAll (blockIn s b)) (sym (off-it b c cs n))
 
 -- a byte of a block is a byte of the sheet
-pub seen-in : {s x : List ℕ} → Same s x → (b j : ℕ) → j < 16 → getD x (readHead s .start + 16 * b + j) 0 ≡ getD (blockIn x b) j 0
+seen-in : {s x : List ℕ} → Same s x → (b j : ℕ) → j < 16 → getD x (readHead s .start + 16 * b + j) 0 ≡ getD (blockIn x b) j 0
 unfolding blockIn placeOf
 seen-in {s} {x} k b j l = sym (rw (k .head) (block-get x (readHead s .start + 16 * b) j l))
 
