@@ -83,7 +83,7 @@ fits-at m an f e x h =
     subst (λ (y : Place). f y < 2 ^ width m an y) (placeAt-pos x h)
     (ltb→lt _ _ (at 66 (λ i. ltb (f (placeAt i)) (2 ^ width m an (placeAt i))) (true-T _ e) (pos x) (pos-lt x h)))
 
-fits-of : (m : ℕ) (an : List ℕ) (f : Place → ℕ) → ((x : Place) → T (inside x) → f x < 2 ^ width m an x) → fits m an f ≡ true
+pub fits-of : (m : ℕ) (an : List ℕ) (f : Place → ℕ) → ((x : Place) → T (inside x) → f x < 2 ^ width m an x) → fits m an f ≡ true
 unfolding fits
 fits-of m an f h = T-true _ (below-intro 66 (λ i. ltb (f (placeAt i)) (2 ^ width m an (placeAt i))) (λ k l. lt→ltb _ _ (h (placeAt k) (inside-placeAt k l))))
 

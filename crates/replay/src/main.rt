@@ -1,5 +1,6 @@
 // The test program: calls in on standard input, their answers out on standard output, until the input ends. A letter names
-// the call; docs/REPLAY.md has the bytes of each. It decides nothing: what is answered comes from the libraries alone.
+// the call; docs/REPLAY.md has the bytes of each. What is answered comes from the libraries alone; here only
+// lengths and kinds that end the run are looked at.
 ghost use Prim.Native.Nat.{_+_, _≤_, _<_};
 ghost use lib.ListN.{length};
 use bc7::decode_bc7_block;
