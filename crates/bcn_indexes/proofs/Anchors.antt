@@ -9,7 +9,7 @@ use native.Mathlib.Omega.{arith}
 use borrow.Author.Tests.{eq-eqb, ne-eqb}
 use lib.ListN.{getD}
 use lib.Pow.{pow-pos, pow-mono}
-use Rattle.laws.specs.Digits.{Fit, join, split, total}
+use Rattle.laws.specs.Digits.{Fit, inserted, join, split, total}
 use Rattle.laws.specs.Tables.{table}
 use Rattle.laws.proofs.Cases.{pick-less}
 use Rattle.laws.proofs.Digits.{join-split, split-join, total-append}
@@ -17,7 +17,7 @@ use Rattle.laws.proofs.Joining.{table-same}
 use Rattle.laws.proofs.Part.{getD-table}
 use Rattle.laws.proofs.Rows.{digit, fit-table, split-table, table-mid, total-same}
 use Rattle.format.specs.Partitions.{among}
-use Rattle.bcn_indexes.specs.Indexes.{expanded, indexWidth, indexWidths, inserted, part}
+use Rattle.bcn_indexes.specs.Indexes.{expanded, indexWidth, indexWidths, part}
 use Rattle.bcn_indexes.proofs.Insert.{inserted-lt, split-inserted}
 
 -- two rows of widths that differ at i alone

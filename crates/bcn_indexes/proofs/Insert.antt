@@ -7,18 +7,17 @@ use native.Mathlib.Nat.{add-comm, add-zero, mul-assoc, mod-lt, mod-eq-of-lt, lt-
 use native.Mathlib.Omega.{arith}
 use lib.Arith.{digits-lt}
 use lib.Pow.{pow-pos, pow-add, pow-mono, mod-mod-pow, high, low, field, shr-lt, shr-shr, shl-exact}
-use Rattle.laws.specs.Digits.{split, total}
-use Rattle.bcn_indexes.specs.Indexes.{inserted}
+use Rattle.laws.specs.Digits.{inserted, split, total}
 use Rattle.bcn_util.proofs.Words.{one-shl, pair-div, pair-mod}
 
 -- below the place nothing changes, and above it all stands one bit higher
-inserted-low : (n u p : ℕ) → inserted n (p + u) % 2 ^ u ≡ n % 2 ^ u
+pub inserted-low : (n u p : ℕ) → inserted n (p + u) % 2 ^ u ≡ n % 2 ^ u
 unfolding inserted
 inserted-low n u p =
     let e : p + u + 1 ≡ p + 1 + u = omega arith in
     rw e (pair-mod (n % 2 ^ (p + u)) (n / 2 ^ (p + u)) (p + 1) u) ∙ mod-mod-pow n p u
 
-inserted-high : (n u p : ℕ) → inserted n (p + u) / 2 ^ u ≡ inserted (n / 2 ^ u) p
+pub inserted-high : (n u p : ℕ) → inserted n (p + u) / 2 ^ u ≡ inserted (n / 2 ^ u) p
 unfolding inserted
 inserted-high n u p =
     let e : p + u + 1 ≡ p + 1 + u = omega arith in

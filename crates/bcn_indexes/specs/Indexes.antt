@@ -31,7 +31,3 @@ newIndexes w an s t = record { indexes = indexesOf w an (nextBits s t); stream =
 -- part i of a number of parts of w bits
 unfoldable pub part : ℕ → ℕ → ℕ → ℕ
 part x w i = x / 2 ^ (i * w) % 2 ^ w
-
--- a zero put in at bit p
-unfoldable pub inserted : ℕ → ℕ → ℕ
-inserted n p = n / 2 ^ p * 2 ^ (p + 1) + n % 2 ^ p

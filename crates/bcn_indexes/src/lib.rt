@@ -4,7 +4,8 @@
 ghost use mathlib.Core.Path.{_≡_};
 ghost use mathlib.Core.List.{[], _∷_};
 ghost use Prim.Native.Nat.{_+_, _-_, _*_, _^_, _≤_, _<_};
-ghost use Rattle.bcn_indexes.specs.Indexes.{indexesOf, inserted, newIndexes, part};
+ghost use Rattle.laws.specs.Digits.{inserted};
+ghost use Rattle.bcn_indexes.specs.Indexes.{indexesOf, newIndexes, part};
 use bcn_util::stream::BitStream;
 
 // Index i is the i-th part of `bits` bits of the word.

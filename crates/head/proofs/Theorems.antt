@@ -12,10 +12,12 @@ use lib.Seq.{drop-drop, drop-append-seam, getD-drop}
 use Rattle.head.specs.declared.Number.{Number}
 use Rattle.head.specs.declared.Head.{Head}
 use Rattle.head.specs.declared.HeadBytes.{HeadBytes}
+use Rattle.laws.specs.Refusals.{Given}
 use Rattle.laws.proofs.Cases.{lt-or}
-use Rattle.head.specs.Heads.{Sized, form, formIn, headBytes, headOf, headRefusal, heightIn, readHead, sizeRefusal, widthIn, writeHead}
+use Rattle.laws.proofs.Refusals.{Answers, accepted-when, exactly}
+use Rattle.head.specs.Heads.{Sized, form, formIn, headBytes, headOf, headRefusal, headRules, heightIn, readHead, widthIn, writeHead}
 use Rattle.head.specs.Numbers.{Bytes, found, groups, noNumber, numberBytes, numbersEnd, raised, readGroups, readNumber}
-use Rattle.head.proofs.Heading.{accepted, head-1, head-2, head-3, head-4, head-5, refused, size-0, sized}
+use Rattle.head.proofs.Heading.{accepted, head-rules, refused}
 use Rattle.head.proofs.Reading.{every-number, raised-some, read-last, read-more, value-small}
 use Rattle.head.proofs.Writing.{groups-last, groups-more, one-byte}
 
@@ -135,9 +137,7 @@ module _ (w h : ℕ) (z : Sized w h) (rest : List ℕ) where
   pub head-read-back : readHead (headBytes w h ++ rest) ≡ headOf 0 w h (length (headBytes w h))
   unfolding sheet
   head-read-back =
-      sym (accepted sheet (head-5 sheet (ap (λ (r : Number). r .refusal) form-part) (ap (λ (r : Number). r .value) form-part) (ap (λ (r : Number). r .refusal) width-part)
-      (ap (λ (r : Number). r .refusal) height-part)
-      ∙ ap₂ (λ (x y : Number). sizeRefusal (x .value) (y .value)) width-part height-part ∙ size-0 w h z))
+      sym (accepted sheet (accepted-when (head-rules sheet) .1 (rw (form-part, width-part, height-part) (refl, (refl, (refl, (refl, (z, tt))))))))
       ∙ ap₂ (λ (x y : Number). headOf 0 (x .value) (y .value) (y .next)) width-part height-part
 
 -- an accepted head has exactly one form
@@ -170,25 +170,23 @@ module _ (s : List ℕ) (p : Parts s) (y : Bytes s) where
       let t = drop (heightIn s .next) s in
       form-spelt ∙ ap (λ (x : List ℕ). f ++ x) (width-spelt ∙ ap (λ (x : List ℕ). w ++ x) height-spelt ∙ sym (append-assoc w h t)) ∙ sym (append-assoc f (w ++ h) t)
 
-one-or : (n : ℕ) → (n ≡ 1) ⊎ (n ≡ 1 → ⊥)
-one-or zero = inr (λ q. omega arith)
-one-or (suc zero) = inl refl
-one-or (suc (suc n)) = inr (λ q. omega arith)
-
 module _ (s : List ℕ) where
   pub refusal-is : (readHead s) .refusal ≡ headRefusal s
   refusal-is =
       ⊎-elim (λ z. sym (ap (λ (h : Head). h .refusal) (accepted s z)) ∙ sym z) (λ p. sym (ap (λ (h : Head). h .refusal) (refused s (headRefusal s) refl (λ q. omega arith))))
       (eq-zero-or-pos (headRefusal s))
 
+  -- each refusal number of a head is given exactly when document 01 says (`headRules` has the words)
+  pub head-answers : Answers (readHead s .refusal) (headRules (formIn s) (widthIn s) (heightIn s))
+  head-answers = rw refusal-is (head-rules s)
+
+  pub head-refused-when : (n : ℕ) → (readHead s .refusal ≡ n) ↔ Given (headRules (formIn s) (widthIn s) (heightIn s)) n
+  head-refused-when = exactly head-answers
+
   pub parts : headRefusal s ≡ 0 → Parts s
   parts e =
-      ⊎-elim (λ a. ⊎-elim (λ b. ⊎-elim (λ c. ⊎-elim
-      (λ d. record { form-told = a; form-one = b; width-told = c; height-told = d; size = sized _ _ (sym (head-5 s a b c d) ∙ e) })
-      (λ d. absurd (let q : ⊥ = omega (arith, head-4 s a b c (λ q. omega arith)) in q)) (eq-zero-or-pos (heightIn s .refusal)))
-      (λ c. absurd (let q : ⊥ = omega (arith, head-3 s a b (λ q. omega arith)) in q)) (eq-zero-or-pos (widthIn s .refusal)))
-      (λ b. absurd (let q : ⊥ = omega (arith, head-2 s a b) in q)) (one-or (formIn s .value)))
-      (λ a. absurd (let q : ⊥ = omega (arith, head-1 s (λ q. omega arith)) in q)) (eq-zero-or-pos (formIn s .refusal))
+      let (a, (b, (c, (d, (z, u))))) = head-rules s .met e in
+      record { form-told = a; form-one = b; width-told = c; height-told = d; size = z }
 
   pub head-sized : (readHead s) .refusal ≡ 0 → Sized ((readHead s) .width) ((readHead s) .height)
   head-sized e = let z = sym refusal-is ∙ e in subst (λ (r : Head). Sized (r .width) (r .height)) (accepted s z) ((parts z) .size)

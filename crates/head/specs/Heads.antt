@@ -1,6 +1,7 @@
 -- The head of a sheet: form, width, height.
 -- Assumes nothing.
 use Prim.Native.Nat.{ℕ, _≤_}
+use mathlib.Core.Path.{_≡_}
 use mathlib.Core.Bool.{Bool, not}
 use mathlib.Core.List.{List, [], _∷_, _++_}
 use lib.Dec.{eqb, leb}
@@ -9,7 +10,7 @@ use Rattle.head.specs.declared.Number.{Number}
 use Rattle.head.specs.declared.Head.{Head}
 use Rattle.head.specs.declared.HeadBytes.{HeadBytes}
 use Rattle.laws.specs.Padding.{padded, stored}
-use Rattle.laws.specs.Refusals.{first, refuse}
+use Rattle.laws.specs.Refusals.{Rule, first, handed, refuse, unless}
 use Rattle.laws.specs.Tables.{both, pick}
 use Rattle.head.specs.Numbers.{numberBytes, readNumber}
 
@@ -32,6 +33,16 @@ pub record Sized (w h : ℕ) : Type 0 where
   pub within-wide : w ≤ limit
   pub high : 1 ≤ h
   pub within-high : h ≤ limit
+
+-- the rules of a head whose three numbers were read as f, w, h: 7 and 8 on the form, 7 on width and height, then 9
+abbrev pub headRules : Number → Number → Number → List Rule
+headRules f w h =
+    handed (f .refusal) ∷
+    unless 8 (f .value ≡ form) ∷
+    handed (w .refusal) ∷
+    handed (h .refusal) ∷
+    unless 9 (Sized (w .value) (h .value)) ∷
+    []
 
 -- the three numbers of a head
 unfoldable pub formIn : List ℕ → Number

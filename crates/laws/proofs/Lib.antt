@@ -6,7 +6,11 @@ pub mod Filled
 pub mod Over
 pub mod Joining
 pub mod First
+pub mod Refusals
 pub mod Digits
 pub mod Rows
 pub mod Padding
 pub mod Fitting
+pub mod Putting
+pub mod Masks
+pub mod Lanes

@@ -23,3 +23,14 @@ join (w ∷ ws) (v ∷ vs) = join ws vs * 2 ^ w + v
 pub data Fit : List ℕ → List ℕ → Type 0 where
   none : Fit [] []
   more : {w v : ℕ} {ws vs : List ℕ} → v < 2 ^ w → Fit ws vs → Fit (w ∷ ws) (v ∷ vs)
+
+-- a zero put in at bit p of a number, and the bit taken out
+unfoldable pub inserted : ℕ → ℕ → ℕ
+inserted n p = n / 2 ^ p * 2 ^ (p + 1) + n % 2 ^ p
+
+unfoldable pub removed : ℕ → ℕ → ℕ
+removed n p = n / 2 ^ (p + 1) * 2 ^ p + n % 2 ^ p
+
+-- v in the place of the c bits of n at position a
+unfoldable pub replacedAt : ℕ → ℕ → ℕ → ℕ → ℕ
+replacedAt n a c v = n / 2 ^ (a + c) * 2 ^ (a + c) + (v * 2 ^ a + n % 2 ^ a)

@@ -16,9 +16,11 @@ use Rattle.record_rules.specs.declared.Unpacked.{Unpacked}
 use Rattle.record_rules.specs.declared.Packed.{Packed}
 use Rattle.format.specs.declared.Split.{Split}
 use Rattle.laws.specs.Digits.{Fit}
+use Rattle.laws.specs.Refusals.{Given, here, then}
 use Rattle.laws.specs.Tables.{both, pick}
 use Rattle.laws.proofs.Cases.{pick-lt}
 use Rattle.laws.proofs.Part.{getD-table}
+use Rattle.laws.proofs.Refusals.{accepted-when, exactly}
 use Rattle.laws.proofs.Tests.{both-left, both-right, both-true, no-both}
 use Rattle.format.specs.Block.{eights, modeOf}
 use Rattle.format.specs.Lines.{Line, has, laid, withLine}
@@ -29,10 +31,10 @@ use Rattle.format.proofs.Opening.{opened-good}
 use Rattle.format.proofs.Reserved.{open-mode, reserved-mode, zero-byte}
 use Rattle.record_rules.specs.Records.{made, packed, packedAs, recordOf, says, taken, unpackedAs, zeroRecord}
 use Rattle.record_rules.proofs.Packing.{made-ext}
-use Rattle.line_rules.specs.Acceptable.{Answer, Within, accepted, no-line, p-bits-differ, reserved, too-wide}
+use Rattle.line_rules.specs.Acceptable.{Within, callRules}
 use Rattle.line_rules.specs.Coded.{LineOfBlock}
 use Rattle.line_rules.specs.Replace.{after, callOf, lineFits, lineGiven, oriented, put, refusal, replaced, replacedAs}
-use Rattle.line_rules.proofs.Accepting.{answer-is, fits-within, second, within-fits}
+use Rattle.line_rules.proofs.Accepting.{fits-within, on-block, second, within-fits}
 use Rattle.line_rules.proofs.Blocks.{unchanged}
 use Rattle.line_turning.specs.Coded.{givenAs}
 use Rattle.line.proofs.ThroughRecord.{through-record}
@@ -94,10 +96,10 @@ module _ (bs : List ℕ) (sixteen : Fit eights bs) (u : Unpacked) (eu : u ≡ ta
 
 module _ (bs : List ℕ) (sixteen : Fit eights bs) (l : ℕ) (g : Replacement) where
   -- a refused call hands back the block
-  refused-with : {n : ℕ} → Answer bs (callOf l g) (suc n) → replacedAs (suc n) bs ≡ replaced bs l g
+  refused-with : {n : ℕ} → Given (callRules bs (callOf l g)) (suc n) → replacedAs (suc n) bs ≡ replaced bs l g
   unfolding replaced
   refused-with {n} a =
-      let e : refusal bs (callOf l g) ≡ suc n = answer-is bs sixteen (callOf l g) a in
+      let e : refusal bs (callOf l g) ≡ suc n = exactly (on-block bs sixteen (callOf l g)) (suc n) .1 a in
       sym (ap₂ replacedAs e (unchanged bs (callOf l g) (λ z. let y : ⊥ = omega arith in y)))
 
   -- the line put into the record and packed is the answer
@@ -120,43 +122,43 @@ module _ (bs : List ℕ) (sixteen : Fit eights bs) (l : ℕ) (g : Replacement) w
 
   module _ (u : Unpacked) (eu : u ≡ taken bs) where
     pub way-1 : u .refusal ≢ 0 → replacedAs 1 bs ≡ replaced bs l g
-    way-1 n = refused-with (reserved (zero-byte bs sixteen (taken-refused bs (rw eu at n))))
+    way-1 n = refused-with (here (λ z. z (zero-byte bs sixteen (taken-refused bs (rw eu at n)))))
 
     module _ (ok : u .refusal ≡ 0) where
-      here : u .«record» .mode ≡ modeOf bs
-      here = the-mode bs sixteen u eu ok
+      mode-is : u .«record» .mode ≡ modeOf bs
+      mode-is = the-mode bs sixteen u eu ok
 
       split : u .«record» .split ≡ splitOf bs
       split = the-split bs sixteen u eu ok
 
       pub way-2 : lines (u .«record» .mode) ≤ l → replacedAs 2 bs ≡ replaced bs l g
-      way-2 h = refused-with (no-line (nonzero bs sixteen u eu ok) (rw here at h))
+      way-2 h = refused-with (then (nonzero bs sixteen u eu ok) (here (λ b. omega (arith, rw mode-is at h))))
 
       module _ (below : l < lines (u .«record» .mode)) where
         pub way-3 : lineFits (u .«record» .mode) (u .«record» .split) l (lineGiven g) ≡ false → replacedAs 3 bs ≡ replaced bs l g
         way-3 e =
-            refused-with (too-wide (nonzero bs sixteen u eu ok) (rw here at below)
-            (λ w. no-both (within-fits (modeOf bs) (splitOf bs) l (lineGiven g) w) (rw (here, split) at e)))
+            refused-with (then (nonzero bs sixteen u eu ok) (then (rw mode-is at below)
+            (here (λ w. no-both (within-fits (modeOf bs) (splitOf bs) l (lineGiven g) w) (rw (mode-is, split) at e)))))
 
         module _ (fits : lineFits (u .«record» .mode) (u .«record» .split) l (lineGiven g) ≡ true) where
           within : Within (modeOf bs) (splitOf bs) l (lineGiven g)
-          within = fits-within (modeOf bs) (splitOf bs) l (lineGiven g) (rw (here, split) at fits)
+          within = fits-within (modeOf bs) (splitOf bs) l (lineGiven g) (rw (mode-is, split) at fits)
 
           pub way-4 : differ (u .«record» .mode) ≡ true → replacedAs 4 bs ≡ replaced bs l g
           unfolding lineGiven
           way-4 e =
               let p = both-true (eqb (u .«record» .mode) 1) _ e in
-              refused-with (p-bits-differ (nonzero bs sixteen u eu ok) (rw here at below) within (sym here ∙ eqb-true _ 1 (p .0)) (eqb-false _ _ (not-true _ (p .1))))
+              refused-with (then (nonzero bs sixteen u eu ok) (then (rw mode-is at below) (then within (here (λ f. eqb-false _ _ (not-true _ (p .1)) (f (sym mode-is ∙ eqb-true _ 1 (p .0))))))))
 
           same : differ (u .«record» .mode) ≡ false → modeOf bs ≡ 1 → lineGiven g .p 0 ≡ lineGiven g .p 1
           unfolding lineGiven
-          same e z = eqb-true _ _ (not-false _ (second (eqb (u .«record» .mode) 1) _ (eq-eqb _ 1 (here ∙ z)) e))
+          same e z = eqb-true _ _ (not-false _ (second (eqb (u .«record» .mode) 1) _ (eq-eqb _ 1 (mode-is ∙ z)) e))
 
           pub way-5 : differ (u .«record» .mode) ≡ false
               → (o : Replacement) → o ≡ givenAs (oriented (u .«record» .mode) (u .«record» .split) l (lineGiven g))
               → (r : Record) → r ≡ made (u .«record» .mode) (u .«record» .split) (withLine (u .«record» .mode) (u .«record» .split) l (lineGiven o) (says (u .«record»)))
               → (k : Packed) → k ≡ packed r → replacedAs 0 (k .block) ≡ replaced bs l g
           way-5 e o eo r er k ek =
-              let a : refusal bs (callOf l g) ≡ 0 = answer-is bs sixteen (callOf l g) (accepted (nonzero bs sixteen u eu ok) (record { line = rw here at below; within = within; same-p = same e })) in
+              let a : refusal bs (callOf l g) ≡ 0 = accepted-when (on-block bs sixteen (callOf l g)) .1 (nonzero bs sixteen u eu ok, (rw mode-is at below, (within, (same e, tt)))) in
               ap (λ (k : Packed). replacedAs 0 (k .block)) (ek ∙ ap packed (er ∙ with-line bs sixteen u eu ok l (lineGiven o)))
-              ∙ accepted-with a o (rw (here, split) at eo)
+              ∙ accepted-with a o (rw (mode-is, split) at eo)

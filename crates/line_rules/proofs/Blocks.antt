@@ -3,7 +3,7 @@
 use mathlib.Core.Path.{_≡_, refl, sym, ap, _∙_, subst}
 use mathlib.Core.Logic.{_≢_, _⊎_, ⊎-elim}
 use mathlib.Core.Bool.{Bool, true, false}
-use mathlib.Core.List.{List, [], _∷_}
+use mathlib.Core.List.{List}
 use Prim.Native.Nat.{ℕ, zero, suc, _/_, _%_, _<_, _≤_}
 use native.Mathlib.Nat.{eq-or-lt-of-le}
 use native.Mathlib.Omega.{arith}
@@ -20,12 +20,15 @@ use Rattle.format.specs.Splits.{rotation, splitOf}
 use Rattle.format.specs.WellFormed.{WellFormed}
 use Rattle.format.proofs.Lens.{shown-ext, shown-none, shown-other}
 use Rattle.format.proofs.Opening.{block-ext, block-fits, block-opened, mode-block, opened-block, opened-good, split-block}
-use Rattle.line_rules.specs.Calls.{afterAll, isAccepted}
+use Rattle.line_rules.specs.Calls.{isAccepted}
 use Rattle.line_rules.specs.Replace.{Call, after, oriented, put, refusal, refusalIn}
 use Rattle.line_rules.proofs.Draws.{drawn-by, no-alpha, no-rotation, not-drawn-by}
 use Rattle.line_rules.proofs.Given.{shown-given}
 use Rattle.line_rules.proofs.Put.{put-good}
-use Rattle.line_rules.proofs.Steps.{step, step-trade, steps}
+
+-- what stands at the places after a call
+unfoldable step : ℕ → Split → Call → (Place → ℕ) → Place → ℕ
+step m s c f = pick (isAccepted m s c) (put m s (c .line) (c .given) f) f
 
 module _ {m : ℕ} {s : Split} {f : Place → ℕ} (g : WellFormed m s f) where
   step-good : (c : Call) → WellFormed m s (step m s c f)
@@ -48,11 +51,6 @@ module _ {m : ℕ} {s : Split} {f : Place → ℕ} (g : WellFormed m s f) where
       go true = block-ext m s _ _ (λ x i. ap (pick (has m s (c .line) x) (laid m (oriented m s (c .line) (c .given)) x)) (opened-block g x i))
       go false = refl
 
-all-shut : {m : ℕ} {s : Split} {f : Place → ℕ} (g : WellFormed m s f) (cs : List Call) → afterAll (blockOf m s f) cs ≡ blockOf m s (steps m s cs f)
-unfolding afterAll steps
-all-shut g [] = refl
-all-shut g (c ∷ cs) = rw (after-shut g c) (all-shut (step-good g c) cs)
-
 -- blocks are reserved or not
 trailing-le : (k b : ℕ) → trailing k b ≤ k
 unfolding trailing
@@ -63,7 +61,7 @@ trailing-le (suc k) b = go (eqb (b % 2) 0) (trailing-le k (b / 2))
     go true h = omega arith
     go false h = omega arith
 
-reserved-or : (bs : List ℕ) → (modeOf bs ≡ 8) ⊎ (modeOf bs < 8)
+pub reserved-or : (bs : List ℕ) → (modeOf bs ≡ 8) ⊎ (modeOf bs < 8)
 unfolding modeOf
 reserved-or bs = eq-or-lt-of-le (trailing-le 8 _)
 
@@ -76,13 +74,8 @@ reserved-refuses : (bs : List ℕ) (c : Call) → modeOf bs ≡ 8 → refusal bs
 unfolding refusal refusalIn first
 reserved-refuses bs c e = rw (eq-eqb (modeOf bs) 8 e)
 
-reserved-same : (bs : List ℕ) (c : Call) → modeOf bs ≡ 8 → after bs c ≡ bs
+pub reserved-same : (bs : List ℕ) (c : Call) → modeOf bs ≡ 8 → after bs c ≡ bs
 reserved-same bs c e = unchanged bs c (λ z. let r : refusal bs c ≡ 1 = reserved-refuses bs c e in let y : ⊥ = omega arith in y)
-
-reserved-all : (bs : List ℕ) (cs : List Call) → modeOf bs ≡ 8 → afterAll bs cs ≡ bs
-unfolding afterAll
-reserved-all bs [] e = refl
-reserved-all bs (c ∷ cs) e = rw (reserved-same bs c e) (reserved-all bs cs e)
 
 pub accepted-open : (bs : List ℕ) (c : Call) → refusal bs c ≡ 0 → modeOf bs < 8
 accepted-open bs c e =
@@ -96,9 +89,6 @@ module _ (bs : List ℕ) (sixteen : Fit eights bs) where
 
     after-is : (c : Call) → after bs c ≡ blockOf (modeOf bs) (splitOf bs) (step (modeOf bs) (splitOf bs) c (opened bs))
     after-is c = ap (λ (b : List ℕ). after b c) (sym (block-opened bs sixteen h)) ∙ after-shut good c
-
-    all-is : (cs : List Call) → afterAll bs cs ≡ blockOf (modeOf bs) (splitOf bs) (steps (modeOf bs) (splitOf bs) cs (opened bs))
-    all-is cs = ap (λ (b : List ℕ). afterAll b cs) (sym (block-opened bs sixteen h)) ∙ all-shut good cs
 
   -- a call changes neither the mode nor the split, and leaves sixteen bytes
   pub after-mode : (c : Call) → modeOf (after bs c) ≡ modeOf bs
@@ -182,23 +172,6 @@ module _ (bs : List ℕ) (sixteen : Fit eights bs) where
           go true true e = shown-other m s (c .line) (oriented m s (c .line) (c .given)) (opened bs) q ch (not-drawn-by m s (c .line) q ch e n)
           go true false e = shown-none m s pc (opened bs) q ch e
           go false b e = refl
-
-  -- calls on different lines trade places
-  pub bytes-trade : (c d : Call) → c .line ≢ d .line → after (after bs c) d ≡ after (after bs d) c
-  bytes-trade c d n =
-      ⊎-elim
-      (λ (z : modeOf bs ≡ 8). ap (λ (b : List ℕ). after b d) (reserved-same bs c z) ∙ reserved-same bs d z ∙ sym (ap (λ (b : List ℕ). after b c) (reserved-same bs d z) ∙ reserved-same bs c z))
-      (λ (l : modeOf bs < 8).
-      ap (λ (b : List ℕ). after b d) (after-is l c) ∙ after-shut (step-good (good l) c) d
-      ∙ block-ext (modeOf bs) (splitOf bs) _ _ (λ x i. step-trade (modeOf bs) (splitOf bs) c d (opened bs) x n)
-      ∙ sym (ap (λ (b : List ℕ). after b c) (after-is l d) ∙ after-shut (step-good (good l) d) c))
-      (reserved-or bs)
-
-  -- lists of calls that leave the same at the places leave the same bytes
-  pub all-same : (cs ds : List Call) → ((x : Place) → steps (modeOf bs) (splitOf bs) cs (opened bs) x ≡ steps (modeOf bs) (splitOf bs) ds (opened bs) x) → afterAll bs cs ≡ afterAll bs ds
-  all-same cs ds e =
-      ⊎-elim (λ (z : modeOf bs ≡ 8). reserved-all bs cs z ∙ sym (reserved-all bs ds z))
-      (λ (l : modeOf bs < 8). all-is l cs ∙ block-ext (modeOf bs) (splitOf bs) _ _ (λ x i. e x) ∙ sym (all-is l ds)) (reserved-or bs)
 
 -- the alpha of the modes 0 to 3
 pub full-alpha : (bs : List ℕ) → Fit eights bs → (q : ℕ) → modeOf bs < 4 → pixel bs q 3 ≡ 255

@@ -2,7 +2,6 @@ pub mod Accepting
 pub mod Put
 pub mod Draws
 pub mod Given
-pub mod Steps
 pub mod Blocks
 pub mod Sequences
 pub mod Own

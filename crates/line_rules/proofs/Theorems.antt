@@ -3,13 +3,16 @@
 use mathlib.Core.Path.{_≡_, refl, sym, ap, _∙_}
 use mathlib.Core.Logic.{_≢_, _↔_}
 use mathlib.Core.Bool.{true, false}
-use mathlib.Core.List.{List}
+use mathlib.Core.List.{List, _∷_, _++_}
 use Prim.Native.Nat.{ℕ, _<_}
 use lib.Dec.{T}
 use lib.ListN.{getD}
 use Rattle.line_rules.specs.declared.Replacement.{Replacement}
 use Rattle.line_rules.specs.declared.Replaced.{Replaced}
 use Rattle.laws.specs.Digits.{Fit}
+use Rattle.laws.specs.Refusals.{Given}
+use Rattle.laws.proofs.Refusals.{accepted-when as met-when, exactly}
+use Rattle.calls.proofs.Trading.{inside as inside-list}
 use Rattle.format.specs.Block.{eights, modeOf}
 use Rattle.format.specs.Lines.{draws, has, laid, meant, pixel, pixels}
 use Rattle.format.specs.Modes.{lines}
@@ -18,31 +21,31 @@ use Rattle.format.specs.Places.{Place, inside, opened}
 use Rattle.format.specs.Splits.{splitOf}
 use Rattle.format.proofs.Opening.{opened-good}
 use Rattle.format.proofs.Reserved.{open-mode, reserved-mode, zero-byte}
-use Rattle.line_rules.specs.Acceptable.{Acceptable, Answer, OwnWidths, accepted}
+use Rattle.line_rules.specs.Acceptable.{Acceptable, OwnWidths, callRules}
 use Rattle.line_rules.specs.Calls.{afterAll, last, lastOfEach, seen}
 use Rattle.line_rules.specs.Replace.{Call, after, oriented, refusal, replaced}
-use Rattle.line_rules.proofs.Accepting.{answer-is, answered}
-use Rattle.line_rules.proofs.Blocks.{after-mode, after-sixteen, after-split, all-same, bytes-trade, full-alpha, given-drawn, others-kept, places-kept, places-stored, same-refusal, unchanged}
+use Rattle.line_rules.proofs.Accepting.{on-block}
+use Rattle.line_rules.proofs.Blocks.{after-mode, after-sixteen, after-split, full-alpha, given-drawn, others-kept, places-kept, places-stored, same-refusal, unchanged}
 use Rattle.line_rules.proofs.Draws.{drawn-by-one}
 use Rattle.line_rules.proofs.OwnWidths.{own-widths}
-use Rattle.line_rules.proofs.Sequences.{all-mode, all-sixteen, all-split, sequence-draws}
-use Rattle.line_rules.proofs.Steps.{steps-last-of-each, steps-same}
+use Rattle.line_rules.proofs.Sequences.{all-stays, bytes-trade, first-stays, lasts, same-lasts, sequence-draws, trading}
 
 -- a call is accepted exactly when the first byte isn't zero, the line number is below the mode's count, every value is within
 -- the width that it has in that line, and in mode 1 the p bits are equal
 pub accepted-when : (bs : List ℕ) → Fit eights bs → (c : Call) → (refusal bs c ≡ 0) ↔ ((getD bs 0 0 ≢ 0) × Acceptable (modeOf bs) (splitOf bs) (c .line) (c .given))
-accepted-when bs h c = (λ e. parts (rw e at (answered bs h c)), λ a. answer-is bs h c (accepted (a .0) (a .1)))
-  where
-    parts : Answer bs c 0 → (getD bs 0 0 ≢ 0) × Acceptable (modeOf bs) (splitOf bs) (c .line) (c .given)
-    parts (accepted n a) = (n, a)
+accepted-when bs h c =
+    let a = met-when (on-block bs h c) in (
+      λ e. let (n, (l, (w, (p, u)))) = a .0 e in (n, record { line = l; within = w; same-p = p }),
+      λ x. a .1 (x .0, (x .1 .line, (x .1 .within, (x .1 .same-p, tt)))),
+    )
 
 -- those widths are, in a block whose first byte isn't zero
 pub the-widths : (bs : List ℕ) → Fit eights bs → getD bs 0 0 ≢ 0 → (l : ℕ) → l < lines (modeOf bs) → OwnWidths (modeOf bs) (splitOf bs) l
 the-widths bs h n l hl = own-widths (opened-good bs h (open-mode bs h n)) l hl
 
--- each refusal number is given exactly when document 01 says (`Answer` has the words)
-pub refused-when : (bs : List ℕ) → Fit eights bs → (c : Call) (n : ℕ) → (refusal bs c ≡ n) ↔ Answer bs c n
-refused-when bs h c n = (λ e. rw e at (answered bs h c), answer-is bs h c)
+-- each refusal number is given exactly when document 01 says (`callRules` has the words)
+pub refused-when : (bs : List ℕ) → Fit eights bs → (c : Call) (n : ℕ) → (refusal bs c ≡ n) ↔ Given (callRules bs c) n
+refused-when bs h c = exactly (on-block bs h c)
 
 -- after an accepted call, whatever the line draws is what the given endpoints, p bits and full indexes mean, turned or not
 pub accepted-draws : (bs : List ℕ) → Fit eights bs → (c : Call) (q ch : ℕ) → q < 16 → ch < 4 → refusal bs c ≡ 0
@@ -85,13 +88,13 @@ refused-same = unchanged
 -- what a call is answered goes by the first block's mode and split alone, whatever calls came before it
 pub same-answer : (a bs : List ℕ) → Fit eights bs → modeOf a ≡ modeOf bs → splitOf a ≡ splitOf bs → (cs : List Call) (d : Call) → refusal (afterAll bs cs) d ≡ refusal a d
 unfolding refusal
-same-answer a bs h em es cs d = rw (all-mode cs bs h, all-split cs bs h, em, es)
+same-answer a bs h em es cs d = rw (all-stays cs bs h .mode, all-stays cs bs h .split, em, es)
 
 -- the first byte stays nonzero, so all this holds again at every step
 pub first-byte-stays : (bs : List ℕ) → Fit eights bs → (cs : List Call) → Fit eights (afterAll bs cs) × ((getD (afterAll bs cs) 0 0 ≡ 0) ↔ (getD bs 0 0 ≡ 0))
 first-byte-stays bs h cs = (
-  all-sixteen cs bs h,
-  (λ z. zero-byte bs h (sym (all-mode cs bs h) ∙ reserved-mode (afterAll bs cs) z), λ z. zero-byte (afterAll bs cs) (all-sixteen cs bs h) (all-mode cs bs h ∙ reserved-mode bs z)),
+  all-stays cs bs h .sixteen,
+  (λ z. zero-byte bs h (sym (all-stays cs bs h .mode) ∙ reserved-mode (afterAll bs cs) z), λ z. zero-byte (afterAll bs cs) (all-stays cs bs h .sixteen) (all-stays cs bs h .mode ∙ reserved-mode bs z)),
 )
 
 -- two neighbouring calls that name different lines: the same answers in either order, equal final bytes, and either order draws
@@ -127,21 +130,25 @@ trade-places bs h c d n = record {
   rest = λ q ch a b. kept-twice bs h c d q ch b ∙ others-kept bs h c q ch a;
 }
 
+-- also inside a longer list
+pub trade-inside : (bs : List ℕ) → Fit eights bs → (xs : List Call) (c d : Call) (ys : List Call) → c .line ≢ d .line → afterAll bs (xs ++ (c ∷ d ∷ ys)) ≡ afterAll bs (xs ++ (d ∷ c ∷ ys))
+trade-inside bs h xs c d ys n = inside-list (trading (modeOf bs) (splitOf bs)) xs c d ys bs (first-stays bs h) n
+
 -- any list of calls leaves the block that the last accepted call of each line makes of the first one, in whichever order ls names
 -- the lines
 pub last-calls-decide : (bs : List ℕ) → Fit eights bs → (cs : List Call) (ls : List ℕ) → ((l : ℕ) → l < lines (modeOf bs) → T (among l ls))
     → afterAll bs cs ≡ afterAll bs (lastOfEach (modeOf bs) (splitOf bs) ls cs)
-last-calls-decide bs h cs ls all = all-same bs h cs _ (steps-last-of-each (modeOf bs) (splitOf bs) cs ls all (opened bs))
+last-calls-decide = lasts
 
 -- so do two lists of calls whose last accepted calls are the same
 pub same-last-calls : (bs : List ℕ) → Fit eights bs → (cs ds : List Call) → ((l : ℕ) → l < lines (modeOf bs) → last (modeOf bs) (splitOf bs) l cs ≡ last (modeOf bs) (splitOf bs) l ds)
     → afterAll bs cs ≡ afterAll bs ds
-same-last-calls bs h cs ds e = all-same bs h cs ds (steps-same (modeOf bs) (splitOf bs) cs ds e (opened bs))
+same-last-calls = same-lasts
 
 -- and every channel that line l draws shows what the last accepted call of l means, or what the first block shows where there is none
 pub last-call-is-seen : (bs : List ℕ) → Fit eights bs → (cs : List Call) (l q ch : ℕ) → q < 16 → ch < 4 → draws (modeOf bs) (splitOf bs) l q ch ≡ true
     → pixel (afterAll bs cs) q ch ≡ seen (modeOf bs) (splitOf bs) l q ch (pixel bs q ch) (last (modeOf bs) (splitOf bs) l cs)
-last-call-is-seen bs h cs l q ch hq hc d = sequence-draws (modeOf bs) (splitOf bs) l q ch hq hc d cs bs h refl refl
+last-call-is-seen bs h cs l q ch hq hc d = sequence-draws (modeOf bs) (splitOf bs) l q ch hq hc d cs bs (first-stays bs h)
 
 -- DEMAND 1: any two answers that the promise of `replace_line` admits coincide
 pub determined-replace-line : (bs : List ℕ) (l : ℕ) (g : Replacement) (a b : Replaced) → a ≡ replaced bs l g → b ≡ replaced bs l g → a ≡ b

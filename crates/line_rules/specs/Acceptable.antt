@@ -2,11 +2,12 @@
 -- Assumes nothing.
 use mathlib.Core.Path.{_≡_}
 use mathlib.Core.Logic.{_≢_}
-use mathlib.Core.List.{List}
-use Prim.Native.Nat.{ℕ, _^_, _<_, _≤_}
+use mathlib.Core.List.{List, [], _∷_}
+use Prim.Native.Nat.{ℕ, _^_, _<_}
 use lib.Dec.{eqb}
 use lib.ListN.{getD}
 use Rattle.format.specs.declared.Split.{Split}
+use Rattle.laws.specs.Refusals.{Rule, unless}
 use Rattle.laws.specs.Tables.{pick}
 use Rattle.format.specs.Block.{modeOf}
 use Rattle.format.specs.Lines.{Line, indexPlace, lineBits, pPlace, valuePlace}
@@ -34,11 +35,9 @@ pub record Acceptable (m : ℕ) (s : Split) (l : ℕ) (ln : Line) : Type 0 where
   pub within : Within m s l ln
   pub same-p : m ≡ 1 → ln .p 0 ≡ ln .p 1
 
--- the refusal number of a call on a block, 0 where it is accepted: each is given exactly when
-pub data Answer (bs : List ℕ) (c : Call) : ℕ → Type 0 where
-  reserved : getD bs 0 0 ≡ 0 → Answer bs c 1
-  no-line : getD bs 0 0 ≢ 0 → lines (modeOf bs) ≤ c .line → Answer bs c 2
-  too-wide : getD bs 0 0 ≢ 0 → c .line < lines (modeOf bs) → (Within (modeOf bs) (splitOf bs) (c .line) (c .given) → ⊥) → Answer bs c 3
-  p-bits-differ : getD bs 0 0 ≢ 0 → c .line < lines (modeOf bs) → Within (modeOf bs) (splitOf bs) (c .line) (c .given) → modeOf bs ≡ 1 → c .given .p 0 ≢ c .given .p 1
-      → Answer bs c 4
-  accepted : getD bs 0 0 ≢ 0 → Acceptable (modeOf bs) (splitOf bs) (c .line) (c .given) → Answer bs c 0
+-- the rules of a call on a block: it gets the number of the first that it breaks
+abbrev pub lineRules : ℕ → Split → ℕ → Line → List Rule
+lineRules m s l ln = unless 2 (l < lines m) ∷ unless 3 (Within m s l ln) ∷ unless 4 (m ≡ 1 → ln .p 0 ≡ ln .p 1) ∷ []
+
+abbrev pub callRules : List ℕ → Call → List Rule
+callRules bs c = unless 1 (getD bs 0 0 ≢ 0) ∷ lineRules (modeOf bs) (splitOf bs) (c .line) (c .given)

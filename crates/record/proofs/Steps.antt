@@ -14,6 +14,7 @@ use Rattle.record_widths.specs.declared.Anchors.{Anchors}
 use Rattle.format.specs.declared.Split.{Split}
 use Rattle.bcn_util.specs.declared.writer.BitWriter.{BitWriter}
 use Rattle.laws.specs.Digits.{Fit, join, split, total}
+use Rattle.laws.proofs.Tests.{no-both}
 use Rattle.format.specs.Block.{bytesOf, eights, modeOf, number}
 use Rattle.format.specs.Modes.{kindOfMode, partitionBits}
 use Rattle.format.specs.Places.{atPlace, blockOf, head, listOf, opened, placeAt, pos, width, widths}
@@ -22,10 +23,11 @@ use Rattle.format.proofs.Modes.{good-64, six-bits}
 use Rattle.format.proofs.Opening.{opened-good}
 use Rattle.format.proofs.Places.{inside-placeAt, total-128}
 use Rattle.format.proofs.Trailing.{mode-le-8}
+use Rattle.record_rules.specs.Answers.{TopsClear, Within}
 use Rattle.record_rules.specs.Records.{fits, made, packed, packedAs, recordOf, says, taken, unpackedAs, zeroRecord}
 use Rattle.record_widths.specs.Rows.{anchorsOf, pixelsOf, widthsWith}
-use Rattle.record_rules.proofs.Packing.{fits-at, taken-open, taken-reserved}
-use Rattle.record_rules.proofs.Ways.{refusedWith, way-anchor, way-packed}
+use Rattle.record_rules.proofs.Answering.{clear-stored, fits-at, fits-of, packed-as, stored-clear}
+use Rattle.record_rules.proofs.Packing.{taken-open, taken-reserved}
 use Rattle.record_widths.proofs.Pixels.{fits-split, widths-split}
 use Rattle.bcn_util.specs.Writer.{pushed, written}
 use Rattle.bcn_util.proofs.Puts.{row-asks, row-more, row-written, rowWriter}
@@ -86,10 +88,10 @@ module _ (r : Record) (an : List ℕ) (all-fit : fits (r .mode) an (says r) ≡ 
       row-written (wide r an) (said r an) 66 (rw e at (h .1))
 
 -- packing goes by the anchors as three pixels
-module _ (r : Record) (h : r .mode ≤ 7) (k : kindOf (r .split) ≡ kindOfMode (r .mode)) (full : fits (r .mode) [] (says r) ≡ true) where
+module _ (r : Record) (h : r .mode ≤ 7) (k : kindOf (r .split) ≡ kindOfMode (r .mode)) (w : Within r) where
   part-fits : partition (r .split) < 2 ^ partitionBits (r .mode)
   unfolding says width
-  part-fits = fits-at (r .mode) [] (says r) full (head 1) tt
+  part-fits = w (head 1) tt
 
   pub part-64 : partition (r .split) < 64
   part-64 = lt-of-lt-of-le part-fits (pow-mono (six-bits (r .mode) (omega arith)))
@@ -98,8 +100,8 @@ module _ (r : Record) (h : r .mode ≤ 7) (k : kindOf (r .split) ≡ kindOfMode 
     stored : fits (r .mode) (pixelsOf a) (says r) ≡ fits (r .mode) (anchors (r .split)) (says r)
     stored = ap (λ (a : Anchors). fits (r .mode) (pixelsOf a) (says r)) ea ∙ fits-split (r .mode) (r .split) part-64 (says r)
 
-    pub stored-anchor : fits (r .mode) (pixelsOf a) (says r) ≡ false → refusedWith 6 ≡ packed r
-    stored-anchor f = way-anchor r h k full (sym stored ∙ f)
+    pub tops-set : fits (r .mode) (pixelsOf a) (says r) ≡ false → TopsClear r → ⊥
+    tops-set f t = no-both (fits-of _ _ _ (clear-stored r w t)) (sym stored ∙ f)
 
     stored-widths : widthsWith (r .mode) (pixelsOf a) ≡ widths (r .mode) (r .split)
     stored-widths = ap (λ (a : Anchors). widthsWith (r .mode) (pixelsOf a)) ea ∙ widths-split (r .mode) (r .split) part-64
@@ -110,4 +112,4 @@ module _ (r : Record) (h : r .mode ≤ 7) (k : kindOf (r .split) ≡ kindOfMode 
     pub stored-packed : {bs : List ℕ} → fits (r .mode) (pixelsOf a) (says r) ≡ true
         → bs ≡ bytesOf (join (widthsWith (r .mode) (pixelsOf a)) (listOf (says r))) → packedAs 0 bs ≡ packed r
     unfolding blockOf
-    stored-packed f e = rw (e, stored-widths) (way-packed r h k full (sym stored ∙ f))
+    stored-packed f e = rw (e, stored-widths) (packed-as r (h, (k, (w, (stored-clear r (fits-at _ _ _ (sym stored ∙ f)), tt)))))

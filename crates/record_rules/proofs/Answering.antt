@@ -1,32 +1,36 @@
 -- Which answer packing gives.
 -- Assumes nothing.
-use mathlib.Core.Path.{_≡_, refl}
-use mathlib.Core.Bool.{Bool, true, false, not}
-use mathlib.Core.List.{List, [], _∷_}
-use Prim.Native.Nat.{ℕ, _-_, _^_, _<_}
-use borrow.Author.Tests.{eqb-false, eqb-true, ltb-false, ltb-true}
-use lib.Dec.{T, eqb, ltb}
+use mathlib.Core.Path.{_≡_, refl, sym, ap₂, subst}
+use mathlib.Core.Bool.{Bool, true, false}
+use mathlib.Core.List.{List, []}
+use Prim.Native.Nat.{ℕ, suc, _-_, _^_, _<_}
+use lib.Dec.{T, ltb, ltb→lt, lt→ltb}
+use lib.ListN.{replicate}
 use Rattle.record_rules.specs.declared.Record.{Record}
+use Rattle.record_rules.specs.declared.Packed.{Packed}
 use Rattle.format.specs.declared.Split.{Split}
-use Rattle.laws.specs.Refusals.{first, refuse}
+use Rattle.laws.specs.Refusals.{Given}
 use Rattle.laws.specs.Tables.{pick}
-use Rattle.laws.proofs.Tests.{T-true, no-both, true-T}
+use Rattle.laws.proofs.Refusals.{Answers, Met, accepted-when, answer-0, answer-not-0, answers, by-ltb, by-not, by-not-eqb, exactly, none, rule}
+use Rattle.laws.proofs.Tests.{T-true, at, below-intro, true-T}
 use Rattle.format.specs.Modes.{indexBits, kindOfMode}
 use Rattle.format.specs.Partitions.{among}
-use Rattle.format.specs.Places.{Place, head, index, inside, pbit, value, width}
+use Rattle.format.specs.Places.{Place, blockOf, head, index, inside, pbit, placeAt, pos, value, width}
 use Rattle.format.specs.Splits.{anchors, kindOf}
-use Rattle.record_rules.specs.Answers.{PackAnswer, TopsClear, Within, accepted, no-mode, other-kind, too-wide, top-bit}
-use Rattle.record_rules.specs.Records.{fits, packRefusal, packed, says}
-use Rattle.record_rules.proofs.Packing.{fits-at, fits-of, good-accepted, packs-good}
-use Rattle.record_rules.proofs.Ways.{same-refusal, way-anchor, way-kind, way-mode, way-packed, way-width}
+use Rattle.format.proofs.Places.{inside-placeAt, placeAt-pos, pos-lt}
+use Rattle.record_rules.specs.Answers.{TopsClear, Within, packRules}
+use Rattle.record_rules.specs.Records.{fits, packRefusal, packed, packedAs, says}
 
--- some value doesn't fit
-no-fit : (m : ℕ) (an : List ℕ) (f : Place → ℕ) → (((x : Place) → T (inside x) → f x < 2 ^ width m an x) → ⊥) → fits m an f ≡ false
-no-fit m an f n = go (fits m an f) refl
-  where
-    go : (b : Bool) → fits m an f ≡ b → b ≡ false
-    go true e = absurd (n (fits-at m an f e))
-    go false e = refl
+-- the test of all places, and each place
+pub fits-at : (m : ℕ) (an : List ℕ) (f : Place → ℕ) → fits m an f ≡ true → (x : Place) → T (inside x) → f x < 2 ^ width m an x
+unfolding fits
+fits-at m an f e x h =
+    subst (λ (y : Place). f y < 2 ^ width m an y) (placeAt-pos x h)
+    (ltb→lt _ _ (at 66 (λ i. ltb (f (placeAt i)) (2 ^ width m an (placeAt i))) (true-T _ e) (pos x) (pos-lt x h)))
+
+pub fits-of : (m : ℕ) (an : List ℕ) (f : Place → ℕ) → ((x : Place) → T (inside x) → f x < 2 ^ width m an x) → fits m an f ≡ true
+unfolding fits
+fits-of m an f h = T-true _ (below-intro 66 (λ i. ltb (f (placeAt i)) (2 ^ width m an (placeAt i))) (λ k l. lt→ltb _ _ (h (placeAt k) (inside-placeAt k l))))
 
 module _ (r : Record) where
   abbrev m : ℕ
@@ -39,7 +43,7 @@ module _ (r : Record) where
   abbrev Stored : Type 0
   Stored = (x : Place) → T (inside x) → says r x < 2 ^ width m (anchors s) x
 
-  clear-stored : Within r → TopsClear r → Stored
+  pub clear-stored : Within r → TopsClear r → Stored
   unfolding width
   clear-stored w c (head k) i = w (head k) i
   clear-stored w c (value ch e) i = w (value ch e) i
@@ -50,30 +54,25 @@ module _ (r : Record) where
       go true e = c a q i (true-T _ e)
       go false e = w (index a q) i
 
-  stored-clear : Stored → TopsClear r
+  pub stored-clear : Stored → TopsClear r
   unfolding width
   stored-clear f a q i t = rw (T-true (among q (anchors s)) t) at (f (index a q) i)
 
-  pub answered : PackAnswer r (packed r .refusal)
-  unfolding packed packRefusal first
-  answered = go (ltb 7 m) (eqb (kindOf s) (kindOfMode m)) (fits m [] (says r)) (fits m (anchors s) (says r)) refl refl refl refl
-    where
-      go : (a b f g : Bool) → ltb 7 m ≡ a → eqb (kindOf s) (kindOfMode m) ≡ b → fits m [] (says r) ≡ f → fits m (anchors s) (says r) ≡ g
-          → PackAnswer r (first (refuse 5 a ∷ refuse 5 (not b) ∷ refuse 3 (not f) ∷ refuse 6 (not g) ∷ []))
-      go true b f g ea eb ef eg = no-mode (ltb-true 7 m ea)
-      go false false f g ea eb ef eg = other-kind (ltb-false 7 m ea) (eqb-false _ _ eb)
-      go false true false g ea eb ef eg = too-wide (ltb-false 7 m ea) (eqb-true _ _ eb) (λ w. no-both (fits-of m [] (says r) w) ef)
-      go false true true false ea eb ef eg =
-          let w = fits-at m [] (says r) ef in
-          top-bit (ltb-false 7 m ea) (eqb-true _ _ eb) w (λ c. no-both (fits-of m (anchors s) (says r) (clear-stored w c)) eg)
-      go false true true true ea eb ef eg = accepted (packs-good r (same-refusal r (way-packed r (ltb-false 7 m ea) (eqb-true _ _ eb) ef eg)))
+  -- each test and its rule
+  pub packing : Answers (packRefusal r) (packRules r)
+  unfolding packRefusal
+  packing = answers (
+      rule (by-ltb tt 7 m) λ low.
+      rule (by-not-eqb tt (kindOf s) (kindOfMode m)) λ kind.
+      rule (by-not tt (fits m [] (says r)) (fits-at m [] (says r)) (fits-of m [] (says r))) λ w.
+      rule (by-not tt (fits m (anchors s) (says r)) (λ e. stored-clear (fits-at m (anchors s) (says r) e)) (λ c. fits-of m (anchors s) (says r) (clear-stored w c))) λ c.
+      none)
 
-  -- and no other
-  pub answer-is : {n : ℕ} → PackAnswer r n → packed r .refusal ≡ n
+  -- what the code answers, by the rules on its way
+  pub refused-as : {n : ℕ} → Given (packRules r) (suc n) → packedAs (suc n) (replicate 16 0) ≡ packed r
   unfolding packed
-  answer-is (no-mode h) = same-refusal r (way-mode r h)
-  answer-is (other-kind h k) = same-refusal r (way-kind r h k)
-  answer-is (too-wide h k w) = same-refusal r (way-width r h k (no-fit m [] (says r) w))
-  answer-is (top-bit h k w c) =
-      same-refusal r (way-anchor r h k (fits-of m [] (says r) w) (no-fit m (anchors s) (says r) (λ f. c (stored-clear f))))
-  answer-is (accepted g) = good-accepted r g
+  refused-as {n} g = let e = exactly packing (suc n) .1 g in sym (ap₂ packedAs e (answer-not-0 _ _ e))
+
+  pub packed-as : Met (packRules r) → packedAs 0 (blockOf m s (says r)) ≡ packed r
+  unfolding packed
+  packed-as a = let e = accepted-when packing .1 a in sym (ap₂ packedAs e (answer-0 _ _ e))

@@ -1,5 +1,4 @@
 pub mod Widths
-pub mod Ways
-pub mod Packing
 pub mod Answering
+pub mod Packing
 pub mod Theorems

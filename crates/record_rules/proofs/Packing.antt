@@ -16,7 +16,7 @@ use Rattle.format.specs.declared.Split.{Split}
 use Rattle.laws.specs.Digits.{Fit}
 use Rattle.laws.specs.Refusals.{first}
 use Rattle.laws.specs.Tables.{pick, table}
-use Rattle.laws.proofs.First.{first-zero, refuse-no}
+use Rattle.laws.proofs.Refusals.{Met, accepted-when}
 use Rattle.laws.proofs.Joining.{table-same}
 use Rattle.laws.proofs.Part.{getD-table, part-all}
 use Rattle.laws.proofs.Tests.{T-true, at, below-intro, both-left, both-right, true-T}
@@ -28,9 +28,10 @@ use Rattle.format.specs.WellFormed.{WellFormed}
 use Rattle.format.proofs.Modes.{good-parts}
 use Rattle.format.proofs.Opening.{block-ext, good-kind, opened-good}
 use Rattle.format.proofs.Places.{inside-placeAt, inside-value, placeAt-pos, pos-lt, split-of-kind}
-use Rattle.record_rules.specs.Records.{Shaped, fits, made, packRefusal, packed, packedAs, recordOf, says, taken, unpackedAs, zeroRecord}
+use Rattle.record_rules.specs.Answers.{packRules}
+use Rattle.record_rules.specs.Records.{Shaped, made, packRefusal, packed, packedAs, recordOf, says, taken, unpackedAs, zeroRecord}
 use Rattle.record_rules.proofs.Widths.{width-le}
-use Rattle.record_rules.proofs.Ways.{same-refusal, way-packed}
+use Rattle.record_rules.proofs.Answering.{clear-stored, packed-as, packing, stored-clear}
 
 module _ {m : ℕ} {s : Split} {f : Place → ℕ} (g : WellFormed m s f) where
   -- the record of what stands at the places says just that
@@ -76,29 +77,12 @@ made-says r sh =
     let b : table 16 (λ k. getD (r .second) k 0) ≡ r .second = table-is 16 _ (r .second) (sh .second) (λ i l. refl) in
     λ j. record { mode = r .mode; split = r .split; endpoints = v j; p = p j; first = a j; second = b j }
 
--- the test of all places, and each place
-pub fits-at : (m : ℕ) (an : List ℕ) (f : Place → ℕ) → fits m an f ≡ true → (x : Place) → T (inside x) → f x < 2 ^ width m an x
-unfolding fits
-fits-at m an f e x h =
-    subst (λ (y : Place). f y < 2 ^ width m an y) (placeAt-pos x h)
-    (ltb→lt _ _ (at 66 (λ i. ltb (f (placeAt i)) (2 ^ width m an (placeAt i))) (true-T _ e) (pos x) (pos-lt x h)))
-
-pub fits-of : (m : ℕ) (an : List ℕ) (f : Place → ℕ) → ((x : Place) → T (inside x) → f x < 2 ^ width m an x) → fits m an f ≡ true
-unfolding fits
-fits-of m an f h = T-true _ (below-intro 66 (λ i. ltb (f (placeAt i)) (2 ^ width m an (placeAt i))) (λ k l. lt→ltb _ _ (h (placeAt k) (inside-placeAt k l))))
-
 -- a record packs if what it says stands in a block
-good-way : (r : Record) → WellFormed (r .mode) (r .split) (says r) → packedAs 0 (blockOf (r .mode) (r .split) (says r)) ≡ packed r
-good-way r g =
-    let m = r .mode in
-    let s = r .split in
-    let full : fits m [] (says r) ≡ true = fits-of m [] _ (λ x i. lt-of-lt-of-le (g .fits x i) (pow-mono (width-le m (anchors s) x))) in
-    let anch : fits m (anchors s) (says r) ≡ true = fits-of m (anchors s) _ (g .fits) in
-    way-packed r (omega (arith, g .mode)) (good-kind g) full anch
+good-met : (r : Record) → WellFormed (r .mode) (r .split) (says r) → Met (packRules r)
+good-met r g = (omega (arith, g .mode), (good-kind g, (λ x i. lt-of-lt-of-le (g .fits x i) (pow-mono (width-le (r .mode) (anchors (r .split)) x)), (stored-clear r (g .fits), tt))))
 
 pub good-accepted : (r : Record) → WellFormed (r .mode) (r .split) (says r) → packRefusal r ≡ 0
-unfolding packed
-good-accepted r g = same-refusal r (good-way r g)
+good-accepted r g = accepted-when (packing r) .1 (good-met r g)
 
 -- WellFormed goes by the places there are
 pub good-ext : {m : ℕ} {s : Split} {f h : Place → ℕ} → ((x : Place) → T (inside x) → h x ≡ f x) → WellFormed m s f → WellFormed m s h
@@ -112,24 +96,19 @@ good-ext {m} {s} {f} {h} e g = record {
 -- what stands in a block is accepted
 pub good-packs : {m : ℕ} {s : Split} {f : Place → ℕ} → WellFormed m s f → packed (made m s f) ≡ packedAs 0 (blockOf m s f)
 unfolding made
-good-packs {m} {s} {f} g = sym (good-way (made m s f) (good-ext (says-made g) g)) ∙ ap (packedAs 0) (block-ext m s (says (made m s f)) f (says-made g))
+good-packs {m} {s} {f} g = sym (packed-as (made m s f) (good-met (made m s f) (good-ext (says-made g) g))) ∙ ap (packedAs 0) (block-ext m s (says (made m s f)) f (says-made g))
 
 -- a record that packing accepts is what stands in a block
 pub packs-good : (r : Record) → packRefusal r ≡ 0 → WellFormed (r .mode) (r .split) (says r)
-unfolding packRefusal says
+unfolding says
 packs-good r e =
-    let m = r .mode in
     let s = r .split in
-    let a = first-zero _ _ e in
-    let b = first-zero _ _ (a .1) in
-    let c = first-zero _ _ (b .1) in
-    let d = first-zero _ _ (c .1) in
-    let k : kindOf s ≡ kindOfMode m = eqb-true _ _ (not-false _ (refuse-no 4 _ (b .0))) in
+    let (low, (kind, (full, (tops, u)))) = packing r .met e in
     record {
-      mode = omega (arith, ltb-false 7 m (refuse-no 4 _ (a .0)));
+      mode = omega arith;
       marker = refl;
-      splits = sym (split-of-kind s ∙ ap (λ (k : ℕ). ofKind k (partition s) (rotation s) (indexMode s)) k);
-      fits = fits-at m (anchors s) (says r) (not-false _ (refuse-no 5 _ (d .0)));
+      splits = sym (split-of-kind s ∙ ap (λ (k : ℕ). ofKind k (partition s) (rotation s) (indexMode s)) kind);
+      fits = clear-stored r full tops;
     }
 
 -- what taking apart answers, by the test of its mode

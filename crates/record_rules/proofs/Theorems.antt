@@ -13,6 +13,8 @@ use Rattle.record_rules.specs.declared.Record.{Record}
 use Rattle.record_rules.specs.declared.Unpacked.{Unpacked}
 use Rattle.record_rules.specs.declared.Packed.{Packed}
 use Rattle.laws.specs.Digits.{Fit}
+use Rattle.laws.specs.Refusals.{Given}
+use Rattle.laws.proofs.Refusals.{exactly}
 use Rattle.format.specs.Block.{eights, modeOf}
 use Rattle.format.specs.Lines.{pixel, shown}
 use Rattle.format.specs.Places.{blockOf, opened}
@@ -21,9 +23,9 @@ use Rattle.format.specs.WellFormed.{WellFormed}
 use Rattle.format.proofs.Lens.{shown-ext}
 use Rattle.format.proofs.Opening.{block-opened, mode-block, opened-block, opened-good, split-block}
 use Rattle.format.proofs.Reserved.{open-mode, reserved-mode}
-use Rattle.record_rules.specs.Answers.{PackAnswer}
+use Rattle.record_rules.specs.Answers.{packRules}
 use Rattle.record_rules.specs.Records.{Shaped, made, packed, packedAs, recordOf, says, taken, unpackedAs, zeroRecord}
-use Rattle.record_rules.proofs.Answering.{answer-is, answered}
+use Rattle.record_rules.proofs.Answering.{packing}
 use Rattle.record_rules.proofs.Packing.{good-accepted, good-packs, made-ext, made-says, packs-good, record-says, taken-open, taken-reserved}
 
 -- taking apart refuses a block exactly when it is reserved, and then answers 1 and the zero record
@@ -57,9 +59,10 @@ pub well-formed-is-accepted : (r : Record) → (packed r .refusal ≡ 0) ↔ Wel
 unfolding packed
 well-formed-is-accepted r = (packs-good r, good-accepted r)
 
--- each refusal number of packing is given exactly when document 01 says (`PackAnswer` has the words)
-pub packing-refused-when : (r : Record) (n : ℕ) → (packed r .refusal ≡ n) ↔ PackAnswer r n
-packing-refused-when r n = (λ e. rw e at (answered r), answer-is r)
+-- each refusal number of packing is given exactly when document 01 says (`packRules` has the words)
+pub packing-refused-when : (r : Record) (n : ℕ) → (packed r .refusal ≡ n) ↔ Given (packRules r) n
+unfolding packed
+packing-refused-when r = exactly (packing r)
 
 -- drawing the record of a block gives the block's pixels
 pub record-draws-block : (bs : List ℕ) → Fit eights bs → getD bs 0 0 ≢ 0 → (q c : ℕ) → shown (recordOf bs .mode) (recordOf bs .split) (says (recordOf bs)) q c ≡ pixel bs q c

@@ -6,10 +6,12 @@ use Prim.Native.Nat.{ℕ}
 use Rattle.sheet_blocks.specs.declared.Found.{Found}
 use Rattle.line_rules.specs.declared.Replacement.{Replacement}
 use Rattle.line_rules.specs.declared.Replaced.{Replaced}
+use Rattle.laws.specs.Refusals.{here, then}
+use Rattle.laws.proofs.Refusals.{exactly, handed-last}
 use Rattle.line_rules.specs.Replace.{replaced}
 use Rattle.sheet_rules.specs.Rows.{blockAt}
 use Rattle.sheet_rules.specs.Sheets.{blockIn, putBlock, replacedIn, sheetAfter, sheetRefusal}
-use Rattle.sheet_rules.proofs.Replacing.{accepted-is, refused-is, then, unfound}
+use Rattle.sheet_rules.proofs.Replacing.{accepted-is, handing, refused-is}
 use Rattle.sheet_blocks.specs.Found.{findBlock}
 use Rattle.sheet_blocks.proofs.Finding.{at-is, refusal-is, told}
 
@@ -19,7 +21,7 @@ module _ (s : List ℕ) (b l : ℕ) (new : Replacement) where
 
   module _ {f : Found} (ef : f ≡ findBlock s b) where
     pub not-found : (f .refusal ≡ 0 → ⊥) → (f .refusal ≡ sheetRefusal s b l new) × (s ≡ sheetAfter s b l new)
-    not-found ne = refused (unfound s b l new (λ z. ne (refusal-is s b ef ∙ z)) ∙ sym (refusal-is s b ef)) ne
+    not-found ne = refused (exactly (handing s b l new) _ .1 (rw (refusal-is s b ef) (here (rw (refusal-is s b ef) at ne)))) ne
 
     module _ (a : f .refusal ≡ 0) where
       module _ {block : List ℕ} (eb : block ≡ blockAt s (f .at)) {r : Replaced} (er : r ≡ replaced block l new) where
@@ -28,7 +30,7 @@ module _ (s : List ℕ) (b l : ℕ) (new : Replacement) where
         answer-is = er ∙ ap (λ (k : List ℕ). replaced k l new) eb ∙ ap (λ (at : ℕ). replaced (blockAt s at) l new) (at-is s b ef a)
 
         refusal-then : sheetRefusal s b l new ≡ r .refusal
-        refusal-then = then s b l new (told s b ef a) ∙ ap (λ (x : Replaced). x .refusal) (sym answer-is)
+        refusal-then = exactly (handing s b l new) _ .1 (then (told s b ef a) (handed-last _)) ∙ ap (λ (x : Replaced). x .refusal) (sym answer-is)
 
         pub not-replaced : (r .refusal ≡ 0 → ⊥) → (r .refusal ≡ sheetRefusal s b l new) × (s ≡ sheetAfter s b l new)
         not-replaced ne = refused refusal-then ne

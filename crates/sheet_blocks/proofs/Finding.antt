@@ -1,7 +1,7 @@
 -- The ways of `find_block`, and what its answer says.
 -- Assumes nothing.
 use mathlib.Core.Path.{_≡_, refl, _∙_, ap, sym}
-use mathlib.Core.Logic.{⊎-elim}
+use mathlib.Core.Logic.{_≢_, ⊎-elim}
 use mathlib.Core.List.{List}
 use Prim.Native.Nat.{ℕ, _+_, _*_, _<_, _≤_}
 use native.Mathlib.Nat.{eq-zero-or-pos, mul-le-mul}
@@ -10,11 +10,13 @@ use lib.ListN.{length}
 use borrow.Author.Tests.{eq-eqb, ne-eqb}
 use Rattle.sheet_blocks.specs.declared.Found.{Found}
 use Rattle.head.specs.declared.Head.{Head}
+use Rattle.laws.specs.Refusals.{Given}
+use Rattle.laws.proofs.Refusals.{Met, accepted-when, exactly}
 use Rattle.head.specs.Heads.{Sized, limit, readHead}
 use Rattle.head.proofs.Theorems.{head-sized}
 use Rattle.sheet_rules.specs.Rows.{across}
-use Rattle.sheet_rules.specs.Sheets.{blocksOf, findRefusal, placeOf}
-use Rattle.sheet_rules.proofs.Finding.{inside, refusal-0, refusal-1, refusal-2, refusal-3, room}
+use Rattle.sheet_rules.specs.Sheets.{findRefusal, findRules, placeOf}
+use Rattle.sheet_rules.proofs.Finding.{finding, inside, room}
 use Rattle.sheet_blocks.specs.Found.{findBlock, foundAt}
 
 -- as many blocks as the largest sheet has
@@ -32,28 +34,15 @@ module _ (s : List ℕ) (b : ℕ) where
 
   -- the ways of `find_block`
   module _ {h : Head} (eh : h ≡ readHead s) where
-    pub head-refused : (h .refusal ≡ 0 → ⊥) → foundAt (h .refusal) 0 ≡ findBlock s b
-    head-refused ne = rw eh (none (refusal-1 s b (λ z. ne (rw eh z))) (λ z. ne (rw eh z)))
+    pub not-found : {n : ℕ} → Given (findRules h s b) n → n ≢ 0 → foundAt n 0 ≡ findBlock s b
+    not-found {n} g ne = none (exactly (finding s b) n .1 (rw eh at g)) ne
 
-    module _ (a : h .refusal ≡ 0) where
-      ha : readHead s .refusal ≡ 0
-      ha = rw eh at a
+    pub block-found : Met (findRules h s b) → foundAt 0 (h .start + 16 * b) ≡ findBlock s b
+    unfolding placeOf
+    block-found m = rw eh (one (accepted-when (finding s b) .1 (rw eh at m)))
 
-      pub size-is : Sized (h .width) (h .height)
-      size-is = rw eh (head-sized s ha)
-
-      pub length-wrong : (length s ≡ h .start + 16 * (across (h .height) * across (h .width)) → ⊥) → foundAt 10 0 ≡ findBlock s b
-      unfolding blocksOf
-      length-wrong ne = none (refusal-2 s b ha (λ z. ne (rw eh z))) (λ z. omega arith)
-
-      module _ (l : length s ≡ h .start + 16 * (across (h .height) * across (h .width))) where
-        pub number-beyond : across (h .height) * across (h .width) ≤ b → foundAt 12 0 ≡ findBlock s b
-        unfolding blocksOf
-        number-beyond n = none (refusal-3 s b ha (rw eh at l) (rw eh at n)) (λ z. omega arith)
-
-        pub block-found : b < across (h .height) * across (h .width) → foundAt 0 (h .start + 16 * b) ≡ findBlock s b
-        unfolding blocksOf placeOf
-        block-found n = rw eh (one (refusal-0 s b ha (rw eh at l) (rw eh at n)))
+    pub size-is : h .refusal ≡ 0 → Sized (h .width) (h .height)
+    size-is a = rw eh (head-sized s (rw eh at a))
 
 -- what `find_block` answered
 module _ (s : List ℕ) (b : ℕ) {f : Found} (ef : f ≡ findBlock s b) where

@@ -10,23 +10,30 @@ use native.Mathlib.Omega.{arith}
 use lib.ListN.{length, getD, getD-replicate, List·getD-eq-default}
 use lib.Pow.{pow-mono}
 use lib.Seq.{ext-getD}
-use borrow.Author.Tests.{eq-eqb, ne-eqb}
+use Rattle.line_rules.specs.declared.Replacement.{Replacement}
 use Rattle.laws.specs.Digits.{Fit}
+use Rattle.laws.specs.Refusals.{here, then}
 use Rattle.laws.proofs.Cases.{lt-or}
 use Rattle.laws.proofs.Fitting.{fit-get, fit-length}
+use Rattle.laws.proofs.Refusals.{Answers, accepted-when, answers, exactly, handed-last, none, rules}
+use Rattle.calls.specs.Calls as calls
+use Rattle.calls.proofs.Parts.{Parts, part-run}
+use Rattle.calls.proofs.Trading.{run-good}
 use Rattle.format.specs.Block.{eights}
 use Rattle.format.proofs.Subsets.{sixteen-bytes}
 use Rattle.head.specs.Heads.{readHead}
 use Rattle.head.specs.Numbers.{Bytes}
+use Rattle.head.proofs.Theorems.{head-answers}
 use Rattle.line_rules.specs.Calls.{afterAll}
-use Rattle.line_rules.specs.Replace.{Call, after, refusal, replaced}
+use Rattle.line_rules.specs.Replace.{after, callOf, refusal, replaced}
+use Rattle.line_rules.proofs.Accepting.{on-block}
 use Rattle.line_rules.proofs.Blocks.{after-sixteen}
 use Rattle.line_rules.proofs.Theorems.{refused-same}
 use Rattle.sheet_rules.specs.Calls.{SheetCall, WholeSheet, callsOn, onBlock, refusalOn, sheetWith, sheetWithAll}
 use Rattle.sheet_rules.specs.Rows.{blockAt}
-use Rattle.sheet_rules.specs.Sheets.{blockIn, blocksOf, findRefusal, placeOf, putBlock, replacedIn}
-use Rattle.sheet_rules.proofs.Finding.{refusal-0, refusal-1, refusal-2, refusal-3, room}
-use Rattle.sheet_rules.proofs.Replacing.{accepted-is, refused-is, then, unfound}
+use Rattle.sheet_rules.specs.Sheets.{blockIn, blocksOf, placeOf, putBlock, replacedIn, sheetRefusal, sheetRules}
+use Rattle.sheet_rules.proofs.Finding.{finding-in-words, room}
+use Rattle.sheet_rules.proofs.Replacing.{accepted-is, refused-is, replacing}
 use Rattle.sheet_rules.proofs.Storing.{block-get, block-long, head-kept, other-block, places-apart, put-inside, put-long, put-outside, put-same, same-block}
 
 -- the bytes of a block
@@ -42,10 +49,10 @@ pub record Same (s t : List ℕ) : Type 0 where
   pub head : readHead t ≡ readHead s
   pub front : (k : ℕ) → k < readHead s .start → getD t k 0 ≡ getD s k 0
 
-same-here : {s : List ℕ} → WholeSheet s → Same s s
+pub same-here : {s : List ℕ} → WholeSheet s → Same s s
 same-here z = record { whole = z; head = refl; front = λ k l. refl }
 
-same-on : {s t u : List ℕ} → Same s t → Same t u → Same s u
+pub same-on : {s t u : List ℕ} → Same s t → Same t u → Same s u
 same-on a b = record { whole = b .whole; head = b .head ∙ a .head; front = λ k l. b .front k (rw (a .head) l) ∙ a .front k l }
 
 module _ (s : List ℕ) (z : WholeSheet s) where
@@ -105,12 +112,12 @@ put-again s c h = put-same s (placeOf (readHead s) (c .block)) h
 
 module _ (s : List ℕ) (z : WholeSheet s) (c : SheetCall) where
   pub beyond : blocksOf (readHead s) ≤ c .block → refusalOn s c ≡ 12
-  beyond l = unfound s (c .block) (c .line) (c .given) (λ e. omega (arith, e, refusal-3 s (c .block) (z .told) (z .long) l)) ∙ refusal-3 s (c .block) (z .told) (z .long) l
+  beyond l = exactly (replacing s (c .block) (c .line) (c .given)) 12 .1 (then (z .told) (then (z .long) (here (λ n. omega arith))))
 
   module _ (l : c .block < blocksOf (readHead s)) where
     pub answered-as-block : refusalOn s c ≡ refusal (blockIn s (c .block)) (onBlock c)
     unfolding replacedIn replaced
-    answered-as-block = then s (c .block) (c .line) (c .given) (refusal-0 s (c .block) (z .told) (z .long) l)
+    answered-as-block = exactly (replacing s (c .block) (c .line) (c .given)) _ .1 (then (z .told) (then (z .long) (then l (handed-last _))))
 
     with-is : sheetWith s c ≡ putBlock s (placeOf (readHead s) (c .block)) (after (blockIn s (c .block)) (onBlock c))
     with-is = ⊎-elim (λ e. taken e) (λ p. left (λ q. omega arith)) (eq-zero-or-pos (refusalOn s c))
@@ -140,38 +147,6 @@ module _ (s : List ℕ) (z : WholeSheet s) (c : SheetCall) where
       ∙ put-other s z (c .block) lc _ (after-sixteen (blockIn s (c .block)) (sixteen s z (c .block) lc) (onBlock c)) b l (λ e. ne (sym e)))
       (λ lc. ap (λ (t : List ℕ). blockIn t b) (unchanged s c (λ e. omega (arith, e, beyond lc)))) (lt-or (c .block) (blocksOf (readHead s)))
 
--- a list of calls
-pub on-it : (b : ℕ) (c : SheetCall) (cs : List SheetCall) → c .block ≡ b → callsOn b (c ∷ cs) ≡ onBlock c ∷ callsOn b cs
-unfolding callsOn
-on-it b c cs e = rw (eq-eqb (c .block) b e)
-
-pub off-it : (b : ℕ) (c : SheetCall) (cs : List SheetCall) → c .block ≢ b → callsOn b (c ∷ cs) ≡ callsOn b cs
-unfolding callsOn
-off-it b c cs ne = rw (ne-eqb (c .block) b ne)
-
-pub no-calls : (b : ℕ) → callsOn b [] ≡ []
-unfolding callsOn
-no-calls b = refl
-
-pub after-two : (bs : List ℕ) (c d : Call) → afterAll bs (c ∷ d ∷ []) ≡ after (after bs c) d
-unfolding afterAll
-after-two bs c d = refl
-
-pub all-kept : (cs : List SheetCall) (s : List ℕ) → WholeSheet s → Same s (sheetWithAll s cs)
-unfolding sheetWithAll
-all-kept [] s z = same-here z
-all-kept (c ∷ cs) s z = let k = with-kept s z c in same-on k (all-kept cs (sheetWith s c) (k .whole))
-
-pub all-block : (cs : List SheetCall) (s : List ℕ) → WholeSheet s → (b : ℕ) → b < blocksOf (readHead s) → blockIn (sheetWithAll s cs) b ≡ afterAll (blockIn s b) (callsOn b cs)
-unfolding sheetWithAll callsOn afterAll
-all-block [] s z b l = refl
-all-block (c ∷ cs) s z b l = step (ℕ-discrete (c .block) b) (all-block cs (sheetWith s c) (with-kept s z c .whole) b (rw (with-kept s z c .head) l))
-  where
-    step : Dec (c .block ≡ b) → blockIn (sheetWithAll (sheetWith s c) cs) b ≡ afterAll (blockIn (sheetWith s c) b) (callsOn b cs)
-        → blockIn (sheetWithAll (sheetWith s c) cs) b ≡ afterAll (blockIn s b) (callsOn b (c ∷ cs))
-    step (yes e) h = h ∙ ap (λ (k : List ℕ). afterAll k (callsOn b cs)) (with-named s z c b l e) ∙ ap (afterAll (blockIn s b)) (sym (on-it b c cs e))
-    step (no n) h = h ∙ ap (λ (k : List ℕ). afterAll k (callsOn b cs)) (with-other s z c b l n) ∙ ap (afterAll (blockIn s b)) (sym (off-it b c cs n))
-
 -- a byte of a block is a byte of the sheet
 seen-in : {s x : List ℕ} → Same s x → (b j : ℕ) → j < 16 → getD x (readHead s .start + 16 * b + j) 0 ≡ getD (blockIn x b) j 0
 unfolding blockIn placeOf
@@ -193,20 +168,40 @@ same-sheet {s} {t} {u} a b e =
         ap (λ (i : ℕ). getD t i 0) at ∙ seen-in a (m / 16) (m % 16) (omega arith) ∙ ap (λ (x : List ℕ). getD x (m % 16) 0) (e (m / 16) (omega arith))
         ∙ sym (seen-in b (m / 16) (m % 16) (omega arith)) ∙ sym (ap (λ (i : ℕ). getD u i 0) at)
 
+-- a whole sheet is a state whose parts are its blocks
+pub parts : (s : List ℕ) → WholeSheet s → Parts sheetWith after (λ c. c .block) onBlock (Same s) blockIn (λ b. b < blocksOf (readHead s))
+parts s z = record {
+  good = λ t c k. same-on k (with-kept t (k .whole) c);
+  named = λ t c b k l e. with-named t (k .whole) c b (rw (k .head) l) e;
+  other = λ t c b k l n. with-other t (k .whole) c b (rw (k .head) l) n;
+  whole = λ t u k j e. same-sheet k j e;
+}
+
+pub all-kept : (cs : List SheetCall) (s : List ℕ) → WholeSheet s → Same s (sheetWithAll s cs)
+all-kept cs s z = run-good sheetWith (Same s) (parts s z .good) cs s (same-here z)
+
+pub all-block : (cs : List SheetCall) (s : List ℕ) → WholeSheet s → (b : ℕ) → b < blocksOf (readHead s) → blockIn (sheetWithAll s cs) b ≡ afterAll (blockIn s b) (callsOn b cs)
+all-block cs s z b l = part-run (parts s z) cs s b (same-here z) l
+
 -- a sheet is whole, or every call on it is refused
 pub whole-or : (s : List ℕ) → Bytes s → WholeSheet s ⊎ ((c : SheetCall) → refusalOn s c ≢ 0)
 whole-or s y =
     ⊎-elim (λ a. sized a (ℕ-discrete (length s) (readHead s .start + 16 * blocksOf (readHead s))))
-    (λ a. inr (λ c. not-it c (refusal-1 s (c .block) (λ q. omega arith)) (λ q. omega arith))) (eq-zero-or-pos (readHead s .refusal))
+    (λ a. inr (λ c q. let z : ⊥ = omega (arith, replacing s (c .block) (c .line) (c .given) .met q .0) in z)) (eq-zero-or-pos (readHead s .refusal))
   where
-    not-it : (c : SheetCall) {r : ℕ} → findRefusal s (c .block) ≡ r → r ≢ 0 → refusalOn s c ≢ 0
-    not-it c e ne q = ne (sym e ∙ sym (unfound s (c .block) (c .line) (c .given) (λ f. ne (sym e ∙ f))) ∙ q)
-
     sized : readHead s .refusal ≡ 0 → Dec (length s ≡ readHead s .start + 16 * blocksOf (readHead s)) → WholeSheet s ⊎ ((c : SheetCall) → refusalOn s c ≢ 0)
     sized a (yes l) = inl (record { bytes = y; told = a; long = l })
-    sized a (no n) = inr (λ c. not-it c (refusal-2 s (c .block) a n) (λ q. omega arith))
+    sized a (no n) = inr (λ c q. n (replacing s (c .block) (c .line) (c .given) .met q .1 .0))
 
 pub none-changes : (s : List ℕ) → ((c : SheetCall) → refusalOn s c ≢ 0) → (cs : List SheetCall) → sheetWithAll s cs ≡ s
-unfolding sheetWithAll
+unfolding calls.run
 none-changes s never [] = refl
 none-changes s never (c ∷ cs) = ap (λ (t : List ℕ). sheetWithAll t cs) (unchanged s c (never c)) ∙ none-changes s never cs
+
+-- the rules of a call on a sheet
+pub in-words : (s : List ℕ) → Bytes s → (b l : ℕ) (new : Replacement) → Answers (sheetRefusal s b l new) (sheetRules s b l new)
+unfolding sheetRefusal replacedIn replaced
+in-words s y b l new = answers (
+    rules (finding-in-words s b) λ (f, (o, (w, (h, (z, (long, (n, u))))))).
+    rules (on-block (blockIn s b) (sixteen s (record { bytes = y; told = accepted-when (head-answers s) .1 (f, (o, (w, (h, (z, tt))))); long = long }) b n) (callOf l new)) λ m.
+    none)

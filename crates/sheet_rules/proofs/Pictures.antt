@@ -13,10 +13,10 @@ use Rattle.laws.proofs.Joining.{table-append, table-same}
 use Rattle.laws.proofs.Part.{getD-table, length-table}
 use Rattle.format.specs.Lines.{pixel, pixels}
 use Rattle.head.specs.Heads.{Sized}
-use Rattle.head.proofs.Heading.{size-0}
+use Rattle.laws.proofs.Refusals.{accepted-when}
 use Rattle.sheet_rules.specs.Pictures.{blockShowing, decodedRows, picture, pictureByte, pixelIn, rowOf}
 use Rattle.sheet_rules.specs.Rows.{across, blockAt, channel, rowByte, rowBytes, rowOut, rowRefusal, shown}
-use Rattle.sheet_rules.proofs.Refusing.{drawn, row-accepted}
+use Rattle.sheet_rules.proofs.Refusing.{drawn, row-rules}
 
 -- a part of a part is a part of the whole
 part-get : (s : List ℕ) (at n i : ℕ) → i < n → getD (take n (drop at s)) i 0 ≡ getD s (at + i) 0
@@ -84,7 +84,7 @@ module _ (w h : ℕ) (z : Sized w h) (all : List ℕ) (whole : length all ≡ 16
         (omega (arith, whole, mul-le-mul-right {m = n + 1} {n = across h} (across w) (omega arith), add-mul n 1 (across w)))
 
     row-told : (out : List ℕ) → length out ≡ shown h n * (4 * w) → rowRefusal w h n (length (rowOf w all n)) (length out) ≡ 0
-    row-told out room = row-accepted w h n (length (rowOf w all n)) (length out) (size-0 w h z) below row-long room
+    row-told out room = accepted-when (row-rules w h n (length (rowOf w all n)) (length out)) .1 (z, (below, (row-long, (room, tt))))
 
     pub row-decoded : (out : List ℕ) → length out ≡ shown h n * (4 * w)
         → (rowRefusal w h n (length (rowOf w all n)) (length out) ≡ 0) × (rowOut w h n (rowOf w all n) out ≡ rowBytes w (shown h n) (rowOf w all n))

@@ -1,13 +1,15 @@
 -- What a call on a sheet is answered, and which sheet it leaves.
 -- Assumes nothing.
 use mathlib.Core.Path.{_≡_, _∙_}
-use mathlib.Core.List.{List}
+use mathlib.Core.List.{List, [], _∷_, _++_}
 use Prim.Native.Nat.{ℕ}
 use borrow.Author.Tests.{eq-eqb, ne-eqb}
 use Rattle.line_rules.specs.declared.Replacement.{Replacement}
-use Rattle.laws.proofs.First.{first-here, first-last, first-skip}
+use Rattle.laws.specs.Refusals.{handed}
+use Rattle.laws.proofs.Refusals.{Answers, answers, by-answer, none, rule, rules}
 use Rattle.head.specs.Heads.{readHead}
-use Rattle.sheet_rules.specs.Sheets.{findRefusal, placeOf, putBlock, replacedIn, sheetAfter, sheetRefusal}
+use Rattle.sheet_rules.specs.Sheets.{findRefusal, findRules, placeOf, putBlock, replacedIn, sheetAfter, sheetRefusal}
+use Rattle.sheet_rules.proofs.Finding.{finding}
 
 module _ (s : List ℕ) (b l : ℕ) (new : Replacement) where
   pub refused-is : (sheetRefusal s b l new ≡ 0 → ⊥) → sheetAfter s b l new ≡ s
@@ -18,10 +20,12 @@ module _ (s : List ℕ) (b l : ℕ) (new : Replacement) where
   unfolding sheetAfter
   accepted-is e = rw (eq-eqb (sheetRefusal s b l new) 0 e)
 
-  pub unfound : (findRefusal s b ≡ 0 → ⊥) → sheetRefusal s b l new ≡ findRefusal s b
+  -- what `find_block` answers, then as for the block
+  pub handing : Answers (sheetRefusal s b l new) (handed (findRefusal s b) ∷ handed (replacedIn s b l new .refusal) ∷ [])
   unfolding sheetRefusal
-  unfound ne = first-here _ _ ne
+  handing = answers (rule by-answer λ f. rule by-answer λ z. none)
 
-  pub then : findRefusal s b ≡ 0 → sheetRefusal s b l new ≡ replacedIn s b l new .refusal
+  -- the head's refusal, 10, 12, then as for the block
+  pub replacing : Answers (sheetRefusal s b l new) (findRules (readHead s) s b ++ (handed (replacedIn s b l new .refusal) ∷ []))
   unfolding sheetRefusal
-  then e = first-skip _ _ e ∙ first-last (replacedIn s b l new .refusal)
+  replacing = answers (rules (finding s b) λ m. rule by-answer λ z. none)

@@ -3,16 +3,21 @@
 -- and all its blocks.
 -- Assumes nothing.
 use mathlib.Core.Path.{_≡_, refl, _∙_, ap, sym, subst}
-use mathlib.Core.Logic.{_⊎_, inl, inr, ⊎-elim, _≢_}
+use mathlib.Core.Logic.{_⊎_, inl, inr, ⊎-elim, _≢_, _↔_}
 use mathlib.Core.Bool.{true, false}
-use mathlib.Core.List.{List, [], _∷_}
+use mathlib.Core.List.{List, [], _∷_, _++_}
 use Prim.Native.Nat.{ℕ, _+_, _<_, _≤_}
 use native.Mathlib.Nat.{eq-zero-or-pos}
 use native.Mathlib.Decide.{ℕ-discrete}
 use native.Mathlib.Omega.{arith}
 use lib.ListN.{length, getD}
 use Rattle.laws.specs.Digits.{Fit}
+use Rattle.laws.specs.Refusals.{Given}
 use Rattle.laws.proofs.Cases.{lt-or}
+use Rattle.laws.proofs.Refusals.{exactly}
+use Rattle.calls.specs.Calls as calls
+use Rattle.calls.proofs.Parts.{alike as parts-alike, trade}
+use Rattle.calls.proofs.Trading.{Trade, inside, woven, woven-told}
 use Rattle.format.specs.Block.{eights, modeOf}
 use Rattle.format.specs.Lines.{draws, meant, pixel}
 use Rattle.format.specs.Modes.{lines}
@@ -20,13 +25,13 @@ use Rattle.format.specs.Splits.{splitOf}
 use Rattle.head.specs.Heads.{readHead}
 use Rattle.head.specs.Numbers.{Bytes}
 use Rattle.line_rules.specs.Calls.{afterAll, last, seen}
-use Rattle.line_rules.specs.Replace.{Call, after, refusal}
+use Rattle.line_rules.specs.Replace.{after, refusal}
 use Rattle.line_rules.proofs.Draws.{drawn-by-one}
 use Rattle.line_rules.proofs.Theorems.{accepted-draws, last-call-is-seen, others-keep, same-answer, same-last-calls, trade-places}
 use Rattle.sheet_rules.specs.Calls.{SheetCall, WholeSheet, callsOn, onBlock, refusalOn, sheetWith, sheetWithAll}
 use Rattle.sheet_rules.specs.Rows.{rowOut, rowRefusal}
-use Rattle.sheet_rules.specs.Sheets.{blockIn, blocksOf, placeOf}
-use Rattle.sheet_rules.proofs.Calling.{after-two, all-block, all-kept, answered-as-block, beyond, no-calls, none-changes, off-it, on-it, same-sheet, sixteen, unchanged, whole-or, with-kept, with-named, with-other}
+use Rattle.sheet_rules.specs.Sheets.{blockIn, blocksOf, placeOf, sheetRules}
+use Rattle.sheet_rules.proofs.Calling.{Same, all-block, all-kept, answered-as-block, beyond, in-words, none-changes, parts, same-here, same-on, sixteen, unchanged, whole-or, with-kept, with-named, with-other}
 use Rattle.sheet_rules.proofs.Replacing.{accepted-is}
 use Rattle.sheet_rules.proofs.Storing.{put-long, put-outside}
 
@@ -44,6 +49,10 @@ others-stay s c = ⊎-elim taken (λ p. left (λ q. omega arith)) (eq-zero-or-po
     left : refusalOn s c ≢ 0 → (length (sheetWith s c) ≡ length s)
         × ((k : ℕ) → ((placeOf (readHead s) (c .block) ≤ k) × (k < placeOf (readHead s) (c .block) + 16) → ⊥) → getD (sheetWith s c) k 0 ≡ getD s k 0)
     left ne = let p = unchanged s c ne in (ap length p, λ k n. ap (λ (t : List ℕ). getD t k 0) p)
+
+-- each refusal number is given exactly when document 01 says (`sheetRules` has the words)
+pub sheet-refused-when : (s : List ℕ) → Bytes s → (c : SheetCall) (n : ℕ) → (refusalOn s c ≡ n) ↔ Given (sheetRules s (c .block) (c .line) (c .given)) n
+sheet-refused-when s y c = exactly (in-words s y (c .block) (c .line) (c .given))
 
 -- a refused call changes nothing
 pub refused-stays : (s : List ℕ) (c : SheetCall) → refusalOn s c ≢ 0 → sheetWith s c ≡ s
@@ -122,8 +131,7 @@ sheet-same-answer s y cs d = ⊎-elim (λ z. answer-in s z cs d) (λ never. ap (
 alike : (s : List ℕ) → Bytes s → (cs ds : List SheetCall) → ((z : WholeSheet s) (b : ℕ) → b < blocksOf (readHead s) → afterAll (blockIn s b) (callsOn b cs) ≡ afterAll (blockIn s b) (callsOn b ds))
     → sheetWithAll s cs ≡ sheetWithAll s ds
 alike s y cs ds e =
-    ⊎-elim (λ z. same-sheet (all-kept cs s z) (all-kept ds s z) (λ b l. all-block cs s z b l ∙ e z b l ∙ sym (all-block ds s z b l)))
-    (λ never. none-changes s never cs ∙ sym (none-changes s never ds)) (whole-or s y)
+    ⊎-elim (λ z. parts-alike (parts s z) cs ds s (same-here z) (e z)) (λ never. none-changes s never cs ∙ sym (none-changes s never ds)) (whole-or s y)
 
 -- two neighbouring calls on different blocks, or on different lines of one block: the same answers in either order, equal bytes, and
 -- either order shows the same: what each accepted call means, wherever its line draws in its block, and elsewhere what was there
@@ -144,33 +152,12 @@ pub record SheetTraded (s : List ℕ) (c d : SheetCall) : Type 0 where
       → pixel (blockIn (sheetWith (sheetWith s c) d) b) q ch ≡ pixel (blockIn s b) q ch
 
 one-call : (s : List ℕ) (c : SheetCall) → sheetWithAll s (c ∷ []) ≡ sheetWith s c
-unfolding sheetWithAll
+unfolding calls.run
 one-call s c = refl
 
 two-calls : (s : List ℕ) (c d : SheetCall) → sheetWithAll s (c ∷ d ∷ []) ≡ sheetWith (sheetWith s c) d
-unfolding sheetWithAll
+unfolding calls.run
 two-calls s c d = refl
-
-module _ (c d : SheetCall) (b : ℕ) where
-  -- of two calls at most one names the block, or both do and their lines differ
-  traded-on : (bs : List ℕ) → Fit eights bs → Apart c d → afterAll bs (callsOn b (c ∷ d ∷ [])) ≡ afterAll bs (callsOn b (d ∷ c ∷ []))
-  traded-on bs f apart = go (ℕ-discrete (c .block) b) (ℕ-discrete (d .block) b)
-    where
-      go : Dec (c .block ≡ b) → Dec (d .block ≡ b) → afterAll bs (callsOn b (c ∷ d ∷ [])) ≡ afterAll bs (callsOn b (d ∷ c ∷ []))
-      go (no n) k = ap (afterAll bs) (off-it b c (d ∷ []) n ∙ sym (with-last n k))
-        where
-          with-last : c .block ≢ b → Dec (d .block ≡ b) → callsOn b (d ∷ c ∷ []) ≡ callsOn b (d ∷ [])
-          with-last n (yes e) = on-it b d (c ∷ []) e ∙ ap {B = List Call} (λ cs. onBlock d ∷ cs) (off-it b c [] n) ∙ sym (on-it b d [] e)
-          with-last n (no m) = off-it b d (c ∷ []) m ∙ off-it b c [] n ∙ sym (off-it b d [] m)
-      go (yes e) (no n) = ap (afterAll bs) (on-it b c (d ∷ []) e ∙ ap {B = List Call} (λ cs. onBlock c ∷ cs) (off-it b d [] n) ∙ sym (on-it b c [] e) ∙ sym (off-it b d (c ∷ []) n))
-      go (yes e) (yes k) =
-          ap (afterAll bs) (both-on c d e k) ∙ traded-lines (⊎-elim (λ n. absurd (n (e ∙ sym k))) (λ n. n) apart) ∙ sym (ap (afterAll bs) (both-on d c k e))
-        where
-          both-on : (x y : SheetCall) → x .block ≡ b → y .block ≡ b → callsOn b (x ∷ y ∷ []) ≡ onBlock x ∷ onBlock y ∷ []
-          both-on x y p q = on-it b x (y ∷ []) p ∙ ap {B = List Call} (λ cs. onBlock x ∷ cs) (on-it b y [] q ∙ ap {B = List Call} (λ cs. onBlock y ∷ cs) (no-calls b))
-
-          traded-lines : c .line ≢ d .line → afterAll bs (onBlock c ∷ onBlock d ∷ []) ≡ afterAll bs (onBlock d ∷ onBlock c ∷ [])
-          traded-lines n = after-two bs (onBlock c) (onBlock d) ∙ trade-places bs f (onBlock c) (onBlock d) n .bytes ∙ sym (after-two bs (onBlock d) (onBlock c))
 
 -- an accepted call names a block of a whole sheet
 accepted-in : (s : List ℕ) → Bytes s → (c : SheetCall) → refusalOn s c ≡ 0 → WholeSheet s × (c .block < blocksOf (readHead s))
@@ -203,7 +190,12 @@ module _ (s : List ℕ) (y : Bytes s) (c d : SheetCall) where
 
   bytes-traded : Apart c d → sheetWith (sheetWith s c) d ≡ sheetWith (sheetWith s d) c
   bytes-traded apart =
-      sym (two-calls s c d) ∙ alike s y (c ∷ d ∷ []) (d ∷ c ∷ []) (λ z b l. traded-on c d b (blockIn s b) (sixteen s z b l) apart) ∙ two-calls s d c
+      ⊎-elim (λ z. trade (parts s z) c d s (same-here z) (λ b l e f. on-lines z b l (⊎-elim (λ n. absurd (n (e ∙ sym f))) (λ n. n) apart)))
+      (λ never. sym (two-calls s c d) ∙ none-changes s never (c ∷ d ∷ []) ∙ sym (none-changes s never (d ∷ c ∷ [])) ∙ two-calls s d c) (whole-or s y)
+    where
+      on-lines : (z : WholeSheet s) (b : ℕ) → b < blocksOf (readHead s) → c .line ≢ d .line
+          → after (after (blockIn s b) (onBlock c)) (onBlock d) ≡ after (after (blockIn s b) (onBlock d)) (onBlock c)
+      on-lines z b l n = trade-places (blockIn s b) (sixteen s z b l) (onBlock c) (onBlock d) n .bytes
 
 pub sheet-trade-places : (s : List ℕ) → Bytes s → (c d : SheetCall) → Apart c d → SheetTraded s c d
 sheet-trade-places s y c d apart = record {
@@ -215,6 +207,23 @@ sheet-trade-places s y c d apart = record {
       ap (λ (t : List ℕ). pixel (blockIn t (d .block)) q ch) (bytes-traded s y c d apart) ∙ seen-through s y d c (⊎-elim (λ n. inl (λ p. n (sym p))) (λ n. inr (λ p. n (sym p))) apart) q ch hq hc e z;
   rest = undrawn-stays-twice s y c d;
 }
+
+-- also inside a longer list, and of two desks: however their calls come in, the sheet is that of one desk after the other, and each is
+-- answered as if it were alone
+sheet-trading : (s : List ℕ) → WholeSheet s → Trade sheetWith refusalOn (Same s) Apart
+sheet-trading s z = record {
+  good = λ t c k. same-on k (with-kept t (k .whole) c);
+  bytes = λ t c d k a. bytes-traded t (k .whole .bytes) c d a;
+  unseen = λ t c d k a. sheet-trade-places t (k .whole .bytes) c d a .second;
+}
+
+pub sheet-trade-inside : (s : List ℕ) → WholeSheet s → (xs : List SheetCall) (c d : SheetCall) (ys : List SheetCall) → Apart c d
+    → sheetWithAll s (xs ++ (c ∷ d ∷ ys)) ≡ sheetWithAll s (xs ++ (d ∷ c ∷ ys))
+sheet-trade-inside s z xs c d ys a = inside (sheet-trading s z) xs c d ys s (same-here z) a
+
+pub two-desks : (s : List ℕ) → WholeSheet s → {xs ys zs : List SheetCall} → (w : calls.Woven xs ys zs) → calls.AllApart Apart xs ys
+    → (sheetWithAll s zs ≡ sheetWithAll (sheetWithAll s xs) ys) × (calls.toldLeft sheetWith refusalOn w s ≡ calls.told sheetWith refusalOn s xs)
+two-desks s z w a = (woven (sheet-trading s z) w a s (same-here z), woven-told (sheet-trading s z) w a s (same-here z))
 
 -- any two lists of calls whose last accepted calls on each line of each block are the same leave the same sheet
 pub sheet-last-calls-decide : (s : List ℕ) → Bytes s → (cs ds : List SheetCall)

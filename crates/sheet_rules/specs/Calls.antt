@@ -2,11 +2,10 @@
 -- Assumes nothing.
 use Prim.Native.Nat.{ℕ, _+_, _*_}
 use mathlib.Core.Path.{_≡_}
-use mathlib.Core.List.{List, [], _∷_}
-use lib.Dec.{eqb}
+use mathlib.Core.List.{List}
 use lib.ListN.{length}
 use Rattle.line_rules.specs.declared.Replacement.{Replacement}
-use Rattle.laws.specs.Tables.{pick}
+use Rattle.calls.specs.Calls as calls
 use Rattle.head.specs.Heads.{readHead}
 use Rattle.head.specs.Numbers.{Bytes}
 use Rattle.line_rules.specs.Replace.{Call, callOf}
@@ -26,17 +25,15 @@ abbrev pub sheetWith : List ℕ → SheetCall → List ℕ
 sheetWith s c = sheetAfter s (c .block) (c .line) (c .given)
 
 -- the sheet after a list of calls
-unfoldable pub sheetWithAll : List ℕ → List SheetCall → List ℕ
-sheetWithAll s [] = s
-sheetWithAll s (c ∷ cs) = sheetWithAll (sheetWith s c) cs
+abbrev pub sheetWithAll : List ℕ → List SheetCall → List ℕ
+sheetWithAll s cs = calls.run sheetWith s cs
 
 -- the same call on the block that it names, and those of a list that name block b
 abbrev pub onBlock : SheetCall → Call
 onBlock c = callOf (c .line) (c .given)
 
-unfoldable pub callsOn : ℕ → List SheetCall → List Call
-callsOn b [] = []
-callsOn b (c ∷ cs) = pick (eqb (c .block) b) (onBlock c ∷ callsOn b cs) (callsOn b cs)
+abbrev pub callsOn : ℕ → List SheetCall → List Call
+callsOn b cs = calls.callsOn (λ (c : SheetCall). c .block) onBlock b cs
 
 -- a sheet with all its blocks: what is neither refused with 7, 8 or 9 nor with 10
 pub record WholeSheet (s : List ℕ) : Type 0 where

@@ -1,14 +1,15 @@
 -- A row of blocks as bytes: which block, which pixel, which channel.
 -- Assumes nothing.
-use Prim.Native.Nat.{ℕ, _+_, _-_, _*_, _/_, _%_, min}
+use Prim.Native.Nat.{ℕ, _+_, _-_, _*_, _/_, _%_, _<_, min}
+use mathlib.Core.Path.{_≡_}
 use mathlib.Core.Bool.{not}
 use mathlib.Core.List.{List, [], _∷_}
 use lib.Dec.{eqb, leb}
 use lib.ListN.{length, getD, take, drop}
-use Rattle.laws.specs.Refusals.{first, refuse}
+use Rattle.laws.specs.Refusals.{Rule, first, refuse, unless}
 use Rattle.laws.specs.Tables.{pick, table}
 use Rattle.format.specs.Lines.{pixels}
-use Rattle.head.specs.Heads.{sizeRefusal}
+use Rattle.head.specs.Heads.{Sized, sizeRefusal}
 
 -- columns of blocks in a width, rows of blocks in a height
 abbrev pub across : ℕ → ℕ
@@ -43,6 +44,10 @@ rowRefusal w h row given room =
     (sizeRefusal w h
     ∷ refuse 12 (leb (across h) row) ∷ refuse 10 (not (eqb given (16 * across w)))
     ∷ refuse 11 (not (eqb room (shown h row * (4 * w)))) ∷ [])
+
+abbrev pub rowRules : ℕ → ℕ → ℕ → ℕ → ℕ → List Rule
+rowRules w h row given room =
+    unless 9 (Sized w h) ∷ unless 12 (row < across h) ∷ unless 10 (given ≡ 16 * across w) ∷ unless 11 (room ≡ shown h row * (4 * w)) ∷ []
 
 -- the output afterwards
 unfoldable pub rowOut : ℕ → ℕ → ℕ → List ℕ → List ℕ → List ℕ

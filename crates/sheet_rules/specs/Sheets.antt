@@ -1,17 +1,19 @@
 -- Where the blocks of a sheet stand, and what replacing in one of them leaves.
 -- Assumes nothing.
-use Prim.Native.Nat.{ℕ, _+_, _*_}
+use Prim.Native.Nat.{ℕ, _+_, _*_, _<_}
+use mathlib.Core.Path.{_≡_}
 use mathlib.Core.Bool.{not}
-use mathlib.Core.List.{List, [], _∷_}
+use mathlib.Core.List.{List, [], _∷_, _++_}
 use lib.Dec.{eqb, leb}
 use lib.ListN.{length, getD}
 use Rattle.line_rules.specs.declared.Replacement.{Replacement}
 use Rattle.line_rules.specs.declared.Replaced.{Replaced}
 use Rattle.head.specs.declared.Head.{Head}
-use Rattle.laws.specs.Refusals.{first, refuse}
+use Rattle.laws.specs.Refusals.{Rule, first, handed, refuse, unless}
 use Rattle.laws.specs.Tables.{over, pick}
-use Rattle.head.specs.Heads.{readHead}
-use Rattle.line_rules.specs.Replace.{replaced}
+use Rattle.head.specs.Heads.{formIn, headRules, heightIn, readHead, widthIn}
+use Rattle.line_rules.specs.Acceptable.{callRules}
+use Rattle.line_rules.specs.Replace.{callOf, replaced}
 use Rattle.sheet_rules.specs.Rows.{across, blockAt}
 
 -- how many blocks a sheet has
@@ -32,6 +34,13 @@ findRefusal s b =
     let h = readHead s in
     first (h .refusal ∷ refuse 10 (not (eqb (length s) (h .start + 16 * blocksOf h))) ∷ refuse 12 (leb (blocksOf h) b) ∷ [])
 
+-- in words, for a sheet whose head was read as h
+abbrev pub behindHead : Head → List ℕ → ℕ → List Rule
+behindHead h s b = unless 10 (length s ≡ h .start + 16 * blocksOf h) ∷ unless 12 (b < blocksOf h) ∷ []
+
+abbrev pub findRules : Head → List ℕ → ℕ → List Rule
+findRules h s b = handed (h .refusal) ∷ behindHead h s b
+
 -- what replacing in the block answers
 unfoldable pub replacedIn : List ℕ → ℕ → ℕ → Replacement → Replaced
 replacedIn s b l new = replaced (blockIn s b) l new
@@ -43,6 +52,10 @@ putBlock s at block = over s at 16 (λ j. getD block j 0)
 -- the head's refusal, 10, 12, then as for a block
 unfoldable pub sheetRefusal : List ℕ → ℕ → ℕ → Replacement → ℕ
 sheetRefusal s b l new = first (findRefusal s b ∷ replacedIn s b l new .refusal ∷ [])
+
+-- in words, down to the numbers of the head and the values of the line
+abbrev pub sheetRules : List ℕ → ℕ → ℕ → Replacement → List Rule
+sheetRules s b l new = headRules (formIn s) (widthIn s) (heightIn s) ++ behindHead (readHead s) s b ++ callRules (blockIn s b) (callOf l new)
 
 -- the sheet afterwards
 unfoldable pub sheetAfter : List ℕ → ℕ → ℕ → Replacement → List ℕ

@@ -3,7 +3,9 @@
 use mathlib.Core.Path.{_∙_}
 use native.Mathlib.Omega.{arith}
 use borrow.Author.Needs.{needs}
-use Rattle.sheet_blocks.proofs.Finding.{block-found, few, head-refused, length-wrong, number-beyond, size-is}
+use Rattle.laws.specs.Refusals.{here, then}
+use Rattle.sheet_rules.specs.Sheets.{blocksOf}
+use Rattle.sheet_blocks.proofs.Finding.{block-found, few, not-found, size-is}
 use Rattle.sheet_blocks.proofs.find_block.Statement.{statement}
 use Rattle.sheet_blocks.proofs.find_block.Tie as tie
 
@@ -14,7 +16,7 @@ not-found-requires : tie.Need-not-found-requires
 not-found-requires c κs = search needs
 
 returns : tie.Need-returns
-returns c = c .not-found .ensures ∙ head-refused _ _ (c .before .before .before .read-head .ensures) (c .before .if1 .taken)
+returns c = c .not-found .ensures ∙ not-found _ _ (c .before .before .before .read-head .ensures) (here (c .before .if1 .taken)) (c .before .if1 .taken)
 
 cast-w : tie.Need-cast-w
 cast-w c = search needs
@@ -50,17 +52,20 @@ not-found-requires-2 : tie.Need-not-found-requires-2
 not-found-requires-2 c κs = search needs
 
 returns-2 : tie.Need-returns-2
+unfolding blocksOf
 returns-2 c =
     let e = c .before .before .before .before .before in
-    c .not-found2 .ensures ∙ length-wrong _ _ (e .before .before .read-head .ensures) (e .if1 .left) (c .before .if2 .taken)
+    c .not-found2 .ensures ∙ not-found _ _ (e .before .before .read-head .ensures) (then (e .if1 .left) (here (c .before .if2 .taken))) (λ z. omega arith)
 
 not-found-requires-3 : tie.Need-not-found-requires-3
 not-found-requires-3 c κs = search needs
 
 returns-3 : tie.Need-returns-3
+unfolding blocksOf
 returns-3 c =
     let e = c .before .before .before .before .before .before in
-    c .not-found3 .ensures ∙ number-beyond _ _ (e .before .before .read-head .ensures) (e .if1 .left) (c .before .before .if2 .left) (c .before .if3 .taken)
+    c .not-found3 .ensures ∙ not-found _ _ (e .before .before .read-head .ensures)
+    (then (e .if1 .left) (then (c .before .before .if2 .left) (here (λ n. omega (arith, c .before .if3 .taken))))) (λ z. omega arith)
 
 mul-t11 : tie.Need-mul-t11
 mul-t11 c = search needs
@@ -69,9 +74,10 @@ add-t10 : tie.Need-add-t10
 add-t10 c = search needs
 
 returns-4 : tie.Need-returns-4
+unfolding blocksOf
 returns-4 c =
     let e = c .before .before .before .before .before in
-    block-found _ _ (e .before .before .read-head .ensures) (e .if1 .left) (c .before .if2 .left) (c .if3 .left)
+    block-found _ _ (e .before .before .read-head .ensures) (e .if1 .left, (c .before .if2 .left, (c .if3 .left, tt)))
 
 pub find-block-spec : {M : Type 1} → statement M
 find-block-spec =
