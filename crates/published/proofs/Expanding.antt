@@ -45,7 +45,7 @@ module _ (b c : ℕ) (hb : 0 < b) (most : b ≤ 4) (hc : c < 2 ^ 63) where
   lower =
       ap (λ (x : ℕ). x / 2 ^ 1) (and-mask (c * 2 ^ 1) b) ∙ (rw one-less at (field (c * 2 ^ 1) (b - 1) 1)) ∙ ap (λ (x : ℕ). x % 2 ^ (b - 1)) (shl-shr c 1)
 
-  pub opened : bitOr (bitAnd (shl 64 c 1) (flip 64 (2 ^ b - 1))) (shr (bitAnd (shl 64 c 1) (2 ^ b - 1)) 1) ≡ inserted c (b - 1)
+  pub opened : bitOr (bitAnd (shl 64 c 1) (flip 64 (2 ^ b - 1))) (shr 64 (bitAnd (shl 64 c 1) (2 ^ b - 1)) 1) ≡ inserted c (b - 1)
   unfolding inserted
   opened =
       ap (λ (x : ℕ). bitOr (bitAnd x (flip 64 (2 ^ b - 1))) (bitAnd x (2 ^ b - 1) / 2 ^ 1)) moved
@@ -60,7 +60,10 @@ module _ (b n i : ℕ) (hb : 0 < b) (most : b ≤ 4) (hi : i < 16) (hn : n < 2 ^
   room : i * b + b ≤ 64
   room = omega (arith, times-width b i 15 (omega arith))
 
-  put-back : shl 64 (inserted (n / 2 ^ (i * b)) (b - 1)) (i * b) ≡ inserted (n / 2 ^ (i * b)) (b - 1) * 2 ^ (i * b)
+  count-is : i * b % 64 ≡ i * b
+  count-is = mod-eq-of-lt (omega (arith, kept-60))
+
+  put-back : (inserted (n / 2 ^ (i * b)) (b - 1) * 2 ^ (i * b)) % 2 ^ 64 ≡ inserted (n / 2 ^ (i * b)) (b - 1) * 2 ^ (i * b)
   put-back =
       let e : 63 - i * b + i * b ≡ 63 = omega (arith, kept-60) in
       shl-exact (63 - i * b + 1) (i * b) 64 (inserted-lt (n / 2 ^ (i * b)) (b - 1) (63 - i * b) (shr-lt (63 - i * b) (i * b) (rw e hn)) (omega (arith, room))) (omega (arith, kept-60))
@@ -71,7 +74,7 @@ module _ (b n i : ℕ) (hb : 0 < b) (most : b ≤ 4) (hi : i < 16) (hn : n < 2 ^
       let k : ℕ = i * b in
       let count : mul 8 i b ≡ k = mod-eq-of-lt (omega (arith, kept-60)) in
       let small : n / 2 ^ k < 2 ^ 63 = lt-of-le-of-lt (shr-le n k) hn in
-      rw (count, mask-64 b (omega arith), mask-64 (i * b) (omega (arith, kept-60)), opened b (n / 2 ^ (i * b)) hb most small, put-back)
+      rw (count, mask-64 b (omega arith), mask-64 (i * b) (omega (arith, kept-60)), count-is, opened b (n / 2 ^ (i * b)) hb most small, put-back)
       (ap (bitOr (inserted (n / 2 ^ k) (b - 1) * 2 ^ k)) (and-mask n k)
       ∙ or-shifted (inserted (n / 2 ^ k) (b - 1)) k (n % 2 ^ k) (mod-lt n (pow-pos k))
       ∙ ap₂ (λ (x y : ℕ). x * 2 ^ k + y) (sym (inserted-high n k (b - 1))) (sym (inserted-low n k (b - 1)))
@@ -124,7 +127,9 @@ module _ (b n s : ℕ) (hb : 0 < b) (most : b ≤ 4) where
 pub get-index-is : (b : ℕ) (an : List ℕ) (x q : ℕ) → b ≤ 4 → q < 16 → get-index (indexesAre b an x) q ≡ part (expanded b an x) b q
 unfolding get-index get-mask part
 get-index-is b an x q most hq =
-    let count : mul 8 q b ≡ q * b = mod-eq-of-lt (omega (arith, times-width b q 15 (omega arith))) in
+    let few : q * b ≤ 60 = omega (arith, times-width b q 15 (omega arith)) in
+    let count : mul 8 q b ≡ q * b = mod-eq-of-lt (omega arith) in
+    let shift : q * b % 64 ≡ q * b = mod-eq-of-lt (omega arith) in
     let v : ℕ = expanded b an x / 2 ^ (q * b) in
-    rw (count, mask-64 b (omega arith))
+    rw (count, shift, mask-64 b (omega arith))
     (ap (λ (y : ℕ). y % 2 ^ 8) (and-mask v b) ∙ mod-eq-of-lt (lt-of-lt-of-le (mod-lt v (pow-pos b)) (pow-mono {i = b} {j = 8} (omega arith))))
