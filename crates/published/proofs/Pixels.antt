@@ -1,6 +1,6 @@
 -- A pixel: the mean of two bytes by a weight of 256, as the machine does it, is the format's; and nothing on the way overflows.
 -- Assumes nothing.
-use mathlib.Core.Path.{_≡_, refl, sym, ap, ap₂, _∙_}
+use mathlib.Core.Path.{_≡_, sym, ap, ap₂, _∙_}
 use mathlib.Core.Bool.{Bool, true, false}
 use mathlib.Core.List.{List, [], _∷_}
 use Prim.Native.Nat.{ℕ, zero, suc, _+_, _-_, _*_, _/_, _%_, _^_, _≤_, _<_}
@@ -110,12 +110,16 @@ two-or-three : (b i e0 e1 : ℕ) → 2 ≤ b → b ≤ 3 → i < 2 ^ b → e0 < 
 unfolding interpolate-2-or-3 WEIGHTS-2 WEIGHTS-3 weightOf256 weights256
 two-or-three zero i e0 e1 l m hi h0 h1 = absurd (let z : ⊥ = omega arith in z)
 two-or-three (suc zero) i e0 e1 l m hi h0 h1 = absurd (let z : ⊥ = omega arith in z)
-two-or-three (suc (suc zero)) i e0 e1 l m hi h0 h1 = let (is, asked) = mean-is 2 i e0 e1 (omega arith) (omega arith) hi h0 h1 in (is, (tt, hi, asked))
-two-or-three (suc (suc (suc zero))) i e0 e1 l m hi h0 h1 = let (is, asked) = mean-is 3 i e0 e1 (omega arith) (omega arith) hi h0 h1 in (is, (tt, hi, asked))
+two-or-three (suc (suc zero)) i e0 e1 l m hi h0 h1 =
+    let (is, asked) = mean-is 2 i e0 e1 (omega arith) (omega arith) hi h0 h1 in
+    (is, (tt, hi, asked))
+two-or-three (suc (suc (suc zero))) i e0 e1 l m hi h0 h1 =
+    let (is, asked) = mean-is 3 i e0 e1 (omega arith) (omega arith) hi h0 h1 in
+    (is, (tt, hi, asked))
 two-or-three (suc (suc (suc (suc b)))) i e0 e1 l m hi h0 h1 = absurd (let z : ⊥ = omega arith in z)
 
 -- what holds of the four channels holds of the elements of a colour
-four-all : (P : ℕ → ℕ → ℕ → Type 0) (f g : ℕ → ℕ) → ((c : ℕ) → c < 4 → P c (f c) (g c)) → (c : ℕ) → c < 4 → P c (getD (four f) c 0) (getD (four g) c 0)
+four-all : (P : ℕ → ℕ → Type 0) (f g : ℕ → ℕ) → ((c : ℕ) → c < 4 → P (f c) (g c)) → (c : ℕ) → c < 4 → P (getD (four f) c 0) (getD (four g) c 0)
 four-all P f g h zero l = h 0 l
 four-all P f g h (suc zero) l = h 1 l
 four-all P f g h (suc (suc zero)) l = h 2 l
@@ -128,7 +132,7 @@ pub colours-alpha : (f g x y : ℕ → ℕ) (v w : ℕ) → ((c : ℕ) → c < 4
 unfolding interpolate-colors-alpha
 colours-alpha f g x y v w one other = (
   λ k. one 0 (omega arith) .0 k ∷ one 1 (omega arith) .0 k ∷ one 2 (omega arith) .0 k ∷ other 3 (omega arith) .0 k ∷ [],
-  (λ c h. four-all (λ c x y. Mixed x y v) f g (λ c hc. one c hc .1) c (omega arith), other 3 (omega arith) .1),
+  (λ c h. four-all (λ x y. Mixed x y v) f g (λ c hc. one c hc .1) c (omega arith), other 3 (omega arith) .1),
 )
 
 -- the four lines of a pixel in mode_subset_2 and mode_subset_3, and what they ask
@@ -154,24 +158,26 @@ module _ (m n l b i : ℕ) (hm : m < 8) (least : 2 ≤ b) (hi : i < 2 ^ b) where
   channel : b ≤ 4 → (c : ℕ) → c < 4 → Mean (e0 c) (e1 c) (weightOf256 b i) (drawn (e0 c) (e1 c) (weightOf b i))
   channel most c hc = mean-is b i (e0 c) (e1 c) least most hi (end-byte-lt m n hm (2 * l + 0) c hc) (end-byte-lt m n hm (2 * l + 1) c hc)
 
-  pub colours : b ≤ 4 → (interpolate-colors (four e0) (four e1) (weightOf256 b i) ≡ shade m n l b i) × InterpolateColors (four e0) (four e1) (weightOf256 b i)
+  pub colours : b ≤ 4
+      → (interpolate-colors (four e0) (four e1) (weightOf256 b i) ≡ shade m n l b i) × InterpolateColors (four e0) (four e1) (weightOf256 b i)
   unfolding interpolate-colors
   colours most =
       let one = channel most in (
         λ k. one 0 (omega arith) .0 k ∷ one 1 (omega arith) .0 k ∷ one 2 (omega arith) .0 k ∷ one 3 (omega arith) .0 k ∷ [],
-        four-all (λ c x y. Mixed x y (weightOf256 b i)) e0 e1 (λ c hc. one c hc .1),
+        four-all (λ x y. Mixed x y (weightOf256 b i)) e0 e1 (λ c hc. one c hc .1),
       )
 
   pub colours-4 : b ≤ 3 → (painted (four e0) (four e1) i b ≡ shade m n l b i) × Painted (four e0) (four e1) i b
   colours-4 most =
-      let one : (c : ℕ) → c < 4 → _ = λ c hc. two-or-three b i (e0 c) (e1 c) least most hi (end-byte-lt m n hm (2 * l + 0) c hc) (end-byte-lt m n hm (2 * l + 1) c hc) in (
+      let byte : (e c : ℕ) → c < 4 → endByte m n e c < 256 = end-byte-lt m n hm in
+      let one : (c : ℕ) → c < 4 → _ = λ c hc. two-or-three b i (e0 c) (e1 c) least most hi (byte (2 * l + 0) c hc) (byte (2 * l + 1) c hc) in (
         λ k. one 0 (omega arith) .0 k ∷ one 1 (omega arith) .0 k ∷ one 2 (omega arith) .0 k ∷ one 3 (omega arith) .0 k ∷ [],
-        four-all (λ c x y. Interpolate2Or3 x y i b) e0 e1 (λ c hc. one c hc .1),
+        four-all (λ x y. Interpolate2Or3 x y i b) e0 e1 (λ c hc. one c hc .1),
       )
 
 -- the index of a pixel: set a of b bits, stored in t bits from bit s0 on
-pub indexes-are : (m : ℕ) (s : Split) (a n b t s0 : ℕ) (an : List ℕ) → a < 2 → b ≤ 4 → indexBits m a ≡ b → anchors s ≡ an → total (indexWidths b an) ≡ t
-    → start m s (34 + (16 * a + 0)) ≡ s0 → (q : ℕ) → q < 16
+pub indexes-are : (m : ℕ) (s : Split) (a n b t s0 : ℕ) (an : List ℕ) → a < 2 → b ≤ 4 → indexBits m a ≡ b → anchors s ≡ an
+    → total (indexWidths b an) ≡ t → start m s (34 + (16 * a + 0)) ≡ s0 → (q : ℕ) → q < 16
     → (get-index (indexesAre b an (field n s0 t)) q ≡ atPlace m s n (index a q)) × (get-index (indexesAre b an (field n s0 t)) q < 2 ^ b)
 unfolding part
 indexes-are m s a n b t s0 an ha most eb ea et es q hq =
@@ -181,10 +187,12 @@ indexes-are m s a n b t s0 an ha most eb ea et es q hq =
     )
 
 -- what a set of indexes shows, which has its anchor at pixel 0, where there is one pair of endpoints
-pub shown-by : (m : ℕ) (s : Split) (a n b s0 : ℕ) → m < 8 → a < 2 → 2 ≤ b → b ≤ 4 → indexBits m a ≡ b → anchors s ≡ 0 ∷ [] → start m s (34 + (16 * a + 0)) ≡ s0
-    → (q : ℕ) → q < 16 → let i = get-index (indexesAre b (0 ∷ []) (field n s0 (16 * b - 1))) q in
-    (i < 2 ^ b)
-    × ((c : ℕ) → c < 4 → Mean (endByte m n 0 c) (endByte m n 1 c) (weightOf256 b i) (drawn (endByte m n 0 c) (endByte m n 1 c) (weightOf (indexBits m a) (atPlace m s n (index a q)))))
+pub shown-by : (m : ℕ) (s : Split) (a n b s0 : ℕ) → m < 8 → a < 2 → 2 ≤ b → b ≤ 4 → indexBits m a ≡ b → anchors s ≡ 0 ∷ []
+    → start m s (34 + (16 * a + 0)) ≡ s0 → (q : ℕ) → q < 16
+    → let i = get-index (indexesAre b (0 ∷ []) (field n s0 (16 * b - 1))) q in
+    let w = weightOf (indexBits m a) (atPlace m s n (index a q)) in
+    (i < 2 ^ b) × ((c : ℕ) → c < 4 → Mean (endByte m n 0 c) (endByte m n 1 c) (weightOf256 b i) (drawn (endByte m n 0 c) (endByte m n 1 c) w))
 shown-by m s a n b s0 hm ha least most eb ea es q hq =
     let (is, small) = indexes-are m s a n b (16 * b - 1) s0 (0 ∷ []) ha most eb ea (size-1 b (omega arith)) es q hq in
-    (small, λ c hc. let (mean, asked) = channel m n 0 b _ hm least small most c hc in (mean ∙ ap₂ (λ (w i : ℕ). drawn (endByte m n 0 c) (endByte m n 1 c) (weightOf w i)) (sym eb) is, asked))
+    let wider : (c : ℕ) → _ = λ c. ap₂ (λ (w i : ℕ). drawn (endByte m n 0 c) (endByte m n 1 c) (weightOf w i)) (sym eb) is in
+    (small, λ c hc. let (mean, asked) = channel m n 0 b _ hm least small most c hc in (mean ∙ wider c, asked))
