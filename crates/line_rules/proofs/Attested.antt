@@ -87,8 +87,8 @@ claims =
     call block5 0 given5 0 turned5 ∷
     call block2 1 given2 0 turned2 ∷
     call (block6 (replicate 8 0)) 0 given6 0 (block6 (0x10 ∷ 0x32 ∷ 0x54 ∷ 0x76 ∷ 0x98 ∷ 0xBA ∷ 0xDC ∷ 0xFE ∷ [])) ∷
-    call (replicate 16 0) 1 (given7 31 1) 1 (replicate 16 0) ∷
-    call block7 2 (given7 31 1) 2 block7 ∷
+    call (replicate 16 0) 2 (given7 32 1) 1 (replicate 16 0) ∷
+    call block7 2 (given7 32 1) 2 block7 ∷
     call block7 1 (given7 32 1) 3 block7 ∷
     call block1 0 p10 4 block1 ∷
     []

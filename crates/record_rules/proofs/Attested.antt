@@ -35,7 +35,10 @@ record4 = record {
 abbrev indexes7 : List ℕ
 indexes7 = 1 ∷ 2 ∷ 3 ∷ 0 ∷ 1 ∷ 2 ∷ 3 ∷ 0 ∷ 0 ∷ 3 ∷ 2 ∷ 1 ∷ 0 ∷ 3 ∷ 2 ∷ 1 ∷ []
 
--- a record of mode 7 and partition 13 whose first value and whose indexes are given
+abbrev topSet : List ℕ
+topSet = 1 ∷ 2 ∷ 3 ∷ 0 ∷ 1 ∷ 2 ∷ 3 ∷ 0 ∷ 0 ∷ 3 ∷ 2 ∷ 1 ∷ 0 ∷ 3 ∷ 2 ∷ 2 ∷ []
+
+-- a record of mode 7 whose split, first value and indexes are given
 abbrev like7 : Split → ℕ → List ℕ → Record
 like7 s red is = record {
   mode = 7;
@@ -71,9 +74,9 @@ pub records-of-blocks : map taken (block4 ∷ block7 ∷ sixteenZeros ∷ []) �
 unfolding taken recordOf made table tableFrom atPlace opened placeAt pos width widths trailing number modeOf splitAt splitOf modeRow kindOfMode endpointCount anchors2 anchors3 digits marks strings2 strings3
 records-of-blocks = refl
 
--- the blocks of these records; refused are a split of another kind, a red of six bits, and the index 2 at the anchor 15
-pub blocks-of-records : map packed (record4 ∷ record7 ∷ like7 Whole 1 indexes7 ∷ like7 (Two 13) 32 indexes7
-    ∷ like7 (Two 13) 1 (1 ∷ 2 ∷ 3 ∷ 0 ∷ 1 ∷ 2 ∷ 3 ∷ 0 ∷ 0 ∷ 3 ∷ 2 ∷ 1 ∷ 0 ∷ 3 ∷ 2 ∷ 2 ∷ []) ∷ [])
+-- the blocks of these records; refused are a split of another kind, a red of six bits, and the index 2 at the anchor 15, each with
+-- what follows it
+pub blocks-of-records : map packed (record4 ∷ record7 ∷ like7 Whole 32 topSet ∷ like7 (Two 13) 32 topSet ∷ like7 (Two 13) 1 topSet ∷ [])
     ≡ block 0 block4 ∷ block 0 block7 ∷ block 5 sixteenZeros ∷ block 3 sixteenZeros ∷ block 6 sixteenZeros ∷ []
 unfolding packed packRefusal fits first says blockOf listOf bytesOf table tableFrom placeAt width widths modeRow kindOfMode endpointCount anchors2 anchors3 digits marks strings2 strings3
 blocks-of-records = refl
