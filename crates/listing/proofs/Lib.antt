@@ -1,4 +1,5 @@
 -- The laws that the proofs cite, and the theorems.
+pub mod Attested
 pub mod Taking
 pub mod Reader
 pub mod Lines
