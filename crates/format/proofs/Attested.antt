@@ -1,12 +1,13 @@
--- WHAT HOLDS THE DEFINITIONS OF DRAWING: numbers that a reader can check on paper. (Chart has the fields of the modes, Printed the
--- partitions, the crate document_01 whole blocks.)
+-- WHAT HOLDS THE DEFINITIONS OF BITS AND OF DRAWING: numbers that a reader can check on paper. (Chart has the fields of the modes,
+-- Printed the partitions, the crate document_01 whole blocks.)
 -- Assumes nothing.
 use mathlib.Core.Path.{_≡_, refl}
-use mathlib.Core.List.{List, [], _∷_, map}
+use mathlib.Core.List.{List, [], _∷_, _++_, map}
 use Prim.Native.Nat.{ℕ, _+_, _-_, _*_, _/_, _^_}
 use lib.Dec.{T, eqb}
+use lib.ListN.{replicate}
 use Rattle.laws.specs.Tables.{below, table, tableFrom}
-use Rattle.format.specs.Block.{modeOf, number, trailing}
+use Rattle.format.specs.Block.{bitsOf, bitsOfBytes, bytesOf, field, modeOf, number, trailing, valueOfBits}
 use Rattle.format.specs.Drawing.{drawn, eight, promoted, weightOf, weights}
 use Rattle.format.specs.Lines.{arrayOf, has, indexPlace, lineAt, lineBits, lineOf, means, own, pPlace, pixel, rotated, shown, valuePlace}
 use Rattle.format.specs.Modes.{endpointCount, kindOfMode, modeRow}
@@ -14,6 +15,21 @@ use Rattle.format.specs.Partitions.{anchors2, anchors3, digits, marks, s
 use Rattle.format.specs.Places.{atPlace, opened, placeAt, pos, width, widths}
 use Rattle.format.specs.Splits.{splitAt, splitOf}
 use Rattle.format.proofs.Examples.{block0, block3, block4, block7}
+
+-- byte 0 first, low bit first; the mode by the first byte, of which all but its lowest one may be anything
+pub record Bits : Type 0 where
+  pub of-number : bitsOf 8 0b01010011 ≡ 1 ∷ 1 ∷ 0 ∷ 0 ∷ 1 ∷ 0 ∷ 1 ∷ 0 ∷ []
+  pub to-number : valueOfBits (1 ∷ 1 ∷ 0 ∷ 0 ∷ 1 ∷ 0 ∷ 1 ∷ 0 ∷ []) ≡ 0b01010011
+  pub of-bytes : bitsOfBytes (0x53 ∷ 0x80 ∷ []) ≡ 1 ∷ 1 ∷ 0 ∷ 0 ∷ 1 ∷ 0 ∷ 1 ∷ 0 ∷ 0 ∷ 0 ∷ 0 ∷ 0 ∷ 0 ∷ 0 ∷ 0 ∷ 1 ∷ []
+  pub block-number : number (0x53 ∷ 0x80 ∷ (replicate 13 0 ++ (0x01 ∷ []))) ≡ 0x01000000000000000000000000008053
+  pub number-block : bytesOf 0x01000000000000000000000000008053 ≡ 0x53 ∷ 0x80 ∷ (replicate 13 0 ++ (0x01 ∷ []))
+  pub some-bits : field 0b11010110 2 3 ≡ 0b101
+  pub modes : map (λ (b : ℕ). modeOf (b ∷ replicate 15 0xFF)) (0x01 ∷ 0xFE ∷ 0x04 ∷ 0xF8 ∷ 0x10 ∷ 0xE0 ∷ 0x40 ∷ 0x80 ∷ 0x00 ∷ [])
+      ≡ 0 ∷ 1 ∷ 2 ∷ 3 ∷ 4 ∷ 5 ∷ 6 ∷ 7 ∷ 8 ∷ []
+
+pub bits-hold : Bits
+unfolding number bytesOf field trailing modeOf
+bits-hold = record { of-number = refl; to-number = refl; of-bytes = refl; block-number = refl; number-block = refl; some-bits = refl; modes = refl }
 
 -- a weight is 64 · i / last, rounded: all 28, at the widths 2, 3 and 4
 pub weights-are-rounded : T (below 3 (λ b. below (2 ^ (b + 2)) (λ i. eqb (weightOf (b + 2) i) ((2 * 64 * i + (2 ^ (b + 2) - 1)) / (2 * (2 ^ (b + 2) - 1))))))

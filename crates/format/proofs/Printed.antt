@@ -1,5 +1,5 @@
--- A SECOND SOURCE FOR THE PARTITIONS: the tables as public decoders of the format print them, each partition as one number, and the
--- anchors by subset, not by pixel as in document 002 (that of subset 0 is pixel 0). The strings say the same.
+-- A SECOND SOURCE FOR THE PARTITIONS: the format's tables as they are printed in public, each partition as one number, and the anchors
+-- by subset, not by pixel as in document 002 (that of subset 0 is pixel 0). The strings say the same.
 -- Assumes nothing.
 use mathlib.Core.Path.{_≡_, refl}
 use mathlib.Core.List.{List, [], _∷_, map}
@@ -61,25 +61,11 @@ third-of-three =
     15 ∷ 3 ∷ 15 ∷ 15 ∷ 15 ∷ 15 ∷ 15 ∷ 15 ∷ 15 ∷ 15 ∷ 15 ∷ 15 ∷ 3 ∷ 15 ∷ 15 ∷ 8 ∷
     []
 
-pub subsets-of-two : map digits strings2 ≡ map (split (replicate 16 1)) printed2
-unfolding digits strings2 printed2
-subsets-of-two = refl
-
-pub subsets-of-three : map digits strings3 ≡ map (split (replicate 16 2)) printed3
-unfolding digits strings3 printed3
-subsets-of-three = refl
-
-pub anchors-of-two : table 64 (λ a. anchorOf (Two a) 1) ≡ second-of-two
-unfolding table tableFrom anchorOf anchors2 subset2 digits marks strings2 second-of-two
-anchors-of-two = refl
-
-pub anchors-of-three : table 64 (λ a. anchorOf (Three a) 1) ≡ second-of-three
-unfolding table tableFrom anchorOf anchors3 subset3 digits marks strings3 second-of-three
-anchors-of-three = refl
-
-pub last-anchors-of-three : table 64 (λ a. anchorOf (Three a) 2) ≡ third-of-three
-unfolding table tableFrom anchorOf anchors3 subset3 digits marks strings3 third-of-three
-last-anchors-of-three = refl
+pub strings-are-as-printed : (map digits strings2 ≡ map (split (replicate 16 1)) printed2) × (map digits strings3 ≡ map (split (replicate 16 2)) printed3)
+    × (table 64 (λ a. anchorOf (Two a) 1) ≡ second-of-two) × (table 64 (λ a. anchorOf (Three a) 1) ≡ second-of-three)
+    × (table 64 (λ a. anchorOf (Three a) 2) ≡ third-of-three)
+unfolding table tableFrom anchorOf anchors2 anchors3 subset2 subset3 digits marks strings2 strings3 printed2 printed3 second-of-two second-of-three third-of-three
+strings-are-as-printed = (refl, refl, refl, refl, refl)
 
 -- of three-subset partition 2 the anchors by pixel, and their subsets: the second lies in subset 2, the third in subset 1
 pub partition-2-of-three : anchors3 2 ∷ map (subset3 2) (anchors3 2) ∷ [] ≡ (0 ∷ 8 ∷ 15 ∷ []) ∷ (0 ∷ 2 ∷ 1 ∷ []) ∷ []
