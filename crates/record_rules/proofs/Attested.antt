@@ -35,27 +35,30 @@ record4 = record {
 abbrev indexes7 : List ℕ
 indexes7 = 1 ∷ 2 ∷ 3 ∷ 0 ∷ 1 ∷ 2 ∷ 3 ∷ 0 ∷ 0 ∷ 3 ∷ 2 ∷ 1 ∷ 0 ∷ 3 ∷ 2 ∷ 1 ∷ []
 
+abbrev lastOne : List ℕ
+lastOne = 0 ∷ 0 ∷ 0 ∷ 0 ∷ 0 ∷ 0 ∷ 0 ∷ 0 ∷ 0 ∷ 0 ∷ 0 ∷ 0 ∷ 0 ∷ 0 ∷ 0 ∷ 1 ∷ []
+
 abbrev topSet : List ℕ
 topSet = 1 ∷ 2 ∷ 3 ∷ 0 ∷ 1 ∷ 2 ∷ 3 ∷ 0 ∷ 0 ∷ 3 ∷ 2 ∷ 1 ∷ 0 ∷ 3 ∷ 2 ∷ 2 ∷ []
 
 -- a record of mode 7 whose split, first value and indexes are given
-abbrev like7 : Split → ℕ → List ℕ → Record
-like7 s red is = record {
+abbrev like7 : Split → ℕ → List ℕ → List ℕ → Record
+like7 s red is js = record {
   mode = 7;
   split = s;
   endpoints = red ∷ 2 ∷ 3 ∷ 4 ∷ 5 ∷ 6 ∷ 7 ∷ 8 ∷ 9 ∷ 10 ∷ 11 ∷ 12 ∷ 13 ∷ 14 ∷ 15 ∷ 16 ∷ 0 ∷ 0 ∷ 0 ∷ 0 ∷ 0 ∷ 0 ∷ 0 ∷ 0 ∷ [];
   p = 1 ∷ 0 ∷ 1 ∷ 1 ∷ 0 ∷ 0 ∷ [];
   first = is;
-  second = sixteenZeros;
+  second = js;
 }
 
 abbrev pub record7 : Record
-record7 = like7 (Two 13) 1 indexes7
+record7 = like7 (Two 13) 1 indexes7 sixteenZeros
 
--- what a refusal answers beside its number
-abbrev pub nothing : Record
-nothing = record {
-  mode = 0;
+-- a record of zeros in a mode; that of mode 0 is what a refusal answers beside its number
+abbrev zerosOf : ℕ → Record
+zerosOf m = record {
+  mode = m;
   split = Whole;
   endpoints = 0 ∷ 0 ∷ 0 ∷ 0 ∷ 0 ∷ 0 ∷ 0 ∷ 0 ∷ 0 ∷ 0 ∷ 0 ∷ 0 ∷ 0 ∷ 0 ∷ 0 ∷ 0 ∷ 0 ∷ 0 ∷ 0 ∷ 0 ∷ 0 ∷ 0 ∷ 0 ∷ 0 ∷ [];
   p = 0 ∷ 0 ∷ 0 ∷ 0 ∷ 0 ∷ 0 ∷ [];
@@ -69,14 +72,18 @@ unpacked n r = record { refusal = n; «record» = r }
 abbrev block : ℕ → List ℕ → Packed
 block n bs = record { refusal = n; block = bs }
 
+abbrev refused : ℕ → Packed
+refused n = block n sixteenZeros
+
 -- the records of two blocks; a reserved block is refused with 1
-pub records-of-blocks : map taken (block4 ∷ block7 ∷ sixteenZeros ∷ []) ≡ unpacked 0 record4 ∷ unpacked 0 record7 ∷ unpacked 1 nothing ∷ []
+pub records-of-blocks : map taken (block4 ∷ block7 ∷ sixteenZeros ∷ []) ≡ unpacked 0 record4 ∷ unpacked 0 record7 ∷ unpacked 1 (zerosOf 0) ∷ []
 unfolding taken recordOf made table tableFrom atPlace opened placeAt pos width widths trailing number modeOf splitAt splitOf modeRow kindOfMode endpointCount anchors2 anchors3 digits marks strings2 strings3
 records-of-blocks = refl
 
--- the blocks of these records; refused are a split of another kind, a red of six bits, and the index 2 at the anchor 15, each with
--- what follows it
-pub blocks-of-records : map packed (record4 ∷ record7 ∷ like7 Whole 32 topSet ∷ like7 (Two 13) 32 topSet ∷ like7 (Two 13) 1 topSet ∷ [])
-    ≡ block 0 block4 ∷ block 0 block7 ∷ block 5 sixteenZeros ∷ block 3 sixteenZeros ∷ block 6 sixteenZeros ∷ []
+-- the blocks of these records; refused are a mode above 7, a split of another kind, a red of six bits, a second index where there is
+-- none, and the index 2 at the anchor 15, each with what follows it
+pub blocks-of-records : map packed (record4 ∷ record7 ∷ zerosOf 8 ∷ like7 Whole 32 topSet lastOne ∷ like7 (Two 13) 32 topSet lastOne
+    ∷ like7 (Two 13) 1 topSet lastOne ∷ like7 (Two 13) 1 topSet sixteenZeros ∷ [])
+    ≡ block 0 block4 ∷ block 0 block7 ∷ refused 5 ∷ refused 5 ∷ refused 3 ∷ refused 3 ∷ refused 6 ∷ []
 unfolding packed packRefusal fits first says blockOf listOf bytesOf table tableFrom placeAt width widths modeRow kindOfMode endpointCount anchors2 anchors3 digits marks strings2 strings3
 blocks-of-records = refl

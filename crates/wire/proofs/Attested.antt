@@ -50,7 +50,7 @@ refused = block 5 (0 ∷ 0 ∷ 0 ∷ 0 ∷ 0 ∷ 0 ∷ 0 ∷ 0 ∷ 0 ∷ 0 ∷ 0
 pub record Bytes : Type 0 where
   pub of-records : map recordBytes (record4 ∷ record7 ∷ []) ≡ bytes4 3 ∷ bytes7 ∷ []
   pub to-records : map recordOfBytes (bytes4 3 ∷ bytes7 ∷ []) ≡ record4 ∷ record7 ∷ []
-  pub to-replacement : replacementOf bytesGiven ≡ given7 31 1
+  pub to-replacement : replacementOf bytesGiven ≡ given7 1
   -- no split has a kind above 3
   pub to-blocks : map packedBytes (bytes7 ∷ bytes4 3 ∷ bytes4 0 ∷ bytes4 4 ∷ bytes4 255 ∷ []) ≡ block 0 block7 ∷ block 0 block4 ∷ refused ∷ refused ∷ refused ∷ []
 
