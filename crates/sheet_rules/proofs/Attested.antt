@@ -17,7 +17,7 @@ use Rattle.head.specs.Heads.{formIn, headRefusal, heightIn, readHead, sizeRefus
 use Rattle.head.specs.Numbers.{raised, readGroups, readNumber}
 use Rattle.line_rules.specs.Replace.{after, indexFits, lineFits, lineGiven, oriented, ownWidth, pFits, put, refusal, refusalIn, replaced, valueFits}
 use Rattle.sheet_rules.specs.Pictures.{picture, pictureByte}
-use Rattle.sheet_rules.specs.Rows.{across, blockAt, channel, rowByte, rowBytes, rowOut, rowRefusal}
+use Rattle.sheet_rules.specs.Rows.{across, blockAt, channel, rowByte, rowBytes, rowOut, rowRefusal, shown as linesShown}
 use Rattle.sheet_rules.specs.Sheets.{blockIn, blocksOf, findRefusal, placeOf, putBlock, replacedIn, sheetAfter, sheetRefusal}
 
 -- blocks of mode 6: red from 0 to 120, blue 7, alpha 127, and a green of 10, 20, 30 or 40; p 0 and 0; pixel q has index q
@@ -128,6 +128,7 @@ sheetClaims =
 
 pub record Sheets : Type 0 where
   pub columns : map across (1 ∷ 4 ∷ 5 ∷ 4096 ∷ []) ≡ 1 ∷ 1 ∷ 2 ∷ 1024 ∷ []
+  pub lines : map (linesShown 6) (0 ∷ 1 ∷ 2 ∷ []) ≡ 4 ∷ 2 ∷ 0 ∷ []
   pub shown : picture 5 6 (drop 3 small) ≡ upperLines ++ lowerLines
   pub blocks : map (blockIn small) (0 ∷ 1 ∷ 2 ∷ 3 ∷ []) ≡ shade10 ∷ shade20 ∷ shade30 ∷ shade40 ∷ []
   pub row-answers : map (λ c. rowRefusal (c .wide) (c .high) (c .row) (length (c .blocks)) (length (c .out))) rowClaims ≡ map (λ c. c .answer) rowClaims
@@ -137,4 +138,4 @@ pub record Sheets : Type 0 where
 
 pub sheets-hold : Sheets
 unfolding over table tableFrom weights weightOf drawn promoted eight modeRow kindOfMode endpointCount placeAt pos width widths trailing number modeOf splitAt splitOf atPlace opened has valuePlace pPlace arrayOf indexPlace own lineOf lineBits means rotated lineAt shown pixel pixels picture pictureByte blockAt channel rowByte rowBytes rowOut rowRefusal blockIn blocksOf findRefusal placeOf putBlock replacedIn sheetAfter sheetRefusal first sizeRefusal readHead headRefusal formIn widthIn heightIn readNumber readGroups raised replaced after refusal refusalIn lineFits valueFits pFits indexFits ownWidth lineGiven put oriented withLine laid turned anchorOf blockOf listOf bytesOf
-sheets-hold = record { columns = refl; shown = refl; blocks = refl; row-answers = refl; rows = refl; answers = refl; sheets = refl }
+sheets-hold = record { columns = refl; lines = refl; shown = refl; blocks = refl; row-answers = refl; rows = refl; answers = refl; sheets = refl }
