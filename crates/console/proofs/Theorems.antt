@@ -53,7 +53,8 @@ refused-bc7-pack-leaves bytes before = refused-leaves _ _ before
 
 pub refused-bc7-replace-line-leaves : (block : List ℕ) (line : ℕ) (bytes : List ℕ) → Leaves block (Replaces block line bytes)
 unfolding replaced
-refused-bc7-replace-line-leaves block line bytes answer after p ne = p .1 ∙ refused-same block (callOf line (replacementOf bytes)) (λ e. ne (p .0 ∙ e))
+refused-bc7-replace-line-leaves block line bytes answer after p ne =
+    p .1 ∙ refused-same block (callOf line (replacementOf bytes)) (λ e. ne (p .0 ∙ e))
 
 pub refused-sheet-read-head-leaves : (sheet before : List ℕ) → Leaves before (ReadsHead sheet before)
 refused-sheet-read-head-leaves sheet before = refused-leaves _ _ before

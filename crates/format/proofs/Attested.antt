@@ -32,7 +32,10 @@ unfolding number bytesOf field trailing modeOf
 bits-hold = record { of-number = refl; to-number = refl; of-bytes = refl; block-number = refl; number-block = refl; some-bits = refl; modes = refl }
 
 -- a weight is 64 · i / last, rounded: all 28, at the widths 2, 3 and 4
-pub weights-are-rounded : T (below 3 (λ b. below (2 ^ (b + 2)) (λ i. eqb (weightOf (b + 2) i) ((2 * 64 * i + (2 ^ (b + 2) - 1)) / (2 * (2 ^ (b + 2) - 1))))))
+abbrev rounded : ℕ → ℕ → ℕ
+rounded i last = (2 * 64 * i + last) / (2 * last)
+
+pub weights-are-rounded : T (below 3 (λ b. below (2 ^ (b + 2)) (λ i. eqb (weightOf (b + 2) i) (rounded i (2 ^ (b + 2) - 1)))))
 unfolding weightOf weights
 weights-are-rounded = tt
 

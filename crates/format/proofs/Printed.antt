@@ -61,7 +61,8 @@ third-of-three =
     15 ∷ 3 ∷ 15 ∷ 15 ∷ 15 ∷ 15 ∷ 15 ∷ 15 ∷ 15 ∷ 15 ∷ 15 ∷ 15 ∷ 3 ∷ 15 ∷ 15 ∷ 8 ∷
     []
 
-pub strings-are-as-printed : (map digits strings2 ≡ map (split (replicate 16 1)) printed2) × (map digits strings3 ≡ map (split (replicate 16 2)) printed3)
+pub strings-are-as-printed : (map digits strings2 ≡ map (split (replicate 16 1)) printed2)
+    × (map digits strings3 ≡ map (split (replicate 16 2)) printed3)
     × (table 64 (λ a. anchorOf (Two a) 1) ≡ second-of-two) × (table 64 (λ a. anchorOf (Three a) 1) ≡ second-of-three)
     × (table 64 (λ a. anchorOf (Three a) 2) ≡ third-of-three)
 unfolding table tableFrom anchorOf anchors2 anchors3 subset2 subset3 digits marks strings2 strings3 printed2 printed3 second-of-two second-of-three third-of-three

@@ -132,11 +132,22 @@ pub record Sheets : Type 0 where
   pub lines : map (linesShown 6) (0 ∷ 1 ∷ 2 ∷ []) ≡ 4 ∷ 2 ∷ 0 ∷ []
   pub shown : picture 5 6 (drop 3 small) ≡ upperLines ++ lowerLines
   pub blocks : map (blockIn small) (0 ∷ 1 ∷ 2 ∷ 3 ∷ []) ≡ shade10 ∷ shade20 ∷ shade30 ∷ shade40 ∷ []
-  pub row-answers : map (λ c. rowRefusal (c .wide) (c .high) (c .row) (length (c .blocks)) (length (c .out))) rowClaims ≡ map (λ c. c .answer) rowClaims
+  pub row-answers : map (λ c. rowRefusal (c .wide) (c .high) (c .row) (length (c .blocks)) (length (c .out))) rowClaims
+      ≡ map (λ c. c .answer) rowClaims
   pub rows : map (λ c. rowOut (c .wide) (c .high) (c .row) (c .blocks) (c .out)) rowClaims ≡ map (λ c. c .left) rowClaims
   pub answers : map (λ c. sheetRefusal (c .before) (c .block) (c .of-block) given) sheetClaims ≡ map (λ c. c .answer) sheetClaims
   pub sheets : map (λ c. sheetAfter (c .before) (c .block) (c .of-block) given) sheetClaims ≡ map (λ c. c .left) sheetClaims
 
 pub sheets-hold : Sheets
 unfolding over table tableFrom weights weightOf drawn promoted eight modeRow kindOfMode endpointCount placeAt pos width widths trailing number modeOf splitAt splitOf atPlace opened has valuePlace pPlace arrayOf indexPlace own lineOf lineBits means rotated lineAt shown pixel pixels picture pictureByte blockAt channel rowByte rowBytes rowOut rowRefusal blockIn blocksOf findRefusal placeOf putBlock replacedIn sheetAfter sheetRefusal first sizeRefusal readHead headRefusal formIn widthIn heightIn readNumber readGroups raised replaced after refusal refusalIn lineFits valueFits pFits indexFits ownWidth lineGiven put oriented withLine laid turned anchorOf blockOf listOf bytesOf
-sheets-hold = record { columns = refl; in-all = refl; lines = refl; shown = refl; blocks = refl; row-answers = refl; rows = refl; answers = refl; sheets = refl }
+sheets-hold = record {
+  columns = refl;
+  in-all = refl;
+  lines = refl;
+  shown = refl;
+  blocks = refl;
+  row-answers = refl;
+  rows = refl;
+  answers = refl;
+  sheets = refl;
+}

@@ -131,9 +131,11 @@ module _ (s : List ℕ) (b x y : ℕ) (column : x / 4 ≡ b % across (readHead s
       rw e (ap (take 16) (drop-drop (16 * b) (readHead s .start) s))
 
   pub picture-shows-block : (h c : ℕ) → x < readHead s .width → y < h → c < 4
-      → getD (picture (readHead s .width) h (drop (readHead s .start) s)) (y * (4 * readHead s .width) + (4 * x + c)) 0 ≡ pixel (blockIn s b) (pixelIn x y) c
+      → getD (picture (readHead s .width) h (drop (readHead s .start) s)) (y * (4 * readHead s .width) + (4 * x + c)) 0
+      ≡ pixel (blockIn s b) (pixelIn x y) c
   picture-shows-block h c lx ly lc =
-      picture-shows (readHead s .width) h (drop (readHead s .start) s) x y c lx ly lc ∙ ap (λ (bs : List ℕ). pixel bs (pixelIn x y) c) block-shown-there
+      picture-shows (readHead s .width) h (drop (readHead s .start) s) x y c lx ly lc
+      ∙ ap (λ (bs : List ℕ). pixel bs (pixelIn x y) c) block-shown-there
 
 -- each byte is a channel of exactly one shown pixel
 pub record Shown (w h : ℕ) (all : List ℕ) (k : ℕ) : Type 0 where

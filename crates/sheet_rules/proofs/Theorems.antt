@@ -260,5 +260,6 @@ pub refused-row-leaves : (w h row : ℕ) (blocks out : List ℕ) (r : ℕ) (a : 
     → (r ≡ rowRefusal w h row (length blocks) (length out)) × (a ≡ rowOut w h row blocks out) → r ≢ 0 → a ≡ out
 refused-row-leaves w h row blocks out r a p ne = p .1 ∙ undrawn w h row blocks out (λ e. ne (p .0 ∙ e))
 
-pub refused-sheet-leaves : (sheet : List ℕ) (c : SheetCall) (r : ℕ) (a : List ℕ) → (r ≡ refusalOn sheet c) × (a ≡ sheetWith sheet c) → r ≢ 0 → a ≡ sheet
+pub refused-sheet-leaves : (sheet : List ℕ) (c : SheetCall) (r : ℕ) (a : List ℕ)
+    → (r ≡ refusalOn sheet c) × (a ≡ sheetWith sheet c) → r ≢ 0 → a ≡ sheet
 refused-sheet-leaves sheet c r a p ne = p .1 ∙ refused-stays sheet c (λ e. ne (p .0 ∙ e))

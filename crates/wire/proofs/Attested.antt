@@ -52,7 +52,8 @@ pub record Bytes : Type 0 where
   pub to-records : map recordOfBytes (bytes4 3 ∷ bytes7 ∷ []) ≡ record4 ∷ record7 ∷ []
   pub to-replacement : replacementOf bytesGiven ≡ given7 1
   -- no split has a kind above 3
-  pub to-blocks : map packedBytes (bytes7 ∷ bytes4 3 ∷ bytes4 0 ∷ bytes4 4 ∷ bytes4 255 ∷ []) ≡ block 0 block7 ∷ block 0 block4 ∷ refused ∷ refused ∷ refused ∷ []
+  pub to-blocks : map packedBytes (bytes7 ∷ bytes4 3 ∷ bytes4 0 ∷ bytes4 4 ∷ bytes4 255 ∷ [])
+      ≡ block 0 block7 ∷ block 0 block4 ∷ refused ∷ refused ∷ refused ∷ []
 
 pub bytes-hold : Bytes
 unfolding recordByte recordBytes recordOfBytes replacementOf packedBytes packed packRefusal fits first says blockOf listOf bytesOf table tableFrom placeAt width widths modeRow kindOfMode endpointCount anchors2 digits marks strings2
