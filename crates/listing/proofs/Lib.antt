@@ -3,4 +3,6 @@ pub mod Taking
 pub mod Reader
 pub mod Lines
 pub mod Rows
+pub mod Turns
+pub mod Whole
 pub mod Theorems

@@ -36,7 +36,7 @@ module _ (r : HeadReader) (b : ℕ) where
   unfolding withByte
   with-more l e = rw (le-ltb b 128 l, e)
 
-reach-step : (room n b : ℕ) (bs : List ℕ) → 0 < room → 0 < n → reach room n (b ∷ bs) ≡ suc (reach (room - 1) (pick (ltb b 128) (n - 1) n) bs)
+pub reach-step : (room n b : ℕ) (bs : List ℕ) → 0 < room → 0 < n → reach room n (b ∷ bs) ≡ suc (reach (room - 1) (pick (ltb b 128) (n - 1) n) bs)
 unfolding reach
 reach-step zero n b bs h l = absurd (not-suc-le-zero h)
 reach-step (suc room) zero b bs h l = absurd (not-suc-le-zero l)
@@ -45,14 +45,14 @@ reach-step (suc room) (suc n) b bs h l =
     let f : n ≡ suc n - 1 = omega arith in
     ap₂ (λ (x y : ℕ). suc (reach x (pick (ltb b 128) y (suc n)) bs)) e f
 
-reach-within : (room n : ℕ) (bs : List ℕ) → (reach room n bs ≤ room) × (reach room n bs ≤ length bs)
+pub reach-within : (room n : ℕ) (bs : List ℕ) → (reach room n bs ≤ room) × (reach room n bs ≤ length bs)
 unfolding reach
 reach-within zero n bs = (omega arith, omega arith)
 reach-within (suc room) zero bs = (omega arith, omega arith)
 reach-within (suc room) (suc n) [] = (omega arith, omega arith)
 reach-within (suc room) (suc n) (b ∷ bs) = let h = reach-within room (pick (ltb b 128) n (suc n)) bs in (omega (arith, h .0), omega (arith, h .1))
 
-stops : (r : HeadReader) (bs : List ℕ) → goesOn r ≡ false → reach (9 - r .count) (r .numbers) bs ≡ 0
+pub stops : (r : HeadReader) (bs : List ℕ) → goesOn r ≡ false → reach (9 - r .count) (r .numbers) bs ≡ 0
 unfolding goesOn
 stops r bs e =
     ⊎-elim (λ l. ⊎-elim (λ z. rw z (reach-none (9 - r .count) bs)) (λ p. absurd (goes l p)) (eq-zero-or-pos (r .numbers)))

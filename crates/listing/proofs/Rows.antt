@@ -1,4 +1,4 @@
--- Rows of blocks one after the other are the blocks of the sheet.
+-- Rows of blocks one after the other are the blocks of the sheet, and what is printed of an input is printed row by row.
 -- Assumes nothing.
 use mathlib.Core.Path.{_≡_, refl, _∙_, ap, ap₂, sym}
 use mathlib.Core.Bool.{Bool, true, false}
@@ -13,9 +13,13 @@ use lib.Seq.{drop-append-add, drop-append-le, length-take-le, take-add, take-all
 use borrow.Author.Tests.{eq-eqb, eqb-false, eqb-true, le-leb, lt-leb, ne-eqb}
 use Rattle.laws.specs.Tables.{pick}
 use Rattle.laws.proofs.Cases.{lt-or}
-use Rattle.text.specs.Lines.{refusedLine}
-use Rattle.sheet_rules.specs.Rows.{blockAt}
-use Rattle.listing.specs.Listing.{blockText, blocksListing, blocksText, listed, rowsListing}
+use Rattle.head.specs.Heads.{readHead}
+use Rattle.text.specs.Lines.{refusedLine, sheetLine}
+use Rattle.sheet_rules.specs.Rows.{across, blockAt}
+use Rattle.sheet_rules.specs.Sheets.{blocksOf}
+use Rattle.listing.specs.Listing.{blockText, blocksListing, blocksText, listed, listing, rowsListing}
+use Rattle.listing.specs.Taking.{headLength}
+use Rattle.listing.proofs.Taking.{blocks-start}
 
 -- blocks in the first of two lists, and in the second
 module _ (xs ys : List ℕ) where
@@ -97,6 +101,22 @@ rows-are-blocks c from (suc k) bs =
     ⊎-elim (row-cut c from k bs) (λ h. row-whole c from k bs h (rows-are-blocks c (from + c) k (drop (16 * c) bs))) (lt-or (length bs) (16 * c))
 
 -- k rows of c blocks, one at a time, are k · c blocks
-pub rows-are-listing : (c k : ℕ) (bs : List ℕ) → rowsListing c 0 k bs ≡ blocksListing (k * c) bs
+rows-are-listing : (c k : ℕ) (bs : List ℕ) → rowsListing c 0 k bs ≡ blocksListing (k * c) bs
 unfolding blocksListing blocksFrom
 rows-are-listing c k bs = rows-are-blocks c 0 k bs
+
+module _ (s : List ℕ) where
+  -- a refused head prints only `refused` and the number
+  pub listing-refused : (readHead s .refusal ≡ 0 → ⊥) → listing s ≡ refusedLine (readHead s .refusal)
+  unfolding listing
+  listing-refused ne = rw (ne-eqb (readHead s .refusal) 0 ne)
+
+  -- an accepted one its line, and then the rows of blocks, one at a time, from the byte behind those of the head on
+  pub listing-by-rows : readHead s .refusal ≡ 0
+      → listing s ≡ sheetLine (readHead s .width) (readHead s .height) ++ rowsListing (across (readHead s .width)) 0 (across (readHead s .height)) (drop (headLength s) s)
+  unfolding listing blocksOf
+  listing-by-rows e =
+      let w = readHead s .width in
+      let h = readHead s .height in
+      rw (eq-eqb (readHead s .refusal) 0 e) (ap (λ (t : List ℕ). sheetLine w h ++ t)
+      (ap (λ (n : ℕ). blocksListing (across h * across w) (drop n s)) (blocks-start s e) ∙ sym (rows-are-listing (across w) (across h) (drop (headLength s) s))))

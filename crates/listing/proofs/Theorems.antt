@@ -1,10 +1,10 @@
--- What is printed of an input, and that reading it a head and a row at a time prints that.
+-- For every input the machine, fed with it as it asks, says `listing` of the input, and nothing else; and document 01's example.
 -- Assumes nothing.
-use mathlib.Core.Path.{_≡_, refl, _∙_, ap, sym}
+use mathlib.Core.Path.{_≡_, refl, ap, subst}
 use mathlib.Core.List.{List, [], _∷_, _++_}
-use Prim.Native.Nat.{ℕ, _*_}
-use lib.ListN.{drop, replicate}
-use borrow.Author.Tests.{eq-eqb, ne-eqb}
+use Prim.Native.Nat.{ℕ}
+use native.Mathlib.Nat.{le-refl}
+use lib.ListN.{replicate, take}
 use Rattle.laws.specs.Refusals.{first}
 use Rattle.laws.specs.Tables.{table, tableFrom}
 use Rattle.format.specs.Block.{modeOf, number, trailing}
@@ -17,28 +17,23 @@ use Rattle.format.specs.Splits.{splitAt, splitOf}
 use Rattle.head.specs.Heads.{formIn, headRefusal, heightIn, readHead, sizeRefusal, widthIn}
 use Rattle.head.specs.Numbers.{raised, readGroups, readNumber}
 use Rattle.text.specs.Lines.{ascii, blockLine, channels, decimal, digitsIn, newline, opacityMark, refusedLine, sheetLine}
-use Rattle.sheet_rules.specs.Rows.{across, blockAt}
+use Rattle.sheet_rules.specs.Rows.{blockAt}
 use Rattle.sheet_rules.specs.Sheets.{blocksOf}
-use Rattle.listing.specs.Taking.{headLength}
-use Rattle.listing.specs.Listing.{blockText, blocksListing, blocksText, listed, listing, rowsListing}
-use Rattle.listing.proofs.Taking.{blocks-start}
-use Rattle.listing.proofs.Rows.{rows-are-listing}
+use Rattle.listing.specs.declared.Machine.{Machine}
+use Rattle.listing.specs.Listing.{blockText, blocksListing, blocksText, listed, listing}
+use Rattle.listing.specs.Machine.{Run, atStart, over, textOf, turn, turnsOf, wantedOf}
+use Rattle.listing.proofs.Turns.{ready-start, rest-start, runs}
 
-module _ (s : List ℕ) where
-  -- a refused head prints only `refused` and the number
-  pub listing-refused : (readHead s .refusal ≡ 0 → ⊥) → listing s ≡ refusedLine (readHead s .refusal)
-  unfolding listing
-  listing-refused ne = rw (ne-eqb (readHead s .refusal) 0 ne)
+-- a run over each input, and what it says
+pub machine-lists : (s : List ℕ) → Run atStart s (listing s)
+machine-lists s = subst (λ (t : List ℕ). Run atStart s t) (rest-start s) (runs (turnsOf atStart) atStart s (le-refl _) ready-start)
 
-  -- an accepted one its line, and then the rows of blocks, one at a time, from the byte behind those of the head on
-  pub listing-by-rows : readHead s .refusal ≡ 0
-      → listing s ≡ sheetLine (readHead s .width) (readHead s .height) ++ rowsListing (across (readHead s .width)) 0 (across (readHead s .height)) (drop (headLength s) s)
-  unfolding listing blocksOf
-  listing-by-rows e =
-      let w = readHead s .width in
-      let h = readHead s .height in
-      rw (eq-eqb (readHead s .refusal) 0 e) (ap (λ (t : List ℕ). sheetLine w h ++ t)
-      (ap (λ (n : ℕ). blocksListing (across h * across w) (drop n s)) (blocks-start s e) ∙ sym (rows-are-listing (across w) (across h) (drop (headLength s) s))))
+-- there is no other
+pub one-run : {m : Machine} {s t u : List ℕ} → Run m s t → Run m s u → t ≡ u
+one-run (over e) (over f) = refl
+one-run (over e) (turn n r) = absurd (n e)
+one-run (turn n r) (over e) = absurd (n e)
+one-run {m} {s} (turn n r) (turn o q) = ap (λ (t : List ℕ). textOf m (take (wantedOf m) s) ++ t) (one-run r q)
 
 -- document 01's example: block D and a reserved block
 pub document-lists : listing (0x01 ∷ 0x05 ∷ 0x04 ∷ (0x60 ∷ (replicate 5 0 ++ (0xFC ∷ 0x03 ∷ replicate 24 0))))

@@ -1,6 +1,7 @@
 -- What is printed of an input: the whole of it, and row by row of blocks.
 -- Assumes nothing.
 use Prim.Native.Nat.{ℕ, zero, suc, _+_, _*_, _/_}
+use mathlib.Core.Bool.{Bool}
 use mathlib.Core.List.{List, [], _++_}
 use lib.Dec.{eqb, leb}
 use lib.ListN.{length, getD, take, drop}
@@ -25,9 +26,13 @@ blocksText from (suc n) bs = blocksText from n bs ++ blockText (from + n) (block
 unfoldable pub listed : ℕ → List ℕ → List ℕ
 listed from bs = blocksText from (length bs / 16) bs
 
+-- a refusal, unless the block bytes are exactly as many as needed
+abbrev pub unlessExact : Bool → List ℕ
+unlessExact exact = pick exact [] (refusedLine 10)
+
 -- n blocks are declared: the lines of those that are there, and a refusal unless the bytes are exactly as many as needed
 unfoldable pub blocksListing : ℕ → List ℕ → List ℕ
-blocksListing n bs = listed 0 (take (16 * n) bs) ++ pick (eqb (length bs) (16 * n)) [] (refusedLine 10)
+blocksListing n bs = listed 0 (take (16 * n) bs) ++ unlessExact (eqb (length bs) (16 * n))
 
 -- what is printed of an input
 unfoldable pub listing : List ℕ → List ℕ
@@ -40,7 +45,7 @@ listing s =
 -- the same of k rows of c blocks, one row at a time; it ends with the first row that is cut off, and a byte behind the last row is
 -- refused
 unfoldable pub rowsListing : ℕ → ℕ → ℕ → List ℕ → List ℕ
-rowsListing c from zero bs = pick (eqb (length bs) 0) [] (refusedLine 10)
+rowsListing c from zero bs = unlessExact (eqb (length bs) 0)
 rowsListing c from (suc k) bs =
     listed from (take (16 * c) bs)
     ++ pick (leb (16 * c) (length bs)) (rowsListing c (from + c) k (drop (16 * c) bs)) (refusedLine 10)

@@ -1,3 +1,2 @@
 pub mod Decimal
-pub mod Building
 pub mod Theorems
