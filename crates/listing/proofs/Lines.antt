@@ -7,7 +7,7 @@ use native.Mathlib.Numerals.{add-one}
 use Rattle.laws.specs.Padding.{Written}
 use Rattle.laws.proofs.Padding.{written-none, written-then}
 use Rattle.sheet_rules.specs.Rows.{blockAt}
-use Rattle.listing.specs.Listing.{blockText, blocksText}
+use Rattle.listing_rules.specs.Listing.{blockText, blocksText}
 
 -- the lines of the first blocks, and of one more
 module _ (out₀ : List ℕ) (at₀ from : ℕ) (bs : List ℕ) where

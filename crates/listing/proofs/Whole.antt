@@ -7,13 +7,13 @@ use Prim.Native.Nat.{ℕ, _+_, _-_, _*_, _/_, _≤_}
 use native.Mathlib.Omega.{arith}
 use lib.ListN.{length, take, drop, drop-of-length-le, length-drop}
 use lib.Seq.{drop-drop, length-take-le, take-all}
-use Rattle.listing.specs.declared.Machine.{Machine}
+use Rattle.listing_rules.specs.declared.Machine.{Machine}
 use Rattle.laws.specs.Padding.{Written}
 use Rattle.laws.proofs.Cases.{lt-or}
 use Rattle.laws.proofs.Padding.{written-long, written-none, written-then}
-use Rattle.listing.specs.Listing.{listing}
-use Rattle.listing.specs.Machine.{NextEnd, Ready, atStart, nextOf, spareOf, textOf, wantedOf}
-use Rattle.listing.proofs.Turns.{done, ready-start, rest-start, restOf, step}
+use Rattle.listing_rules.specs.Listing.{listing}
+use Rattle.listing_rules.specs.Machine.{NextEnd, Ready, atStart, nextOf, spareOf, textOf, wantedOf}
+use Rattle.listing_rules.proofs.Turns.{done, ready-start, rest-start, restOf, step}
 
 -- the next n bytes, cut out of the input, are the next n bytes of what is left of it
 module _ (s : List ℕ) (at n end : ℕ) (e : NextEnd at n (length s) end) where

@@ -10,20 +10,17 @@ ghost use Rattle.laws.specs.Tables.{pick};
 ghost use Rattle.head.specs.Heads.{Sized, limit, readHead};
 ghost use Rattle.laws.specs.Padding.{Written};
 ghost use Rattle.sheet_rules.specs.Rows.{across};
-ghost use Rattle.listing.specs.Listing.{blockText, listed, listing, unlessExact};
-ghost use Rattle.listing.specs.Machine.{InRows, NextEnd, Ready, atHead, atStart, begun, ended, headText, inRows, nextAtHead, nextInRows, nextOf, spareOf, takenOf, textAtHead, textInRows, textOf, turnsOf, wantedOf};
-ghost use Rattle.listing.specs.Taking.{fresh, goesOn, headTaken, withByte};
+ghost use Rattle.listing_rules.specs.Listing.{blockText, listed, listing, unlessExact};
+ghost use Rattle.listing_rules.specs.Machine.{InRows, NextEnd, Ready, atHead, atStart, begun, ended, headText, inRows, nextAtHead, nextInRows, nextOf, spareOf, takenOf, textAtHead, textInRows, textOf, turnsOf, wantedOf};
+ghost use Rattle.listing_rules.specs.Taking.{fresh, goesOn, headTaken, withByte};
 use bc7::decode_bc7_block;
 use head::Head;
+use listing_rules::HeadReader;
+use listing_rules::Machine;
+use listing_rules::Phase;
+use listing_rules::Taken;
 use record::reading::mode_of;
 use sheet_blocks::load;
-
-// The bytes of a head that were taken so far, with zeros behind, their count, and how many numbers have still to end.
-pub struct HeadReader {
-    pub bytes: [u8; 9],
-    pub count: u8,
-    pub numbers: u8,
-}
 
 // A reader that has taken nothing.
 fn fresh_reader() -> HeadReader
@@ -86,12 +83,7 @@ fn head_of(reader: HeadReader) -> Head
     head_in(bytes, reader.count as usize)
 }
 
-// A reader after what came of the head's next byte, and whether the head ends there: no byte more is its own, or none came.
-struct Taken {
-    reader: HeadReader,
-    ends: bool,
-}
-
+// What comes of the head's next byte.
 fn take_byte(reader: HeadReader, came: &[u8]) -> Taken
     requires { ⌜ goesOn reader ≡ true ⌝ }
     ensures { λ r. ⌜ r ≡ takenOf reader (now (came .entry)) ⌝ }
@@ -142,25 +134,6 @@ fn list_blocks(blocks: &[u8], from: u32, at: usize, out: &mut [u8]) -> usize
         next = list_block(load(blocks, 16 * k), from + k as u32, next, out);
     }
     next
-}
-
-// What the machine is at: the head, a row of blocks, the end of the input behind the last row; or it has listed the sheet, or
-// refused it, and wants nothing more.
-pub enum Phase {
-    Head,
-    Row,
-    End,
-    Listed,
-    Refused,
-}
-
-// The head's bytes so far; the columns of blocks, the rows that have still to come, and the number of the next block.
-pub struct Machine {
-    pub phase: Phase,
-    pub reader: HeadReader,
-    pub columns: u32,
-    pub rows: u32,
-    pub from: u32,
 }
 
 fn at_head(reader: HeadReader) -> Machine

@@ -9,7 +9,7 @@ ghost use lib.ListN.{length};
 use libc::STDERR_FILENO;
 use libc::STDIN_FILENO;
 use libc::STDOUT_FILENO;
-use listing::Phase;
+use listing_rules::Phase;
 
 // How often a call is tried again that a signal interrupts: a loop has to end.
 const TRIES: u32 = 4294967295;

@@ -2,7 +2,7 @@
 -- Assumes nothing.
 use mathlib.Core.Path.{_∙_, sym}
 use borrow.Author.Tests.{eq-eqb, ne-eqb}
-use Rattle.listing.specs.Machine.{begun}
+use Rattle.listing_rules.specs.Machine.{begun}
 use borrow.Author.Needs.{needs}
 use Rattle.listing.proofs.behind_head.Statement.{statement}
 use Rattle.listing.proofs.behind_head.Tie as tie

@@ -1,7 +1,7 @@
 -- `listing::fresh_reader` meets its contract.
 -- Assumes nothing.
 use mathlib.Core.Path.{refl}
-use Rattle.listing.specs.Taking.{fresh}
+use Rattle.listing_rules.specs.Taking.{fresh}
 use Rattle.listing.proofs.fresh_reader.Statement.{statement}
 use Rattle.listing.proofs.fresh_reader.Tie as tie
 

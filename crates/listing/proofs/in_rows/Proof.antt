@@ -1,8 +1,8 @@
 -- `listing::in_rows` meets its contract.
 -- Assumes nothing.
 use mathlib.Core.Path.{ap}
-use Rattle.listing.specs.Machine.{inRows}
-use Rattle.listing.proofs.Turns.{some-rows}
+use Rattle.listing_rules.specs.Machine.{inRows}
+use Rattle.listing_rules.proofs.Turns.{some-rows}
 use borrow.Author.Needs.{needs}
 use Rattle.listing.proofs.in_rows.Statement.{statement}
 use Rattle.listing.proofs.in_rows.Tie as tie

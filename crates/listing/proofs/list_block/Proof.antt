@@ -4,7 +4,7 @@ use mathlib.Core.Path.{ap₂, subst}
 use mathlib.Core.List.{List, []}
 use Prim.Native.Nat.{ℕ}
 use lib.ListN.{getD}
-use Rattle.listing.specs.Listing.{blockText}
+use Rattle.listing_rules.specs.Listing.{blockText}
 use borrow.Author.Needs.{needs}
 use Rattle.listing.proofs.list_block.Statement.{statement}
 use Rattle.listing.proofs.list_block.Tie as tie

@@ -6,7 +6,7 @@ use Prim.Native.Nat.{ℕ, _+_, _-_, _*_, _/_, _≤_}
 use lib.ListN.{length}
 use Rattle.laws.specs.Padding.{Written}
 use Rattle.laws.proofs.Padding.{written-long}
-use Rattle.listing.specs.Listing.{blocksText, listed}
+use Rattle.listing_rules.specs.Listing.{blocksText, listed}
 use Rattle.listing.proofs.Lines.{Lines, lines-more, lines-none}
 use Rattle.listing.proofs.list_blocks.Statement.{statement}
 use Rattle.listing.proofs.list_blocks.Tie as tie

@@ -2,7 +2,7 @@
 -- Assumes nothing.
 use native.Mathlib.Omega.{arith}
 use borrow.Author.Tests.{eq-eqb, ne-eqb}
-use Rattle.listing.specs.Machine.{headText}
+use Rattle.listing_rules.specs.Machine.{headText}
 use borrow.Author.Needs.{needs}
 use Rattle.listing.proofs.list_head.Statement.{statement}
 use Rattle.listing.proofs.list_head.Tie as tie

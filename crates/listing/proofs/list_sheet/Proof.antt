@@ -3,7 +3,7 @@
 
 use native.Mathlib.Omega.{arith}
 use lib.ListN.{length}
-use Rattle.listing.specs.Machine.{NextEnd, turnsOf, wantedOf}
+use Rattle.listing_rules.specs.Machine.{NextEnd, turnsOf, wantedOf}
 use Rattle.listing.proofs.Whole.{Fed, fed-asks, fed-start, fed-turn, fed-whole}
 use Rattle.listing.proofs.list_sheet.Statement.{statement}
 use Rattle.listing.proofs.list_sheet.Tie as tie

@@ -1,6 +1,6 @@
 -- `listing::stopped` meets its contract.
 -- Assumes nothing.
-use Rattle.listing.specs.Machine.{ended}
+use Rattle.listing_rules.specs.Machine.{ended}
 use borrow.Author.Needs.{needs}
 use Rattle.listing.proofs.stopped.Statement.{statement}
 use Rattle.listing.proofs.stopped.Tie as tie

@@ -1,9 +1,9 @@
 -- `listing::take_byte` meets its contract.
 -- Assumes nothing.
 use native.Mathlib.Omega.{arith}
-use Rattle.listing.specs.Machine.{takenOf}
-use Rattle.listing.proofs.Reader.{goes-both}
-use Rattle.listing.proofs.Turns.{taken-none, taken-one}
+use Rattle.listing_rules.specs.Machine.{takenOf}
+use Rattle.listing_rules.proofs.Reader.{goes-both}
+use Rattle.listing_rules.proofs.Turns.{taken-none, taken-one}
 use borrow.Author.Needs.{needs}
 use Rattle.listing.proofs.take_byte.Statement.{statement}
 use Rattle.listing.proofs.take_byte.Tie as tie

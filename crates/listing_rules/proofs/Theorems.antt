@@ -19,10 +19,10 @@ use Rattle.head.specs.Numbers.{raised, readGroups, readNumber}
 use Rattle.text.specs.Lines.{ascii, blockLine, channels, decimal, digitsIn, newline, opacityMark, refusedLine, sheetLine}
 use Rattle.sheet_rules.specs.Rows.{blockAt}
 use Rattle.sheet_rules.specs.Sheets.{blocksOf}
-use Rattle.listing.specs.declared.Machine.{Machine}
-use Rattle.listing.specs.Listing.{blockText, blocksListing, blocksText, listed, listing}
-use Rattle.listing.specs.Machine.{Run, atStart, over, textOf, turn, turnsOf, wantedOf}
-use Rattle.listing.proofs.Turns.{ready-start, rest-start, runs}
+use Rattle.listing_rules.specs.declared.Machine.{Machine}
+use Rattle.listing_rules.specs.Listing.{blockText, blocksListing, blocksText, listed, listing}
+use Rattle.listing_rules.specs.Machine.{Run, atStart, over, textOf, turn, turnsOf, wantedOf}
+use Rattle.listing_rules.proofs.Turns.{ready-start, rest-start, runs}
 
 -- a run over each input, and what it says
 pub machine-lists : (s : List ℕ) → Run atStart s (listing s)

@@ -20,7 +20,7 @@ use Rattle.head.specs.Numbers.{found, noNumber, raised, readGroups, readNumber}
 use Rattle.head.proofs.Heading.{accepted}
 use Rattle.head.proofs.Reading.{every-number}
 use Rattle.head.proofs.Theorems.{parts, refusal-is}
-use Rattle.listing.specs.Taking.{headLength, reach}
+use Rattle.listing_rules.specs.Taking.{headLength, reach}
 
 -- a number is read from the bytes that are taken as it is from all of them
 seen : (k at room n : ℕ) (bs : List ℕ) → k ≤ room → readGroups k at (take (reach room (suc n) bs) bs) ≡ readGroups k at bs

@@ -6,17 +6,17 @@ use mathlib.Core.Bool.{Bool, true, false, not}
 use mathlib.Core.List.{List, [], _∷_, _++_}
 use lib.Dec.{eqb}
 use lib.ListN.{length, take, drop}
-use Rattle.listing.specs.declared.HeadReader.{HeadReader}
-use Rattle.listing.specs.declared.Taken.{Taken}
-use Rattle.listing.specs.declared.Machine.{Machine}
-use Rattle.listing.specs.declared.Phase.{Phase}
-use Rattle.listing.specs.declared.Phase.the-variants.{Head, Row, End, Listed, Refused}
+use Rattle.listing_rules.specs.declared.HeadReader.{HeadReader}
+use Rattle.listing_rules.specs.declared.Taken.{Taken}
+use Rattle.listing_rules.specs.declared.Machine.{Machine}
+use Rattle.listing_rules.specs.declared.Phase.{Phase}
+use Rattle.listing_rules.specs.declared.Phase.the-variants.{Head, Row, End, Listed, Refused}
 use Rattle.head.specs.declared.Head.{Head as SheetHead}
 use Rattle.laws.specs.Tables.{pick}
 use Rattle.text.specs.Lines.{refusedLine, sheetLine}
 use Rattle.sheet_rules.specs.Rows.{across}
-use Rattle.listing.specs.Listing.{listed, unlessExact}
-use Rattle.listing.specs.Taking.{fresh, goesOn, headTaken, withByte}
+use Rattle.listing_rules.specs.Listing.{listed, unlessExact}
+use Rattle.listing_rules.specs.Taking.{fresh, goesOn, headTaken, withByte}
 
 -- a reader after what came of the head's next byte, and does the head end there
 unfoldable pub takenOf : HeadReader → List ℕ → Taken

@@ -17,9 +17,9 @@ use Rattle.head.specs.Heads.{readHead}
 use Rattle.text.specs.Lines.{refusedLine, sheetLine}
 use Rattle.sheet_rules.specs.Rows.{across, blockAt}
 use Rattle.sheet_rules.specs.Sheets.{blocksOf}
-use Rattle.listing.specs.Listing.{blockText, blocksListing, blocksText, listed, listing, rowsListing}
-use Rattle.listing.specs.Taking.{headLength}
-use Rattle.listing.proofs.Taking.{blocks-start}
+use Rattle.listing_rules.specs.Listing.{blockText, blocksListing, blocksText, listed, listing, rowsListing}
+use Rattle.listing_rules.specs.Taking.{headLength}
+use Rattle.listing_rules.proofs.Taking.{blocks-start}
 
 -- blocks in the first of two lists, and in the second
 module _ (xs ys : List ℕ) where

@@ -12,15 +12,15 @@ use lib.Dec.{ltb}
 use lib.ListN.{length, set, take}
 use lib.Seq.{length-take-le, sets, take-at}
 use borrow.Author.Tests.{le-ltb, lt-ltb, ltb-true}
-use Rattle.listing.specs.declared.HeadReader.{HeadReader}
+use Rattle.listing_rules.specs.declared.HeadReader.{HeadReader}
 use Rattle.laws.specs.Padding.{padded, stored}
 use Rattle.laws.specs.Tables.{pick}
 use Rattle.laws.proofs.Cases.{lt-or}
 use Rattle.laws.proofs.Padding.{stored-zeros}
 use Rattle.laws.proofs.Tests.{both-true, no-both}
 use Rattle.head.specs.Heads.{readHead}
-use Rattle.listing.specs.Taking.{fed, fresh, goesOn, headLength, headTaken, reach, withByte}
-use Rattle.listing.proofs.Taking.{head-bytes-decide, reach-none}
+use Rattle.listing_rules.specs.Taking.{fed, fresh, goesOn, headLength, headTaken, reach, withByte}
+use Rattle.listing_rules.proofs.Taking.{head-bytes-decide, reach-none}
 
 pub goes-both : (r : HeadReader) → goesOn r ≡ true → (r .count < 9) × (0 < r .numbers)
 unfolding goesOn

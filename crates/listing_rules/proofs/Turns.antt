@@ -10,10 +10,10 @@ use lib.Dec.{eqb, leb}
 use lib.ListN.{length, getD, take, drop}
 use lib.Seq.{drop-nil, length-take-le, take-all}
 use borrow.Author.Tests.{eq-eqb, eqb-false, eqb-true, leb-false, leb-true, ne-eqb}
-use Rattle.listing.specs.declared.HeadReader.{HeadReader}
-use Rattle.listing.specs.declared.Machine.{Machine}
-use Rattle.listing.specs.declared.Phase.{Phase}
-use Rattle.listing.specs.declared.Phase.the-variants.{Head, Row, End, Listed, Refused}
+use Rattle.listing_rules.specs.declared.HeadReader.{HeadReader}
+use Rattle.listing_rules.specs.declared.Machine.{Machine}
+use Rattle.listing_rules.specs.declared.Phase.{Phase}
+use Rattle.listing_rules.specs.declared.Phase.the-variants.{Head, Row, End, Listed, Refused}
 use Rattle.head.specs.declared.Head.{Head as SheetHead}
 use Rattle.laws.specs.Padding.{Written}
 use Rattle.laws.specs.Tables.{pick}
@@ -21,11 +21,11 @@ use Rattle.head.specs.Heads.{Sized, readHead}
 use Rattle.head.proofs.Theorems.{head-sized}
 use Rattle.text.specs.Lines.{refusedLine, sheetLine}
 use Rattle.sheet_rules.specs.Rows.{across}
-use Rattle.listing.specs.Taking.{fed, fresh, goesOn, headLength, headTaken, reach, withByte}
-use Rattle.listing.specs.Listing.{listed, listing, rowsListing, unlessExact}
-use Rattle.listing.specs.Machine.{Ready, ReadyIn, Run, atHead, atStart, begun, ended, headText, inRows, nextIn, nextInRows, nextOf, over, rowsPhase, spareIn, spareOf, takenOf, textAtHead, textIn, textOf, turn, turnsIn, turnsOf, wantedIn, wantedOf}
-use Rattle.listing.proofs.Reader.{goes-both, reach-step, reach-within, reader-reads-head, stops}
-use Rattle.listing.proofs.Rows.{listing-by-rows, listing-refused}
+use Rattle.listing_rules.specs.Taking.{fed, fresh, goesOn, headLength, headTaken, reach, withByte}
+use Rattle.listing_rules.specs.Listing.{listed, listing, rowsListing, unlessExact}
+use Rattle.listing_rules.specs.Machine.{Ready, ReadyIn, Run, atHead, atStart, begun, ended, headText, inRows, nextIn, nextInRows, nextOf, over, rowsPhase, spareIn, spareOf, takenOf, textAtHead, textIn, textOf, turn, turnsIn, turnsOf, wantedIn, wantedOf}
+use Rattle.listing_rules.proofs.Reader.{goes-both, reach-step, reach-within, reader-reads-head, stops}
+use Rattle.listing_rules.proofs.Rows.{listing-by-rows, listing-refused}
 
 -- what comes of the head's next byte
 module _ (r : HeadReader) (came : List ℕ) where

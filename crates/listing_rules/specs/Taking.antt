@@ -5,7 +5,7 @@ use mathlib.Core.Bool.{Bool}
 use mathlib.Core.List.{List, [], _∷_}
 use lib.Dec.{ltb}
 use lib.ListN.{replicate, set, take}
-use Rattle.listing.specs.declared.HeadReader.{HeadReader}
+use Rattle.listing_rules.specs.declared.HeadReader.{HeadReader}
 use Rattle.head.specs.declared.Head.{Head}
 use Rattle.laws.specs.Tables.{both, pick}
 use Rattle.head.specs.Heads.{readHead}

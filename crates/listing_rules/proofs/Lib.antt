@@ -1,0 +1,6 @@
+-- The laws that the proofs cite, and the theorems.
+pub mod Taking
+pub mod Reader
+pub mod Rows
+pub mod Turns
+pub mod Theorems
