@@ -3,4 +3,5 @@ pub mod Taking
 pub mod Reader
 pub mod Rows
 pub mod Turns
+pub mod Room
 pub mod Theorems

@@ -15,8 +15,8 @@ use Rattle.listing_rules.specs.declared.Machine.{Machine}
 use Rattle.listing_rules.specs.declared.Phase.{Phase}
 use Rattle.listing_rules.specs.declared.Phase.the-variants.{Head, Row, End, Listed, Refused}
 use Rattle.head.specs.declared.Head.{Head as SheetHead}
-use Rattle.laws.specs.Padding.{Written}
 use Rattle.laws.specs.Tables.{pick}
+use Rattle.laws.proofs.Cases.{pick-either}
 use Rattle.head.specs.Heads.{Sized, readHead}
 use Rattle.head.proofs.Theorems.{head-sized}
 use Rattle.text.specs.Lines.{refusedLine, sheetLine}
@@ -55,26 +55,10 @@ unfolding inRows
 ready-rows c zero from w s n = tt
 ready-rows c (suc k) from w s n = record { within = w; some = s; more = omega arith; numbers = n }
 
-turns-rows : (c k from : ℕ) → turnsOf (inRows c k from) ≤ k + 1
+turns-rows : (c k from n : ℕ) → k + 1 ≤ n → turnsOf (inRows c k from) ≤ n
 unfolding inRows
-turns-rows c zero from = omega arith
-turns-rows c (suc k) from = omega arith
-
-pub spare-rows : (c k from : ℕ) → spareOf (inRows c k from) ≡ 40
-unfolding inRows
-spare-rows c zero from = refl
-spare-rows c (suc k) from = refl
-
-spare-in : (p : Phase) → spareIn p ≤ 80
-spare-in Head = omega arith
-spare-in Row = omega arith
-spare-in End = omega arith
-spare-in Listed = omega arith
-spare-in Refused = omega arith
-
--- beside the lines of blocks there are two more at the most
-pub spare-most : (m : Machine) → spareOf m ≤ 80
-spare-most m = spare-in (m .phase)
+turns-rows c zero from n h = omega arith
+turns-rows c (suc k) from n h = omega arith
 
 -- at the end
 ready-ended : (exact : Bool) → Ready (ended exact)
@@ -86,20 +70,6 @@ turns-ended : (exact : Bool) → turnsOf (ended exact) ≡ 0
 unfolding ended
 turns-ended true = refl
 turns-ended false = refl
-
-pub spare-ended : (exact : Bool) → spareOf (ended exact) ≡ 0
-unfolding ended
-spare-ended true = refl
-spare-ended false = refl
-
--- behind a head
-pub spare-begun : (r : HeadReader) → spareOf (begun (headTaken r)) ≤ 40
-unfolding begun
-spare-begun r = go (eqb (headTaken r .refusal) 0)
-  where
-    go : (t : Bool) → spareOf (pick t (inRows (across (headTaken r .width)) (across (headTaken r .height)) 0) (ended false)) ≤ 40
-    go true = omega (arith, spare-rows (across (headTaken r .width)) (across (headTaken r .height)) 0)
-    go false = omega (arith, spare-ended false)
 
 -- what holds before rows that a head declares, and at the end, holds behind the head
 behind-head : (P : Machine → Type 0) (r : HeadReader) → ((w h : ℕ) → Sized w h → P (inRows (across w) (across h) 0)) → P (ended false) → P (begun (headTaken r))
@@ -124,19 +94,12 @@ after-byte P r behind more (b ∷ bs) = go (goesOn (withByte r b)) refl
     go true e = more b e
     go false e = behind (withByte r b)
 
-after-row : (P : Machine → Type 0) (c k from got : ℕ) → P (inRows c (k - 1) (from + c)) → P (ended false) → P (nextInRows c k from got)
-after-row P c k from got rows end = go (eqb got (16 * c))
-  where
-    go : (t : Bool) → P (pick t (inRows c (k - 1) (from + c)) (ended false))
-    go true = rows
-    go false = end
-
 -- the next state is ready
 ready-next : (p : Phase) (m : Machine) (came : List ℕ) → ReadyIn p m → Ready (nextIn p m came)
 ready-next Head m came h =
     after-byte Ready (m .reader)
     (λ q. behind-head Ready q (λ w h s. ready-rows (across w) (across h) 0 (omega (arith, s .within-wide)) (omega (arith, s .wide)) (omega (arith, s .within-high))) (ready-ended false)) (λ b e. e) came
-ready-next Row m came h = after-row Ready (m .columns) (m .rows) (m .from) (length came) (ready-rows (m .columns) (m .rows - 1) (m .from + m .columns) (h .within) (h .some) (omega (arith, h .within, h .more, h .numbers))) (ready-ended false)
+ready-next Row m came h = pick-either Ready (eqb (length came) _) (ready-rows _ _ _ (h .within) (h .some) (omega (arith, h .within, h .more, h .numbers))) (ready-ended false)
 ready-next End m came h = ready-ended (eqb (length came) 0)
 ready-next Listed m came h = ready-ended true
 ready-next Refused m came h = ready-ended false
@@ -146,9 +109,9 @@ turns-next : (p : Phase) (m : Machine) (came : List ℕ) → ReadyIn p m → tur
 unfolding withByte
 turns-next Head m came h =
     after-byte (λ n. turnsOf n ≤ turnsIn Head m - 1) (m .reader)
-    (λ q. behind-head (λ n. turnsOf n ≤ turnsIn Head m - 1) q (λ w h s. omega (arith, turns-rows (across w) (across h) 0, s .within-high)) (omega (arith, turns-ended false)))
+    (λ q. behind-head (λ n. turnsOf n ≤ turnsIn Head m - 1) q (λ w h s. turns-rows _ _ _ _ (omega (arith, s .within-high))) (omega (arith, turns-ended false)))
     (λ b e. omega (arith, goes-both (m .reader) h .0)) came
-turns-next Row m came h = after-row (λ n. turnsOf n ≤ turnsIn Row m - 1) (m .columns) (m .rows) (m .from) (length came) (omega (arith, turns-rows (m .columns) (m .rows - 1) (m .from + m .columns), h .more)) (omega (arith, turns-ended false))
+turns-next Row m came h = pick-either (λ n. turnsOf n ≤ turnsIn Row m - 1) (eqb (length came) _) (turns-rows _ _ _ _ (omega (arith, h .more))) (omega (arith, turns-ended false))
 turns-next End m came h = omega (arith, turns-ended (eqb (length came) 0))
 turns-next Listed m came h = omega (arith, turns-ended true)
 turns-next Refused m came h = omega (arith, turns-ended false)
@@ -171,26 +134,6 @@ pub wants : (m : Machine) → Ready m → {p : Phase} {n : ℕ} → m .phase ≡
 wants m h {p} {n} at e =
     let q : n ≡ wantedOf m = e ∙ sym (ap (λ (p : Phase). wantedIn p (m .columns)) at) in
     (q, (omega (arith, q, wanted-within m h .0), omega (arith, q, wanted-within m h .1)))
-
--- what is asked and said at a phase is what is asked and said
-pub spare-next : (c k from got : ℕ) → spareOf (nextInRows c k from got) ≡ pick (eqb got (16 * c)) 40 0
-spare-next c k from got = go (eqb got (16 * c))
-  where
-    go : (t : Bool) → spareOf (pick t (inRows c (k - 1) (from + c)) (ended false)) ≡ pick t 40 0
-    go true = spare-rows c (k - 1) (from + c)
-    go false = spare-ended false
-
-module _ (m : Machine) (came : List ℕ) where
-  abbrev Asked : Phase → ℕ → ℕ → Type 0
-  Asked p at room = ReadyIn p m × (length came ≤ wantedIn p (m .columns)) × (at + 40 * (length came / 16) + spareIn p ≤ room)
-
-  pub asked : (at room : ℕ) {p : Phase} → m .phase ≡ p → Asked (m .phase) at room → Asked p at room
-  asked at room e h = subst (λ (p : Phase). Asked p at room) e h
-
-  pub says : {p : Phase} {before after : List ℕ} {at next : ℕ} → m .phase ≡ p → Written before at (textIn p m came) after next → next + spareOf (nextIn p m came) ≤ at + 40 * (length came / 16) + spareIn p
-      → Written before at (textOf m came) after next × (next + spareOf (nextOf m came) ≤ at + 40 * (length came / 16) + spareOf m)
-  says {p} {before} {after} {at} {next} e w l =
-      subst (λ (p : Phase). Written before at (textIn p m came) after next × (next + spareOf (nextIn p m came) ≤ at + 40 * (length came / 16) + spareIn p)) (sym e) (w, l)
 
 -- what is still said of an input: from a head on, and from a byte of the head on
 behind : SheetHead → List ℕ → List ℕ

@@ -5,7 +5,7 @@ use mathlib.Core.Bool.{true, false}
 use lib.Dec.{eqb}
 use lib.ListN.{length}
 use Rattle.laws.proofs.Padding.{written-none}
-use Rattle.listing_rules.proofs.Turns.{asked, says, spare-ended, spare-next}
+use Rattle.listing_rules.proofs.Room.{asked, says, spare-ended, spare-next}
 use borrow.Author.Needs.{needs}
 use Rattle.listing.proofs.list.Statement.{statement}
 use Rattle.listing.proofs.list.Tie as tie

@@ -2,7 +2,7 @@
 -- Assumes nothing.
 use native.Mathlib.Omega.{arith}
 use Rattle.laws.proofs.Padding.{written-none}
-use Rattle.listing_rules.proofs.Turns.{spare-begun}
+use Rattle.listing_rules.proofs.Room.{spare-begun}
 use borrow.Author.Needs.{needs}
 use Rattle.listing.proofs.list_at_head.Statement.{statement}
 use Rattle.listing.proofs.list_at_head.Tie as tie

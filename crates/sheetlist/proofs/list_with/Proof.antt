@@ -5,7 +5,7 @@ use mathlib.Core.Path.{_≡_}
 use native.Mathlib.Omega.{arith}
 use lib.ListN.{length, length-drop, length-take}
 use Rattle.laws.proofs.Padding.{written-long}
-use Rattle.listing_rules.proofs.Turns.{spare-most}
+use Rattle.listing_rules.proofs.Room.{spare-most}
 use Rattle.listing_rules.specs.Machine.{Ready, turnsOf}
 use Rattle.sheetlist.proofs.list_with.Statement.{statement}
 use Rattle.sheetlist.proofs.list_with.Tie as tie
