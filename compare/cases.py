@@ -201,6 +201,18 @@ def some_sheet(dice, largest=20):
     return head, b"".join(some_block(dice) for _ in range(count))
 
 
+def some_listed(dice, largest=20):
+    """A sheet to list: whole, cut off, with bytes too many, or with some other head."""
+    head, blocks = some_sheet(dice, largest)
+    sort = dice.below(8)
+    if sort == 0:
+        return some_head(dice) + blocks
+    sheet = head + blocks
+    if sort < 3:
+        return sheet[: dice.below(len(sheet) + 1)]
+    return sheet + dice.bytes(dice.below(20)) if sort == 3 else sheet
+
+
 def some_sheet_call(dice, largest=20):
     """The arguments of replacement in a sheet."""
     head, blocks = some_sheet(dice, largest)

@@ -10,10 +10,11 @@ A call is (letter, arguments..):
   W width height     write a head
   O width height row blocks out      decode a row
   S sheet block line new             replace a line in a sheet
+  l sheet            list a sheet
 """
 import model
 
-LETTERS = "DUPRHWOS"
+LETTERS = "DUPRHWOSl"
 KINDS = ("whole", "two", "three", "vector")
 RECORD, REPLACEMENT = 66, 26
 LARGEST_LENGTH = 65536  # a longer slice ends the run
@@ -53,6 +54,9 @@ def call_bytes(call):
         sheet, block, line, new = given
         assert len(sheet) <= LARGEST_LENGTH
         body = number(len(sheet)) + sheet + number(block) + number(line) + bytes(new)
+    elif letter == "l":
+        assert len(given[0]) <= LARGEST_LENGTH
+        body = number(len(given[0])) + given[0]
     else:  # D, U, P
         body = bytes(given[0])
     return letter.encode() + body
@@ -67,6 +71,9 @@ def model_answer(call):
     if letter == "U":
         refusal, record = model.unpack(given[0])
         return bytes([refusal]) + record_bytes(record)
+    if letter == "l":
+        text = model.listing(given[0]).encode()
+        return number(len(text)) + text
     if letter == "P":
         refusal, rest = model.pack(record_from(given[0]))
     elif letter == "R":
@@ -83,6 +90,16 @@ def model_answer(call):
         refusal, rest = model.replace_in_sheet(*given)
     return bytes([refusal]) + rest
 
+
+
+def refusal_in(letter, reply):
+    """The refusal number that an answer gives: 0 where there is none. A listing's stands in its last line."""
+    if letter == "D":
+        return 0
+    if letter == "l":
+        last = reply.splitlines()[-1].split()
+        return int(last[-1]) if b"refused" in last[0] else 0
+    return reply[0]
 
 
 def words(call, most=400):
