@@ -1,13 +1,13 @@
 -- A line that is read: put in again, and read after a call on it or on another line.
 -- Assumes nothing.
 use mathlib.Core.Path.{_≡_, refl, sym, ap, ap₂, _∙_}
-use mathlib.Core.Logic.{_≢_, _↔_, ⊎-elim}
+use mathlib.Core.Logic.{_≢_}
 use mathlib.Core.Bool.{Bool, true, false, not}
-use mathlib.Core.List.{List, [], _∷_}
-use Prim.Native.Nat.{ℕ, _+_, _-_, _*_, _/_, _%_, _^_, _<_, _≤_}
+use mathlib.Core.List.{List, []}
+use Prim.Native.Nat.{ℕ, _+_, _-_, _*_, _/_, _%_, _^_, _<_}
 use native.Mathlib.Nat.{lt-of-lt-of-le, mod-lt}
 use native.Mathlib.Omega.{arith}
-use borrow.Author.Tests.{eq-eqb, eqb-true, lt-leb, ne-eqb}
+use borrow.Author.Tests.{eq-eqb, lt-leb, ne-eqb}
 use lib.Dec.{T, eqb, ltb, ltb→lt, lit<}
 use lib.ListN.{length, getD}
 use lib.Pow.{pow-mono, pow-pos}
@@ -15,18 +15,17 @@ use Rattle.line_rules.specs.declared.Replacement.{Replacement}
 use Rattle.line_rules.specs.declared.LineRead.{LineRead}
 use Rattle.format.specs.declared.Split.{Split}
 use Rattle.laws.specs.Digits.{Fit}
-use Rattle.laws.specs.Refusals.{first, refuse}
 use Rattle.laws.specs.Tables.{pick, table}
 use Rattle.laws.proofs.Cases.{pick-lt}
 use Rattle.laws.proofs.Joining.{table-same}
 use Rattle.laws.proofs.Part.{getD-table, part-all}
-use Rattle.laws.proofs.Refusals.{Answers, accepted-when, answers, by-not-ltb, by-test, none, rule}
+use Rattle.laws.proofs.Refusals.{Answers, accepted-when, answers, by-not-ltb, none, rule}
 use Rattle.laws.proofs.Tests.{T-true, both-left, both-right, no-both, not-so}
 use Rattle.format.specs.Block.{eights, modeOf}
 use Rattle.format.specs.Lines.{Line, anchorOf, draws, has, indexPlace, laid, lineBits, lineOf, meant, own, pPlace, pixel, rotated, shown, turned, valuePlace, withLine}
-use Rattle.format.specs.Modes.{endpointCount, indexBits, lines}
+use Rattle.format.specs.Modes.{endpointCount, lines}
 use Rattle.format.specs.Partitions.{among}
-use Rattle.format.specs.Places.{Place, blockOf, head, index, inside, opened, pbit, value, width}
+use Rattle.format.specs.Places.{Place, head, index, inside, opened, pbit, value, width}
 use Rattle.format.specs.Splits.{anchors, isVector, rotation, splitOf}
 use Rattle.format.specs.WellFormed.{WellFormed}
 use Rattle.format.proofs.Lens.{has-head, has-one, has-parts, line-from}
@@ -35,7 +34,7 @@ use Rattle.format.proofs.Modes.{anchor-is, anchor-lt, good-64, good-vector, lin
 use Rattle.format.proofs.Opening.{block-ext, block-opened, opened-good}
 use Rattle.format.proofs.Places.{width-le}
 use Rattle.format.proofs.Reserved.{open-mode, reserved-mode}
-use Rattle.line_rules.specs.Acceptable.{Acceptable, OwnWidths, Within}
+use Rattle.line_rules.specs.Acceptable.{Acceptable, OwnWidths}
 use Rattle.line_rules.specs.Read.{givenAs, lineRead, readAs, readRefusal, readRules, turnedIn, widthsOf}
 use Rattle.line_rules.specs.Replace.{Call, after, callOf, lineGiven, oriented, ownWidth, put, refusal, replaced, replacedAs, topSet}
 use Rattle.line_rules.proofs.Accepting.{accepted-is, on-block, open-is}
