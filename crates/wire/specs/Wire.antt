@@ -11,6 +11,7 @@ use Rattle.format.specs.declared.Split.{Split}
 use Rattle.format.specs.declared.Split.the-variants.{Whole, Two, Three, Vector}
 use Rattle.laws.specs.Tables.{pick, table}
 use Rattle.format.specs.Splits.{indexMode, kindOf, ofKind}
+use Rattle.line_rules.specs.Read.{valueAt}
 use Rattle.record_rules.specs.Records.{packed, packedAs}
 
 -- the partition or the rotation, whichever the split has
@@ -58,3 +59,7 @@ replacementOf bs = record {
   p = getD bs 8 0 ∷ getD bs 9 0 ∷ [];
   indexes = bytesFrom bs 10 16;
 }
+
+-- the bytes of a replacement
+unfoldable pub replacementBytes : Replacement → List ℕ
+replacementBytes g = table 26 (valueAt g)
