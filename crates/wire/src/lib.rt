@@ -3,8 +3,11 @@
 // 6 p bits, 16 first and 16 second indexes.
 ghost use mathlib.Core.Path.{_≡_};
 ghost use Prim.Native.Nat.{_+_, _≤_};
-ghost use lib.ListN.{getD, length};
-ghost use Rattle.laws.specs.Tables.{over};
+ghost use lib.Dec.{eqb};
+ghost use lib.ListN.{getD, length, replicate};
+ghost use Rattle.laws.specs.Tables.{both, over};
+ghost use Rattle.format.specs.Splits.{indexMode};
+ghost use Rattle.record_rules.specs.Records.{packedAs};
 ghost use Rattle.wire.specs.Wire.{bytesFrom, packedBytes, recordBytes, recordOfBytes, replacementBytes, replacementOf, splitByte};
 use format::Split;
 use line_rules::Replacement;
@@ -93,17 +96,43 @@ fn record_of_bytes(bytes: [u8; 66]) -> Record
     }
 }
 
-// Packing a record that is given in bytes. A byte that names no kind is a split of another kind than the mode's.
+// Do the third and the fourth byte say no more than the split has?
+fn spells(split: Split, third: u8, fourth: u8) -> bool
+    ensures { λ r. ⌜ r ≡ both (eqb third (splitByte split)) (eqb fourth (indexMode split)) ⌝ }
+{
+    if third != split_byte(split) {
+        return false;
+    }
+    fourth == index_mode_of(split)
+}
+
+fn refused(refusal: u8) -> Packed
+    ensures { λ r. ⌜ r ≡ packedAs refusal (replicate 16 0) ⌝ }
+{
+    Packed {
+        refusal: refusal,
+        block: [0; 16],
+    }
+}
+
+// Packing a record that is given in bytes. A byte that names no kind is a split of another kind than the mode's; one that says what
+// the kind hasn't got needs more than its width, which is 0.
 pub fn pack_bytes(bytes: [u8; 66]) -> Packed
     ensures { λ r. ⌜ r ≡ packedBytes bytes ⌝ }
 {
     if 3 < bytes[1] {
-        return Packed {
-            refusal: 5,
-            block: [0u8; 16],
-        };
+        return refused(5);
     }
-    pack(record_of_bytes(bytes))
+    let record = record_of_bytes(bytes);
+    let packed = pack(record);
+    if packed.refusal == 5 {
+        return packed;
+    }
+    let split = record.split;
+    if spells(split, bytes[2], bytes[3]) {
+        return packed;
+    }
+    refused(3)
 }
 
 // The replacement of 26 bytes: 8 endpoint values, 2 p bits, 16 indexes.
