@@ -85,7 +85,7 @@ module _ (w a : ℕ) (cs : List ℕ) (hw : 0 < w) (ha : a < 16) (up : Above a cs
       (total-row (indexWidth w (a ∷ cs)) (indexWidth w cs) a (15 - a) same-width wider)
 
 -- how many bits the stored indexes have
-size-none : (w : ℕ) → total (indexWidths w []) ≡ 16 * w
+pub size-none : (w : ℕ) → total (indexWidths w []) ≡ 16 * w
 unfolding indexWidths
 size-none w = total-same (indexWidth w []) w 16 (λ k l. refl)
 

@@ -1,2 +1,3 @@
 pub mod Insert
 pub mod Anchors
+pub mod Remove

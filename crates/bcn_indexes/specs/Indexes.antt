@@ -1,7 +1,9 @@
 -- Sixteen indexes of one width, and how they are stored where the anchors have a bit less.
 -- Assumes nothing.
-use mathlib.Core.List.{List, []}
-use Prim.Native.Nat.{ℕ, _+_, _-_, _*_, _/_, _%_, _^_}
+use mathlib.Core.Path.{_≡_}
+use mathlib.Core.List.{List, [], _∷_}
+use Prim.Native.Nat.{ℕ, zero, suc, _+_, _-_, _*_, _/_, _%_, _^_, _<_}
+use lib.ListN.{length}
 use Rattle.bcn_indexes.specs.declared.Indexes.{Indexes}
 use Rattle.bcn_indexes.specs.declared.NewIndexes.{NewIndexes}
 use Rattle.bcn_util.specs.declared.stream.BitStream.{BitStream}
@@ -16,6 +18,21 @@ indexWidth w an i = pick (among i an) (w - 1) w
 
 unfoldable pub indexWidths : ℕ → List ℕ → List ℕ
 indexWidths w an = table 16 (indexWidth w an)
+
+-- the anchors of a kind of split with these fix-ups: kind 1 has two, kind 2 three, the others pixel 0 alone
+abbrev pub anchorsOfKind : ℕ → ℕ → ℕ → List ℕ
+anchorsOfKind zero p q = 0 ∷ []
+anchorsOfKind (suc zero) p q = 0 ∷ p ∷ []
+anchorsOfKind (suc (suc zero)) p q = 0 ∷ p ∷ q ∷ []
+anchorsOfKind (suc (suc (suc k))) p q = 0 ∷ []
+
+abbrev pub anchorCount : ℕ → ℕ
+anchorCount k = length (anchorsOfKind k 0 0)
+
+-- the fix-ups that a kind has are pixels, each above the one before
+pub record Rising (k p q : ℕ) : Type 0 where
+  pub two : k ≡ 1 → (0 < p) × (p < 16)
+  pub three : k ≡ 2 → (0 < p) × (p < q) × (q < 16)
 
 -- the indexes that stand in n at these widths, at w bits each: an anchor's top bit is zero
 unfoldable pub expanded : ℕ → List ℕ → ℕ → ℕ

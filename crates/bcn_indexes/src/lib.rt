@@ -8,6 +8,8 @@ ghost use Rattle.laws.specs.Digits.{inserted};
 ghost use Rattle.bcn_indexes.specs.Indexes.{indexesOf, newIndexes, part};
 use bcn_util::stream::BitStream;
 
+pub mod storing;
+
 // Index i is the i-th part of `bits` bits of the word.
 pub struct Indexes {
     pub uncompressed: u64,

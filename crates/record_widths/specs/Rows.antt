@@ -1,6 +1,7 @@
 -- What the code holds of the format: a row of the mode table, and the anchors of a split as three pixels.
 -- Assumes nothing.
-use Prim.Native.Nat.{ℕ}
+use mathlib.Core.Path.{_≡_}
+use Prim.Native.Nat.{ℕ, _<_}
 use mathlib.Core.List.{List, [], _∷_}
 use lib.ListN.{getD}
 use Rattle.record_widths.specs.declared.ModeRow.{ModeRow}
@@ -11,20 +12,31 @@ use Rattle.format.specs.Modes.{alphaBits, colourBits, endpointCount, firstBits,
 use Rattle.format.specs.Places.{placeAt, width}
 use Rattle.format.specs.Splits.{anchors}
 
-abbrev pub rowOf : ℕ → ModeRow
-rowOf m = record {
-  lines = lines m;
-  kind = kindOfMode m;
-  endpoints = endpointCount m;
-  partition = partitionBits m;
-  rotation = rotationBits m;
-  «index_mode» = indexModeBits m;
-  colour = colourBits m;
-  alpha = alphaBits m;
-  p = pCount m;
-  first = firstBits m;
-  second = secondBits m;
+-- a row, its columns in the order of the struct
+abbrev pub rowAs : ℕ → ℕ → ℕ → ℕ → ℕ → ℕ → ℕ → ℕ → ℕ → ℕ → ℕ → ModeRow
+rowAs l k e p r i c a b x y = record {
+  lines = l;
+  kind = k;
+  endpoints = e;
+  partition = p;
+  rotation = r;
+  «index_mode» = i;
+  colour = c;
+  alpha = a;
+  p = b;
+  first = x;
+  second = y;
 }
+
+abbrev pub rowOf : ℕ → ModeRow
+rowOf m =
+    rowAs (lines m) (kindOfMode m) (endpointCount m) (partitionBits m) (rotationBits m) (indexModeBits m) (colourBits m) (alphaBits m) (pCount m) (firstBits m) (secondBits m)
+
+-- the row of one of the eight modes
+pub record OfMode (row : ModeRow) : Type 0 where
+  pub mode : ℕ
+  pub low : mode < 8
+  pub is : row ≡ rowOf mode
 
 -- the anchors as three pixels: pixel 0 again where a split has fewer, and 16, which is no pixel, for none
 abbrev pub pixelsOf : Anchors → List ℕ

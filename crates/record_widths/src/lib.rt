@@ -7,7 +7,7 @@ ghost use Rattle.format.specs.Partitions.{among};
 ghost use Rattle.format.specs.Modes.{indexBits};
 ghost use Rattle.format.specs.Places.{head, index, pbit, placeAt, value, width};
 ghost use Rattle.format.specs.Splits.{partition};
-ghost use Rattle.record_widths.specs.Rows.{anchorsOf, noAnchors, pixelsOf, rowOf};
+ghost use Rattle.record_widths.specs.Rows.{anchorsOf, noAnchors, pixelsOf, rowAs, rowOf};
 use bcn_data::fixup_index_2;
 use bcn_data::fixup_indexes_3;
 use format::Split;
@@ -34,119 +34,53 @@ pub struct Anchors {
     pub c: usize,
 }
 
-const MODES: [ModeRow; 8] = [
+// A row, its columns in the order of the struct.
+fn row(
+    lines: u32,
+    kind: u8,
+    endpoints: usize,
+    partition: u32,
+    rotation: u32,
+    index_mode: u32,
+    colour: u32,
+    alpha: u32,
+    p: usize,
+    first: u32,
+    second: u32,
+) -> ModeRow
+    ensures { λ r. ⌜ r ≡ rowAs lines kind endpoints «partition» rotation «index_mode» colour alpha p first second ⌝ }
+{
     ModeRow {
-        lines: 3,
-        kind: 2,
-        endpoints: 6,
-        partition: 4,
-        rotation: 0,
-        index_mode: 0,
-        colour: 4,
-        alpha: 0,
-        p: 6,
-        first: 3,
-        second: 0,
-    },
-    ModeRow {
-        lines: 2,
-        kind: 1,
-        endpoints: 4,
-        partition: 6,
-        rotation: 0,
-        index_mode: 0,
-        colour: 6,
-        alpha: 0,
-        p: 2,
-        first: 3,
-        second: 0,
-    },
-    ModeRow {
-        lines: 3,
-        kind: 2,
-        endpoints: 6,
-        partition: 6,
-        rotation: 0,
-        index_mode: 0,
-        colour: 5,
-        alpha: 0,
-        p: 0,
-        first: 2,
-        second: 0,
-    },
-    ModeRow {
-        lines: 2,
-        kind: 1,
-        endpoints: 4,
-        partition: 6,
-        rotation: 0,
-        index_mode: 0,
-        colour: 7,
-        alpha: 0,
-        p: 4,
-        first: 2,
-        second: 0,
-    },
-    ModeRow {
-        lines: 2,
-        kind: 3,
-        endpoints: 2,
-        partition: 0,
-        rotation: 2,
-        index_mode: 1,
-        colour: 5,
-        alpha: 6,
-        p: 0,
-        first: 2,
-        second: 3,
-    },
-    ModeRow {
-        lines: 2,
-        kind: 3,
-        endpoints: 2,
-        partition: 0,
-        rotation: 2,
-        index_mode: 0,
-        colour: 7,
-        alpha: 8,
-        p: 0,
-        first: 2,
-        second: 2,
-    },
-    ModeRow {
-        lines: 1,
-        kind: 0,
-        endpoints: 2,
-        partition: 0,
-        rotation: 0,
-        index_mode: 0,
-        colour: 7,
-        alpha: 7,
-        p: 2,
-        first: 4,
-        second: 0,
-    },
-    ModeRow {
-        lines: 2,
-        kind: 1,
-        endpoints: 4,
-        partition: 6,
-        rotation: 0,
-        index_mode: 0,
-        colour: 5,
-        alpha: 5,
-        p: 4,
-        first: 2,
-        second: 0,
-    },
-];
+        lines: lines,
+        kind: kind,
+        endpoints: endpoints,
+        partition: partition,
+        rotation: rotation,
+        index_mode: index_mode,
+        colour: colour,
+        alpha: alpha,
+        p: p,
+        first: first,
+        second: second,
+    }
+}
 
-// The row of a mode.
+// The row of a mode. A `match` becomes a table in the program, where a constant array would be laid on the stack at each call.
 pub fn mode_row(mode: u8) -> ModeRow
     requires { ⌜ mode < 8 ⌝ }
     ensures { λ r. ⌜ r ≡ rowOf mode ⌝ }
 {
-    MODES[mode as usize]
+    match mode {
+        // lines, kind, endpoints | partition, rotation, index mode | colour, alpha | p bits | index widths
+        0 => row(3, 2, 6, 4, 0, 0, 4, 0, 6, 3, 0),
+        1 => row(2, 1, 4, 6, 0, 0, 6, 0, 2, 3, 0),
+        2 => row(3, 2, 6, 6, 0, 0, 5, 0, 0, 2, 0),
+        3 => row(2, 1, 4, 6, 0, 0, 7, 0, 4, 2, 0),
+        4 => row(2, 3, 2, 0, 2, 1, 5, 6, 0, 2, 3),
+        5 => row(2, 3, 2, 0, 2, 0, 7, 8, 0, 2, 2),
+        6 => row(1, 0, 2, 0, 0, 0, 7, 7, 2, 4, 0),
+        _ => row(2, 1, 4, 6, 0, 0, 5, 5, 4, 2, 0),
+    }
 }
 
 // The widths of what stands at the head of a block: marker, partition, rotation, index mode.

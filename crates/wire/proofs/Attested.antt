@@ -15,7 +15,7 @@ use Rattle.format.proofs.Examples.{block4, block7}
 use Rattle.record_rules.specs.Records.{fits, packRefusal, packed, says}
 use Rattle.record_rules.proofs.Attested.{record4, record7}
 use Rattle.line_rules.proofs.Attested.{given7}
-use Rattle.wire.specs.Wire.{packedBytes, recordByte, recordBytes, recordOfBytes, replacementOf}
+use Rattle.wire.specs.Wire.{bytesRefusal, packedBytes, recordByte, recordBytes, recordOfBytes, replacementOf, spelt}
 
 -- mode, the kind that is given, rotation, index mode; six endpoints; p bits; the first indexes; the second
 abbrev pub bytes4 : ℕ → List ℕ
@@ -56,5 +56,5 @@ pub record Bytes : Type 0 where
       ≡ block 0 block7 ∷ block 0 block4 ∷ refused ∷ refused ∷ refused ∷ []
 
 pub bytes-hold : Bytes
-unfolding recordByte recordBytes recordOfBytes replacementOf packedBytes packed packRefusal fits first says blockOf listOf bytesOf table tableFrom placeAt width widths modeRow kindOfMode endpointCount anchors2 digits marks strings2
+unfolding recordByte recordBytes recordOfBytes replacementOf packedBytes bytesRefusal spelt packed packRefusal fits first says blockOf listOf bytesOf table tableFrom placeAt width widths modeRow kindOfMode endpointCount anchors2 digits marks strings2
 bytes-hold = record { of-records = refl; to-records = refl; to-replacement = refl; to-blocks = refl }
