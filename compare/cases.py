@@ -66,7 +66,8 @@ def some_record(dice):
     if sort >= 6:
         for _ in range(dice.within(1, 2)):
             record = spoiled_record(dice, record)
-    return protocol.record_bytes(record, tuple(dice.bytes(2)))
+    # Now and then something where the kind has nothing.
+    return protocol.record_bytes(record, tuple(dice.bytes(2)) if dice.chance(10) else (0, 0))
 
 
 def spoiled_record(dice, record):

@@ -143,10 +143,13 @@ def packing(dice, shared):
             split = (kind, *(0,) * {"whole": 0, "vector": 2}.get(kind, 1))
             records += [model.Record(mode, split, (value,) * model.VALUES) for value in (0, 255)]
     calls = [("P", protocol.record_bytes(record)) for record in records]
-    # Bytes that a kind hasn't got are ignored.
+    # Bytes that a kind hasn't got: 3, after 5 and before 6.
     for mode in (0, 1, 2, 3, 6, 7):
         record = model.take_apart(block_of(mode, dice.one_of(model.splits(mode)), bits_of_style(dice, "random")))
-        calls += [("P", protocol.record_bytes(record, spare)) for spare in ((1, 1), (255, 255), (64, 2))]
+        top = sorted(model.anchor_places(mode, record.split))[-1]
+        turned = with_value(record, top, 1 << model.full_widths(mode)[top] - 1)
+        for given in (record, turned, record._replace(mode=5)):
+            calls += [("P", protocol.record_bytes(given, spare)) for spare in ((1, 1), (255, 255), (64, 2), (0, 1), (0, 0))]
     return calls + [("P", some_record(dice)) for _ in range(150)]
 
 
@@ -217,6 +220,17 @@ def replacing(dice, shared):
 WIDE_SIDES = (0, *range(1, 10), 127, 128, 129, 4095, 4096, 4097, 16383, 16384, (1 << 21) - 1)
 # Not numbers: a needless last group, a cut-off group, too many groups.
 NOT_NUMBERS = ("8000", "8100", "808000", "818000", "80", "8080", "ff", "80808000", "80808001", "ffffff7f", "81808000")
+
+
+def reading_lines(dice, shared):
+    # Every mode and split, each line and the first that there isn't; line numbers that only look small.
+    calls = []
+    for mode, split in all_splits():
+        block = block_of(mode, split, bits_of_style(dice, dice.one_of(("random", "sparse", "dense"))))
+        lines = model.MODES[mode].lines
+        calls += [("r", block, line) for line in (*range(lines + 1), dice.one_of((256, 65536, 1 << 31, (1 << 32) - 1)))]
+    reserved = bytes(16), bytes(1) + b"\xff" * 15
+    return calls + [("r", block, line) for block in reserved for line in (0, 1, 2, 3, 255, 256)]
 
 
 def reading_heads(dice, shared):
@@ -415,6 +429,7 @@ MAKERS = {
     "O": decoding_rows,
     "S": replacing_in_sheets,
     "l": listing_sheets,
+    "r": reading_lines,
 }
 
 

@@ -6,6 +6,7 @@ A call is (letter, arguments..):
   U block            take a block apart
   P record           pack a record; 66 bytes, as record_bytes makes them
   R block line new   replace a line; new is 26 bytes
+  r block line       read a line
   H data             read a head
   W width height     write a head
   O width height row blocks out      decode a row
@@ -14,7 +15,7 @@ A call is (letter, arguments..):
 """
 import model
 
-LETTERS = "DUPRHWOSl"
+LETTERS = "DUPRHWOSlr"
 KINDS = ("whole", "two", "three", "vector")
 RECORD, REPLACEMENT = 66, 26
 LARGEST_LENGTH = 65536  # a longer slice ends the run
@@ -26,15 +27,16 @@ def number(value):
 
 
 def record_bytes(record, spare=(0, 0)):
-    """`spare` stands where the split's kind has no value: a call's bytes there are ignored."""
+    """`spare` stands where the split's kind has no value: anything but 0 there is refused."""
     split = (tuple(record.split[1:]) + spare[len(record.split) - 1 :])[:2]
     return bytes((record.mode, KINDS.index(record.split[0]), *split, *record.values))
 
 
 def record_from(data):
+    """The record, and the bytes that its kind hasn't got."""
     kind = KINDS[data[1]]
-    split = (kind, *data[2 : 2 + {"whole": 0, "two": 1, "three": 1, "vector": 2}[kind]])
-    return model.Record(data[0], split, tuple(data[4:RECORD]))
+    own = 2 + {"whole": 0, "two": 1, "three": 1, "vector": 2}[kind]
+    return model.Record(data[0], (kind, *data[2:own]), tuple(data[4:RECORD])), data[own:4]
 
 
 def call_bytes(call):
@@ -42,6 +44,8 @@ def call_bytes(call):
     if letter == "R":
         block, line, new = given
         body = block + number(line) + bytes(new)
+    elif letter == "r":
+        body = given[0] + number(given[1])
     elif letter == "H":
         body = bytes([len(given[0])]) + given[0]
     elif letter == "W":
@@ -75,9 +79,12 @@ def model_answer(call):
         text = model.listing(given[0]).encode()
         return number(len(text)) + text
     if letter == "P":
-        refusal, rest = model.pack(record_from(given[0]))
+        refusal, rest = model.pack(*record_from(given[0]))
     elif letter == "R":
         refusal, rest = model.replace(*given)
+    elif letter == "r":
+        refusal, held, widths = model.read_line(*given)
+        rest = bytes(held) + bytes(widths)
     elif letter == "H":
         refusal, *found = model.read_head(given[0])
         rest = b"".join(map(number, found))
