@@ -76,7 +76,7 @@ module _ (m : ℕ) (s : Split) (a : ℕ) (ha : a < 2) where
   unfolding pos width
   wide-is q hq = ap (width m (anchors s)) (placeAt-pos (index a q) (inside-index ha hq))
 
-  begins : (q : ℕ) → q ≤ 16 → start m s (34 + (16 * a + q)) ≡ start m s (34 + (16 * a + 0)) + total (table q wide)
+  pub begins : (q : ℕ) → q ≤ 16 → start m s (34 + (16 * a + q)) ≡ start m s (34 + (16 * a + 0)) + total (table q wide)
   unfolding table tableFrom
   begins zero h = omega arith
   begins (suc q) h =

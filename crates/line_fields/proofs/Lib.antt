@@ -1,1 +1,4 @@
 pub mod Halves
+pub mod Runs
+pub mod Groups
+pub mod Putting
