@@ -1,2 +1,5 @@
 pub mod Taking
 pub mod Steps
+pub mod Heads
+pub mod Bytes
+pub mod Sets

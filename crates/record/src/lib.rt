@@ -7,6 +7,7 @@ use crate::reading::mode_of;
 use crate::reading::read_places;
 use crate::reading::read_split;
 use crate::writing::write_places;
+use bcn_util::stream::BitStream;
 use format::Split;
 use record_places::places::fit_widths;
 use record_places::places::record_of;
@@ -47,7 +48,8 @@ pub fn unpack(block: [u8; 16]) -> Unpacked
             record: zero,
         };
     }
-    let split = read_split(block, mode);
+    let head = read_split(mode_row(mode), BitStream::new(block).skip(mode as u32 + 1));
+    let split = head.split;
     let values = read_places(block, mode, anchors_of(split));
     let record = record_of(mode, split, values);
     Unpacked {
