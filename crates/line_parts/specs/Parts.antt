@@ -2,11 +2,13 @@
 -- Assumes nothing.
 use mathlib.Core.Path.{_≡_}
 use mathlib.Core.Bool.{Bool}
-use Prim.Native.Nat.{ℕ, _*_, _%_, _^_, _<_, _≤_}
+use mathlib.Core.List.{[], _∷_}
+use Prim.Native.Nat.{ℕ, _+_, _-_, _*_, _%_, _^_, _<_, _≤_}
 use lib.Dec.{eqb, ltb}
 use lib.ListN.{getD}
 use Rattle.line_parts.specs.declared.Pixels.{Pixels}
 use Rattle.line_parts.specs.declared.LinePart.{LinePart}
+use Rattle.line_parts.specs.declared.Stored.{Stored}
 use Rattle.line_rules.specs.declared.Replacement.{Replacement}
 use Rattle.record_widths.specs.declared.Anchors.{Anchors}
 use Rattle.record_widths.specs.declared.ModeRow.{ModeRow}
@@ -67,3 +69,19 @@ partsFit x g =
 pub record OfLine (row : ModeRow) (s : Split) (l : ℕ) : Type 0 where
   pub kind : row .kind ≡ kindOf s
   pub partition : partition s < 64
+
+-- a given line as it is stored: turned round where the index at the anchor has its top bit set
+abbrev pub asGiven : Replacement → ℕ → Stored
+asGiven g x = record { endpoints = g .endpoints; p = g .p; indexes = x }
+
+abbrev pub turnedRound : Replacement → ℕ → Stored
+turnedRound g x = record {
+  endpoints =
+      getD (g .endpoints) 4 0 ∷ getD (g .endpoints) 5 0 ∷ getD (g .endpoints) 6 0 ∷ getD (g .endpoints) 7 0 ∷ getD (g .endpoints) 0 0 ∷ getD (g .endpoints) 1 0 ∷ getD (g .endpoints) 2 0
+      ∷ getD (g .endpoints) 3 0 ∷ [];
+  p = getD (g .p) 1 0 ∷ getD (g .p) 0 0 ∷ [];
+  indexes = x;
+}
+
+unfoldable pub storedAs : LinePart → Replacement → ℕ → ℕ → Stored
+storedAs part g x mask = pick (eqb (field x (part .anchor * part .index + (part .index - 1)) 1) 0) (asGiven g x) (turnedRound g (mask - x))

@@ -2,6 +2,7 @@
 ghost use mathlib.Core.Path.{_≡_};
 ghost use mathlib.Core.List.{[]};
 ghost use Prim.Native.Nat.{_-_, _%_, _^_, _≤_, _<_};
+ghost use lib.Bits.{bitAnd};
 ghost use lib.Dec.{eqb, ltb};
 ghost use lib.ListN.{getD};
 ghost use Rattle.laws.specs.Digits.{join};
@@ -9,7 +10,7 @@ ghost use Rattle.laws.specs.Tables.{below, pick, table};
 ghost use Rattle.format.specs.Splits.{isVector};
 ghost use Rattle.format.specs.Splits.{partition as partitionOf};
 ghost use Rattle.bcn_indexes.specs.Indexes.{indexWidths};
-ghost use Rattle.line_parts.specs.Parts.{OfLine, allPixels, anchorIn, linePixels, ownPixel, partOf, partsFit, setOf};
+ghost use Rattle.line_parts.specs.Parts.{OfLine, allPixels, anchorIn, linePixels, ownPixel, partOf, partsFit, setOf, storedAs};
 use bcn_data::subset_indexes_2;
 use bcn_data::subset_indexes_3;
 use bcn_util::stream::word;
@@ -18,6 +19,7 @@ use line_rules::Replacement;
 use record::writing::above;
 use record::writing::indexes_fit;
 use record::writing::pair_fits;
+use record::writing::top_of;
 use record_widths::Anchors;
 use record_widths::ModeRow;
 use record_widths::anchors_of;
@@ -235,4 +237,39 @@ pub fn parts_fit(part: LinePart, new: Replacement) -> bool
         return false;
     }
     indexes_fit(indexes, part.index)
+}
+
+// Has the word of a line's indexes zeros at the other pixels?
+pub fn only_own(indexes: u64, mask: u64) -> bool
+    ensures { λ r. ⌜ r ≡ eqb (bitAnd indexes mask) indexes ⌝ }
+{
+    indexes & mask == indexes
+}
+
+// A line as it is stored, its indexes in one word.
+pub struct Stored {
+    pub endpoints: [u8; 8],
+    pub p: [u8; 2],
+    pub indexes: u64,
+}
+
+// Turned where the index at the anchor has its top bit set: each index i becomes last - i, which is one subtraction for all.
+pub fn oriented(part: LinePart, new: Replacement, indexes: u64, mask: u64) -> Stored
+    requires { ⌜ (0 < part .index) × (part .index ≤ 4) × (part .anchor < 16) × (indexes ≤ mask) ⌝ }
+    ensures { λ r. ⌜ r ≡ storedAs part new indexes mask ⌝ }
+{
+    let e = new.endpoints;
+    let p = new.p;
+    if top_of(indexes, part.index, part.anchor) == 0 {
+        return Stored {
+            endpoints: e,
+            p: p,
+            indexes: indexes,
+        };
+    }
+    Stored {
+        endpoints: [e[4], e[5], e[6], e[7], e[0], e[1], e[2], e[3]],
+        p: [p[1], p[0]],
+        indexes: mask - indexes,
+    }
 }

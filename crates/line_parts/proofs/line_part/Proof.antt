@@ -33,8 +33,16 @@ anchor-requires c κs =
 
 returns : tie.Need-returns
 returns c =
-    rw (c .anchor .ensures, c .before .index-width .ensures, c .before .before .p-width .ensures, c .before .before .before .width-in2 .ensures, c .before .before .before .before .width-in .ensures, c .before .before .before .before .before .anchors-of .ensures,
-    c .before .before .before .before .before .before .pixels-of .ensures, c .before .before .before .before .before .before .before .set-of .ensures)
+    rw (
+      c .anchor .ensures,
+      c .before .index-width .ensures,
+      c .before .before .p-width .ensures,
+      c .before .before .before .width-in2 .ensures,
+      c .before .before .before .before .width-in .ensures,
+      c .before .before .before .before .before .anchors-of .ensures,
+      c .before .before .before .before .before .before .pixels-of .ensures,
+      c .before .before .before .before .before .before .before .set-of .ensures,
+    )
 
 pub line-part-spec : {M : Type 1} → statement M
 line-part-spec =
