@@ -1,10 +1,20 @@
 // A line put into the number of a block: its fields are replaced where they stand, so that every other bit is as it was.
 ghost use mathlib.Core.Path.{_≡_};
 ghost use Prim.Native.Nat.{_+_, _-_, _*_, _^_, _≤_, _<_};
+ghost use lib.Dec.{eqb};
+ghost use lib.ListN.{getD};
 ghost use Rattle.laws.specs.Digits.{replacedAt};
+ghost use Rattle.laws.specs.Tables.{pick};
 ghost use Rattle.bcn_util.specs.Stream.{held};
-ghost use Rattle.line_fields.specs.Fields.{Step, standing};
+ghost use Rattle.record_widths.specs.Rows.{OfMode};
+ghost use Rattle.line_fields.specs.Fields.{LineReady, SetReady, Step, fieldsOf, linePut, psPut, setPut, standing, twoPut};
+use bcn_indexes::storing::compressed;
+use bcn_indexes::storing::stored_bits;
 use bcn_util::stream::BitStream;
+use line_parts::LinePart;
+use line_parts::Stored;
+use record::reading::read_indexes;
+use record_widths::ModeRow;
 
 // The stream at another position.
 pub fn standing_at(s: BitStream, at: u32) -> BitStream
@@ -55,7 +65,7 @@ fn wide(value: u8) -> u64
 // Two values of one width side by side.
 pub fn put_two(s: BitStream, at: u32, width: u32, a: u8, b: u8) -> BitStream
     requires { ⌜ (width ≤ 8) × (at < 128) × (at + 2 * width ≤ 128) × (a < 2 ^ width) × (b < 2 ^ width) ⌝ }
-    ensures { λ r. ⌜ held r ≡ replacedAt (held s) at (2 * width) (b * 2 ^ width + a) ⌝ }
+    ensures { λ r. ⌜ held r ≡ twoPut (held s) at width a b ⌝ }
 {
     put(s, at, 2 * width, (wide(b) << width) + wide(a))
 }
@@ -73,7 +83,7 @@ fn pair_of(kind: u8, line: u32) -> u32
 
 // The second set of indexes stands behind the first, which has one anchor where there are two sets.
 fn set_start(row: ModeRow, first: u32, set: usize) -> u32
-    requires { ⌜ OfMode row × (first ≤ 128) ⌝ }
+    requires { ⌜ OfMode row × (first ≤ 200) ⌝ }
     ensures { λ r. ⌜ r ≡ pick (eqb set 0) first (first + (16 * row .first - 1)) ⌝ }
 {
     if set == 0 {
@@ -126,14 +136,7 @@ fn put_p(s: BitStream, mode: u8, at: u32, line: u32, width: u32, p: [u8; 2]) -> 
 }
 
 // The set is expanded, the line's pixels are replaced in it, and it is compressed again.
-fn put_indexes(
-    s: BitStream,
-    kind: u8,
-    at: u32,
-    part: LinePart,
-    mask: u64,
-    new: u64,
-) -> BitStream
+fn put_indexes(s: BitStream, kind: u8, at: u32, part: LinePart, mask: u64, new: u64) -> BitStream
     requires { ⌜ SetReady (held s) kind at part mask new ⌝ }
     ensures { λ r. ⌜ held r ≡ setPut (held s) kind at part mask new ⌝ }
 {
