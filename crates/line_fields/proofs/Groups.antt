@@ -1,37 +1,28 @@
 -- The groups of a line's places, each put in at once: the pair of a channel, the p bits, the set of indexes.
 -- Assumes nothing.
-use mathlib.Core.Path.{_≡_, refl, sym, ap, ap₂, _∙_, subst}
-use mathlib.Core.Logic.{_≢_, _⊎_, inl, inr, ⊎-elim}
-use mathlib.Core.Bool.{Bool, true, false}
+use mathlib.Core.Path.{_≡_, sym, ap, _∙_, subst}
+use mathlib.Core.Logic.{_≢_, _⊎_, ⊎-elim}
+use mathlib.Core.Bool.{true, false}
 use mathlib.Core.List.{[]}
-use Prim.Native.Nat.{ℕ, zero, suc, _+_, _-_, _*_, _/_, _%_, _^_, _≤_, _<_}
+use Prim.Native.Nat.{ℕ, suc, _+_, _-_, _*_, _/_, _%_, _^_, _≤_, _<_}
 use native.Mathlib.Decide.{ℕ-discrete}
-use native.Mathlib.Nat.{div-one, eq-or-lt-of-le, mod-eq-of-lt, mod-lt}
+use native.Mathlib.Nat.{div-one, eq-or-lt-of-le, mod-eq-of-lt}
 use native.Mathlib.Omega.{arith}
 use lib.Arith.{lt-one}
-use lib.Dec.{T, eqb, lit<, ltb, ltb→lt}
+use lib.Dec.{T}
 use lib.Pow.{high, low}
 use Rattle.format.specs.declared.Split.{Split}
 use Rattle.laws.specs.Digits.{replacedAt}
-use Rattle.laws.specs.Tables.{pick}
-use Rattle.laws.proofs.Tests.{both-left, both-right, no-both, not-so}
-use Rattle.format.specs.Lines.{Line, has, laid, pPlace, valuePlace, withLine}
-use Rattle.format.specs.Modes.{lines, pCount}
-use Rattle.format.specs.Places.{Place, head, index, inside, pbit, pos, value, width}
-use Rattle.format.specs.Splits.{anchors, isVector}
-use Rattle.format.specs.WellFormed.{WellFormed}
-use Rattle.format.proofs.Lens.{has-head, has-parts}
-use Rattle.format.proofs.Meaning.{laid-p, laid-value}
-use Rattle.format.proofs.Modes.{lines-le}
+use Rattle.laws.proofs.Tests.{no-both, not-so}
+use Rattle.format.specs.Lines.{Line, has, laid, withLine}
+use Rattle.format.specs.Places.{Place, inside, pos, width}
+use Rattle.format.specs.Splits.{anchors}
 use Rattle.format.proofs.Places.{placeAt-pos, pos-one}
 use Rattle.format.proofs.Starts.{start, start-next}
-use Rattle.line_rules.specs.Acceptable.{OwnWidths}
 use Rattle.line_rules.specs.Replace.{ownWidth}
 use Rattle.line_rules.proofs.Own.{own-none, own-some}
-use Rattle.line_rules.proofs.OwnWidths.{own-widths}
-use Rattle.line_rules.proofs.Put.{own-pbit, own-value}
 use Rattle.line_fields.proofs.Halves.{pair-lt}
-use Rattle.line_fields.proofs.Runs.{Upto, begin, more, nothing-put, passed}
+use Rattle.line_fields.proofs.Runs.{Upto, more, nothing-put, passed}
 
 module _ (m : ℕ) (s : Split) (l : ℕ) (o : Line) (f : Place → ℕ) where
   -- a place that the line has: its width, and what the line has for it

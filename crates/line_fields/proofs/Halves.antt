@@ -3,7 +3,7 @@
 use mathlib.Core.Path.{_≡_, refl, sym, ap, ap₂, _∙_}
 use mathlib.Core.Logic.{⊎-elim}
 use Prim.Native.Nat.{ℕ, _+_, _-_, _*_, _/_, _%_, _^_, _≤_, _<_}
-use native.Mathlib.Nat.{add-comm, add-zero, div-eq-of-lt, div-one, lt-of-lt-of-le, mod-eq-of-lt, mod-lt, mod-one, mul-one, zero-add}
+use native.Mathlib.Nat.{add-zero, div-eq-of-lt, div-one, lt-of-lt-of-le, mod-eq-of-lt, mod-lt, mod-one, mul-one, zero-add}
 use native.Mathlib.Omega.{arith}
 use lib.Arith.{digits-lt}
 use lib.Pow.{field as low-bits, high, low, mod-mod-pow, pow-add, pow-mono, pow-pos, shl-exact, shr-lt, shr-shr}

@@ -4,3 +4,6 @@ pub mod Groups
 pub mod Putting
 pub mod Room
 pub mod Sets
+pub mod Starting
+pub mod Indexes
+pub mod Whole

@@ -1,9 +1,9 @@
 -- The groups of a line one after the other, up to the whole block.
 -- Assumes nothing.
-use mathlib.Core.Path.{_≡_, refl, sym, ap, ap₂, _∙_, subst}
+use mathlib.Core.Path.{_≡_, refl, sym, ap, _∙_, subst}
 use mathlib.Core.Logic.{_≢_, _⊎_, inl, inr, ⊎-elim}
 use mathlib.Core.Bool.{Bool, true, false}
-use mathlib.Core.List.{List, []}
+use mathlib.Core.List.{List}
 use Prim.Native.Nat.{ℕ, zero, suc, _+_, _-_, _*_, _/_, _%_, _^_, _≤_, _<_}
 use native.Mathlib.Nat.{div-one, mod-eq-of-lt, mod-lt}
 use native.Mathlib.Omega.{arith}
@@ -21,8 +21,8 @@ use Rattle.laws.proofs.Tests.{both-left, both-right, not-so}
 use Rattle.format.specs.Block.{bytesOf}
 use Rattle.format.specs.Lines.{Line, arrayOf, has, indexPlace, laid, pPlace, valuePlace, withLine}
 use Rattle.format.specs.Modes.{indexBits, lines, pCount}
-use Rattle.format.specs.Places.{Place, atPlace, blockOf, head, index, inside, listOf, pbit, pos, value, width, widths}
-use Rattle.format.specs.Splits.{anchors, indexMode, isVector}
+use Rattle.format.specs.Places.{Place, atPlace, blockOf, head, index, inside, pbit, pos, value, width, widths}
+use Rattle.format.specs.Splits.{anchors, isVector}
 use Rattle.format.specs.WellFormed.{WellFormed}
 use Rattle.format.proofs.Lens.{has-head}
 use Rattle.format.proofs.Meaning.{array-lt, has-p, laid-p, laid-value}

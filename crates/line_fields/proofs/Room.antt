@@ -9,7 +9,7 @@ use lib.Dec.{eqb}
 use Rattle.record_widths.specs.declared.ModeRow.{ModeRow}
 use Rattle.laws.specs.Tables.{pick}
 use Rattle.record_widths.specs.Rows.{OfMode}
-use Rattle.record_widths.proofs.Bounds.{Small, small}
+use Rattle.record_widths.proofs.Bounds.{small}
 
 pub record Room (row : ModeRow) (pair : ℕ) : Type 0 where
   pub ends : row .endpoints ≤ 6

@@ -1,19 +1,18 @@
 -- A run of places put into a number: what stands at every place then, and a line put in run by run, in stored order.
 -- Assumes nothing.
-use mathlib.Core.Path.{_≡_, refl, sym, ap, ap₂, _∙_}
+use mathlib.Core.Path.{_≡_, sym, ap, _∙_}
 use mathlib.Core.Logic.{_⊎_, inl, inr, ⊎-elim}
-use mathlib.Core.Bool.{Bool, true, false}
+use mathlib.Core.Bool.{false}
 use Prim.Native.Nat.{ℕ, _+_, _-_, _*_, _/_, _%_, _^_, _≤_, _<_}
-use native.Mathlib.Nat.{le-trans, lt-of-lt-of-le}
+use native.Mathlib.Nat.{le-trans}
 use native.Mathlib.Omega.{arith}
 use lib.Dec.{T}
 use lib.Pow.{split}
 use Rattle.format.specs.declared.Split.{Split}
 use Rattle.laws.specs.Digits.{replacedAt}
-use Rattle.laws.specs.Tables.{pick}
 use Rattle.laws.proofs.Cases.{lt-or}
 use Rattle.laws.proofs.Replacing.{is-inside, stays-above, stays-below}
-use Rattle.format.specs.Lines.{Line, has, laid, withLine}
+use Rattle.format.specs.Lines.{Line, has, withLine}
 use Rattle.format.specs.Places.{Place, atPlace, inside, pos, width}
 use Rattle.format.specs.Splits.{anchors}
 use Rattle.format.proofs.Places.{placeAt-pos, pos-lt}

@@ -1,6 +1,6 @@
 -- A set of indexes read, replaced in part and stored.
 -- Assumes nothing.
-use mathlib.Core.Path.{_≡_, refl, sym, ap, _∙_}
+use mathlib.Core.Path.{_≡_}
 use mathlib.Core.List.{[]}
 use Prim.Native.Nat.{ℕ, zero, suc, _+_, _-_, _*_, _^_, _≤_, _<_}
 use native.Mathlib.Nat.{lt-of-lt-of-le}
@@ -13,7 +13,7 @@ use Rattle.line_parts.specs.declared.LinePart.{LinePart}
 use Rattle.laws.specs.Digits.{join, split}
 use Rattle.laws.proofs.Digits.{join-lt}
 use Rattle.bcn_util.specs.Stream.{held}
-use Rattle.bcn_indexes.specs.Indexes.{Rising, anchorCount, anchorsOfKind, indexWidths, newIndexes}
+use Rattle.bcn_indexes.specs.Indexes.{anchorCount, indexWidths, newIndexes}
 use Rattle.bcn_indexes.proofs.Remove.{size-kind}
 use Rattle.line_fields.specs.Fields.{SetReady, anchorsIn, setAfter, setBefore, sizeIn, standing}
 

@@ -3,12 +3,12 @@
 use mathlib.Core.Path.{_≡_, refl, sym, _∙_}
 use mathlib.Core.Bool.{Bool, true, false}
 use Prim.Native.Nat.{ℕ, zero, _+_, _-_, _*_, _/_, _%_, _^_, _≤_, _<_}
-use native.Mathlib.Nat.{le-refl, lt-of-lt-of-le, mod-eq-of-lt, mod-lt}
+use native.Mathlib.Nat.{le-refl, lt-of-lt-of-le, mod-lt}
 use native.Mathlib.Omega.{arith}
-use lib.Bits.{bitAnd, and-mask, and-zero-r}
+use lib.Bits.{bitAnd}
 use lib.Dec.{eqb, lit<, ltb, ltb→lt, lt→ltb}
 use lib.ListN.{getD}
-use lib.Pow.{ones-lt, pow-mono, pow-pos}
+use lib.Pow.{pow-mono, pow-pos}
 use Rattle.line_parts.specs.declared.LinePart.{LinePart}
 use Rattle.line_rules.specs.declared.Replacement.{Replacement}
 use Rattle.format.specs.declared.Split.{Split}
@@ -18,7 +18,7 @@ use Rattle.line_rules.specs.Acceptable.{Within}
 use Rattle.line_rules.specs.Replace.{lineGiven}
 use Rattle.line_parts.specs.Parts.{ownPixel, partsFit}
 use Rattle.line_parts.proofs.Parts.{IsPart}
-use Rattle.line_parts.proofs.Words.{Small, word, word-and, word-one, word-same}
+use Rattle.line_parts.proofs.Words.{Small, maskPart, masked, word, word-one, word-same}
 
 module _ {m : ℕ} {s : Split} {l : ℕ} {x : LinePart} (is : IsPart m s l x) (g : Replacement) where
   abbrev w : ℕ
@@ -61,24 +61,6 @@ module _ {m : ℕ} {s : Split} {l : ℕ} {x : LinePart} (is : IsPart m s l x) (g
           or-none true = le-refl w
           or-none false = omega arith
 
-  -- the mask keeps the indexes of the line's pixels
-  abbrev ones : ℕ → ℕ
-  ones q = pick (own q) (2 ^ w - 1) 0
-
-  pub ones-small : Small w ones
-  ones-small q h = go (own q)
-    where
-      go : (b : Bool) → pick b (2 ^ w - 1) 0 < 2 ^ w
-      go true = ones-lt w
-      go false = pow-pos w
-
-  pub masked : (f : ℕ → ℕ) → Small w f → bitAnd (word w f) (word w ones) ≡ word w (λ q. pick (own q) (f q) 0)
-  masked f hf = word-and w f ones hf ones-small ∙ word-same w _ _ (λ q h. go (own q) (hf q h))
-    where
-      go : (b : Bool) {z : ℕ} → z < 2 ^ w → bitAnd z (pick b (2 ^ w - 1) 0) ≡ pick b z 0
-      go true {z} h = and-mask z w ∙ mod-eq-of-lt h
-      go false {z} h = and-zero-r z
-
   module _ (fits : Small w v) where
     own-small : Small w (λ q. pick (own q) (v q) 0)
     own-small q h = go (own q)
@@ -88,12 +70,12 @@ module _ {m : ℕ} {s : Split} {l : ℕ} {x : LinePart} (is : IsPart m s l x) (g
         go false = pow-pos w
 
     -- so it leaves the word exactly where the others are zero
-    pub only-kept : bitAnd (word w v) (word w ones) ≡ word w v → (q : ℕ) → q < 16 → pick (own q) (v q) 0 ≡ v q
-    only-kept e = word-one w (λ q. pick (own q) (v q) 0) v own-small fits (sym (masked v fits) ∙ e)
+    pub only-kept : bitAnd (word w v) (word w (maskPart x)) ≡ word w v → (q : ℕ) → q < 16 → pick (own q) (v q) 0 ≡ v q
+    only-kept e = word-one w (λ q. pick (own q) (v q) 0) v own-small fits (sym (masked x v fits) ∙ e)
 
-    pub within-kept : Within m s l (lineGiven g) → bitAnd (word w v) (word w ones) ≡ word w v
+    pub within-kept : Within m s l (lineGiven g) → bitAnd (word w v) (word w (maskPart x)) ≡ word w v
     unfolding lineGiven
-    within-kept h = masked v fits ∙ word-same w _ _ (λ q hq. go (own q) (rw (is .index q hq) at (h .index q hq)))
+    within-kept h = masked x v fits ∙ word-same w _ _ (λ q hq. go (own q) (rw (is .index q hq) at (h .index q hq)))
       where
         go : (b : Bool) {z : ℕ} → z < 2 ^ pick b w 0 → pick b z 0 ≡ z
         go true k = refl

@@ -82,7 +82,7 @@ module _ {m : ℕ} {s : Split} {f : Place → ℕ} (g : WellFormed m s f) (l : �
   by-kind : {n : ℕ} (k : ℕ) → getD (1 ∷ 2 ∷ 3 ∷ 2 ∷ []) k 0 ≡ n → kindOf s ≡ k → l < n
   by-kind k e z = subst (λ (n : ℕ). l < n) (good-lines g ∙ ap (λ (k : ℕ). getD (1 ∷ 2 ∷ 3 ∷ 2 ∷ []) k 0) z ∙ e) hl
 
-  vector : eqb (kindOfMode m) 3 ≡ isVector s
+  pub vector : eqb (kindOfMode m) 3 ≡ isVector s
   vector = ap (λ (k : ℕ). eqb k 3) (sym (good-kind g)) ∙ vector-kind s
 
   two : isVector s ≡ true → l < 2

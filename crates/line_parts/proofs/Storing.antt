@@ -19,7 +19,7 @@ use Rattle.record_rules.proofs.Widths.{fit, unfit}
 use Rattle.line_rules.specs.Replace.{lineGiven, oriented, topSet}
 use Rattle.line_parts.specs.Parts.{asGiven, ownPixel, storedAs, turnedRound}
 use Rattle.line_parts.proofs.Parts.{IsPart}
-use Rattle.line_parts.proofs.Words.{Small, word, word-part, word-plus, word-same}
+use Rattle.line_parts.proofs.Words.{Small, maskPart, word, word-part, word-plus, word-same}
 
 -- the stored fields are those of the line o, and the word has its indexes at the line's pixels
 pub record IsStored (x : LinePart) (st : Stored) (o : Line) : Type 0 where
@@ -39,9 +39,6 @@ module _ {m : ℕ} {s : Split} {l : ℕ} {x : LinePart} (is : IsPart m s l x) (g
 
   abbrev v : ℕ → ℕ
   v q = getD (g .indexes) q 0
-
-  abbrev ones : ℕ → ℕ
-  ones q = pick (own q) (2 ^ w - 1) 0
 
   module _ (fits : Small w v) (kept : (q : ℕ) → q < 16 → pick (own q) (v q) 0 ≡ v q) where
     -- the top bit of the anchor's index decides
@@ -65,8 +62,8 @@ module _ {m : ℕ} {s : Split} {l : ℕ} {x : LinePart} (is : IsPart m s l x) (g
     abbrev last-less : ℕ → ℕ
     last-less q = pick (own q) (2 ^ w - 1 - v q) 0
 
-    whole-mask : word w ones ≡ word w last-less + word w v
-    whole-mask = word-same w ones (λ q. last-less q + v q) (λ q h. go (own q) (kept q h) (le-ones w (fits q h))) ∙ word-plus w last-less v (λ q h. small (own q) q) fits
+    whole-mask : word w (maskPart x) ≡ word w last-less + word w v
+    whole-mask = word-same w (maskPart x) (λ q. last-less q + v q) (λ q h. go (own q) (kept q h) (le-ones w (fits q h))) ∙ word-plus w last-less v (λ q h. small (own q) q) fits
       where
         go : (b : Bool) {z : ℕ} → pick b z 0 ≡ z → z ≤ 2 ^ w - 1 → pick b (2 ^ w - 1) 0 ≡ pick b (2 ^ w - 1 - z) 0 + z
         go true k h = omega arith
@@ -76,10 +73,10 @@ module _ {m : ℕ} {s : Split} {l : ℕ} {x : LinePart} (is : IsPart m s l x) (g
         small true q = ones-sub-lt w (v q)
         small false q = pow-pos w
 
-    pub mask-above : word w v ≤ word w ones
+    pub mask-above : word w v ≤ word w (maskPart x)
     mask-above = omega (arith, whole-mask)
 
-    turned-word : word w ones - word w v ≡ word w last-less
+    turned-word : word w (maskPart x) - word w v ≡ word w last-less
     turned-word = omega (arith, whole-mask)
 
     as-given : IsStored x (asGiven g (word w v)) (lineGiven g)
@@ -87,7 +84,7 @@ module _ {m : ℕ} {s : Split} {l : ℕ} {x : LinePart} (is : IsPart m s l x) (g
     as-given = record { value = λ k c hk hc. refl; p = λ k hk. refl; indexes = word-same w _ _ (λ q h. sym (kept q h)) }
 
     -- the pair turned: endpoint k is endpoint 1 - k
-    turned-round : IsStored x (turnedRound g (word w ones - word w v)) (turned (lineBits m s l) (lineGiven g))
+    turned-round : IsStored x (turnedRound g (word w (maskPart x) - word w v)) (turned (lineBits m s l) (lineGiven g))
     unfolding turned lineGiven
     turned-round = record {
       value = value;
@@ -105,21 +102,21 @@ module _ {m : ℕ} {s : Split} {l : ℕ} {x : LinePart} (is : IsPart m s l x) (g
         four k (suc (suc (suc zero))) h f e0 e1 e2 e3 = e3
         four k (suc (suc (suc (suc c)))) h f e0 e1 e2 e3 = absurd (let y : ⊥ = omega arith in y)
 
-        value : (k c : ℕ) → k < 2 → c < 4 → getD (turnedRound g (word w ones - word w v) .endpoints) (4 * k + c) 0 ≡ es (4 * (1 - k) + c)
-        value zero c hk hc = four 0 c hc (λ c. getD (turnedRound g (word w ones - word w v) .endpoints) (4 * 0 + c) 0) refl refl refl refl
-        value (suc zero) c hk hc = four 1 c hc (λ c. getD (turnedRound g (word w ones - word w v) .endpoints) (4 * 1 + c) 0) refl refl refl refl
+        value : (k c : ℕ) → k < 2 → c < 4 → getD (turnedRound g (word w (maskPart x) - word w v) .endpoints) (4 * k + c) 0 ≡ es (4 * (1 - k) + c)
+        value zero c hk hc = four 0 c hc (λ c. getD (turnedRound g (word w (maskPart x) - word w v) .endpoints) (4 * 0 + c) 0) refl refl refl refl
+        value (suc zero) c hk hc = four 1 c hc (λ c. getD (turnedRound g (word w (maskPart x) - word w v) .endpoints) (4 * 1 + c) 0) refl refl refl refl
         value (suc (suc k)) c hk hc = absurd (let y : ⊥ = omega arith in y)
 
-        p : (k : ℕ) → k < 2 → getD (turnedRound g (word w ones - word w v) .p) k 0 ≡ getD (g .p) (1 - k) 0
+        p : (k : ℕ) → k < 2 → getD (turnedRound g (word w (maskPart x) - word w v) .p) k 0 ≡ getD (g .p) (1 - k) 0
         p zero hk = refl
         p (suc zero) hk = refl
         p (suc (suc k)) hk = absurd (let y : ⊥ = omega arith in y)
 
-    pub is-stored : {st : Stored} → st ≡ storedAs x g (word w v) (word w ones) → IsStored x st (oriented m s l (lineGiven g))
+    pub is-stored : {st : Stored} → st ≡ storedAs x g (word w v) (word w (maskPart x)) → IsStored x st (oriented m s l (lineGiven g))
     unfolding storedAs oriented
     is-stored e = rw e (go (eqb (field (word w v) (a * w + (w - 1)) 1) 0) refl)
       where
         go : (b : Bool) → eqb (field (word w v) (a * w + (w - 1)) 1) 0 ≡ b
-            → IsStored x (pick b (asGiven g (word w v)) (turnedRound g (word w ones - word w v))) (pick (topSet m s l (lineGiven g)) (turned (lineBits m s l) (lineGiven g)) (lineGiven g))
+            → IsStored x (pick b (asGiven g (word w v)) (turnedRound g (word w (maskPart x) - word w v))) (pick (topSet m s l (lineGiven g)) (turned (lineBits m s l) (lineGiven g)) (lineGiven g))
         go true t = rw (top-zero (eqb-true _ 0 t)) as-given
         go false t = rw (top-one (eqb-false _ 0 t)) turned-round

@@ -1,12 +1,16 @@
--- Words of sixteen parts of one width: sums and masks part by part.
+-- Words of sixteen parts of one width: sums and masks part by part, and the mask of a line.
 -- Assumes nothing.
 use mathlib.Core.Path.{_≡_, refl, sym, ap, ap₂, _∙_}
+use mathlib.Core.Bool.{Bool, true, false}
 use mathlib.Core.List.{List, []}
-use Prim.Native.Nat.{ℕ, _+_, _*_, _/_, _%_, _^_, _<_}
-use lib.Bits.{bitAnd}
+use Prim.Native.Nat.{ℕ, _+_, _-_, _*_, _/_, _%_, _^_, _<_}
+use native.Mathlib.Nat.{mod-eq-of-lt}
+use lib.Bits.{bitAnd, and-mask, and-zero-r}
 use lib.ListN.{getD}
+use lib.Pow.{ones-lt, pow-pos}
+use Rattle.line_parts.specs.declared.LinePart.{LinePart}
 use Rattle.laws.specs.Digits.{Fit, join, split}
-use Rattle.laws.specs.Tables.{table}
+use Rattle.laws.specs.Tables.{pick, table}
 use Rattle.laws.proofs.Digits.{join-lt, split-join}
 use Rattle.laws.proofs.Joining.{table-same}
 use Rattle.laws.proofs.Masks.{ands-table, join-plus, plus-table}
@@ -15,6 +19,7 @@ use Rattle.laws.proofs.Putting.{and-join}
 use Rattle.laws.proofs.Rows.{digit, fit-table, total-same}
 use Rattle.bcn_indexes.specs.Indexes.{indexWidth, indexWidths}
 use Rattle.bcn_indexes.proofs.Anchors.{size-none}
+use Rattle.line_parts.specs.Parts.{ownPixel}
 
 -- the word whose part q is f q
 abbrev pub word : ℕ → (ℕ → ℕ) → ℕ
@@ -53,3 +58,22 @@ module _ (w : ℕ) where
 
     pub word-one : word w a ≡ word w b → (q : ℕ) → q < 16 → a q ≡ b q
     word-one e q h = sym (word-part a ha q h) ∙ ap (λ (x : ℕ). x / 2 ^ (q * w) % 2 ^ w) e ∙ word-part b hb q h
+
+-- the mask of a line: all ones at its pixels. It keeps what stands there
+module _ (x : LinePart) where
+  abbrev pub maskPart : ℕ → ℕ
+  maskPart q = pick (ownPixel (x .pixels) q) (2 ^ x .index - 1) 0
+
+  mask-small : Small (x .index) maskPart
+  mask-small q h = go (ownPixel (x .pixels) q)
+    where
+      go : (b : Bool) → pick b (2 ^ x .index - 1) 0 < 2 ^ x .index
+      go true = ones-lt (x .index)
+      go false = pow-pos (x .index)
+
+  pub masked : (f : ℕ → ℕ) → Small (x .index) f → bitAnd (word (x .index) f) (word (x .index) maskPart) ≡ word (x .index) (λ q. pick (ownPixel (x .pixels) q) (f q) 0)
+  masked f hf = word-and (x .index) f maskPart hf mask-small ∙ word-same (x .index) _ _ (λ q h. go (ownPixel (x .pixels) q) (hf q h))
+    where
+      go : (b : Bool) {z : ℕ} → z < 2 ^ x .index → bitAnd z (pick b (2 ^ x .index - 1) 0) ≡ pick b z 0
+      go true {z} h = and-mask z (x .index) ∙ mod-eq-of-lt h
+      go false {z} h = and-zero-r z
