@@ -36,27 +36,15 @@ use Rattle.bcn_util.proofs.Puts.{row-asks, row-more, row-written, rowWriter}
 pub reserved : (bs : List ℕ) {m : ℕ} → m ≡ modeOf bs → m ≡ 8 → unpackedAs 1 zeroRecord ≡ taken bs
 reserved bs e h = sym (taken-reserved bs (sym e ∙ h))
 
-module _ (bs : List ℕ) (sixteen : Fit eights bs) {m : ℕ} (em : m ≡ modeOf bs) (not-8 : m ≢ 8) where
+module _ (bs : List ℕ) {m : ℕ} (em : m ≡ modeOf bs) (not-8 : m ≢ 8) where
   low : modeOf bs < 8
   low = let n : modeOf bs ≢ 8 = λ z. not-8 (em ∙ z) in omega (arith, mode-le-8 bs)
 
   pub mode-low : m < 8
   mode-low = subst (λ (m : ℕ). m < 8) (sym em) low
 
-  module _ {s : Split} (es : s ≡ splitAt m (number bs)) where
-    is-split : s ≡ splitOf bs
-    unfolding splitOf
-    is-split = es ∙ ap (λ (m : ℕ). splitAt m (number bs)) em
-
-    pub partition-low : partition s < 64
-    partition-low = subst (λ (s : Split). partition s < 64) (sym is-split) (good-64 (opened-good bs sixteen low))
-
-    pub accepted : {a : Anchors} {vs : List ℕ} {r : Record} → a ≡ anchorsOf s → vs ≡ split (widthsWith m (pixelsOf a)) (number bs)
-        → r ≡ made m s (λ x. getD vs (pos x) 0) → unpackedAs 0 r ≡ taken bs
-    unfolding recordOf opened atPlace
-    accepted {a} {vs} {r} ea ev er =
-        let widths-are : vs ≡ split (widths m s) (number bs) = ev ∙ ap (λ (a : Anchors). split (widthsWith m (pixelsOf a)) (number bs)) ea ∙ ap (λ (ws : List ℕ). split ws (number bs)) (widths-split m s partition-low) in
-        ap (unpackedAs 0) (rw (er, widths-are, is-split, em)) ∙ sym (taken-open bs low)
+  pub accepted : unpackedAs 0 (recordOf bs) ≡ taken bs
+  accepted = sym (taken-open bs low)
 
 -- PACKING: the loop that pushes what a record says, each at its width
 module _ (r : Record) (an : List ℕ) where

@@ -5,6 +5,7 @@ use Prim.Native.Nat.{ℕ, zero, suc, _+_, _*_, _≤_, _<_}
 use native.Mathlib.Omega.{arith}
 use Rattle.record_widths.specs.declared.ModeRow.{ModeRow}
 use Rattle.format.specs.Modes.{endpointCount, kindOfMode, modeRow}
+use Rattle.format.proofs.Modes.{by-vector}
 use Rattle.record_widths.specs.Rows.{OfMode, rowOf}
 
 pub record Small (row : ModeRow) : Type 0 where
@@ -34,3 +35,7 @@ small-row (suc (suc (suc (suc (suc (suc (suc (suc m)))))))) h = absurd (let z : 
 
 pub small : {row : ModeRow} → OfMode row → Small row
 small o = subst Small (sym (o .is)) (small-row (o .mode) (o .low))
+
+-- a vector and its scalar have two sets
+pub second-bits : {row : ModeRow} → OfMode row → row .kind ≡ 3 → 0 < row .second
+second-bits o k = rw (o .is) (let v = by-vector (o .mode) (sym (ap (λ (r : ModeRow). r .kind) (o .is)) ∙ k) in omega (arith, v .least2))
