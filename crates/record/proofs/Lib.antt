@@ -4,3 +4,5 @@ pub mod Bytes
 pub mod Sets
 pub mod Groups
 pub mod Standing
+pub mod Pushing
+pub mod Fits

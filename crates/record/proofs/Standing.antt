@@ -9,6 +9,7 @@ use native.Mathlib.Nat.{add-assoc, div-eq-of-lt, lt-of-lt-of-le, mod-one, mul-as
 use native.Mathlib.Numerals.{add-one}
 use native.Mathlib.Omega.{arith}
 use borrow.Author.Tests.{eqb-false, eqb-true, le-ltb, lt-ltb}
+use lib.Arith.{le-zero}
 use lib.Dec.{T, eqb, ltb}
 use lib.ListN.{getD, replicate}
 use lib.Pow.{field as part-of, mod-mod-pow, pow-mono, shr-shr}
@@ -23,7 +24,7 @@ use Rattle.bcn_util.specs.declared.stream.BitStream.{BitStream}
 use Rattle.format.specs.declared.Split.{Split}
 use Rattle.laws.specs.Digits.{Fit, total}
 use Rattle.laws.specs.Tables.{pick, table, tableFrom}
-use Rattle.laws.proofs.Cases.{lt-or}
+use Rattle.laws.proofs.Cases.{lt-or, pick-less}
 use Rattle.laws.proofs.Joining.{table-same}
 use Rattle.format.specs.Block.{eights, field, modeOf, number}
 use Rattle.format.specs.Modes.{alphaBits, channelBits, colourBits, endpointCount, firstBits, indexBits, kindOfMode, modeRow, pCount, secondBits}
@@ -166,11 +167,7 @@ module _ (m : ℕ) (s : Split) (n : ℕ) (hm : m < 8) where
   -- and one that the mode hasn't got
   pub set-none : secondBits m ≡ 0 → replicate 16 0 ≡ table 16 (λ q. at (index 1 q))
   unfolding table tableFrom width
-  set-none e = table-same 0 16 (λ q. 0) (λ q. at (index 1 q)) (λ q l. sym (nothing (index 1 q) (inside-index {a = 1} (omega arith) l) (rw e (none-of (among q (anchors s))))))
-    where
-      none-of : (b : Bool) → _≡_ {A = ℕ} (pick b (0 - 1) 0) 0
-      none-of true = refl
-      none-of false = refl
+  set-none e = table-same 0 16 (λ q. 0) (λ q. at (index 1 q)) (λ q l. sym (nothing (index 1 q) (inside-index {a = 1} (omega arith) l) (rw e (le-zero (pick-less (among q (anchors s)) 0)))))
 
 -- A BLOCK READ, of mode m, whose row is `row`
 module _ (bs : List ℕ) (sixteen : Fit eights bs) {m : ℕ} (em : m ≡ modeOf bs) (hm : m < 8) {row : ModeRow} (er : row ≡ rowOf m) where

@@ -13,10 +13,11 @@ use crate::reading::read_indexes;
 use crate::reading::read_p;
 use crate::reading::read_second;
 use crate::reading::read_split;
-use crate::writing::write_places;
+use crate::writing::anchors_fit;
+use crate::writing::record_fits;
+use crate::writing::write_record;
 use bcn_util::stream::BitStream;
 use format::Split;
-use record_places::places::fit_widths;
 use record_places::splits::kind_of;
 use record_rules::Packed;
 use record_rules::Record;
@@ -24,7 +25,6 @@ use record_rules::Unpacked;
 use record_widths::ModeRow;
 use record_widths::anchors_of;
 use record_widths::mode_row;
-use record_widths::no_anchors;
 
 pub mod reading;
 pub mod writing;
@@ -111,14 +111,14 @@ pub fn pack(record: Record) -> Packed
     if kind_of(split) != row.kind {
         return refused(5);
     }
-    if !fit_widths(record, no_anchors()) {
+    if !record_fits(record, row) {
         return refused(3);
     }
     let anchors = anchors_of(split);
-    if !fit_widths(record, anchors) {
+    if !anchors_fit(record, row, anchors) {
         return refused(6);
     }
-    let block = write_places(record, anchors);
+    let block = write_record(record, row, anchors);
     Packed {
         refusal: 0,
         block: block,

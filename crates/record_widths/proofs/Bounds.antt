@@ -1,7 +1,7 @@
 -- How large the numbers of a row are.
 -- Assumes nothing.
 use mathlib.Core.Path.{_≡_, sym, ap, _∙_, subst}
-use Prim.Native.Nat.{ℕ, zero, suc, _+_, _*_, _≤_, _<_}
+use Prim.Native.Nat.{ℕ, zero, suc, _+_, _*_, _%_, _≤_, _<_}
 use native.Mathlib.Omega.{arith}
 use Rattle.record_widths.specs.declared.ModeRow.{ModeRow}
 use Rattle.format.specs.Modes.{endpointCount, kindOfMode, modeRow}
@@ -11,6 +11,7 @@ use Rattle.record_widths.specs.Rows.{OfMode, rowOf}
 pub record Small (row : ModeRow) : Type 0 where
   pub split : row .partition + row .rotation + row .«index_mode» ≤ 6
   pub endpoints : row .endpoints ≤ 6
+  pub even : row .endpoints % 2 ≡ 0
   pub colour : row .colour ≤ 8
   pub alpha : row .alpha ≤ 8
   pub colours : row .endpoints * row .colour ≤ 30
