@@ -148,7 +148,7 @@ module _ {bs : List ℕ} (sixteen : Fit eights bs) (s : BitStream) (h : held s �
   high-byte i hi = sym (ap (λ (l : List ℕ). getD l (8 + i) 0) in-halves ∙ getD-append-add (split octet (s .low)) (split octet (s .high)) i 0)
 
 -- one width for all: the tests of both halves
-one-width : (b : Bool) (w : ℕ) → pick b w w ≡ w
+pub one-width : (b : Bool) (w : ℕ) → pick b w w ≡ w
 one-width true w = refl
 one-width false w = refl
 

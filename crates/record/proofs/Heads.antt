@@ -3,9 +3,10 @@
 use mathlib.Core.Path.{_≡_, refl, sym, ap, ap₂, _∙_}
 use mathlib.Core.List.{List, _∷_}
 use Prim.Native.Nat.{ℕ, zero, suc, _+_, _*_, _/_, _%_, _^_, _≤_, _<_}
-use native.Mathlib.Nat.{add-assoc, add-zero, zero-add}
+use native.Mathlib.Nat.{add-assoc, add-zero, lt-trans, zero-add}
 use native.Mathlib.Numerals.{add-one}
 use native.Mathlib.Omega.{arith}
+use lib.Dec.{lit<}
 use lib.Pow.{field as part-of, mod-mod-pow, shr-shr}
 use Rattle.record.specs.declared.reading.ReadSplit.{ReadSplit}
 use Rattle.record_widths.specs.declared.ModeRow.{ModeRow}
@@ -22,6 +23,7 @@ use Rattle.bcn_util.specs.Stream.{consumed64, held, skipped}
 use Rattle.bcn_util.proofs.On.{On, next-is, on-skipped}
 use Rattle.record_widths.specs.Rows.{OfMode, anchorsOf, rowOf}
 use Rattle.record.specs.Reading.{splitRead}
+use Rattle.record.specs.Writing.{Pixels}
 
 -- two bits of rotation, and the index mode above them
 vector : (n a i : ℕ) → Vector (field n a (i + 2) % 4) (field n a (i + 2) / 2 ^ 2) ≡ Vector (field n (a + 0) 2) (field n (a + (0 + 2)) i)
@@ -90,3 +92,9 @@ anchors-rise (Three a) h =
     let x = anchors-in3 a h in
     record { two = λ e. absurd (let z : ⊥ = omega arith in z); three = λ e. rw (x .are) (x .above, x .next, x .last) }
 anchors-rise (Vector r i) h = record { two = λ e. absurd (let z : ⊥ = omega arith in z); three = λ e. absurd (let z : ⊥ = omega arith in z) }
+
+pub anchors-low : (s : Split) → partition s < 64 → Pixels (anchorsOf s)
+anchors-low Whole h = record { first = lit< tt; second = lit< tt; third = lit< tt }
+anchors-low (Two a) h = let x = anchors-in2 a h in rw (x .are) (record { first = lit< tt; second = x .last; third = lit< tt })
+anchors-low (Three a) h = let x = anchors-in3 a h in rw (x .are) (record { first = lit< tt; second = lt-trans (x .next) (x .last); third = x .last })
+anchors-low (Vector r i) h = record { first = lit< tt; second = lit< tt; third = lit< tt }
