@@ -1,10 +1,15 @@
--- A line of a block that is opened: its number, and the parts that the format says.
+-- A line of a block that is opened: its number, and the parts that the format says; and read.
 -- Assumes nothing.
-use mathlib.Core.Path.{_≡_, refl, ap, _∙_}
+use mathlib.Core.Path.{_≡_, refl, sym, ap, _∙_}
+use mathlib.Core.Bool.{false}
 use mathlib.Core.List.{List}
 use Prim.Native.Nat.{ℕ, _+_, _<_, _≤_}
 use native.Mathlib.Omega.{arith}
+use borrow.Author.Tests.{eq-eqb, le-ltb, lt-ltb, ne-eqb}
+use lib.Dec.{eqb}
 use Rattle.line.specs.declared.Opened.{Opened}
+use Rattle.line_rules.specs.declared.Replacement.{Replacement}
+use Rattle.laws.specs.Refusals.{first}
 use Rattle.bcn_util.specs.declared.stream.BitStream.{BitStream}
 use Rattle.record.specs.declared.reading.ReadSplit.{ReadSplit}
 use Rattle.record_widths.specs.declared.ModeRow.{ModeRow}
@@ -24,7 +29,11 @@ use Rattle.record.specs.Reading.{splitRead}
 use Rattle.record.proofs.Heads.{marker-on, split-is, split-on}
 use Rattle.line_parts.specs.Parts.{OfLine, partOf}
 use Rattle.line_parts.proofs.Parts.{IsPart, is-part, of-line}
+use Rattle.line_rules.specs.Read.{lineRead, noLine, readAs, readRefusal}
+use Rattle.line_rules.proofs.Reading.{read-is}
 use Rattle.line.specs.Opened.{IsOpened}
+use Rattle.line.specs.Reading.{PartSmall, ReadReady, lineAt, widthsIn}
+use Rattle.line.proofs.Standing.{part-small, read-ready, stands-as-read, widths-are}
 
 -- the values start behind the marker and the split
 head-end : (m : ℕ) → m + 1 + (partitionBits m + rotationBits m + indexModeBits m) ≡ headEnd m
@@ -62,3 +71,38 @@ module _ (bs : List ℕ) {mode : ℕ} {row : ModeRow} (em : mode ≡ modeOf bs) 
         stands = o .stands ∙ rw er (head-end mode) ∙ ap headEnd em;
         part = ex ∙ rw (er, the-split, em);
       }
+
+-- READING: refused with 1 and 2, and the line as it stands
+pub read-1 : (bs : List ℕ) (l : ℕ) → modeOf bs ≡ 8 → readAs 1 noLine noLine ≡ lineRead bs l
+unfolding lineRead readRefusal first
+read-1 bs l e = sym (rw (eq-eqb (modeOf bs) 8 e))
+
+module _ (bs : List ℕ) (l : ℕ) (low : modeOf bs < 8) where
+  open-mode : eqb (modeOf bs) 8 ≡ false
+  open-mode = ne-eqb (modeOf bs) 8 (λ z. omega arith)
+
+  pub read-2 : lines (modeOf bs) ≤ l → readAs 2 noLine noLine ≡ lineRead bs l
+  unfolding lineRead readRefusal first
+  read-2 h = sym (rw (open-mode, le-ltb l (lines (modeOf bs)) h))
+
+  no-refusal : l < lines (modeOf bs) → readRefusal bs l ≡ 0
+  unfolding readRefusal first
+  no-refusal h = rw (open-mode, lt-ltb l (lines (modeOf bs)) h)
+
+module _ (bs : List ℕ) (sixteen : Fit eights bs) (low : modeOf bs < 8) (l : ℕ) (hl : l < lines (modeOf bs)) {o : Opened} (i : IsOpened bs l o) where
+  is : IsPart (modeOf bs) (splitOf bs) l (o .part)
+  is = line-is bs sixteen low l hl i
+
+  pub ready-part : PartSmall (o .part)
+  ready-part = part-small (good bs sixteen low) l hl is
+
+  module _ {row : ModeRow} (er : row ≡ rowOf (modeOf bs)) where
+    pub ready-read : ReadReady (o .stream) row l (o .part)
+    unfolding opened
+    ready-read = read-ready (good bs sixteen low) l hl is (number bs) (λ y h. refl) (o .stream) (i .holds) (i .stands) er
+
+    pub read-0 : {r v : Replacement} → r ≡ lineAt (o .stream) (modeOf bs) row l (o .part) → v ≡ widthsIn (o .part) → record { refusal = 0; line = r; widths = v } ≡ lineRead bs l
+    unfolding opened
+    read-0 e f =
+        rw (e, f, stands-as-read (good bs sixteen low) l hl is (number bs) (λ y h. refl) (o .stream) (i .holds) (i .stands) er, widths-are (good bs sixteen low) l hl is)
+        (sym (read-is bs l (no-refusal bs l low hl)))

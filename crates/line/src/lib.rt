@@ -1,5 +1,6 @@
-// Replacing a line of a block: an endpoint pair with its p bits and its indexes. Only the head of the block is read; the line's own
-// fields are put into the block's number, turned where its anchor's index has its top bit set, and nothing else changes.
+// Replacing a line of a block and reading one: an endpoint pair with its p bits and its indexes. Of the block only the head is read,
+// which says where the line's own fields stand. They are put into the block's number, turned where the index at the line's anchor has
+// its top bit set, and nothing else changes; or they are taken out of it.
 ghost use mathlib.Core.Path.{_≡_};
 ghost use mathlib.Core.Bool.{not};
 ghost use Prim.Native.Nat.{_<_};
@@ -10,8 +11,11 @@ ghost use Rattle.format.specs.Block.{bytesOf, modeOf};
 ghost use Rattle.format.specs.Modes.{lines};
 ghost use Rattle.bcn_util.specs.Stream.{held};
 ghost use Rattle.record_widths.specs.Rows.{rowOf};
+ghost use Rattle.line_rules.specs.Read.{givenAs, lineRead, noLine, readAs};
 ghost use Rattle.line_rules.specs.Replace.{replaced, replacedAs};
 ghost use Rattle.line.specs.Opened.{IsOpened};
+use crate::reading::line_at;
+use crate::reading::widths_of;
 use bcn_util::stream::BitStream;
 use bcn_util::writer::BitWriter;
 use line_fields::put_line;
@@ -21,6 +25,7 @@ use line_parts::mask_of;
 use line_parts::only_own;
 use line_parts::oriented;
 use line_parts::parts_fit;
+use line_rules::LineRead;
 use line_rules::Replaced;
 use line_rules::Replacement;
 use record::reading::mode_of;
@@ -28,6 +33,8 @@ use record::reading::read_split;
 use record::writing::word_of;
 use record_widths::ModeRow;
 use record_widths::mode_row;
+
+pub mod reading;
 
 // A block's number, with the stream where its values start, and the parts of a line of it.
 pub struct Opened {
@@ -117,5 +124,51 @@ pub fn replace_line(block: [u8; 16], line: u32, new: Replacement) -> Replaced
     Replaced {
         refusal: 0,
         block: bytes,
+    }
+}
+
+// Nothing, where a reading is refused.
+fn no_line() -> Replacement
+    ensures { λ r. ⌜ r ≡ givenAs noLine ⌝ }
+{
+    Replacement {
+        endpoints: [0; 8],
+        p: [0; 2],
+        indexes: [0; 16],
+    }
+}
+
+fn unread(refusal: u8) -> LineRead
+    ensures { λ r. ⌜ r ≡ readAs refusal noLine noLine ⌝ }
+{
+    let line = no_line();
+    let widths = no_line();
+    LineRead {
+        refusal: refusal,
+        line: line,
+        widths: widths,
+    }
+}
+
+// The line as it stands and the widths of its parts, or the first refusal that applies: 1, 2.
+pub fn read_line(block: [u8; 16], line: u32) -> LineRead
+    ensures { λ r. ⌜ r ≡ lineRead block line ⌝ }
+{
+    let mode = mode_of(block);
+    if mode == 8 {
+        return unread(1);
+    }
+    let row = mode_row(mode);
+    if line >= row.lines {
+        return unread(2);
+    }
+    let opened = open_line(block, mode, row, line);
+    let part = opened.part;
+    let stands = line_at(opened.stream, mode, row, line, part);
+    let widths = widths_of(part);
+    LineRead {
+        refusal: 0,
+        line: stands,
+        widths: widths,
     }
 }

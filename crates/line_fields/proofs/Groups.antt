@@ -1,4 +1,4 @@
--- The groups of a line's places, each put in at once: the pair of a channel, the p bits, the set of indexes.
+-- Two neighbours among a line's places, put in at once: the pair of a channel, the p bits.
 -- Assumes nothing.
 use mathlib.Core.Path.{_≡_, sym, ap, _∙_, subst}
 use mathlib.Core.Logic.{_≢_, _⊎_, ⊎-elim}
@@ -20,16 +20,12 @@ use Rattle.format.specs.Splits.{anchors}
 use Rattle.format.proofs.Places.{placeAt-pos, pos-one}
 use Rattle.format.proofs.Starts.{start, start-next}
 use Rattle.line_rules.specs.Replace.{ownWidth}
-use Rattle.line_rules.proofs.Own.{own-none, own-some}
+use Rattle.line_rules.proofs.Own.{has-width, own-none, own-some}
 use Rattle.line_fields.proofs.Halves.{pair-lt}
 use Rattle.line_fields.proofs.Runs.{Upto, more, nothing-put, passed}
 
 module _ (m : ℕ) (s : Split) (l : ℕ) (o : Line) (f : Place → ℕ) where
-  -- a place that the line has: its width, and what the line has for it
-  pub own-wide : (x : Place) → has m s l x ≡ true → width m [] x ≡ ownWidth m s l x
-  unfolding ownWidth
-  own-wide x h = sym (rw h)
-
+  -- what the line has for a place of its own
   pub own-laid : (x : Place) → has m s l x ≡ true → withLine m s l o f x ≡ laid m o x
   unfolding withLine
   own-laid x h = rw h
@@ -60,13 +56,13 @@ module _ (m : ℕ) (s : Split) (l : ℕ) (o : Line) (f : Place → ℕ) where
           after-a : start m s (pos b) ≡ start m s (pos a) + w
           after-a =
               ap (start m s) next ∙ start-next m s (pos a) (omega arith)
-              ∙ ap (λ (c : ℕ). start m s (pos a) + c) (ap (width m (anchors s)) (placeAt-pos a ia) ∙ fa ∙ own-wide a ha ∙ wa)
+              ∙ ap (λ (c : ℕ). start m s (pos a) + c) (ap (width m (anchors s)) (placeAt-pos a ia) ∙ fa ∙ sym (has-width m s l a ha) ∙ wa)
 
           after-b : start m s (pos a + 2) ≡ start m s (pos b) + w
           after-b =
               let z : pos a + 2 ≡ suc (pos b) = omega arith in
               ap (start m s) z ∙ start-next m s (pos b) (omega arith)
-              ∙ ap (λ (c : ℕ). start m s (pos b) + c) (ap (width m (anchors s)) (placeAt-pos b ib) ∙ fb ∙ own-wide b hb ∙ wb)
+              ∙ ap (λ (c : ℕ). start m s (pos b) + c) (ap (width m (anchors s)) (placeAt-pos b ib) ∙ fb ∙ sym (has-width m s l b hb) ∙ wb)
 
           two : start m s (pos a + 2) - start m s (pos a) ≡ 2 * w
           two = omega (arith, after-a, after-b)
@@ -74,12 +70,12 @@ module _ (m : ℕ) (s : Split) (l : ℕ) (o : Line) (f : Place → ℕ) where
           at-a : v / 2 ^ (start m s (pos a) - start m s (pos a)) % 2 ^ width m (anchors s) a ≡ withLine m s l o f a
           at-a =
               let z : start m s (pos a) - start m s (pos a) ≡ 0 = omega arith in
-              rw (z, fa ∙ own-wide a ha ∙ wa, own-laid a ha, lx) (ap (λ (c : ℕ). c % 2 ^ w) (div-one v) ∙ low y w hx)
+              rw (z, fa ∙ sym (has-width m s l a ha) ∙ wa, own-laid a ha, lx) (ap (λ (c : ℕ). c % 2 ^ w) (div-one v) ∙ low y w hx)
 
           at-b : v / 2 ^ (start m s (pos b) - start m s (pos a)) % 2 ^ width m (anchors s) b ≡ withLine m s l o f b
           at-b =
               let z : start m s (pos b) - start m s (pos a) ≡ w = omega (arith, after-a) in
-              rw (z, fb ∙ own-wide b hb ∙ wb, own-laid b hb, ly) (ap (λ (c : ℕ). c % 2 ^ w) (high y w hx) ∙ mod-eq-of-lt hy)
+              rw (z, fb ∙ sym (has-width m s l b hb) ∙ wb, own-laid b hb, ly) (ap (λ (c : ℕ). c % 2 ^ w) (high y w hx) ∙ mod-eq-of-lt hy)
 
           holds : (p : Place) → T (inside p) → pos a ≤ pos p → pos p < pos a + 2 → v / 2 ^ (start m s (pos p) - start m s (pos a)) % 2 ^ width m (anchors s) p ≡ withLine m s l o f p
           holds p i q r =

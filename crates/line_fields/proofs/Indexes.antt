@@ -96,7 +96,7 @@ module _ {m : ℕ} {s : Split} {f : Place → ℕ} (g : WellFormed m s f) (l : �
       ∙ ap₂ (λ (b : ℕ) (an : List ℕ). total (indexWidths b an)) bits anchors-are
 
   -- as it stands
-  stood-small : Small w stood
+  pub stood-small : Small w stood
   unfolding indexPlace width
   stood-small q h = rw bits (lt-of-lt-of-le (g .fits (index a q) (inside-index ha h)) (pow-mono (pick-less (among q (anchors s)) (indexBits m a))))
 

@@ -1,6 +1,7 @@
 pub mod Halves
 pub mod Runs
 pub mod Groups
+pub mod Taking
 pub mod Putting
 pub mod Room
 pub mod Sets

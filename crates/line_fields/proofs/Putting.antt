@@ -34,9 +34,10 @@ use Rattle.bcn_indexes.specs.Indexes.{indexWidth, indexWidths}
 use Rattle.bc7_fields.proofs.Places.{begins}
 use Rattle.line_rules.specs.Acceptable.{OwnWidths}
 use Rattle.line_rules.specs.Replace.{ownWidth}
+use Rattle.line_rules.proofs.Own.{has-width}
 use Rattle.line_rules.proofs.OwnWidths.{own-widths}
 use Rattle.line_rules.proofs.Put.{has-array, own-pbit, own-value}
-use Rattle.line_fields.proofs.Groups.{own-laid, own-wide, pair-put}
+use Rattle.line_fields.proofs.Groups.{own-laid, pair-put}
 use Rattle.line_fields.proofs.Runs.{Upto, begin, more, passed}
 
 -- in mode 1 one p bit serves both endpoints
@@ -48,13 +49,35 @@ laid-p-1 : (m l : ℕ) (o : Line) → m ≡ 1 → laid m o (pPlace m l 0) ≡ o 
 unfolding laid pPlace
 laid-p-1 m l o e = rw (eq-eqb m 1 e)
 
-module _ {m : ℕ} {s : Split} {f : Place → ℕ} (g : WellFormed m s f) (l : ℕ) (hl : l < lines m) (o : Line) where
+-- the values and the p bits of a line are there, and stand side by side
+module _ {m : ℕ} {s : Split} {f : Place → ℕ} (g : WellFormed m s f) (l : ℕ) (hl : l < lines m) where
   h3 : l < 3
   h3 = omega (arith, lines-le m (g .mode))
 
   ws : OwnWidths m s l
   ws = own-widths g l hl
 
+  pub value-there : (k c : ℕ) → k < 2 → c < 4 → T (inside (valuePlace s l k c))
+  unfolding valuePlace
+  value-there k c hk hc = inside-value {c = c} {e = pick (isVector s) k (2 * l + k)} hc (pick-lt (isVector s) k (2 * l + k) 6 (omega arith) (omega (arith, h3)))
+
+  pub value-next : (c : ℕ) → pos (valuePlace s l 1 c) ≡ suc (pos (valuePlace s l 0 c))
+  unfolding valuePlace pos
+  value-next c = go (isVector s)
+    where
+      go : (v : Bool) → 4 + (6 * c + pick v 1 (2 * l + 1)) ≡ suc (4 + (6 * c + pick v 0 (2 * l + 0)))
+      go true = omega arith
+      go false = omega arith
+
+  pub p-there : (k : ℕ) → k < 2 → T (inside (pPlace m l k))
+  unfolding pPlace
+  p-there k hk = inside-pbit (pick-lt (eqb m 1) l (2 * l + k) 6 (omega (arith, h3)) (omega (arith, h3)))
+
+  pub p-next : m ≢ 1 → pos (pPlace m l 1) ≡ suc (pos (pPlace m l 0))
+  unfolding pPlace pos
+  p-next n1 = rw (ne-eqb m 1 n1) (let z : 28 + (2 * l + 1) ≡ suc (28 + (2 * l + 0)) = omega arith in z)
+
+module _ {m : ℕ} {s : Split} {f : Place → ℕ} (g : WellFormed m s f) (l : ℕ) (hl : l < lines m) (o : Line) where
   abbrev Until : ℕ → ℕ → Type 0
   Until k n = Upto m s l o f k n
 
@@ -64,7 +87,7 @@ module _ {m : ℕ} {s : Split} {f : Place → ℕ} (g : WellFormed m s f) (l : �
   after-head n e = passed m s l o f 4 (omega arith) (begin m s l o f n e) none
     where
       none : (x : Place) → T (inside x) → 0 ≤ pos x → pos x < 4 → has m s l x ≡ false
-      none (head k) i p q = has-head m s l k (omega (arith, h3))
+      none (head k) i p q = has-head m s l k (omega (arith, h3 g l hl))
       none (value c e) i p q = absurd (let y : ⊥ = omega arith in y)
       none (pbit k) i p q = absurd (let y : ⊥ = omega arith in y)
       none (index a q') i p q = absurd (let y : ⊥ = omega arith in y)
@@ -79,23 +102,13 @@ module _ {m : ℕ} {s : Split} {f : Place → ℕ} (g : WellFormed m s f) (l : �
       → n' ≡ replacedAt n (start m s (pos (valuePlace s l 0 c))) (2 * w) (o .value 1 c * 2 ^ w + o .value 0 c) → Until (4 + 6 * c) n → Until (10 + 6 * c) n'
   unfolding valuePlace pos width
   channel-put c w n n' hc hw h0 h1 e u =
-      pair-put m s l o f (valuePlace s l 0 c) (valuePlace s l 1 c) (4 + 6 * c) (10 + 6 * c) w (there 0 (omega arith)) (there 1 (omega arith)) next (omega arith) (room (isVector s)) (omega arith)
-      hw (ws .value 1 c (omega arith) hc ∙ sym (ws .value 0 c (omega arith) hc) ∙ hw) refl refl only
+      pair-put m s l o f (valuePlace s l 0 c) (valuePlace s l 1 c) (4 + 6 * c) (10 + 6 * c) w (value-there g l hl 0 c (omega arith) hc) (value-there g l hl 1 c (omega arith) hc) (value-next g l hl c) (omega arith) (room (isVector s)) (omega arith)
+      hw (ws g l hl .value 1 c (omega arith) hc ∙ sym (ws g l hl .value 0 c (omega arith) hc) ∙ hw) refl refl only
       (o .value 0 c) (o .value 1 c) n n' h0 h1 (laid-value m s l o 0 c (omega arith)) (laid-value m s l o 1 c (omega arith)) e u
     where
-      there : (k : ℕ) → k < 2 → T (inside (valuePlace s l k c))
-      there k hk = inside-value {c = c} {e = pick (isVector s) k (2 * l + k)} hc (pick-lt (isVector s) k (2 * l + k) 6 (omega arith) (omega (arith, h3)))
-
-      next : pos (valuePlace s l 1 c) ≡ suc (pos (valuePlace s l 0 c))
-      next = go (isVector s)
-        where
-          go : (v : Bool) → 4 + (6 * c + pick v 1 (2 * l + 1)) ≡ suc (4 + (6 * c + pick v 0 (2 * l + 0)))
-          go true = omega arith
-          go false = omega arith
-
       room : (v : Bool) → 4 + (6 * c + pick v 0 (2 * l + 0)) + 2 ≤ 10 + 6 * c
       room true = omega arith
-      room false = omega (arith, h3)
+      room false = omega (arith, h3 g l hl)
 
       only : (x : Place) → T (inside x) → 4 + 6 * c ≤ pos x → pos x < 10 + 6 * c → has m s l x ≡ true → (x ≡ valuePlace s l 0 c) ⊎ (x ≡ valuePlace s l 1 c)
       only (head k) i p q h = absurd (let k4 : k < 4 = ltb→lt k 4 i in let y : ⊥ = omega arith in y)
@@ -119,21 +132,15 @@ module _ {m : ℕ} {s : Split} {f : Place → ℕ} (g : WellFormed m s f) (l : �
       → n' ≡ replacedAt n (start m s (pos (pPlace m l 0))) (2 * w) (o .p 1 * 2 ^ w + o .p 0) → Until 28 n → Until 34 n'
   unfolding pPlace pos width
   p-put w n n' n1 hw h0 h1 e u =
-      pair-put m s l o f (pPlace m l 0) (pPlace m l 1) 28 34 w (there 0 (omega arith)) (there 1 (omega arith)) next (omega arith) room (omega arith)
-      (ws .p 0 (omega arith) ∙ hw) (ws .p 1 (omega arith) ∙ hw) refl refl only
+      pair-put m s l o f (pPlace m l 0) (pPlace m l 1) 28 34 w (p-there g l hl 0 (omega arith)) (p-there g l hl 1 (omega arith)) (p-next g l hl n1) (omega arith) room (omega arith)
+      (ws g l hl .p 0 (omega arith) ∙ hw) (ws g l hl .p 1 (omega arith) ∙ hw) refl refl only
       (o .p 0) (o .p 1) n n' h0 h1 (laid-p m l o 0 (omega arith) (λ z. absurd (n1 z))) (laid-p m l o 1 (omega arith) (λ z. absurd (n1 z))) e u
     where
       not-1 : eqb m 1 ≡ false
       not-1 = ne-eqb m 1 n1
 
-      there : (k : ℕ) → k < 2 → T (inside (pPlace m l k))
-      there k hk = inside-pbit (pick-lt (eqb m 1) l (2 * l + k) 6 (omega (arith, h3)) (omega (arith, h3)))
-
-      next : pos (pPlace m l 1) ≡ suc (pos (pPlace m l 0))
-      next = rw not-1 (let z : 28 + (2 * l + 1) ≡ suc (28 + (2 * l + 0)) = omega arith in z)
-
       room : pos (pPlace m l 0) + 2 ≤ 34
-      room = rw not-1 (omega (arith, h3))
+      room = rw not-1 (omega (arith, h3 g l hl))
 
       only : (x : Place) → T (inside x) → 28 ≤ pos x → pos x < 34 → has m s l x ≡ true → (x ≡ pPlace m l 0) ⊎ (x ≡ pPlace m l 1)
       only x i p q h =
@@ -143,24 +150,24 @@ module _ {m : ℕ} {s : Split} {f : Place → ℕ} (g : WellFormed m s f) (l : �
   -- in mode 1 the line has one
   pub p-put-1 : (n n' : ℕ) → m ≡ 1 → pCount m ≢ 0 → o .p 0 < 2 → n' ≡ replacedAt n (start m s (28 + l)) 1 (o .p 0) → Until 28 n → Until 34 n'
   unfolding pos width
-  p-put-1 n n' e1 some h0 e u = more m s l o f (28 + l) (28 + l + 1) 34 (o .p 0) n' (omega arith) (omega arith) (omega (arith, h3)) (omega arith) (rw one h0) (rw one e) u holds others
+  p-put-1 n n' e1 some h0 e u = more m s l o f (28 + l) (28 + l + 1) 34 (o .p 0) n' (omega arith) (omega arith) (omega (arith, h3 g l hl)) (omega arith) (rw one h0) (rw one e) u holds others
     where
       here : pPlace m l 0 ≡ pbit l
       here = p-place-1 m l 0 e1
 
       there : T (inside (pbit l))
-      there = inside-pbit {k = l} (omega (arith, h3))
+      there = inside-pbit {k = l} (omega (arith, h3 g l hl))
 
       mine : has m s l (pbit l) ≡ true
       mine = rw here at (has-p g l hl 0 (omega arith) some)
 
       bit : width m (anchors s) (pbit l) ≡ 1
-      bit = own-wide m s l o f (pbit l) mine ∙ (rw (here, ne-eqb (pCount m) 0 some) at (ws .p 0 (omega arith)))
+      bit = sym (has-width m s l (pbit l) mine) ∙ (rw (here, ne-eqb (pCount m) 0 some) at (ws g l hl .p 0 (omega arith)))
 
       one : start m s (28 + l + 1) - start m s (28 + l) ≡ 1
       one =
           let z : 28 + l + 1 ≡ suc (28 + l) = omega arith in
-          let n : start m s (28 + l + 1) ≡ start m s (28 + l) + 1 = ap (start m s) z ∙ start-next m s (28 + l) (omega (arith, h3)) ∙ ap (λ (c : ℕ). start m s (28 + l) + c) (ap (width m (anchors s)) (placeAt-pos (pbit l) there) ∙ bit) in
+          let n : start m s (28 + l + 1) ≡ start m s (28 + l) + 1 = ap (start m s) z ∙ start-next m s (28 + l) (omega (arith, h3 g l hl)) ∙ ap (λ (c : ℕ). start m s (28 + l) + c) (ap (width m (anchors s)) (placeAt-pos (pbit l) there) ∙ bit) in
           omega (arith, n)
 
       holds : (x : Place) → T (inside x) → 28 + l ≤ pos x → pos x < 28 + l + 1 → o .p 0 / 2 ^ (start m s (pos x) - start m s (28 + l)) % 2 ^ width m (anchors s) x ≡ withLine m s l o f x

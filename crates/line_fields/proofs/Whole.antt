@@ -51,16 +51,16 @@ use Rattle.line_fields.proofs.Putting.{after-head, channel-put, indexes
 use Rattle.line_fields.proofs.Runs.{Upto, nothing-put}
 use Rattle.line_fields.proofs.Starting.{channel-low, channel-starts, channelAt, p-low, p-starts, set-starts}
 
-two-of-1 : (m : ℕ) → m ≡ 1 → pCount m ≢ 0
+pub two-of-1 : (m : ℕ) → m ≡ 1 → pCount m ≢ 0
 unfolding modeRow
 two-of-1 m e = rw e (λ z. omega arith)
 
-head-low : (m : ℕ) → m < 8 → headEnd m ≤ 16
+pub head-low : (m : ℕ) → m < 8 → headEnd m ≤ 16
 unfolding headEnd modeRow
 head-low m h = leb→le _ 16 (at-each 8 (λ m. leb (headEnd m) 16) tt m h)
 
 -- where the places end
-whole-start : {m : ℕ} {s : Split} {f : Place → ℕ} → WellFormed m s f → start m s 66 ≡ 128
+pub whole-start : {m : ℕ} {s : Split} {f : Place → ℕ} → WellFormed m s f → start m s 66 ≡ 128
 unfolding start widths
 whole-start {m} {s} g = ap total (take-table 66 66 (λ i. width m (anchors s) (placeAt i)) (le-refl 66)) ∙ good-total g
 

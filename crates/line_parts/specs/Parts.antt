@@ -14,15 +14,21 @@ use Rattle.record_widths.specs.declared.Anchors.{Anchors}
 use Rattle.record_widths.specs.declared.ModeRow.{ModeRow}
 use Rattle.format.specs.declared.Split.{Split}
 use Rattle.format.specs.declared.Split.the-variants.{Whole, Two, Three, Vector}
-use Rattle.laws.specs.Tables.{below, both, pick}
+use Rattle.laws.specs.Digits.{join}
+use Rattle.laws.specs.Tables.{below, both, pick, table}
 use Rattle.format.specs.Block.{field}
 use Rattle.format.specs.Splits.{isVector, kindOf, partition}
 use Rattle.bcn_data.specs.Maps.{map2, map3}
+use Rattle.bcn_indexes.specs.Indexes.{indexWidths}
 use Rattle.record_widths.specs.Rows.{anchorsOf}
 
 -- is pixel q among them
 unfoldable pub ownPixel : Pixels → ℕ → Bool
 ownPixel x q = eqb (field (x .map) (q * x .bits) (x .bits)) (x .subset)
+
+-- all ones at each of them, zeros at the others, in a word of parts of w bits
+abbrev pub maskOf : Pixels → ℕ → ℕ
+maskOf x w = join (indexWidths w []) (table 16 (λ q. pick (ownPixel x q) (2 ^ w - 1) 0))
 
 abbrev pub pixelsAs : ℕ → ℕ → ℕ → Pixels
 pixelsAs m b k = record { map = m; bits = b; subset = k }

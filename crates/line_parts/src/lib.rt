@@ -1,16 +1,12 @@
 // What a line has: the widths of its parts, the set of its indexes, its pixels and its anchor; and whether a given line keeps to it.
 ghost use mathlib.Core.Path.{_≡_};
-ghost use mathlib.Core.List.{[]};
-ghost use Prim.Native.Nat.{_-_, _%_, _^_, _≤_, _<_};
+ghost use Prim.Native.Nat.{_%_, _^_, _≤_, _<_};
 ghost use lib.Bits.{bitAnd};
 ghost use lib.Dec.{eqb, ltb};
 ghost use lib.ListN.{getD};
-ghost use Rattle.laws.specs.Digits.{join};
-ghost use Rattle.laws.specs.Tables.{below, pick, table};
-ghost use Rattle.format.specs.Splits.{isVector};
+ghost use Rattle.laws.specs.Tables.{below, pick};
 ghost use Rattle.format.specs.Splits.{partition as partitionOf};
-ghost use Rattle.bcn_indexes.specs.Indexes.{indexWidths};
-ghost use Rattle.line_parts.specs.Parts.{OfLine, allPixels, anchorIn, linePixels, ownPixel, partOf, partsFit, setOf, storedAs};
+ghost use Rattle.line_parts.specs.Parts.{OfLine, allPixels, anchorIn, linePixels, maskOf, ownPixel, partOf, partsFit, setOf, storedAs};
 use bcn_data::subset_indexes_2;
 use bcn_data::subset_indexes_3;
 use bcn_util::stream::word;
@@ -178,7 +174,7 @@ pub fn line_part(row: ModeRow, split: Split, line: u32) -> LinePart
 }
 
 // A value at a pixel of the line, and zero at any other.
-fn at_own(pixels: Pixels, pixel: usize, value: u64) -> u64
+pub fn at_own(pixels: Pixels, pixel: usize, value: u64) -> u64
     requires { ⌜ (pixels .bits ≤ 2) × (pixel < 16) ⌝ }
     ensures { λ r. ⌜ r ≡ pick (ownPixel pixels pixel) value 0 ⌝ }
 {
@@ -191,7 +187,7 @@ fn at_own(pixels: Pixels, pixel: usize, value: u64) -> u64
 // All ones at each pixel of the line, zeros at the others, in a word of parts of one width.
 pub fn mask_of(pixels: Pixels, width: u32) -> u64
     requires { ⌜ (pixels .bits ≤ 2) × (width ≤ 4) ⌝ }
-    ensures { λ r. ⌜ r ≡ join (indexWidths width []) (table 16 (λ q. pick (ownPixel pixels q) (2 ^ width - 1) 0)) ⌝ }
+    ensures { λ r. ⌜ r ≡ maskOf pixels width ⌝ }
 {
     let ones = (1u64 << width) - 1;
     let mut mask: u64 = 0;

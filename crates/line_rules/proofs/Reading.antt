@@ -41,6 +41,7 @@ use Rattle.line_rules.proofs.Accepting.{accepted-is, on-block, open-is}
 use Rattle.line_rules.proofs.Blocks.{accepted-open, after-mode, after-sixteen, after-split, given-drawn, places-kept, places-stored}
 use Rattle.line_rules.proofs.Draws.{drawn-by}
 use Rattle.line_rules.proofs.Given.{same-oriented}
+use Rattle.line_rules.proofs.Own.{no-width}
 use Rattle.line_rules.proofs.OwnWidths.{own-widths}
 use Rattle.line_rules.proofs.Put.{has-array, own-pbit, own-value}
 
@@ -238,18 +239,14 @@ module _ (bs : List ℕ) (sixteen : Fit eights bs) where
     nothing : {v w : ℕ} → v < 2 ^ w → w ≡ 0 → v ≡ 0
     nothing {v} b z = let y : v < 1 = rw z at b in let x : v ≡ 0 = omega arith in x
 
-    no-width : (x : Place) → has m s l x ≡ false → ownWidth m s l x ≡ 0
-    unfolding ownWidth
-    no-width x h = rw h
-
     no-value : (k j ch : ℕ) → k < 2 → j < 2 → ch < 4 → has m s l (valuePlace s l k ch) ≡ false → c .given .value j ch ≡ 0
-    no-value k j ch hk hj hc h = nothing (a .within .value j ch hj hc) (ws .value j ch hj hc ∙ sym (ws .value k ch hk hc) ∙ no-width _ h)
+    no-value k j ch hk hj hc h = nothing (a .within .value j ch hj hc) (ws .value j ch hj hc ∙ sym (ws .value k ch hk hc) ∙ no-width m s l _ h)
 
     no-p : (k j : ℕ) → k < 2 → j < 2 → has m s l (pPlace m l k) ≡ false → c .given .p j ≡ 0
-    no-p k j hk hj h = nothing (a .within .p j hj) (ws .p j hj ∙ sym (ws .p k hk) ∙ no-width _ h)
+    no-p k j hk hj h = nothing (a .within .p j hj) (ws .p j hj ∙ sym (ws .p k hk) ∙ no-width m s l _ h)
 
     no-index : (q : ℕ) → q < 16 → has m s l (indexPlace s l q) ≡ false → c .given .index q ≡ 0
-    no-index q hq h = nothing (a .within .index q hq) (no-width _ h)
+    no-index q hq h = nothing (a .within .index q hq) (no-width m s l _ h)
 
     -- what is read is what was laid there
     stored : (x : Place) {v : ℕ} → (has m s l x ≡ true → laid m (oriented m s l (c .given)) x ≡ v) → (has m s l x ≡ false → v ≡ 0) → own m s l (opened (after bs c)) x ≡ v
