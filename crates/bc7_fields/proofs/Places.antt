@@ -17,7 +17,7 @@ use Rattle.laws.specs.Tables.{below, implies, pick, table, tableFrom}
 use Rattle.laws.proofs.Rows.{split-mod, total-more}
 use Rattle.laws.proofs.Tests.{at, implied}
 use Rattle.format.specs.Block.{field}
-use Rattle.format.specs.Modes.{channelBits, endpointCount, indexBits, kindOfMode, modeRow, pCount}
+use Rattle.format.specs.Modes.{alphaBits, channelBits, colourBits, endpointCount, indexBits, kindOfMode, modeRow, pCount}
 use Rattle.format.specs.Places.{atPlace, index, pbit, placeAt, pos, value, width, widths}
 use Rattle.format.specs.Splits.{anchors, splitAt}
 use Rattle.format.proofs.Places.{inside-index, inside-pbit, inside-value, placeAt-pos}
@@ -34,12 +34,21 @@ values-start : (s : Split) → T (below 8 (λ m. below 4 (λ c. below 6 (valueTe
 unfolding valueTest start widths table tableFrom placeAt width pos headEnd valueStart implies modeRow endpointCount
 values-start s = tt
 
+-- the p bits come behind the values, one bit each
+abbrev pub valuesEnd : ℕ → ℕ
+valuesEnd m = headEnd m + endpointCount m * (3 * colourBits m + alphaBits m)
+
 pTest : Split → ℕ → ℕ → Bool
-pTest s m e = implies (ltb (pick (eqb m 1) (e / 2) e) (pCount m)) (eqb (start m s (pos (pbit (pick (eqb m 1) (e / 2) e)))) (pStart m e))
+pTest s m k = implies (ltb k (pCount m)) (eqb (start m s (pos (pbit k))) (valuesEnd m + k))
 
 ps-start : (s : Split) → T (below 8 (λ m. below 6 (pTest s m)))
-unfolding pTest start widths table tableFrom placeAt width pos headEnd pStart implies modeRow endpointCount
+unfolding pTest start widths table tableFrom placeAt width pos headEnd implies modeRow endpointCount
 ps-start s = tt
+
+-- and the indexes behind those
+pub first-start : (m : ℕ) (s : Split) → m < 8 → start m s 34 ≡ valuesEnd m + pCount m
+unfolding start widths table tableFrom placeAt width headEnd modeRow endpointCount
+first-start m s h = eqb→eq _ _ (at 8 (λ m. eqb (start m s 34) (valuesEnd m + pCount m)) tt m h)
 
 six-ends : (m : ℕ) → m < 8 → endpointCount m ≤ 6
 unfolding modeRow endpointCount
@@ -59,14 +68,19 @@ module _ (m : ℕ) (s : Split) (n : ℕ) (hm : m < 8) where
       at-field m s n (value c e) (inside-value hc six)
       ∙ ap₂ (λ (x y : ℕ). n / 2 ^ x % 2 ^ y) begins (ap (λ (b : Bool). pick b (channelBits m c) 0) (lt-ltb e (endpointCount m) he))
 
-  pub p-at : (e : ℕ) → e < 6 → pick (eqb m 1) (e / 2) e < pCount m → atPlace m s n (pbit (pick (eqb m 1) (e / 2) e)) ≡ field n (pStart m e) 1
+  pub bit-at : (k : ℕ) → k < pCount m → atPlace m s n (pbit k) ≡ field n (valuesEnd m + k) 1
   unfolding field width pTest
-  p-at e he hk =
-      let k : ℕ = pick (eqb m 1) (e / 2) e in
-      let test : T (pTest s m e) = at 6 (pTest s m) (at 8 (λ m. below 6 (pTest s m)) (ps-start s) m hm) e he in
-      let begins : start m s (pos (pbit k)) ≡ pStart m e = eqb→eq _ _ (implied (ltb k (pCount m)) _ test (lt→ltb k (pCount m) hk)) in
-      at-field m s n (pbit k) (inside-pbit (lt-of-lt-of-le hk (six-ps m hm)))
+  bit-at k hk =
+      let six : k < 6 = lt-of-lt-of-le hk (six-ps m hm) in
+      let test : T (pTest s m k) = at 6 (pTest s m) (at 8 (λ m. below 6 (pTest s m)) (ps-start s) m hm) k six in
+      let begins : start m s (pos (pbit k)) ≡ valuesEnd m + k = eqb→eq _ _ (implied (ltb k (pCount m)) _ test (lt→ltb k (pCount m) hk)) in
+      at-field m s n (pbit k) (inside-pbit six)
       ∙ ap₂ (λ (x y : ℕ). n / 2 ^ x % 2 ^ y) begins (ap (λ (b : Bool). pick {A = ℕ} b 1 0) (lt-ltb k (pCount m) hk))
+
+  -- endpoint e's p: in mode 1 one serves both endpoints of a subset
+  pub p-at : (e : ℕ) → e < 6 → pick (eqb m 1) (e / 2) e < pCount m → atPlace m s n (pbit (pick (eqb m 1) (e / 2) e)) ≡ field n (pStart m e) 1
+  unfolding pStart
+  p-at e he hk = bit-at (pick (eqb m 1) (e / 2) e) hk
 
 -- the indexes of set a, one after the other
 module _ (m : ℕ) (s : Split) (a : ℕ) (ha : a < 2) where
@@ -77,7 +91,7 @@ module _ (m : ℕ) (s : Split) (a : ℕ) (ha : a < 2) where
   unfolding pos width
   wide-is q hq = ap (width m (anchors s)) (placeAt-pos (index a q) (inside-index ha hq))
 
-  begins : (q : ℕ) → q ≤ 16 → start m s (34 + (16 * a + q)) ≡ start m s (34 + (16 * a + 0)) + total (table q wide)
+  pub begins : (q : ℕ) → q ≤ 16 → start m s (34 + (16 * a + q)) ≡ start m s (34 + (16 * a + 0)) + total (table q wide)
   unfolding table tableFrom
   begins zero h = omega arith
   begins (suc q) h =

@@ -21,7 +21,7 @@ use Rattle.bcn_util.proofs.On.{split-fields}
 use Rattle.bcn_util.proofs.Words.{shl-keeps}
 
 -- a writer is what it has written, and its position
-written-of : (n a : ℕ) → written (writerOf n a) ≡ n
+pub written-of : (n a : ℕ) → written (writerOf n a) ≡ n
 unfolding written
 written-of n a = div-add-mod' n (2 ^ 64)
 

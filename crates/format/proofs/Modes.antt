@@ -60,7 +60,7 @@ pub record ByVector (m : ℕ) : Type 0 where
   pub least2 : 2 ≤ secondBits m
   pub most2 : secondBits m ≤ 4
 
-by-subset : (m : ℕ) → m < 8 → (kindOfMode m ≡ 3 → ⊥) → BySubset m
+pub by-subset : (m : ℕ) → m < 8 → (kindOfMode m ≡ 3 → ⊥) → BySubset m
 unfolding modeRow kindOfMode endpointCount
 by-subset zero h k = omega arith
 by-subset (suc zero) h k = omega arith
@@ -72,7 +72,7 @@ by-subset (suc (suc (suc (suc (suc (suc zero)))))) h k = omega arith
 by-subset (suc (suc (suc (suc (suc (suc (suc zero))))))) h k = omega arith
 by-subset (suc (suc (suc (suc (suc (suc (suc (suc m)))))))) h k = absurd (let z : ⊥ = omega arith in z)
 
-by-vector : (m : ℕ) → kindOfMode m ≡ 3 → ByVector m
+pub by-vector : (m : ℕ) → kindOfMode m ≡ 3 → ByVector m
 unfolding modeRow kindOfMode endpointCount
 by-vector zero k = absurd (let z : ⊥ = omega arith in z)
 by-vector (suc zero) k = absurd (let z : ⊥ = omega arith in z)

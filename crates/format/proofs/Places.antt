@@ -68,6 +68,9 @@ pub inside-placeAt : (i : ℕ) → i < 66 → T (inside (placeAt i))
 unfolding placeAt
 inside-placeAt i h = at 66 (λ i. inside (placeAt i)) tt i h
 
+pub pos-one : (x y : Place) → T (inside x) → T (inside y) → pos x ≡ pos y → x ≡ y
+pos-one x y hx hy e = sym (placeAt-pos x hx) ∙ ap placeAt e ∙ placeAt-pos y hy
+
 -- a list by its places, and back
 pub at-list : (f : Place → ℕ) (x : Place) → T (inside x) → getD (listOf f) (pos x) 0 ≡ f x
 unfolding listOf

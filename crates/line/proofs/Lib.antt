@@ -1,3 +1,3 @@
-pub mod Widths
-pub mod ThroughRecord
+pub mod Standing
+pub mod Opening
 pub mod Ways

@@ -53,5 +53,13 @@ own-some m s l x n = go (has m s l x) refl
     go true t = refl
     go false t = absurd (n (rw t))
 
+pub has-width : (m : ℕ) (s : Split) (l : ℕ) (x : Place) → has m s l x ≡ true → ownWidth m s l x ≡ width m [] x
+unfolding ownWidth
+has-width m s l x h = rw h
+
+pub no-width : (m : ℕ) (s : Split) (l : ℕ) (x : Place) → has m s l x ≡ false → ownWidth m s l x ≡ 0
+unfolding ownWidth
+no-width m s l x h = rw h
+
 pub line-below-3 : {m : ℕ} {s : Split} {l : ℕ} → LineOfBlock m s l → l < 3
 line-below-3 {m} h = omega (arith, h .line, lines-le m (h .holds .mode))

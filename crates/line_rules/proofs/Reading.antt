@@ -23,14 +23,14 @@ use Rattle.laws.proofs.Refusals.{Answers, accepted-when, answers, by-not-ltb, n
 use Rattle.laws.proofs.Tests.{T-true, both-left, both-right, no-both, not-so}
 use Rattle.format.specs.Block.{eights, modeOf}
 use Rattle.format.specs.Lines.{Line, anchorOf, draws, has, indexPlace, laid, lineBits, lineOf, meant, own, pPlace, pixel, rotated, shown, turned, valuePlace, withLine}
-use Rattle.format.specs.Modes.{endpointCount, lines}
+use Rattle.format.specs.Modes.{lines}
 use Rattle.format.specs.Partitions.{among}
 use Rattle.format.specs.Places.{Place, head, index, inside, opened, pbit, value, width}
-use Rattle.format.specs.Splits.{anchors, isVector, rotation, splitOf}
+use Rattle.format.specs.Splits.{anchors, rotation, splitOf}
 use Rattle.format.specs.WellFormed.{WellFormed}
 use Rattle.format.proofs.Lens.{has-head, has-one, has-parts, line-from}
 use Rattle.format.proofs.Meaning.{good-rotation, laid-index, laid-p, laid-value, means-ext, rotated-lt}
-use Rattle.format.proofs.Modes.{anchor-is, anchor-lt, good-64, good-vector, lines-le}
+use Rattle.format.proofs.Modes.{anchor-is, anchor-lt, good-64, lines-le}
 use Rattle.format.proofs.Opening.{block-ext, block-opened, opened-good}
 use Rattle.format.proofs.Places.{width-le}
 use Rattle.format.proofs.Reserved.{open-mode, reserved-mode}
@@ -41,8 +41,9 @@ use Rattle.line_rules.proofs.Accepting.{accepted-is, on-block, open-is}
 use Rattle.line_rules.proofs.Blocks.{accepted-open, after-mode, after-sixteen, after-split, given-drawn, places-kept, places-stored}
 use Rattle.line_rules.proofs.Draws.{drawn-by}
 use Rattle.line_rules.proofs.Given.{same-oriented}
+use Rattle.line_rules.proofs.Own.{no-width}
 use Rattle.line_rules.proofs.OwnWidths.{own-widths}
-use Rattle.line_rules.proofs.Put.{has-array}
+use Rattle.line_rules.proofs.Put.{has-array, own-pbit, own-value}
 
 -- two lines of which a replacement says the same
 pub record Agree (a b : Line) : Type 0 where
@@ -95,25 +96,10 @@ module _ {m : ℕ} {s : Split} {f : Place → ℕ} (g : WellFormed m s f) (l : �
   own-is x h = rw h
 
   laid-own : (x : Place) → has m s l x ≡ true → laid m (lineOf m s l f) x ≡ f x
-  unfolding laid lineOf valuePlace pPlace indexPlace width
+  unfolding laid lineOf indexPlace
   laid-own (head k) h = absurd (no-both h (has-head m s l k (omega (arith, lines-le m (g .mode)))))
-  laid-own (value c e) h = ap (λ (j : ℕ). own m s l f (value c j)) (go (isVector s) refl) ∙ own-is (value c e) h
-    where
-      there : ltb e (endpointCount m) ≡ true
-      there = not-none (ltb e (endpointCount m)) _ (has-parts m s l (value c e) h .1)
-        where
-          not-none : (b : Bool) (w : ℕ) → pick b w 0 ≢ 0 → b ≡ true
-          not-none true w n = refl
-          not-none false w n = absurd (n refl)
-
-      go : (v : Bool) → isVector s ≡ v → pick v (e % 2) (2 * l + e % 2) ≡ e
-      go true v = let n : e < endpointCount m = ltb→lt e (endpointCount m) (rw there tt) in let z : e % 2 ≡ e = omega (arith, good-vector g v .ends) in z
-      go false v = let z : e / 2 ≡ l = rw v at (has-parts m s l (value c e) h .2) in let y : 2 * l + e % 2 ≡ e = omega arith in y
-  laid-own (pbit k) h = ap (λ (j : ℕ). own m s l f (pbit j)) (go (eqb m 1) refl) ∙ own-is (pbit k) h
-    where
-      go : (b : Bool) → eqb m 1 ≡ b → pick b l (2 * l + pick b 0 (k % 2)) ≡ k
-      go true b = let z : k ≡ l = rw b at (has-parts m s l (pbit k) h .2) in sym z
-      go false b = let z : k / 2 ≡ l = rw b at (has-parts m s l (pbit k) h .2) in let y : 2 * l + k % 2 ≡ k = omega arith in y
+  laid-own (value c e) h = ap (own m s l f) (own-value g l c e h) ∙ own-is (value c e) h
+  laid-own (pbit k) h = ap (own m s l f) (own-pbit m s l k h) ∙ own-is (pbit k) h
   laid-own (index a q) h = ap (λ (j : ℕ). own m s l f (index j q)) (sym (has-array g l a q h)) ∙ own-is (index a q) h
 
   -- what is read fits, and needs no turn
@@ -253,18 +239,14 @@ module _ (bs : List ℕ) (sixteen : Fit eights bs) where
     nothing : {v w : ℕ} → v < 2 ^ w → w ≡ 0 → v ≡ 0
     nothing {v} b z = let y : v < 1 = rw z at b in let x : v ≡ 0 = omega arith in x
 
-    no-width : (x : Place) → has m s l x ≡ false → ownWidth m s l x ≡ 0
-    unfolding ownWidth
-    no-width x h = rw h
-
     no-value : (k j ch : ℕ) → k < 2 → j < 2 → ch < 4 → has m s l (valuePlace s l k ch) ≡ false → c .given .value j ch ≡ 0
-    no-value k j ch hk hj hc h = nothing (a .within .value j ch hj hc) (ws .value j ch hj hc ∙ sym (ws .value k ch hk hc) ∙ no-width _ h)
+    no-value k j ch hk hj hc h = nothing (a .within .value j ch hj hc) (ws .value j ch hj hc ∙ sym (ws .value k ch hk hc) ∙ no-width m s l _ h)
 
     no-p : (k j : ℕ) → k < 2 → j < 2 → has m s l (pPlace m l k) ≡ false → c .given .p j ≡ 0
-    no-p k j hk hj h = nothing (a .within .p j hj) (ws .p j hj ∙ sym (ws .p k hk) ∙ no-width _ h)
+    no-p k j hk hj h = nothing (a .within .p j hj) (ws .p j hj ∙ sym (ws .p k hk) ∙ no-width m s l _ h)
 
     no-index : (q : ℕ) → q < 16 → has m s l (indexPlace s l q) ≡ false → c .given .index q ≡ 0
-    no-index q hq h = nothing (a .within .index q hq) (no-width _ h)
+    no-index q hq h = nothing (a .within .index q hq) (no-width m s l _ h)
 
     -- what is read is what was laid there
     stored : (x : Place) {v : ℕ} → (has m s l x ≡ true → laid m (oriented m s l (c .given)) x ≡ v) → (has m s l x ≡ false → v ≡ 0) → own m s l (opened (after bs c)) x ≡ v

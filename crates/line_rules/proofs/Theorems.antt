@@ -1,6 +1,6 @@
 -- DEMAND 3: WHAT IS PROVED of replacing lines and of reading them, in one place. `Fit eights bs` says that bs is sixteen bytes.
 -- Assumes nothing.
-use mathlib.Core.Path.{_≡_, refl, sym, ap, _∙_}
+use mathlib.Core.Path.{_≡_, sym, ap, _∙_}
 use mathlib.Core.Logic.{_≢_, _↔_}
 use mathlib.Core.Bool.{true, false}
 use mathlib.Core.List.{List, _∷_, _++_}

@@ -47,7 +47,7 @@ abbrev pub readRules : List ℕ → ℕ → List Rule
 readRules bs l = unless 1 (getD bs 0 0 ≢ 0) ∷ unless 2 (l < lines (modeOf bs)) ∷ []
 
 -- what `read_line` answers: a stored index is the full one, for the top bit that an anchor's lacks is zero
-abbrev noLine : Line
+abbrev pub noLine : Line
 noLine = record { value = λ k c. 0; p = λ k. 0; index = λ q. 0 }
 
 abbrev pub readAs : ℕ → Line → Line → LineRead

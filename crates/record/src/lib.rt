@@ -1,22 +1,30 @@
 // A block taken apart into a record, and a record packed into a block. The record is what the lines of a block are read from
 // and replaced in.
 ghost use mathlib.Core.Path.{_≡_};
+ghost use Prim.Native.Nat.{_<_};
 ghost use lib.ListN.{replicate};
-ghost use Rattle.record_rules.specs.Records.{packed, packedAs, taken, zeroRecord};
+ghost use Rattle.format.specs.Block.{modeOf};
+ghost use Rattle.record_rules.specs.Records.{packed, packedAs, recordOf, taken, zeroRecord};
+ghost use Rattle.record_widths.specs.Rows.{rowOf};
 use crate::reading::mode_of;
-use crate::reading::read_places;
+use crate::reading::parts_of;
+use crate::reading::read_endpoints;
+use crate::reading::read_indexes;
+use crate::reading::read_p;
+use crate::reading::read_second;
 use crate::reading::read_split;
-use crate::writing::write_places;
+use crate::writing::anchors_fit;
+use crate::writing::record_fits;
+use crate::writing::write_record;
+use bcn_util::stream::BitStream;
 use format::Split;
-use record_places::places::fit_widths;
-use record_places::places::record_of;
 use record_places::splits::kind_of;
 use record_rules::Packed;
 use record_rules::Record;
 use record_rules::Unpacked;
+use record_widths::ModeRow;
 use record_widths::anchors_of;
 use record_widths::mode_row;
-use record_widths::no_anchors;
 
 pub mod reading;
 pub mod writing;
@@ -35,6 +43,32 @@ fn zero_record() -> Record
     }
 }
 
+// The record of a block that is not reserved, by its mode and the row of that mode.
+fn read_record(block: [u8; 16], mode: u8, row: ModeRow) -> Record
+    requires { ⌜ (mode ≡ modeOf block) × (mode < 8) × (row ≡ rowOf mode) ⌝ }
+    ensures { λ r. ⌜ r ≡ recordOf block ⌝ }
+{
+    let head = read_split(row, BitStream::new(block).skip(mode as u32 + 1));
+    let split = head.split;
+    let values = read_endpoints(row, head.stream);
+    let endpoints = values.endpoints;
+    let bits = read_p(row, values.stream);
+    let p = bits.p;
+    let anchors = anchors_of(split);
+    let set = read_indexes(row.kind, anchors, row.first, bits.stream);
+    let indexes = set.indexes;
+    let first = parts_of(indexes.uncompressed, row.first);
+    let second = read_second(row, anchors, set.stream);
+    Record {
+        mode: mode,
+        split: split,
+        endpoints: endpoints,
+        p: p,
+        first: first,
+        second: second,
+    }
+}
+
 // The record of a block; a reserved block is refused with 1.
 pub fn unpack(block: [u8; 16]) -> Unpacked
     ensures { λ r. ⌜ r ≡ taken block ⌝ }
@@ -47,9 +81,7 @@ pub fn unpack(block: [u8; 16]) -> Unpacked
             record: zero,
         };
     }
-    let split = read_split(block, mode);
-    let values = read_places(block, mode, anchors_of(split));
-    let record = record_of(mode, split, values);
+    let record = read_record(block, mode, mode_row(mode));
     Unpacked {
         refusal: 0,
         record: record,
@@ -79,14 +111,14 @@ pub fn pack(record: Record) -> Packed
     if kind_of(split) != row.kind {
         return refused(5);
     }
-    if !fit_widths(record, no_anchors()) {
+    if !record_fits(record, row) {
         return refused(3);
     }
     let anchors = anchors_of(split);
-    if !fit_widths(record, anchors) {
+    if !anchors_fit(record, row, anchors) {
         return refused(6);
     }
-    let block = write_places(record, anchors);
+    let block = write_record(record, row, anchors);
     Packed {
         refusal: 0,
         block: block,

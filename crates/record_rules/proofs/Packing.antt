@@ -51,7 +51,7 @@ module _ {m : ℕ} {s : Split} {f : Place → ℕ} (g : WellFormed m s f) where
   says-made (index (suc zero) q) h = getD-table 16 (λ q. f (index 1 q)) 0 q (ltb→lt q 16 (both-right (ltb 1 2) (ltb q 16) h))
   says-made (index (suc (suc a)) q) h = absurd (let l = ltb→lt (suc (suc a)) 2 (both-left (ltb (suc (suc a)) 2) (ltb q 16) h) in let z : ⊥ = omega arith in z)
 
-table-is : (n : ℕ) (f : ℕ → ℕ) (vs : List ℕ) → length vs ≡ n → ((i : ℕ) → i < n → f i ≡ getD vs i 0) → table n f ≡ vs
+pub table-is : (n : ℕ) (f : ℕ → ℕ) (vs : List ℕ) → length vs ≡ n → ((i : ℕ) → i < n → f i ≡ getD vs i 0) → table n f ≡ vs
 table-is n f vs e h = sym (part-all {d = 0} {P = λ k. Unit {0}} (record { long = e; done = λ k l t. sym (h k l) }) (λ k l. tt))
 
 -- a record goes by the places there are

@@ -38,7 +38,7 @@ thrice : (a : Bool) → or a (or a (or a false)) ≡ or a false
 thrice true = refl
 thrice false = refl
 
-three-are : (s : Split) → partition s < 64 → (q : ℕ) → among q (pixelsOf (anchorsOf s)) ≡ among q (anchors s)
+pub three-are : (s : Split) → partition s < 64 → (q : ℕ) → among q (pixelsOf (anchorsOf s)) ≡ among q (anchors s)
 three-are Whole h q = thrice (eqb q 0)
 three-are (Two a) h q = rw (anchors-in2 a h .are) (again (eqb q 0) (eqb q (map2 a .«fixup_index_2»)))
 three-are (Three a) h q = rw (anchors-in3 a h .are)

@@ -1,0 +1,108 @@
+-- A line of a block that is opened: its number, and the parts that the format says; and read.
+-- Assumes nothing.
+use mathlib.Core.Path.{_≡_, refl, sym, ap, _∙_}
+use mathlib.Core.Bool.{false}
+use mathlib.Core.List.{List}
+use Prim.Native.Nat.{ℕ, _+_, _<_, _≤_}
+use native.Mathlib.Omega.{arith}
+use borrow.Author.Tests.{eq-eqb, le-ltb, lt-ltb, ne-eqb}
+use lib.Dec.{eqb}
+use Rattle.line.specs.declared.Opened.{Opened}
+use Rattle.line_rules.specs.declared.Replacement.{Replacement}
+use Rattle.laws.specs.Refusals.{first}
+use Rattle.bcn_util.specs.declared.stream.BitStream.{BitStream}
+use Rattle.record.specs.declared.reading.ReadSplit.{ReadSplit}
+use Rattle.record_widths.specs.declared.ModeRow.{ModeRow}
+use Rattle.line_parts.specs.declared.LinePart.{LinePart}
+use Rattle.laws.specs.Digits.{Fit}
+use Rattle.format.specs.Block.{eights, modeOf, number}
+use Rattle.format.specs.Modes.{indexModeBits, lines, partitionBits, rotationBits}
+use Rattle.format.specs.Places.{opened}
+use Rattle.format.specs.Splits.{splitAt, splitOf}
+use Rattle.format.specs.WellFormed.{WellFormed}
+use Rattle.format.proofs.Opening.{opened-good}
+use Rattle.bcn_util.specs.Stream.{held, skipped}
+use Rattle.bcn_util.proofs.On.{On}
+use Rattle.bc7_fields.specs.Fields.{headEnd}
+use Rattle.record_widths.specs.Rows.{rowOf}
+use Rattle.record.specs.Reading.{splitRead}
+use Rattle.record.proofs.Heads.{marker-on, split-is, split-on}
+use Rattle.line_parts.specs.Parts.{OfLine, partOf}
+use Rattle.line_parts.proofs.Parts.{IsPart, is-part, of-line}
+use Rattle.line_rules.specs.Read.{lineRead, noLine, readAs, readRefusal}
+use Rattle.line_rules.proofs.Reading.{read-is}
+use Rattle.line.specs.Opened.{IsOpened}
+use Rattle.line.specs.Reading.{PartSmall, ReadReady, lineAt, widthsIn}
+use Rattle.line.proofs.Standing.{part-small, read-ready, stands-as-read, widths-are}
+
+-- the values start behind the marker and the split
+head-end : (m : ℕ) → m + 1 + (partitionBits m + rotationBits m + indexModeBits m) ≡ headEnd m
+unfolding headEnd
+head-end m = omega arith
+
+module _ (bs : List ℕ) (sixteen : Fit eights bs) (low : modeOf bs < 8) where
+  pub good : WellFormed (modeOf bs) (splitOf bs) (opened bs)
+  good = opened-good bs sixteen low
+
+  -- what is opened is the line
+  pub line-is : (l : ℕ) → l < lines (modeOf bs) → {o : Opened} → IsOpened bs l o → IsPart (modeOf bs) (splitOf bs) l (o .part)
+  line-is l h i = is-part good l h {row = rowOf (modeOf bs)} refl (i .part)
+
+-- the stream behind the marker
+pub stands-low : {mode : ℕ} {b s : BitStream} → mode < 8 → b .at ≡ 0 → s ≡ skipped b (mode + 1) → s .at ≤ 128
+stands-low h zb es = rw (es, zb) (omega arith)
+
+module _ (bs : List ℕ) {mode : ℕ} {row : ModeRow} (em : mode ≡ modeOf bs) (er : row ≡ rowOf mode) {b s : BitStream} {r : ReadSplit} (hb : held b ≡ number bs) (zb : b .at ≡ 0) (es : s ≡ skipped b (mode + 1)) (e : r ≡ splitRead row s) where
+  on : On (number bs) (mode + 1) s
+  on = marker-on mode hb zb es
+
+  pub the-split : r .split ≡ splitOf bs
+  unfolding splitOf
+  the-split = split-is mode er on e ∙ ap (λ (m : ℕ). splitAt m (number bs)) em
+
+  pub asks : Fit eights bs → mode < 8 → (l : ℕ) → l < lines mode → OfLine row (r .split) l
+  asks sixteen low l h = rw the-split (of-line (good bs sixteen (rw em at low)) l (rw em at h) (er ∙ ap rowOf em))
+
+  pub is-opened : {x : LinePart} (l : ℕ) → x ≡ partOf row (r .split) l → IsOpened bs l (record { stream = r .stream; part = x })
+  is-opened l ex =
+      let o = split-on row on e in
+      record {
+        holds = o .of;
+        stands = o .stands ∙ rw er (head-end mode) ∙ ap headEnd em;
+        part = ex ∙ rw (er, the-split, em);
+      }
+
+-- READING: refused with 1 and 2, and the line as it stands
+pub read-1 : (bs : List ℕ) (l : ℕ) → modeOf bs ≡ 8 → readAs 1 noLine noLine ≡ lineRead bs l
+unfolding lineRead readRefusal first
+read-1 bs l e = sym (rw (eq-eqb (modeOf bs) 8 e))
+
+module _ (bs : List ℕ) (l : ℕ) (low : modeOf bs < 8) where
+  open-mode : eqb (modeOf bs) 8 ≡ false
+  open-mode = ne-eqb (modeOf bs) 8 (λ z. omega arith)
+
+  pub read-2 : lines (modeOf bs) ≤ l → readAs 2 noLine noLine ≡ lineRead bs l
+  unfolding lineRead readRefusal first
+  read-2 h = sym (rw (open-mode, le-ltb l (lines (modeOf bs)) h))
+
+  no-refusal : l < lines (modeOf bs) → readRefusal bs l ≡ 0
+  unfolding readRefusal first
+  no-refusal h = rw (open-mode, lt-ltb l (lines (modeOf bs)) h)
+
+module _ (bs : List ℕ) (sixteen : Fit eights bs) (low : modeOf bs < 8) (l : ℕ) (hl : l < lines (modeOf bs)) {o : Opened} (i : IsOpened bs l o) where
+  is : IsPart (modeOf bs) (splitOf bs) l (o .part)
+  is = line-is bs sixteen low l hl i
+
+  pub ready-part : PartSmall (o .part)
+  ready-part = part-small (good bs sixteen low) l hl is
+
+  module _ {row : ModeRow} (er : row ≡ rowOf (modeOf bs)) where
+    pub ready-read : ReadReady (o .stream) row l (o .part)
+    unfolding opened
+    ready-read = read-ready (good bs sixteen low) l hl is (number bs) (λ y h. refl) (o .stream) (i .holds) (i .stands) er
+
+    pub read-0 : {r v : Replacement} → r ≡ lineAt (o .stream) (modeOf bs) row l (o .part) → v ≡ widthsIn (o .part) → record { refusal = 0; line = r; widths = v } ≡ lineRead bs l
+    unfolding opened
+    read-0 e f =
+        rw (e, f, stands-as-read (good bs sixteen low) l hl is (number bs) (λ y h. refl) (o .stream) (i .holds) (i .stands) er, widths-are (good bs sixteen low) l hl is)
+        (sym (read-is bs l (no-refusal bs l low hl)))

@@ -1,0 +1,78 @@
+-- A line as code reads it.
+-- Assumes nothing.
+use mathlib.Core.List.{List, [], _∷_}
+use Prim.Native.Nat.{ℕ, _+_, _*_, _≤_, _<_}
+use lib.Bits.{bitAnd}
+use lib.Dec.{eqb}
+use Rattle.line.specs.declared.reading.Two.{Two}
+use Rattle.bcn_util.specs.declared.stream.BitStream.{BitStream}
+use Rattle.line_parts.specs.declared.LinePart.{LinePart}
+use Rattle.line_rules.specs.declared.Replacement.{Replacement}
+use Rattle.record_widths.specs.declared.ModeRow.{ModeRow}
+use Rattle.laws.specs.Tables.{pick, table}
+use Rattle.format.specs.Block.{field}
+use Rattle.bcn_util.specs.Stream.{held}
+use Rattle.bcn_indexes.specs.Indexes.{Rising, part}
+use Rattle.record_widths.specs.Rows.{OfMode}
+use Rattle.line_parts.specs.Parts.{maskOf, ownPixel}
+use Rattle.line_fields.specs.Fields.{fieldsAt, setBefore}
+
+-- two values of w bits from bit a on
+abbrev pub twoAt : ℕ → ℕ → ℕ → Two
+twoAt n a w = record { a = field n a w; b = field n (a + w) w }
+
+unfoldable pub psAt : ℕ → ℕ → ℕ → ℕ → ℕ → Two
+psAt n mode a l w = pick (eqb mode 1) (record { a = field n (a + l) 1; b = field n (a + l) 1 }) (twoAt n (a + 2 * l) w)
+
+-- the indexes of the line, of its set as it stands
+unfoldable pub setAt : ℕ → ℕ → ℕ → LinePart → List ℕ
+setAt n k a x = table 16 (part (bitAnd (setBefore n k a x) (maskOf (x .pixels) (x .index))) (x .index))
+
+pub record SetThere (k a : ℕ) (x : LinePart) : Type 0 where
+  pub least : 0 < x .index
+  pub most : x .index ≤ 4
+  pub rising : Rising k (x .anchors .b) (x .anchors .c)
+  pub map : x .pixels .bits ≤ 2
+  pub below : a ≤ 128
+
+-- the line, of a stream that stands where the values start
+abbrev pub rowsOf : Two → Two → Two → Two → List ℕ
+rowsOf r g b a = r .a ∷ g .a ∷ b .a ∷ a .a ∷ r .b ∷ g .b ∷ b .b ∷ a .b ∷ []
+
+unfoldable pub lineAt : BitStream → ℕ → ModeRow → ℕ → LinePart → Replacement
+lineAt s mode row l x =
+    let n = held s in
+    let at = fieldsAt s row l x in
+    let p = psAt n mode (at .p) l (x .p) in
+    record {
+      endpoints = rowsOf (twoAt n (at .red) (x .colour)) (twoAt n (at .green) (x .colour)) (twoAt n (at .blue) (x .colour)) (twoAt n (at .alpha) (x .alpha));
+      p = p .a ∷ p .b ∷ [];
+      indexes = setAt n (row .kind) (at .indexes) x;
+    }
+
+pub record PartSmall (x : LinePart) : Type 0 where
+  pub colour : x .colour ≤ 8
+  pub alpha : x .alpha ≤ 8
+  pub p : x .p ≤ 1
+  pub map : x .pixels .bits ≤ 2
+  pub index : x .index ≤ 4
+
+pub record ReadReady (s : BitStream) (row : ModeRow) (l : ℕ) (x : LinePart) : Type 0 where
+  pub mode-row : OfMode row
+  pub start : s .at ≤ 16
+  pub line : l < 3
+  pub small : PartSmall x
+  pub red : fieldsAt s row l x .red ≤ 128
+  pub green : fieldsAt s row l x .green ≤ 128
+  pub blue : fieldsAt s row l x .blue ≤ 128
+  pub alpha : fieldsAt s row l x .alpha ≤ 128
+  pub p-start : fieldsAt s row l x .p ≤ 100
+  pub set : SetThere (row .kind) (fieldsAt s row l x .indexes) x
+
+-- the widths of its parts
+unfoldable pub widthsIn : LinePart → Replacement
+widthsIn x = record {
+  endpoints = x .colour ∷ x .colour ∷ x .colour ∷ x .alpha ∷ x .colour ∷ x .colour ∷ x .colour ∷ x .alpha ∷ [];
+  p = x .p ∷ x .p ∷ [];
+  indexes = table 16 (λ q. pick (ownPixel (x .pixels) q) (x .index) 0);
+}

@@ -1,0 +1,119 @@
+// A line as it stands: its fields taken out of the block's number.
+ghost use mathlib.Core.Path.{_≡_};
+ghost use Prim.Native.Nat.{_≤_, _<_};
+ghost use Rattle.laws.specs.Tables.{pick, table};
+ghost use Rattle.bcn_util.specs.Stream.{held};
+ghost use Rattle.line_parts.specs.Parts.{ownPixel};
+ghost use Rattle.line.specs.Reading.{PartSmall, ReadReady, SetThere, lineAt, psAt, setAt, twoAt, widthsIn};
+use bcn_util::stream::BitStream;
+use line_fields::fields_of;
+use line_fields::standing_at;
+use line_parts::LinePart;
+use line_parts::Pixels;
+use line_parts::at_own;
+use line_parts::mask_of;
+use line_rules::Replacement;
+use record::reading::parts_of;
+use record::reading::read_indexes;
+use record_widths::ModeRow;
+
+// What the first and the second endpoint have.
+pub struct Two {
+    pub a: u8,
+    pub b: u8,
+}
+
+// Two values of one width side by side.
+fn two_at(s: BitStream, at: u32, width: u32) -> Two
+    requires { ⌜ (at ≤ 128) × (width ≤ 8) ⌝ }
+    ensures { λ r. ⌜ r ≡ twoAt (held s) at width ⌝ }
+{
+    let both = standing_at(s, at).consume_2(width);
+    Two {
+        a: both.a as u8,
+        b: both.b as u8,
+    }
+}
+
+// In mode 1 one p bit serves both endpoints.
+fn p_at(s: BitStream, mode: u8, at: u32, line: u32, width: u32) -> Two
+    requires { ⌜ (at ≤ 100) × (line < 3) × (width ≤ 1) ⌝ }
+    ensures { λ r. ⌜ r ≡ psAt (held s) mode at line width ⌝ }
+{
+    if mode == 1 {
+        let one = two_at(s, at + line, 1);
+        return Two { a: one.a, b: one.a };
+    }
+    two_at(s, at + 2 * line, width)
+}
+
+// The set is expanded whole, and what isn't the line's is left out.
+fn set_at(s: BitStream, kind: u8, at: u32, part: LinePart) -> [u8; 16]
+    requires { ⌜ SetThere kind at part ⌝ }
+    ensures { λ r. ⌜ r ≡ setAt (held s) kind at part ⌝ }
+{
+    let width = part.index;
+    let anchors = part.anchors;
+    let pixels = part.pixels;
+    let mask = mask_of(pixels, width);
+    let set = read_indexes(kind, anchors, width, standing_at(s, at));
+    let indexes = set.indexes;
+    parts_of(indexes.uncompressed & mask, width)
+}
+
+// The stream stands where the values start.
+pub fn line_at(s: BitStream, mode: u8, row: ModeRow, line: u32, part: LinePart) -> Replacement
+    requires { ⌜ ReadReady s row line part ⌝ }
+    ensures { λ r. ⌜ r ≡ lineAt s mode row line part ⌝ }
+{
+    let fields = fields_of(row, s.at, line, part.set);
+    let red = two_at(s, fields.red, part.colour);
+    let green = two_at(s, fields.green, part.colour);
+    let blue = two_at(s, fields.blue, part.colour);
+    let alpha = two_at(s, fields.alpha, part.alpha);
+    let p = p_at(s, mode, fields.p, line, part.p);
+    let indexes = set_at(s, row.kind, fields.indexes, part);
+    Replacement {
+        endpoints: [
+            red.a,
+            green.a,
+            blue.a,
+            alpha.a,
+            red.b,
+            green.b,
+            blue.b,
+            alpha.b,
+        ],
+        p: [p.a, p.b],
+        indexes: indexes,
+    }
+}
+
+// A width at each pixel of the line.
+fn index_widths(pixels: Pixels, width: u32) -> [u8; 16]
+    requires { ⌜ (pixels .bits ≤ 2) × (width ≤ 4) ⌝ }
+    ensures { λ r. ⌜ r ≡ table 16 (λ q. pick (ownPixel pixels q) width 0) ⌝ }
+{
+    let mut widths = [0u8; 16];
+    for i in 0..16usize {
+        widths[i] = at_own(pixels, i, width as u64) as u8;
+    }
+    widths
+}
+
+// The widths of a line's parts, in the order of a replacement.
+pub fn widths_of(part: LinePart) -> Replacement
+    requires { ⌜ PartSmall part ⌝ }
+    ensures { λ r. ⌜ r ≡ widthsIn part ⌝ }
+{
+    let colour = part.colour as u8;
+    let alpha = part.alpha as u8;
+    let p = part.p as u8;
+    let pixels = part.pixels;
+    let indexes = index_widths(pixels, part.index);
+    Replacement {
+        endpoints: [colour, colour, colour, alpha, colour, colour, colour, alpha],
+        p: [p, p],
+        indexes: indexes,
+    }
+}
