@@ -5,7 +5,7 @@ ghost use Rattle.format.specs.Block.{field, trailing};
 ghost use Rattle.format.specs.Lines.{pixels};
 ghost use Rattle.bcn_util.specs.Stream.{held};
 ghost use Rattle.bc7_fields.specs.Fields.{directPixels};
-use bc7_color::clear_p;
+use bc7_color::old::clear_p;
 use bc7_palette::paint_1;
 use bc7_palette::palette_4;
 use bc7_parts::indexes_1;

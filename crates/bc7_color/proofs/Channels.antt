@@ -43,7 +43,7 @@ module _ (k r g b a : ℕ) (hk : k ≤ 8) (hr : r < 2 ^ (8 + k)) (hg : g < 2 ^ (
       λ i. red i ∷ green i ∷ blue i ∷ alpha i ∷ []
 
 -- promotion: the value times 2^n + 1 has its bits twice, one after the other, and the upper eight are the promoted value
-at-width : (P : ℕ → Type 0) → P 4 → P 5 → P 6 → P 7 → P 8 → (n : ℕ) → 4 ≤ n → n ≤ 8 → P n
+pub at-width : (P : ℕ → Type 0) → P 4 → P 5 → P 6 → P 7 → P 8 → (n : ℕ) → 4 ≤ n → n ≤ 8 → P n
 at-width P p4 p5 p6 p7 p8 zero l h = absurd (let z : ⊥ = omega arith in z)
 at-width P p4 p5 p6 p7 p8 (suc zero) l h = absurd (let z : ⊥ = omega arith in z)
 at-width P p4 p5 p6 p7 p8 (suc (suc zero)) l h = absurd (let z : ⊥ = omega arith in z)

@@ -1,97 +1,140 @@
-// A colour of the decoder: promotion, p bits and alpha. The four channels are worked on in one word, sixteen bits each.
+// Colours of the decoder, in words. A word has four lanes of sixteen bits: red and blue of two colours in one, green and alpha
+// of the same two in another. So a sum of products works on four channels at once, and two words come together as two
+// colours of four bytes.
 ghost use mathlib.Core.Path.{_≡_};
-ghost use mathlib.Core.List.{[], _∷_};
-ghost use Prim.Native.Nat.{_+_, _*_, _^_, _≤_, _<_};
-ghost use lib.ListN.{getD};
+ghost use mathlib.Core.List.{[], _∷_, map, zipWith};
+ghost use lib.Dec.{eqb};
+ghost use Prim.Native.Nat.{_+_, _-_, _*_, _^_, _≤_, _<_};
+ghost use Rattle.laws.specs.Tables.{pick};
+ghost use Rattle.format.specs.Block.{field};
 ghost use Rattle.format.specs.Drawing.{promoted};
-ghost use Rattle.bc7_color.specs.Colors.{laned, bytesAt};
+ghost use Rattle.bc7_color.specs.Words.{endOf, endOfP, Fitting, Holds, HoldsP, laned, Lanes, lanesOf, plain, solid, withP};
 
-// Four channels in one word. In this order the results come apart with the fewest masks.
-pub fn lanes(r: u64, g: u64, b: u64, a: u64) -> u64
-    requires { ⌜ (r < 2 ^ 16) × (g < 2 ^ 16) × (b < 2 ^ 16) × (a < 2 ^ 16) ⌝ }
-    ensures { λ x. ⌜ x ≡ laned r g b a ⌝ }
-{
-    r + (b << 16) + (g << 32) + (a << 48)
+pub mod old;
+
+// What a block stores of a colour: each value has a channel of both endpoints, the first one's in the low bits, and p both p bits.
+pub struct Stored {
+    pub r: u64,
+    pub g: u64,
+    pub b: u64,
+    pub a: u64,
+    pub p: u64,
 }
 
-// The eight bits from bit k on of each channel.
-pub fn bytes_at(x: u64, k: u32) -> [u8; 4]
-    requires { ⌜ k ≤ 8 ⌝ }
-    ensures { λ p. ⌜ p ≡ bytesAt k x ⌝ }
-{
-    [
-        ((x >> k) % 256) as u8,
-        ((x >> (32 + k)) % 256) as u8,
-        ((x >> (16 + k)) % 256) as u8,
-        ((x >> (48 + k)) % 256) as u8,
-    ]
+// Both endpoints of two colours: red and blue of the first endpoint, green and alpha, and the same of the second.
+pub struct Ends {
+    pub rb0: u64,
+    pub ga0: u64,
+    pub rb1: u64,
+    pub ga1: u64,
 }
 
-// The four channels of a colour from `number_bits` bits each to eight: shifted left, and filled from the top.
-pub fn promote(r: u64, g: u64, b: u64, a: u64, number_bits: u32) -> [u8; 4]
-    requires { ⌜ (4 ≤ «number_bits») × («number_bits» ≤ 8) × (r < 2 ^ «number_bits») × (g < 2 ^ «number_bits») × (b < 2 ^ «number_bits») × (a < 2 ^ «number_bits») ⌝ }
-    ensures { λ e. ⌜ e ≡ promoted «number_bits» r ∷ promoted «number_bits» g ∷ promoted «number_bits» b ∷ promoted «number_bits» a ∷ [] ⌝ }
+const ONES: u64 = 0x0001_0001_0001_0001;
+
+fn lanes(a: u64, b: u64, c: u64, d: u64) -> u64
+    requires { ⌜ (a < 2 ^ 16) × (b < 2 ^ 16) × (c < 2 ^ 16) × (d < 2 ^ 16) ⌝ }
+    ensures { λ r. ⌜ r ≡ laned (a ∷ b ∷ c ∷ d ∷ []) ⌝ }
 {
-    bytes_at(
-        lanes(r, g, b, a) * ((1u64 << number_bits) + 1),
-        2 * number_bits - 8,
-    )
+    a + (b << 16) + (c << 32) + (d << 48)
 }
 
-// A value with the p bit below it.
-fn with_p(v: u64, p: u64, bits: u32) -> u64
-    requires { ⌜ (bits ≤ 7) × (v < 2 ^ bits) × (p < 2) ⌝ }
-    ensures { λ r. ⌜ (r ≡ v * 2 + p) × (r < 2 ^ (bits + 1)) ⌝ }
+// The bits of each lane from bit `at` on. The shift brings them down, with low bits of the next lane on top:
+//
+//     ..mmm###..|..nnn###..   >> at    ##..mmm###|##..nnn        & ONES * 0b111    ......mmm|......nnn
+fn parts(x: u64, at: u32, bits: u32) -> u64
+    requires { ⌜ at + bits ≤ 16 ⌝ }
+    ensures { λ r. ⌜ r ≡ laned (map (λ v. field v at bits) (lanesOf x)) ⌝ }
 {
-    v * 2 + p
+    (x >> at) & (ONES * ((1u64 << bits) - 1))
 }
 
-// An endpoint without alpha.
-pub fn opaque(r: u64, g: u64, b: u64, bits: u32) -> [u8; 4]
-    requires { ⌜ (4 ≤ bits) × (bits ≤ 8) × (r < 2 ^ bits) × (g < 2 ^ bits) × (b < 2 ^ bits) ⌝ }
-    ensures { λ e. ⌜ e ≡ promoted bits r ∷ promoted bits g ∷ promoted bits b ∷ 255 ∷ [] ⌝ }
+// Each lane from `bits` bits to eight: shifted left, and filled from the top.
+fn promote(x: u64, bits: u32) -> u64
+    requires { ⌜ (4 ≤ bits) × (bits ≤ 8) × Lanes bits x ⌝ }
+    ensures { λ r. ⌜ r ≡ laned (map (promoted bits) (lanesOf x)) ⌝ }
 {
-    promote(r, g, b, (1u64 << bits) - 1, bits)
+    (x << (8 - bits)) + parts(x, 2 * bits - 8, 8 - bits)
 }
 
 // The same with a p bit below each value.
-pub fn opaque_p(r: u64, g: u64, b: u64, p: u64, bits: u32) -> [u8; 4]
-    requires { ⌜ (3 ≤ bits) × (bits ≤ 7) × (r < 2 ^ bits) × (g < 2 ^ bits) × (b < 2 ^ bits) × (p < 2) ⌝ }
-    ensures { λ e. ⌜ e ≡ promoted (bits + 1) (r * 2 + p) ∷ promoted (bits + 1) (g * 2 + p) ∷ promoted (bits + 1) (b * 2 + p) ∷ 255 ∷ [] ⌝ }
+fn promote_p(x: u64, p: u64, bits: u32) -> u64
+    requires { ⌜ (3 ≤ bits) × (bits ≤ 7) × Lanes bits x × Lanes 1 p ⌝ }
+    ensures { λ r. ⌜ r ≡ laned (zipWith (λ v q. promoted (bits + 1) (v * 2 + q)) (lanesOf x) (lanesOf p)) ⌝ }
 {
-    opaque(
-        with_p(r, p, bits),
-        with_p(g, p, bits),
-        with_p(b, p, bits),
-        bits + 1,
-    )
+    promote(x * 2 + p, bits + 1)
 }
 
-// Red, green and blue of one, alpha of the other.
-pub fn with_alpha(color: [u8; 4], alpha: [u8; 4]) -> [u8; 4]
-    ensures { λ r. ⌜ r ≡ getD color 0 0 ∷ getD color 1 0 ∷ getD color 2 0 ∷ getD alpha 3 0 ∷ [] ⌝ }
+// Endpoint k, 0 or 1, of lanes that have both.
+fn end_of(x: u64, k: u32, bits: u32) -> u64
+    requires { ⌜ (4 ≤ bits) × (bits ≤ 8) × (k < 2) ⌝ }
+    ensures { λ r. ⌜ (r ≡ laned (map (λ v. endOf bits k v) (lanesOf x))) × Lanes 8 r ⌝ }
 {
-    [color[0], color[1], color[2], alpha[3]]
+    promote(parts(x, bits * k, bits), bits)
 }
 
-// An endpoint with alpha, which has a width of its own.
-pub fn clear(r: u64, g: u64, b: u64, a: u64, bits: u32, alpha_bits: u32) -> [u8; 4]
-    requires { ⌜ (4 ≤ bits) × (bits ≤ 8) × (4 ≤ «alpha_bits») × («alpha_bits» ≤ 8) × (r < 2 ^ bits) × (g < 2 ^ bits) × (b < 2 ^ bits) × (a < 2 ^ «alpha_bits») ⌝ }
-    ensures { λ e. ⌜ e ≡ promoted bits r ∷ promoted bits g ∷ promoted bits b ∷ promoted «alpha_bits» a ∷ [] ⌝ }
+// The same with p bits: a lane of p has both too.
+fn end_of_p(x: u64, p: u64, k: u32, bits: u32) -> u64
+    requires { ⌜ (3 ≤ bits) × (bits ≤ 7) × (k < 2) ⌝ }
+    ensures { λ r. ⌜ (r ≡ laned (zipWith (endOfP bits k) (lanesOf x) (lanesOf p))) × Lanes 8 r ⌝ }
 {
-    with_alpha(promote(r, g, b, 0, bits), promote(0, 0, 0, a, alpha_bits))
+    promote_p(parts(x, bits * k, bits), parts(p, k, 1), bits)
 }
 
-// An endpoint with alpha of the same width as the colours, and a p bit below each value.
-pub fn clear_p(r: u64, g: u64, b: u64, a: u64, p: u64, bits: u32) -> [u8; 4]
-    requires { ⌜ (3 ≤ bits) × (bits ≤ 7) × (r < 2 ^ bits) × (g < 2 ^ bits) × (b < 2 ^ bits) × (a < 2 ^ bits) × (p < 2) ⌝ }
-    ensures { λ e. ⌜ e ≡ promoted (bits + 1) (r * 2 + p) ∷ promoted (bits + 1) (g * 2 + p) ∷ promoted (bits + 1) (b * 2 + p) ∷ promoted (bits + 1) (a * 2 + p) ∷ [] ⌝ }
+// Both endpoints in both words, with the p bits of their lanes.
+fn ends_p(rb: u64, ga: u64, p: u64, q: u64, bits: u32) -> Ends
+    requires { ⌜ (3 ≤ bits) × (bits ≤ 7) ⌝ }
+    ensures { λ e. ⌜ HoldsP bits (lanesOf rb) (lanesOf ga) (lanesOf p) (lanesOf q) e ⌝ }
 {
-    promote(
-        with_p(r, p, bits),
-        with_p(g, p, bits),
-        with_p(b, p, bits),
-        with_p(a, p, bits),
-        bits + 1,
-    )
+    Ends {
+        rb0: end_of_p(rb, p, 0, bits),
+        ga0: end_of_p(ga, q, 0, bits),
+        rb1: end_of_p(rb, p, 1, bits),
+        ga1: end_of_p(ga, q, 1, bits),
+    }
+}
+
+// Two colours with alpha and p bits.
+pub fn clear_p(x: Stored, y: Stored, bits: u32) -> Ends
+    requires { ⌜ (3 ≤ bits) × (bits ≤ 7) × Fitting x × Fitting y ⌝ }
+    ensures { λ e. ⌜ Holds (λ l. withP bits (pick (eqb l 0) x y)) e ⌝ }
+{
+    let rb = lanes(x.r, x.b, y.r, y.b);
+    let ga = lanes(x.g, x.a, y.g, y.a);
+    let p = lanes(x.p, x.p, y.p, y.p);
+    ends_p(rb, ga, p, p, bits)
+}
+
+// Two values of `bits` bits that are all ones: as alpha of both endpoints, they are promoted to 255.
+fn all_ones(bits: u32) -> u64
+    requires { ⌜ bits ≤ 8 ⌝ }
+    ensures { λ r. ⌜ (r ≡ 2 ^ (bits + bits) - 1) × (r < 2 ^ 16) ⌝ }
+{
+    (1u64 << (bits + bits)) - 1
+}
+
+// Two colours with p bits and without alpha.
+pub fn opaque_p(x: Stored, y: Stored, bits: u32) -> Ends
+    requires { ⌜ (3 ≤ bits) × (bits ≤ 7) × Fitting x × Fitting y ⌝ }
+    ensures { λ e. ⌜ Holds (λ l. solid (withP bits (pick (eqb l 0) x y))) e ⌝ }
+{
+    let rb = lanes(x.r, x.b, y.r, y.b);
+    let ga = lanes(x.g, all_ones(bits), y.g, all_ones(bits));
+    let p = lanes(x.p, x.p, y.p, y.p);
+    let q = lanes(x.p, 3, y.p, 3);
+    ends_p(rb, ga, p, q, bits)
+}
+
+// The same without p bits.
+pub fn opaque(x: Stored, y: Stored, bits: u32) -> Ends
+    requires { ⌜ (4 ≤ bits) × (bits ≤ 8) × Fitting x × Fitting y ⌝ }
+    ensures { λ e. ⌜ Holds (λ l. solid (plain bits (pick (eqb l 0) x y))) e ⌝ }
+{
+    let rb = lanes(x.r, x.b, y.r, y.b);
+    let ga = lanes(x.g, all_ones(bits), y.g, all_ones(bits));
+    Ends {
+        rb0: end_of(rb, 0, bits),
+        ga0: end_of(ga, 0, bits),
+        rb1: end_of(rb, 1, bits),
+        ga1: end_of(ga, 1, bits),
+    }
 }

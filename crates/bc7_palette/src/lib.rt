@@ -10,8 +10,8 @@ ghost use Rattle.bc7_fields.specs.Fields.{four};
 ghost use Rattle.bc7_fields.specs.Painting.{between, key, painted};
 ghost use Rattle.bc7_color.specs.Colors.{laned};
 ghost use Rattle.bc7_palette.specs.Colors.{lerped};
-use bc7_color::bytes_at;
-use bc7_color::lanes;
+use bc7_color::old::bytes_at;
+use bc7_color::old::lanes;
 
 // Weights are all multiplied by 4 compared to the original ones.
 const WEIGHTS_2: [u64; 4] = [0, 84, 172, 256];

@@ -3,8 +3,8 @@
 use mathlib.Core.Path.{refl}
 use native.Mathlib.Omega.{arith}
 use lib.Pow.{pow-add, pow-mono}
-use Rattle.bc7_color.proofs.with_p.Statement.{statement}
-use Rattle.bc7_color.proofs.with_p.Tie as tie
+use Rattle.bc7_color.proofs.old.with_p.Statement.{statement}
+use Rattle.bc7_color.proofs.old.with_p.Tie as tie
 
 mul-result : tie.Need-mul-result
 mul-result c = omega (arith, pow-mono {i = c .args .bits} {j = 7} (omega arith))

@@ -5,8 +5,8 @@ use mathlib.Core.List.{List, [], _∷_}
 use Prim.Native.Nat.{ℕ}
 use borrow.Author.Needs.{needs}
 use lib.ListN.{getD}
-use Rattle.bc7_color.proofs.clear.Statement.{statement}
-use Rattle.bc7_color.proofs.clear.Tie as tie
+use Rattle.bc7_color.proofs.old.clear.Statement.{statement}
+use Rattle.bc7_color.proofs.old.clear.Tie as tie
 
 promote-requires : tie.Need-promote-requires
 promote-requires c κs = search needs

@@ -1,0 +1,201 @@
+-- Words of four lanes: masks, sums and products that work on each lane by itself.
+-- Assumes nothing.
+use mathlib.Core.Path.{_≡_, refl, sym, ap, ap₂, _∙_, subst}
+use mathlib.Core.List.{List, [], _∷_, map, zipWith}
+use Prim.Native.Nat.{ℕ, zero, suc, _+_, _-_, _*_, _/_, _%_, _^_, _≤_, _<_}
+use native.Mathlib.Nat.{div-one, le-of-suc-le-suc, lt-of-lt-of-le, mod-eq-of-lt, mod-lt, mul-comm, mul-le-mul-left, mul-one, mul-zero, one-mul}
+use native.Mathlib.Omega.{arith}
+use lib.Bits.{bitAnd}
+use lib.ListN.{replicate}
+use lib.Pow.{high, low, ones-lt, ones-split, pow-add, pow-mono, pow-pos}
+use Rattle.laws.specs.Digits.{Fit, join, more, none, split, total}
+use Rattle.laws.proofs.Digits.{join-lt, join-split, split-fits, split-join}
+use Rattle.laws.proofs.Lanes.{Within, lanes, mask-parts, more as more-within, none as none-within, onesIn, scale}
+use Rattle.format.specs.Block.{field}
+use Rattle.format.specs.Drawing.{promoted}
+use Rattle.bc7_color.specs.Words.{endOf, endOfP, laned, Lanes, lanesOf}
+use Rattle.bc7_color.proofs.Channels.{at-width}
+
+-- a word and its lanes
+pub laned-lanes : {x : ℕ} → x < 2 ^ 64 → laned (lanesOf x) ≡ x
+unfolding laned lanesOf
+laned-lanes h = join-split (replicate 4 16) _ h
+
+pub lanes-laned : {vs : List ℕ} → Fit (replicate 4 16) vs → lanesOf (laned vs) ≡ vs
+unfolding laned lanesOf
+lanes-laned f = split-join f
+
+pub laned-lt : {vs : List ℕ} → Fit (replicate 4 16) vs → laned vs < 2 ^ 64
+unfolding laned
+laned-lt f = join-lt f
+
+-- values of one width, each made another
+pub fit-map : (n w u : ℕ) {vs : List ℕ} (f : ℕ → ℕ) → ((v : ℕ) → v < 2 ^ w → f v < 2 ^ u) → Fit (replicate n w) vs → Fit (replicate n u) (map f vs)
+fit-map zero w u f h none = none
+fit-map (suc n) w u f h (more l r) = more (h _ l) (fit-map n w u f h r)
+
+pub fit-zip : (n w z u : ℕ) {vs qs : List ℕ} (f : ℕ → ℕ → ℕ) → ((v q : ℕ) → v < 2 ^ w → q < 2 ^ z → f v q < 2 ^ u)
+    → Fit (replicate n w) vs → Fit (replicate n z) qs → Fit (replicate n u) (zipWith f vs qs)
+unfolding zipWith
+fit-zip zero w z u f h none none = none
+fit-zip (suc n) w z u f h (more l r) (more l' r') = more (h _ _ l l') (fit-zip n w z u f h r r')
+
+pub wider : (n w u : ℕ) {vs : List ℕ} → w ≤ u → Fit (replicate n w) vs → Fit (replicate n u) vs
+wider zero w u h none = none
+wider (suc n) w u h (more l r) = more (lt-of-lt-of-le l (pow-mono h)) (wider n w u h r)
+
+-- the sum of two words is that of their lanes
+lane-sums : (n w : ℕ) {vs : List ℕ} (f g h : ℕ → ℕ) → ((v : ℕ) → v < 2 ^ w → f v + g v ≡ h v) → Fit (replicate n w) vs
+    → lanes 16 (map f vs) + lanes 16 (map g vs) ≡ lanes 16 (map h vs)
+lane-sums zero w f g h e none = refl
+lane-sums (suc n) w f g h e (more {v = v} l r) = omega (arith, e v l, lane-sums n w f g h e r)
+
+-- part of each lane: a shift and a mask
+module _ (x at bits : ℕ) (room : at + bits ≤ 16) (hx : x < 2 ^ 64) where
+  pub and-parts : bitAnd (x / 2 ^ at) (0x0001_0001_0001_0001 * (2 ^ bits - 1)) ≡ laned (map (λ v. field v at bits) (lanesOf x))
+  unfolding laned lanesOf field
+  and-parts =
+      let e : 16 - (at + bits) + (bits + at) ≡ 16 = omega arith in
+      let ds : List ℕ = split (replicate 4 16) x in
+      let all : Within 16 ds = more-within (mod-lt x (pow-pos 16)) (more-within (mod-lt _ (pow-pos 16)) (more-within (mod-lt _ (pow-pos 16)) (more-within (mod-lt _ (pow-pos 16)) none-within))) in
+      let ones : 0x0001_0001_0001_0001 * (2 ^ bits - 1) ≡ onesIn 16 bits ds = omega arith in
+      ap (λ (m : ℕ). bitAnd (x / 2 ^ at) m) ones
+      ∙ ap (λ (y : ℕ). bitAnd (y / 2 ^ at) (onesIn 16 bits ds)) (sym (laned-lanes hx))
+      ∙ subst (λ (k : ℕ). Within k ds → bitAnd (lanes k ds / 2 ^ at) (onesIn k bits ds) ≡ lanes k (map (λ d. d / 2 ^ at % 2 ^ bits) ds)) e (mask-parts (16 - (at + bits)) at bits) all
+
+-- and the lanes of what is left
+pub lanes-16 : (x : ℕ) → Lanes 16 x
+unfolding lanesOf
+lanes-16 x = split-fits (replicate 4 16) x
+
+module _ (x at bits : ℕ) (most : bits ≤ 16) {r : ℕ} (e : r ≡ laned (map (λ v. field v at bits) (lanesOf x))) where
+  parts-fit : Fit (replicate 4 bits) (map (λ v. field v at bits) (lanesOf x))
+  unfolding field
+  parts-fit = fit-map 4 16 bits _ (λ v h. mod-lt (v / 2 ^ at) (pow-pos bits)) (lanes-16 x)
+
+  pub parts-lanes : lanesOf r ≡ map (λ v. field v at bits) (lanesOf x)
+  parts-lanes = ap lanesOf e ∙ lanes-laned (wider 4 bits 16 most parts-fit)
+
+  pub parts-small : Lanes bits r
+  parts-small = rw parts-lanes parts-fit
+
+-- promotion: what is filled in are the top bits of the value
+abbrev Filled : ℕ → Type 0
+Filled n = (v : ℕ) → v < 2 ^ n → (2 ^ (8 - n) * v + v / 2 ^ (2 * n - 8) % 2 ^ (8 - n) ≡ promoted n v) × (promoted n v < 256)
+
+filled : (n : ℕ) → 4 ≤ n → n ≤ 8 → Filled n
+unfolding promoted
+filled = at-width Filled (λ v h. (omega arith, omega arith)) (λ v h. (omega arith, omega arith)) (λ v h. (omega arith, omega arith)) (λ v h. (omega arith, omega arith)) (λ v h. (omega arith, omega arith))
+
+pub promoted-lt : (n : ℕ) {v : ℕ} → 4 ≤ n → n ≤ 8 → v < 2 ^ n → promoted n v < 256
+promoted-lt n {v} least most h = filled n least most v h .1
+
+module _ (n x : ℕ) (least : 4 ≤ n) (most : n ≤ 8) (hx : x < 2 ^ 64) (small : Lanes n x) where
+  promoted-fits : Fit (replicate 4 8) (map (promoted n) (lanesOf x))
+  promoted-fits = fit-map 4 n 8 (promoted n) (λ v h. promoted-lt n least most h) small
+
+  sum : x * 2 ^ (8 - n) + laned (map (λ v. field v (2 * n - 8) (8 - n)) (lanesOf x)) ≡ laned (map (promoted n) (lanesOf x))
+  unfolding laned lanesOf field
+  sum =
+      let c : ℕ = 2 ^ (8 - n) in
+      ap (λ (y : ℕ). y + lanes 16 (map (λ v. v / 2 ^ (2 * n - 8) % 2 ^ (8 - n)) (lanesOf x)))
+      (ap (λ (y : ℕ). y * c) (sym (laned-lanes hx)) ∙ mul-comm (laned (lanesOf x)) c ∙ sym (scale 16 c (lanesOf x)))
+      ∙ lane-sums 4 n (λ v. c * v) (λ v. v / 2 ^ (2 * n - 8) % 2 ^ (8 - n)) (promoted n) (λ v h. filled n least most v h .0) small
+
+  sum-fits : laned (map (promoted n) (lanesOf x)) < 2 ^ 64
+  sum-fits = laned-lt (wider 4 8 16 (omega arith) promoted-fits)
+
+  -- so nothing is shifted out
+  module _ {r : ℕ} (filling : r ≡ laned (map (λ v. field v (2 * n - 8) (8 - n)) (lanesOf x))) where
+    pub promoted-word : (x * 2 ^ (8 - n)) % 2 ^ 64 + r ≡ laned (map (promoted n) (lanesOf x))
+    promoted-word = ap₂ (λ (y z : ℕ). y + z) (mod-eq-of-lt (omega (arith, sum, sum-fits))) filling ∙ sum
+
+    pub promoted-word-fits : (x * 2 ^ (8 - n)) % 2 ^ 64 + r < 2 ^ 64
+    promoted-word-fits = rw promoted-word sum-fits
+
+-- a p bit below each lane
+module _ (n : ℕ) {vs qs : List ℕ} (values : Fit (replicate 4 n) vs) (ps : Fit (replicate 4 1) qs) where
+  with-p-fits : Fit (replicate 4 (n + 1)) (zipWith (λ v q. v * 2 + q) vs qs)
+  with-p-fits = fit-zip 4 n 1 (n + 1) _ (λ v q hv hq. rw (pow-add 2 n 1) (omega arith)) values ps
+
+four-sums : (a b c d e f g h : ℕ) → laned (a ∷ b ∷ c ∷ d ∷ []) * 2 + laned (e ∷ f ∷ g ∷ h ∷ []) ≡ laned ((a * 2 + e) ∷ (b * 2 + f) ∷ (c * 2 + g) ∷ (d * 2 + h) ∷ [])
+unfolding laned
+four-sums a b c d e f g h = omega arith
+
+module _ (n x p : ℕ) (most : n ≤ 7) (hx : x < 2 ^ 64) (hp : p < 2 ^ 64) (values : Lanes n x) (ps : Lanes 1 p) where
+  abbrev joined : List ℕ
+  joined = zipWith (λ v q. v * 2 + q) (lanesOf x) (lanesOf p)
+
+  pub with-p : x * 2 + p ≡ laned joined
+  unfolding lanesOf zipWith
+  with-p = ap₂ (λ (y z : ℕ). y * 2 + z) (sym (laned-lanes hx)) (sym (laned-lanes hp)) ∙ four-sums _ _ _ _ _ _ _ _
+
+  with-p-16 : Fit (replicate 4 16) joined
+  with-p-16 = wider 4 (n + 1) 16 (omega arith) (with-p-fits n values ps)
+
+  pub with-p-lt : x * 2 + p < 2 ^ 64
+  with-p-lt = rw with-p (laned-lt with-p-16)
+
+  pub with-p-lanes : lanesOf (x * 2 + p) ≡ joined
+  with-p-lanes = ap lanesOf with-p ∙ lanes-laned with-p-16
+
+  pub with-p-small : Lanes (n + 1) (x * 2 + p)
+  with-p-small = rw with-p-lanes (with-p-fits n values ps)
+
+  pub promoted-p : laned (map (promoted (n + 1)) (lanesOf (x * 2 + p))) ≡ laned (zipWith (λ v q. promoted (n + 1) (v * 2 + q)) (lanesOf x) (lanesOf p))
+  unfolding lanesOf zipWith
+  promoted-p = ap (λ (l : List ℕ). laned (map (promoted (n + 1)) l)) with-p-lanes
+
+-- an endpoint of each lane, with and without p bits
+module _ (n k x : ℕ) (hk : k < 2) where
+  pub ends-within : n ≤ 8 → n * k + n ≤ 16
+  ends-within h = omega (arith, mul-le-mul-left n (le-of-suc-le-suc hk))
+
+  module _ (least : 4 ≤ n) (most : n ≤ 8) {r z : ℕ} (e : r ≡ laned (map (λ v. field v (n * k) n) (lanesOf x))) (f : z ≡ laned (map (promoted n) (lanesOf r))) where
+    pub end-of : z ≡ laned (map (endOf n k) (lanesOf x))
+    unfolding lanesOf
+    end-of = f ∙ ap (λ (l : List ℕ). laned (map (promoted n) l)) (parts-lanes x (n * k) n (omega arith) e)
+
+    pub end-small : Lanes 8 z
+    end-small =
+        let g : Fit (replicate 4 8) (map (promoted n) (lanesOf r)) = fit-map 4 n 8 (promoted n) (λ v h. promoted-lt n least most h) (parts-small x (n * k) n (omega arith) e) in
+        rw (f, lanes-laned (wider 4 8 16 (omega arith) g)) g
+
+  module _ (p : ℕ) (least : 3 ≤ n) (most : n ≤ 7) {r q z : ℕ} (e : r ≡ laned (map (λ v. field v (n * k) n) (lanesOf x))) (d : q ≡ laned (map (λ v. field v k 1) (lanesOf p)))
+      (f : z ≡ laned (zipWith (λ v q. promoted (n + 1) (v * 2 + q)) (lanesOf r) (lanesOf q))) where
+    pub end-of-p : z ≡ laned (zipWith (endOfP n k) (lanesOf x) (lanesOf p))
+    unfolding lanesOf zipWith
+    end-of-p = f ∙ ap₂ (λ (l m : List ℕ). laned (zipWith (λ v q. promoted (n + 1) (v * 2 + q)) l m)) (parts-lanes x (n * k) n (omega arith) e) (parts-lanes p k 1 (omega arith) d)
+
+    pub end-p-small : Lanes 8 z
+    end-p-small =
+        let g : Fit (replicate 4 8) (zipWith (λ v q. promoted (n + 1) (v * 2 + q)) (lanesOf r) (lanesOf q)) =
+        fit-zip 4 n 1 8 _ (λ v q hv hq. promoted-lt (n + 1) (omega arith) (omega arith) (rw (pow-add 2 n 1) (omega arith))) (parts-small x (n * k) n (omega arith) e) (parts-small p k 1 (omega arith) d) in
+        rw (f, lanes-laned (wider 4 8 16 (omega arith) g)) g
+
+-- a word made of four values
+pub lanes-four : {r a b c d : ℕ} → r ≡ laned (a ∷ b ∷ c ∷ d ∷ []) → a < 2 ^ 16 → b < 2 ^ 16 → c < 2 ^ 16 → d < 2 ^ 16 → lanesOf r ≡ a ∷ b ∷ c ∷ d ∷ []
+lanes-four e ha hb hc hd = ap lanesOf e ∙ lanes-laned (more ha (more hb (more hc (more hd none))))
+
+-- all ones are promoted to 255
+ones-255 : (n : ℕ) → 4 ≤ n → n ≤ 8 → promoted n (2 ^ n - 1) ≡ 255
+unfolding promoted
+ones-255 = at-width (λ n. promoted n (2 ^ n - 1) ≡ 255) refl refl refl refl refl
+
+-- of two times n ones, either half
+half-ones : (n k : ℕ) → k < 2 → field (2 ^ (n + n) - 1) (n * k) n ≡ 2 ^ n - 1
+unfolding field
+half-ones n zero h =
+    ap₂ (λ (x y : ℕ). x / 2 ^ y % 2 ^ n) (ones-split n n) (mul-zero n) ∙ ap (λ (x : ℕ). x % 2 ^ n) (div-one _) ∙ low (2 ^ n - 1) n (ones-lt n)
+half-ones n (suc zero) h =
+    ap₂ (λ (x y : ℕ). x / 2 ^ y % 2 ^ n) (ones-split n n) (mul-one n) ∙ ap (λ (x : ℕ). x % 2 ^ n) (high (2 ^ n - 1) n (ones-lt n)) ∙ mod-eq-of-lt (ones-lt n)
+half-ones n (suc (suc k)) h = absurd (let z : ⊥ = omega arith in z)
+
+pub full : (n : ℕ) → 4 ≤ n → n ≤ 8 → {v : ℕ} → v ≡ 2 ^ (n + n) - 1 → (k : ℕ) → k < 2 → endOf n k v ≡ 255
+full n least most e k h = ap (endOf n k) e ∙ ap (promoted n) (half-ones n k h) ∙ ones-255 n least most
+
+pub full-p : (n : ℕ) → 3 ≤ n → n ≤ 7 → {v : ℕ} → v ≡ 2 ^ (n + n) - 1 → (k : ℕ) → k < 2 → endOfP n k v 3 ≡ 255
+full-p n least most e k h =
+    ap (λ (v : ℕ). endOfP n k v 3) e
+    ∙ ap₂ (λ (x y : ℕ). promoted (n + 1) (x * 2 + y)) (half-ones n k h) (ap (λ (s : ℕ). field 3 s 1) (sym (one-mul k)) ∙ half-ones 1 k h)
+    ∙ ap (promoted (n + 1)) (sym (ones-split n 1)) ∙ ones-255 (n + 1) (omega arith) (omega arith)
