@@ -2,7 +2,7 @@
 -- Assumes nothing.
 use mathlib.Core.Path.{_≡_}
 use mathlib.Core.List.{List, [], _∷_, zipWith}
-use Prim.Native.Nat.{ℕ, _+_, _*_, _/_, _%_, _^_, _≤_, _<_}
+use Prim.Native.Nat.{ℕ, _+_, _-_, _*_, _/_, _^_, _<_}
 use lib.Dec.{eqb}
 use lib.ListN.{getD, replicate}
 use Rattle.laws.specs.Digits.{Fit, join, split}
@@ -83,3 +83,17 @@ pub record Holds (f : ℕ → ℕ → ℕ → ℕ) (e : Ends) : Type 0 where
 pub record HoldsP (n : ℕ) (rb ga p q : List ℕ) (e : Ends) : Type 0 where
   pub same : e ≡ record { rb0 = laned (zipWith (endOfP n 0) rb p); ga0 = laned (zipWith (endOfP n 0) ga q); rb1 = laned (zipWith (endOfP n 1) rb p); ga1 = laned (zipWith (endOfP n 1) ga q) }
   pub small : Bytes e
+
+-- a channel of both endpoints at the weight w of 256, not yet divided: its upper byte is the channel
+abbrev pub blend : ℕ → ℕ → ℕ → ℕ
+blend w x y = (256 - w) * x + w * y + 128
+
+-- the bytes of a word, the first lowest
+unfoldable pub wordBytes : ℕ → List ℕ
+wordBytes x = split (replicate 8 8) x
+
+-- two colours: the upper bytes of lanes, taken in turn from a word of red and blue and one of green and alpha
+abbrev pub woven : List ℕ → List ℕ → List ℕ
+woven [] ga = []
+woven (x ∷ rb) [] = []
+woven (x ∷ rb) (y ∷ ga) = x / 256 ∷ y / 256 ∷ woven rb ga

@@ -4,11 +4,13 @@
 ghost use mathlib.Core.Path.{_≡_};
 ghost use mathlib.Core.List.{[], _∷_, map, zipWith};
 ghost use lib.Dec.{eqb};
+ghost use lib.ListN.{drop, replicate, take};
+ghost use Rattle.laws.specs.Digits.{join};
 ghost use Prim.Native.Nat.{_+_, _-_, _*_, _^_, _≤_, _<_};
 ghost use Rattle.laws.specs.Tables.{pick};
 ghost use Rattle.format.specs.Block.{field};
 ghost use Rattle.format.specs.Drawing.{promoted};
-ghost use Rattle.bc7_color.specs.Words.{endOf, endOfP, Fitting, Holds, HoldsP, laned, Lanes, lanesOf, plain, solid, withP};
+ghost use Rattle.bc7_color.specs.Words.{blend, endOf, endOfP, Fitting, Holds, HoldsP, laned, Lanes, lanesOf, plain, solid, withP, wordBytes, woven};
 
 pub mod old;
 
@@ -30,6 +32,9 @@ pub struct Ends {
 }
 
 const ONES: u64 = 0x0001_0001_0001_0001;
+
+// A half of 256 in each lane, for rounding.
+const HALVES: u64 = 0x0080_0080_0080_0080;
 
 fn lanes(a: u64, b: u64, c: u64, d: u64) -> u64
     requires { ⌜ (a < 2 ^ 16) × (b < 2 ^ 16) × (c < 2 ^ 16) × (d < 2 ^ 16) ⌝ }
@@ -137,4 +142,43 @@ pub fn opaque(x: Stored, y: Stored, bits: u32) -> Ends
         rb1: end_of(rb, 1, bits),
         ga1: end_of(ga, 1, bits),
     }
+}
+
+// Four channels of both endpoints in the proportion of a weight: 256 times their values, rounded. A lane is at most
+// 256 * 255 + 128, so no lane reaches the next; and as weight * e0 is at most 256 * e0 in each lane, no lane borrows either.
+// No difference of the endpoints is taken, and the first two terms don't depend on the weight.
+pub fn mixed(weight: u64, e0: u64, e1: u64) -> u64
+    requires { ⌜ (weight ≤ 256) × Lanes 8 e0 × Lanes 8 e1 ⌝ }
+    ensures { λ r. ⌜ r ≡ laned (zipWith (blend weight) (lanesOf e0) (lanesOf e1)) ⌝ }
+{
+    (256 * e0 + HALVES - weight * e0) + weight * e1
+}
+
+// Two colours of four bytes, from the upper bytes of the lanes:
+//
+//     rb   BB..|RR..|bb..|rr..   >> 8        ..BB|..RR|..bb|..rr
+//     ga   AA..|GG..|aa..|gg..   mask        AA..|GG..|aa..|gg..     sum   AABB|GGRR.. by lanes, r g b a R G B A by bytes
+pub fn two_colors(rb: u64, ga: u64) -> u64
+    ensures { λ r. ⌜ r ≡ join (replicate 8 8) (woven (lanesOf rb) (lanesOf ga)) ⌝ }
+{
+    parts(rb, 8, 8) + (parts(ga, 8, 8) << 8)
+}
+
+fn byte_of(x: u64, k: u32) -> u8
+    requires { ⌜ k < 8 ⌝ }
+    ensures { λ r. ⌜ r ≡ field x (8 * k) 8 ⌝ }
+{
+    ((x >> (8 * k)) % 256) as u8
+}
+
+pub fn low_color(x: u64) -> [u8; 4]
+    ensures { λ p. ⌜ p ≡ take 4 (wordBytes x) ⌝ }
+{
+    [byte_of(x, 0), byte_of(x, 1), byte_of(x, 2), byte_of(x, 3)]
+}
+
+pub fn high_color(x: u64) -> [u8; 4]
+    ensures { λ p. ⌜ p ≡ drop 4 (wordBytes x) ⌝ }
+{
+    [byte_of(x, 4), byte_of(x, 5), byte_of(x, 6), byte_of(x, 7)]
 }

@@ -1,0 +1,89 @@
+-- The weighted sum of two words is that of each lane, and the upper bytes of lanes make two colours.
+-- Assumes nothing.
+use mathlib.Core.Path.{_≡_, refl, sym, ap, ap₂, _∙_}
+use mathlib.Core.List.{List, [], _∷_, map, zipWith}
+use Prim.Native.Nat.{ℕ, zero, suc, _+_, _-_, _*_, _/_, _%_, _^_, _≤_, _<_}
+use native.Mathlib.Nat.{add-mul, mod-eq-of-lt, mul-le-mul-right}
+use native.Mathlib.Omega.{arith}
+use lib.ListN.{getD, replicate, take}
+use lib.Pow.{shr-lt, shr-mod}
+use Rattle.laws.specs.Digits.{Fit, join, more, none, total}
+use Rattle.laws.proofs.Digits.{join-lt, split-at-place}
+use Rattle.laws.proofs.Lanes.{scale}
+use Rattle.format.specs.Block.{field}
+use Rattle.format.proofs.Drawing.{mean}
+use Rattle.bc7_color.specs.Words.{blend, laned, Lanes, lanesOf, wordBytes, woven}
+use Rattle.bc7_color.proofs.Words.{fit-map, fit-zip, laned-lanes, laned-lt, lanes-16}
+
+bytes-le : {vs : List ℕ} → Fit (replicate 4 8) vs → laned vs ≤ 0x00FF_00FF_00FF_00FF
+unfolding laned
+bytes-le (more h0 (more h1 (more h2 (more h3 none)))) = omega arith
+
+-- that nothing is too large on the way
+pub record Steps (w e0 e1 : ℕ) : Type 0 where
+  pub halves : 256 * e0 + 0x0080_0080_0080_0080 < 2 ^ 64
+  pub less : w * e0 ≤ 256 * e0
+  pub times : w * e1 < 2 ^ 64
+  pub whole : (256 * e0 + 0x0080_0080_0080_0080 - w * e0) + w * e1 < 2 ^ 64
+
+module _ (w : ℕ) (h : w ≤ 256) where
+  pub blend-lt : (x y : ℕ) → x < 2 ^ 8 → y < 2 ^ 8 → blend w x y < 2 ^ 16
+  blend-lt x y hx hy = omega (arith, mean (256 - w) w x y (omega arith) hx hy)
+
+  four-blends : (a b c d a' b' c' d' : ℕ) → (256 * laned (a ∷ b ∷ c ∷ d ∷ []) + 0x0080_0080_0080_0080 - w * laned (a ∷ b ∷ c ∷ d ∷ [])) + w * laned (a' ∷ b' ∷ c' ∷ d' ∷ [])
+      ≡ laned (blend w a a' ∷ blend w b b' ∷ blend w c c' ∷ blend w d d' ∷ [])
+  unfolding laned
+  four-blends a b c d a' b' c' d' =
+      let all : w + (256 - w) ≡ 256 = omega arith in
+      let p = scale 16 (256 - w) (a ∷ b ∷ c ∷ d ∷ []) in
+      let q = scale 16 w (a' ∷ b' ∷ c' ∷ d' ∷ []) in
+      let r = sym (add-mul w (256 - w) (laned (a ∷ b ∷ c ∷ d ∷ []))) ∙ ap (λ (x : ℕ). x * laned (a ∷ b ∷ c ∷ d ∷ [])) all in
+      omega (arith, p, q, r)
+
+  module _ (e0 e1 : ℕ) (h0 : e0 < 2 ^ 64) (h1 : e1 < 2 ^ 64) (small0 : Lanes 8 e0) (small1 : Lanes 8 e1) where
+    pub mixed-word : (256 * e0 + 0x0080_0080_0080_0080 - w * e0) + w * e1 ≡ laned (zipWith (blend w) (lanesOf e0) (lanesOf e1))
+    unfolding lanesOf zipWith
+    mixed-word =
+        ap₂ (λ (x y : ℕ). (256 * x + 0x0080_0080_0080_0080 - w * x) + w * y) (sym (laned-lanes h0)) (sym (laned-lanes h1)) ∙ four-blends _ _ _ _ _ _ _ _
+
+    pub steps : Steps w e0 e1
+    steps =
+        let le0 : e0 ≤ 0x00FF_00FF_00FF_00FF = rw (laned-lanes h0) at (bytes-le small0) in
+        let le1 : e1 ≤ 0x00FF_00FF_00FF_00FF = rw (laned-lanes h1) at (bytes-le small1) in
+        let times1 : w * e1 ≤ 256 * e1 = mul-le-mul-right e1 h in
+        record { halves = omega arith; less = mul-le-mul-right e0 h; times = omega arith; whole = rw mixed-word (laned-lt (fit-zip 4 8 8 16 (blend w) blend-lt small0 small1)) }
+
+-- bytes in turn
+tops : (n : ℕ) {vs : List ℕ} → Fit (replicate n 16) vs → map (λ v. field v 8 8) vs ≡ map (λ v. v / 256) vs
+unfolding field
+tops zero none = refl
+tops (suc n) (more h f) = ap₂ {C = List ℕ} (λ x l. x ∷ l) (shr-mod 8 8 h) (tops n f)
+
+weave : {a b c d e f g h : ℕ} → Fit (replicate 4 8) (a ∷ b ∷ c ∷ d ∷ []) → Fit (replicate 4 8) (e ∷ f ∷ g ∷ h ∷ [])
+    → laned (a ∷ b ∷ c ∷ d ∷ []) + (laned (e ∷ f ∷ g ∷ h ∷ []) * 2 ^ 8) % 2 ^ 64 ≡ join (replicate 8 8) (a ∷ e ∷ b ∷ f ∷ c ∷ g ∷ d ∷ h ∷ [])
+unfolding laned
+weave {a} {b} {c} {d} {e} {f} {g} {h} (more ha (more hb (more hc (more hd none)))) (more he (more hf (more hg (more hh none)))) =
+    ap (λ (x : ℕ). laned (a ∷ b ∷ c ∷ d ∷ []) + x) (mod-eq-of-lt (omega arith)) ∙ omega arith
+
+module _ (rb ga : ℕ) {r g : ℕ} (er : r ≡ laned (map (λ v. field v 8 8) (lanesOf rb))) (eg : g ≡ laned (map (λ v. field v 8 8) (lanesOf ga))) where
+  top-bytes : (x : ℕ) → Fit (replicate 4 8) (map (λ v. v / 256) (lanesOf x))
+  top-bytes x = fit-map 4 16 8 _ (λ v h. shr-lt 8 8 h) (lanes-16 x)
+
+  pub woven-word : r + (g * 2 ^ 8) % 2 ^ 64 ≡ join (replicate 8 8) (woven (lanesOf rb) (lanesOf ga))
+  unfolding lanesOf
+  woven-word =
+      ap₂ (λ (x y : ℕ). x + (y * 2 ^ 8) % 2 ^ 64) (er ∙ ap laned (tops 4 (lanes-16 rb))) (eg ∙ ap laned (tops 4 (lanes-16 ga)))
+      ∙ weave (top-bytes rb) (top-bytes ga)
+
+  pub woven-fits : r + (g * 2 ^ 8) % 2 ^ 64 < 2 ^ 64
+  unfolding lanesOf
+  woven-fits = rw woven-word (join-lt (wovens (top-bytes rb) (top-bytes ga)))
+    where
+      wovens : {a b c d e f g h : ℕ} → Fit (replicate 4 8) (a ∷ b ∷ c ∷ d ∷ []) → Fit (replicate 4 8) (e ∷ f ∷ g ∷ h ∷ []) → Fit (replicate 8 8) (a ∷ e ∷ b ∷ f ∷ c ∷ g ∷ d ∷ h ∷ [])
+      wovens (more ha (more hb (more hc (more hd none)))) (more he (more hf (more hg (more hh none)))) =
+          more ha (more he (more hb (more hf (more hc (more hg (more hd (more hh none)))))))
+
+-- the byte at place k of a word
+pub byte-at : (x k : ℕ) → k < 8 → field x (total (take k (replicate 8 8))) (getD (replicate 8 8) k 0) ≡ getD (wordBytes x) k 0
+unfolding wordBytes field
+byte-at x k h = sym (split-at-place (replicate 8 8) x k h)
