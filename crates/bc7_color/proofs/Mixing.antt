@@ -7,8 +7,8 @@ use native.Mathlib.Nat.{add-mul, mod-eq-of-lt, mul-le-mul-right}
 use native.Mathlib.Omega.{arith}
 use lib.ListN.{getD, replicate, take}
 use lib.Pow.{shr-lt, shr-mod}
-use Rattle.laws.specs.Digits.{Fit, join, more, none, total}
-use Rattle.laws.proofs.Digits.{join-lt, split-at-place}
+use Rattle.laws.specs.Digits.{Fit, join, more, none, split, total}
+use Rattle.laws.proofs.Digits.{join-lt, split-at-place, split-join}
 use Rattle.laws.proofs.Lanes.{scale}
 use Rattle.format.specs.Block.{field}
 use Rattle.format.proofs.Drawing.{mean}
@@ -65,23 +65,27 @@ unfolding laned
 weave {a} {b} {c} {d} {e} {f} {g} {h} (more ha (more hb (more hc (more hd none)))) (more he (more hf (more hg (more hh none)))) =
     ap (λ (x : ℕ). laned (a ∷ b ∷ c ∷ d ∷ []) + x) (mod-eq-of-lt (omega arith)) ∙ omega arith
 
+pub woven-bytes : {xs ys : List ℕ} → Fit (replicate 4 16) xs → Fit (replicate 4 16) ys → Fit (replicate 8 8) (woven xs ys)
+woven-bytes (more ha (more hb (more hc (more hd none)))) (more he (more hf (more hg (more hh none)))) =
+    let top : (v : ℕ) → v < 2 ^ 16 → v / 256 < 2 ^ 8 = λ v h. shr-lt 8 8 h in
+    more (top _ ha) (more (top _ he) (more (top _ hb) (more (top _ hf) (more (top _ hc) (more (top _ hg) (more (top _ hd) (more (top _ hh) none)))))))
+
 module _ (rb ga : ℕ) {r g : ℕ} (er : r ≡ laned (map (λ v. field v 8 8) (lanesOf rb))) (eg : g ≡ laned (map (λ v. field v 8 8) (lanesOf ga))) where
   top-bytes : (x : ℕ) → Fit (replicate 4 8) (map (λ v. v / 256) (lanesOf x))
   top-bytes x = fit-map 4 16 8 _ (λ v h. shr-lt 8 8 h) (lanes-16 x)
 
-  pub woven-word : r + (g * 2 ^ 8) % 2 ^ 64 ≡ join (replicate 8 8) (woven (lanesOf rb) (lanesOf ga))
+  woven-word : r + (g * 2 ^ 8) % 2 ^ 64 ≡ join (replicate 8 8) (woven (lanesOf rb) (lanesOf ga))
   unfolding lanesOf
   woven-word =
       ap₂ (λ (x y : ℕ). x + (y * 2 ^ 8) % 2 ^ 64) (er ∙ ap laned (tops 4 (lanes-16 rb))) (eg ∙ ap laned (tops 4 (lanes-16 ga)))
       ∙ weave (top-bytes rb) (top-bytes ga)
 
+  pub two-woven : wordBytes (r + (g * 2 ^ 8) % 2 ^ 64) ≡ woven (lanesOf rb) (lanesOf ga)
+  unfolding wordBytes
+  two-woven = ap (split (replicate 8 8)) woven-word ∙ split-join (woven-bytes (lanes-16 rb) (lanes-16 ga))
+
   pub woven-fits : r + (g * 2 ^ 8) % 2 ^ 64 < 2 ^ 64
-  unfolding lanesOf
-  woven-fits = rw woven-word (join-lt (wovens (top-bytes rb) (top-bytes ga)))
-    where
-      wovens : {a b c d e f g h : ℕ} → Fit (replicate 4 8) (a ∷ b ∷ c ∷ d ∷ []) → Fit (replicate 4 8) (e ∷ f ∷ g ∷ h ∷ []) → Fit (replicate 8 8) (a ∷ e ∷ b ∷ f ∷ c ∷ g ∷ d ∷ h ∷ [])
-      wovens (more ha (more hb (more hc (more hd none)))) (more he (more hf (more hg (more hh none)))) =
-          more ha (more he (more hb (more hf (more hc (more hg (more hd (more hh none)))))))
+  woven-fits = rw woven-word (join-lt (woven-bytes (lanes-16 rb) (lanes-16 ga)))
 
 -- the byte at place k of a word
 pub byte-at : (x k : ℕ) → k < 8 → field x (total (take k (replicate 8 8))) (getD (replicate 8 8) k 0) ≡ getD (wordBytes x) k 0

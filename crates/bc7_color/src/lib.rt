@@ -4,8 +4,7 @@
 ghost use mathlib.Core.Path.{_≡_};
 ghost use mathlib.Core.List.{[], _∷_, map, zipWith};
 ghost use lib.Dec.{eqb};
-ghost use lib.ListN.{drop, replicate, take};
-ghost use Rattle.laws.specs.Digits.{join};
+ghost use lib.ListN.{drop, take};
 ghost use Prim.Native.Nat.{_+_, _-_, _*_, _^_, _≤_, _<_};
 ghost use Rattle.laws.specs.Tables.{pick};
 ghost use Rattle.format.specs.Block.{field};
@@ -159,7 +158,7 @@ pub fn mixed(weight: u64, e0: u64, e1: u64) -> u64
 //     rb   BB..|RR..|bb..|rr..   >> 8        ..BB|..RR|..bb|..rr
 //     ga   AA..|GG..|aa..|gg..   mask        AA..|GG..|aa..|gg..     sum   AABB|GGRR.. by lanes, r g b a R G B A by bytes
 pub fn two_colors(rb: u64, ga: u64) -> u64
-    ensures { λ r. ⌜ r ≡ join (replicate 8 8) (woven (lanesOf rb) (lanesOf ga)) ⌝ }
+    ensures { λ r. ⌜ wordBytes r ≡ woven (lanesOf rb) (lanesOf ga) ⌝ }
 {
     parts(rb, 8, 8) + (parts(ga, 8, 8) << 8)
 }

@@ -1,8 +1,9 @@
 -- Weights of 256 against the format's of 64, and the colour between two endpoints.
 -- Assumes nothing.
-use mathlib.Core.Path.{_≡_, ap, _∙_}
+use mathlib.Core.Path.{_≡_, refl, ap, _∙_}
+use mathlib.Core.Logic.{_≢_}
 use mathlib.Core.List.{List, [], _∷_, map}
-use Prim.Native.Nat.{ℕ, _+_, _-_, _*_, _/_, _^_, _≤_, _<_}
+use Prim.Native.Nat.{ℕ, zero, suc, _+_, _-_, _*_, _/_, _^_, _≤_, _<_}
 use native.Mathlib.Omega.{arith}
 use lib.ListN.{List·getD-map, getD}
 use Rattle.format.specs.Drawing.{drawn, weightOf, weights}
@@ -28,3 +29,9 @@ module _ (b k : ℕ) (least : 2 ≤ b) (most : b ≤ 4) (below : k < 2 ^ b) {w :
   unfolding between
   between-is e0 e1 =
       λ i. mixes (getD e0 0 0) (getD e1 0 0) i ∷ mixes (getD e0 1 0) (getD e1 1 0) i ∷ mixes (getD e0 2 0) (getD e1 2 0) i ∷ mixes (getD e0 3 0) (getD e1 3 0) i ∷ []
+
+-- none of the first seven
+pub seven : (n : ℕ) → n < 8 → n ≢ 0 → n ≢ 1 → n ≢ 2 → n ≢ 3 → n ≢ 4 → n ≢ 5 → n ≢ 6 → n ≡ 7
+seven zero l h0 h1 h2 h3 h4 h5 h6 = absurd (h0 refl)
+seven (suc zero) l h0 h1 h2 h3 h4 h5 h6 = absurd (h1 refl)
+seven (suc (suc n)) l _ _ h2 h3 h4 h5 h6 = let z : suc (suc n) ≡ 7 = omega arith in z

@@ -1,22 +1,126 @@
 // Weights, palettes and painting. A subset's colours are all computed once, and each pixel is a lookup. The lookups have literal
 // widths, a function for each: a width that is known only at run time costs a multiple.
 ghost use mathlib.Core.Path.{_≡_};
+ghost use mathlib.Core.List.{_++_};
 ghost use Prim.Native.Nat.{_+_, _*_, _^_, _≤_, _<_};
 ghost use lib.ListN.{getD, replicate};
-ghost use Rattle.laws.specs.Tables.{over};
+ghost use Rattle.laws.specs.Tables.{over, table};
 ghost use Rattle.format.specs.Drawing.{weightOf};
 ghost use Rattle.bcn_indexes.specs.Indexes.{part};
 ghost use Rattle.bc7_fields.specs.Fields.{four};
 ghost use Rattle.bc7_fields.specs.Painting.{between, key, painted};
 ghost use Rattle.bc7_color.specs.Colors.{laned};
-ghost use Rattle.bc7_palette.specs.Colors.{lerped};
+ghost use Rattle.bc7_color.specs.Words.{Bytes, endpoint, wordBytes};
+ghost use Rattle.bc7_palette.specs.Colors.{endpoints, keyed, lerped, shade};
+use bc7_color::Ends;
+use bc7_color::high_color;
+use bc7_color::low_color;
+use bc7_color::mixed;
 use bc7_color::old::bytes_at;
 use bc7_color::old::lanes;
+use bc7_color::two_colors;
 
-// Weights are all multiplied by 4 compared to the original ones.
-const WEIGHTS_2: [u64; 4] = [0, 84, 172, 256];
+// Weights are all multiplied by 4 compared to the original ones. A `match` and no constant array: the compiler makes a read-only
+// table of it or folds it away, where an array would be laid on the stack at each call.
+fn get_weight_2(index: usize) -> u64
+    requires { ⌜ index < 4 ⌝ }
+    ensures { λ r. ⌜ r ≡ 4 * weightOf 2 index ⌝ }
+{
+    match index {
+        0 => 0,
+        1 => 84,
+        2 => 172,
+        _ => 256,
+    }
+}
 
-const WEIGHTS_3: [u64; 8] = [0, 36, 72, 108, 148, 184, 220, 256];
+fn get_weight_3(index: usize) -> u64
+    requires { ⌜ index < 8 ⌝ }
+    ensures { λ r. ⌜ r ≡ 4 * weightOf 3 index ⌝ }
+{
+    match index {
+        0 => 0,
+        1 => 36,
+        2 => 72,
+        3 => 108,
+        4 => 148,
+        5 => 184,
+        6 => 220,
+        _ => 256,
+    }
+}
+
+// The colours of two subsets at a weight, that of the first in the low half.
+fn mixed_colors(e: Ends, weight: u64) -> u64
+    requires { ⌜ (weight ≤ 256) × Bytes e ⌝ }
+    ensures { λ r. ⌜ wordBytes r ≡ shade e 0 weight ++ shade e 1 weight ⌝ }
+{
+    two_colors(
+        mixed(weight, e.rb0, e.rb1),
+        mixed(weight, e.ga0, e.ga1),
+    )
+}
+
+// The colours of two subsets: that of index k and subset s is at 2 * k + s.
+pub fn palette_2_2(e: Ends) -> [[u8; 4]; 8]
+    requires { ⌜ Bytes e ⌝ }
+    ensures { λ q. ⌜ q ≡ table 8 (keyed 2 2 (endpoint e)) ⌝ }
+{
+    let mut q = [[0u8; 4]; 8];
+    for k in 0..4usize {
+        let x = mixed_colors(e, get_weight_2(k));
+        q[2 * k] = low_color(x);
+        q[2 * k + 1] = high_color(x);
+    }
+    q
+}
+
+pub fn palette_2_3(e: Ends) -> [[u8; 4]; 16]
+    requires { ⌜ Bytes e ⌝ }
+    ensures { λ q. ⌜ q ≡ table 16 (keyed 3 2 (endpoint e)) ⌝ }
+{
+    let mut q = [[0u8; 4]; 16];
+    for k in 0..8usize {
+        let x = mixed_colors(e, get_weight_3(k));
+        q[2 * k] = low_color(x);
+        q[2 * k + 1] = high_color(x);
+    }
+    q
+}
+
+// The colours of three subsets, the third in words of its own: that of index k and subset s is at 4 * k + s. No key is
+// 4 * k + 3: what stands there, the other half of the third's words, is stored since a palette with gaps would be cleared first.
+pub fn palette_3_2(e: Ends, f: Ends) -> [[u8; 4]; 16]
+    requires { ⌜ Bytes e × Bytes f ⌝ }
+    ensures { λ q. ⌜ q ≡ table 16 (keyed 2 4 (endpoints e f)) ⌝ }
+{
+    let mut q = [[0u8; 4]; 16];
+    for k in 0..4usize {
+        let x = mixed_colors(e, get_weight_2(k));
+        let y = mixed_colors(f, get_weight_2(k));
+        q[4 * k] = low_color(x);
+        q[4 * k + 1] = high_color(x);
+        q[4 * k + 2] = low_color(y);
+        q[4 * k + 3] = high_color(y);
+    }
+    q
+}
+
+pub fn palette_3_3(e: Ends, f: Ends) -> [[u8; 4]; 32]
+    requires { ⌜ Bytes e × Bytes f ⌝ }
+    ensures { λ q. ⌜ q ≡ table 32 (keyed 3 4 (endpoints e f)) ⌝ }
+{
+    let mut q = [[0u8; 4]; 32];
+    for k in 0..8usize {
+        let x = mixed_colors(e, get_weight_3(k));
+        let y = mixed_colors(f, get_weight_3(k));
+        q[4 * k] = low_color(x);
+        q[4 * k + 1] = high_color(x);
+        q[4 * k + 2] = low_color(y);
+        q[4 * k + 3] = high_color(y);
+    }
+    q
+}
 
 const WEIGHTS_4: [u64; 16] = [
     0,
@@ -36,20 +140,6 @@ const WEIGHTS_4: [u64; 16] = [
     240,
     256,
 ];
-
-fn get_weight_2(index: usize) -> u64
-    requires { ⌜ index < 4 ⌝ }
-    ensures { λ r. ⌜ r ≡ 4 * weightOf 2 index ⌝ }
-{
-    WEIGHTS_2[index]
-}
-
-fn get_weight_3(index: usize) -> u64
-    requires { ⌜ index < 8 ⌝ }
-    ensures { λ r. ⌜ r ≡ 4 * weightOf 3 index ⌝ }
-{
-    WEIGHTS_3[index]
-}
 
 fn get_weight(bits: u32, index: usize) -> u64
     requires { ⌜ (2 ≤ bits) × (bits ≤ 3) × (index < 2 ^ bits) ⌝ }

@@ -1,7 +1,7 @@
 -- Two colours of four bytes.
 -- Assumes nothing.
 use borrow.Author.Needs.{needs}
-use Rattle.bc7_color.proofs.Mixing.{woven-fits, woven-word}
+use Rattle.bc7_color.proofs.Mixing.{two-woven, woven-fits}
 use Rattle.bc7_color.proofs.two_colors.Statement.{statement}
 use Rattle.bc7_color.proofs.two_colors.Tie as tie
 
@@ -19,7 +19,7 @@ add-result c =
 returns : tie.Need-returns
 returns c =
     let s = c .before .before in
-    woven-word (s .args .rb) (s .args .ga) (c .before .parts .ensures) (c .parts2 .ensures)
+    two-woven (s .args .rb) (s .args .ga) (c .before .parts .ensures) (c .parts2 .ensures)
 
 pub two-colors-spec : {M : Type 1} → statement M
 two-colors-spec = tie.close (tie.spec parts-requires parts-requires-2 add-result returns)
