@@ -10,6 +10,7 @@ pub mod First
 pub mod Refusals
 pub mod Digits
 pub mod Rows
+pub mod EqualRows
 pub mod Padding
 pub mod Fitting
 pub mod Putting
