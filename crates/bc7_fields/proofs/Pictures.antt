@@ -91,18 +91,39 @@ module _ (m n b : ℕ) where
       (λ h. over-out (stack m n b k) (k * 2 ^ b) (2 ^ b) _ [] _ (λ w. omega (arith, w .0, mul-le-mul-right {m = suc l} {n = k} (2 ^ b) h, suc-mul l (2 ^ b))) ∙ stack-at k l i h (omega arith) hi)
       (eq-or-lt-of-le (le-of-suc-le-suc hl))
 
--- a mode with k subsets
+-- a mode with subsets, whose pixels are looked up: each finds the colour of its subset at its index
+looked-up : (m n b : ℕ) (s : Split) (p : List (List ℕ)) → firstBits m ≡ b → splitAt m n ≡ s → isVector s ≡ false → (x : ℕ) (place : ℕ → ℕ)
+    → ((q : ℕ) → q < 16 → part x b q ≡ atPlace m s n (index 0 q))
+    → ((q : ℕ) → q < 16 → getD p (place q) [] ≡ colours m n b (subset s q) (part x b q))
+    → painted place p ≡ directPixels m n
+unfolding painted directPixels between
+looked-up m n b s p eb es flat x place indexes found =
+    table-same [] 16 _ _ (λ q hq.
+    found q hq
+    ∙ four-ext _ _ (λ c hc. ap₂ (λ (w i : ℕ). drawn (endByte m n (2 * subset s q + 0) c) (endByte m n (2 * subset s q + 1) c) (weightOf w i)) (sym eb) (indexes q hq) ∙ sym (flat-direct m s n q c flat)))
+    ∙ ap (λ (s : Split). table 16 (λ q. four (direct m s n q))) (sym es)
+
+-- with the palettes of k subsets one after the other
 pub subset-law : (m n b k : ℕ) (s : Split) → firstBits m ≡ b → splitAt m n ≡ s → isVector s ≡ false → ((q : ℕ) → q < 16 → subset s q < k) → k * 2 ^ b ≤ 32 → (x : ℕ) (place : ℕ → ℕ)
     → ((q : ℕ) → q < 16 → place q ≡ subset s q * 2 ^ b + part x b q)
     → ((q : ℕ) → q < 16 → part x b q ≡ atPlace m s n (index 0 q))
     → painted place (stack m n b k) ≡ directPixels m n
-unfolding painted directPixels between
 subset-law m n b k s eb es flat subsets room x place places indexes =
-    table-same [] 16 _ _ (λ q hq.
+    looked-up m n b s (stack m n b k) eb es flat x place indexes (λ q hq.
     ap (λ (j : ℕ). getD (stack m n b k) j []) (places q hq)
-    ∙ stack-at m n b k (subset s q) (part x b q) (subsets q hq) room (part-lt x b q)
-    ∙ four-ext _ _ (λ c hc. ap₂ (λ (w i : ℕ). drawn (endByte m n (2 * subset s q + 0) c) (endByte m n (2 * subset s q + 1) c) (weightOf w i)) (sym eb) (indexes q hq) ∙ sym (flat-direct m s n q c flat)))
-    ∙ ap (λ (s : Split). table 16 (λ q. four (direct m s n q))) (sym es)
+    ∙ stack-at m n b k (subset s q) (part x b q) (subsets q hq) room (part-lt x b q))
+
+-- a palette by keys: the colours of k subsets, that of index i and subset l at i * 2 ^ t + l
+pub record Palette (m n b k t : ℕ) (p : List (List ℕ)) : Type 0 where
+  pub at : (l i : ℕ) → l < k → i < 2 ^ b → getD p (i * 2 ^ t + l) [] ≡ colours m n b l i
+
+pub keyed-law : (m n b k t : ℕ) (s : Split) {p : List (List ℕ)} → firstBits m ≡ b → splitAt m n ≡ s → isVector s ≡ false → ((q : ℕ) → q < 16 → subset s q < k) → Palette m n b k t p → (x : ℕ) (place : ℕ → ℕ)
+    → ((q : ℕ) → q < 16 → place q ≡ part x b q * 2 ^ t + subset s q)
+    → ((q : ℕ) → q < 16 → part x b q ≡ atPlace m s n (index 0 q))
+    → painted place p ≡ directPixels m n
+keyed-law m n b k t s {p} eb es flat subsets palette x place places indexes =
+    looked-up m n b s p eb es flat x place indexes (λ q hq.
+    ap (λ (j : ℕ). getD p j []) (places q hq) ∙ palette .at (subset s q) (part x b q) (subsets q hq) (part-lt x b q))
 
 -- rotation after colour and alpha are joined
 module _ (r : ℕ) (colors alphas : List (List ℕ)) (h : r < 4) where
