@@ -6,14 +6,17 @@ use Prim.Native.Nat.{ℕ, zero, suc, _+_, _-_, _*_, _/_, _%_, _^_, _≤_, _<_}
 use native.Mathlib.Nat.{div-one, le-of-suc-le-suc, lt-of-lt-of-le, mod-eq-of-lt, mod-lt, mul-comm, mul-le-mul-left, mul-one, mul-zero, one-mul}
 use native.Mathlib.Omega.{arith}
 use lib.Bits.{bitAnd}
-use lib.ListN.{replicate}
+use lib.Dec.{eqb}
+use lib.ListN.{getD, replicate}
 use lib.Pow.{high, low, ones-lt, ones-split, pow-add, pow-mono, pow-pos}
 use Rattle.laws.specs.Digits.{Fit, join, more, none, split, total}
+use Rattle.laws.proofs.Cases.{pick-lt}
 use Rattle.laws.proofs.Digits.{join-lt, join-split, split-fits, split-join}
 use Rattle.laws.proofs.Lanes.{Within, lanes, mask-parts, more as more-within, none as none-within, onesIn, scale}
 use Rattle.format.specs.Block.{field}
 use Rattle.format.specs.Drawing.{promoted}
-use Rattle.bc7_color.specs.Words.{endOf, endOfP, laned, Lanes, lanesOf}
+use Rattle.bc7_color.specs.declared.Ends.{Ends}
+use Rattle.bc7_color.specs.Words.{endOf, endOfP, endpoint, endsOf, Holds, laned, Lanes, lanesOf, solid}
 use Rattle.bc7_color.proofs.Channels.{at-width}
 
 -- a word and its lanes
@@ -151,27 +154,16 @@ module _ (n k x : ℕ) (hk : k < 2) where
   pub ends-within : n ≤ 8 → n * k + n ≤ 16
   ends-within h = omega (arith, mul-le-mul-left n (le-of-suc-le-suc hk))
 
-  module _ (least : 4 ≤ n) (most : n ≤ 8) {r z : ℕ} (e : r ≡ laned (map (λ v. field v (n * k) n) (lanesOf x))) (f : z ≡ laned (map (promoted n) (lanesOf r))) where
+  module _ (most : n ≤ 8) {r z : ℕ} (e : r ≡ laned (map (λ v. field v (n * k) n) (lanesOf x))) (f : z ≡ laned (map (promoted n) (lanesOf r))) where
     pub end-of : z ≡ laned (map (endOf n k) (lanesOf x))
     unfolding lanesOf
     end-of = f ∙ ap (λ (l : List ℕ). laned (map (promoted n) l)) (parts-lanes x (n * k) n (omega arith) e)
 
-    pub end-small : Lanes 8 z
-    end-small =
-        let g : Fit (replicate 4 8) (map (promoted n) (lanesOf r)) = fit-map 4 n 8 (promoted n) (λ v h. promoted-lt n least most h) (parts-small x (n * k) n (omega arith) e) in
-        rw (f, lanes-laned (wider 4 8 16 (omega arith) g)) g
-
-  module _ (p : ℕ) (least : 3 ≤ n) (most : n ≤ 7) {r q z : ℕ} (e : r ≡ laned (map (λ v. field v (n * k) n) (lanesOf x))) (d : q ≡ laned (map (λ v. field v k 1) (lanesOf p)))
+  module _ (p : ℕ) (most : n ≤ 7) {r q z : ℕ} (e : r ≡ laned (map (λ v. field v (n * k) n) (lanesOf x))) (d : q ≡ laned (map (λ v. field v k 1) (lanesOf p)))
       (f : z ≡ laned (zipWith (λ v q. promoted (n + 1) (v * 2 + q)) (lanesOf r) (lanesOf q))) where
     pub end-of-p : z ≡ laned (zipWith (endOfP n k) (lanesOf x) (lanesOf p))
     unfolding lanesOf zipWith
     end-of-p = f ∙ ap₂ (λ (l m : List ℕ). laned (zipWith (λ v q. promoted (n + 1) (v * 2 + q)) l m)) (parts-lanes x (n * k) n (omega arith) e) (parts-lanes p k 1 (omega arith) d)
-
-    pub end-p-small : Lanes 8 z
-    end-p-small =
-        let g : Fit (replicate 4 8) (zipWith (λ v q. promoted (n + 1) (v * 2 + q)) (lanesOf r) (lanesOf q)) =
-        fit-zip 4 n 1 8 _ (λ v q hv hq. promoted-lt (n + 1) (omega arith) (omega arith) (rw (pow-add 2 n 1) (omega arith))) (parts-small x (n * k) n (omega arith) e) (parts-small p k 1 (omega arith) d) in
-        rw (f, lanes-laned (wider 4 8 16 (omega arith) g)) g
 
 -- a word made of four values
 pub lanes-four : {r a b c d : ℕ} → r ≡ laned (a ∷ b ∷ c ∷ d ∷ []) → a < 2 ^ 16 → b < 2 ^ 16 → c < 2 ^ 16 → d < 2 ^ 16 → lanesOf r ≡ a ∷ b ∷ c ∷ d ∷ []
@@ -199,3 +191,39 @@ full-p n least most e k h =
     ap (λ (v : ℕ). endOfP n k v 3) e
     ∙ ap₂ (λ (x y : ℕ). promoted (n + 1) (x * 2 + y)) (half-ones n k h) (ap (λ (s : ℕ). field 3 s 1) (sym (one-mul k)) ∙ half-ones 1 k h)
     ∙ ap (promoted (n + 1)) (sym (ones-split n 1)) ∙ ones-255 (n + 1) (omega arith) (omega arith)
+
+-- an endpoint's channel is a byte
+pub end-lt : (n k v : ℕ) → 4 ≤ n → n ≤ 8 → endOf n k v < 2 ^ 8
+unfolding field
+end-lt n k v least most = promoted-lt n least most (mod-lt (v / 2 ^ (n * k)) (pow-pos n))
+
+pub end-p-lt : (n k v p : ℕ) → 3 ≤ n → n ≤ 7 → endOfP n k v p < 2 ^ 8
+unfolding field
+end-p-lt n k v p least most =
+    promoted-lt (n + 1) (omega arith) (omega arith) (rw (pow-add 2 n 1) (omega (arith, mod-lt (v / 2 ^ (n * k)) (pow-pos n), mod-lt (p / 2 ^ k) (pow-pos 1))))
+
+-- the words of bytes: their lanes, and the endpoints that are found in them
+module _ (f : ℕ → ℕ → ℕ → ℕ) (each : (l k c : ℕ) → f l k c < 2 ^ 8) where
+  four : (k c : ℕ) → Fit (replicate 4 8) (f 0 k c ∷ f 0 k (c + 2) ∷ f 1 k c ∷ f 1 k (c + 2) ∷ [])
+  four k c = more (each 0 k c) (more (each 0 k (c + 2)) (more (each 1 k c) (more (each 1 k (c + 2)) none)))
+
+  four-lanes : (k c : ℕ) → lanesOf (laned (f 0 k c ∷ f 0 k (c + 2) ∷ f 1 k c ∷ f 1 k (c + 2) ∷ [])) ≡ f 0 k c ∷ f 0 k (c + 2) ∷ f 1 k c ∷ f 1 k (c + 2) ∷ []
+  four-lanes k c = lanes-laned (wider 4 8 16 (omega arith) (four k c))
+
+  pub holds : {e : Ends} → e ≡ endsOf f → Holds f e
+  unfolding endsOf
+  holds e = record { same = e; each = each; small = rw e (record { rb0 = rw (four-lanes 0 0) (four 0 0); ga0 = rw (four-lanes 0 1) (four 0 1); rb1 = rw (four-lanes 1 0) (four 1 0); ga1 = rw (four-lanes 1 1) (four 1 1) }) }
+
+  pub endpoint-of : (l k : ℕ) → l < 2 → k < 2 → endpoint (endsOf f) l k ≡ f l k 0 ∷ f l k 1 ∷ f l k 2 ∷ f l k 3 ∷ []
+  unfolding endpoint endsOf
+  endpoint-of zero zero hl hk = ap₂ {C = List ℕ} (λ r g. getD r 0 0 ∷ getD g 0 0 ∷ getD r 1 0 ∷ getD g 1 0 ∷ []) (four-lanes 0 0) (four-lanes 0 1)
+  endpoint-of zero (suc zero) hl hk = ap₂ {C = List ℕ} (λ r g. getD r 0 0 ∷ getD g 0 0 ∷ getD r 1 0 ∷ getD g 1 0 ∷ []) (four-lanes 1 0) (four-lanes 1 1)
+  endpoint-of (suc zero) zero hl hk = ap₂ {C = List ℕ} (λ r g. getD r 2 0 ∷ getD g 2 0 ∷ getD r 3 0 ∷ getD g 3 0 ∷ []) (four-lanes 0 0) (four-lanes 0 1)
+  endpoint-of (suc zero) (suc zero) hl hk = ap₂ {C = List ℕ} (λ r g. getD r 2 0 ∷ getD g 2 0 ∷ getD r 3 0 ∷ getD g 3 0 ∷ []) (four-lanes 1 0) (four-lanes 1 1)
+  endpoint-of zero (suc (suc k)) hl hk = absurd (let z : ⊥ = omega arith in z)
+  endpoint-of (suc zero) (suc (suc k)) hl hk = absurd (let z : ⊥ = omega arith in z)
+  endpoint-of (suc (suc l)) k hl hk = absurd (let z : ⊥ = omega arith in z)
+
+-- where alpha is 255
+pub solid-lt : {f : ℕ → ℕ → ℕ} → ((k c : ℕ) → f k c < 2 ^ 8) → (k c : ℕ) → solid f k c < 2 ^ 8
+solid-lt {f} h k c = pick-lt (eqb c 3) 255 (f k c) (2 ^ 8) (omega arith) (h k c)

@@ -77,12 +77,12 @@ solid f k c = pick (eqb c 3) 255 (f k c)
 -- the ends of two colours: what they are, and that they are bytes
 pub record Holds (f : ℕ → ℕ → ℕ → ℕ) (e : Ends) : Type 0 where
   pub same : e ≡ endsOf f
+  pub each : (l k c : ℕ) → f l k c < 2 ^ 8
   pub small : Bytes e
 
 -- the same by the lanes of the words that they are made of
-pub record HoldsP (n : ℕ) (rb ga p q : List ℕ) (e : Ends) : Type 0 where
-  pub same : e ≡ record { rb0 = laned (zipWith (endOfP n 0) rb p); ga0 = laned (zipWith (endOfP n 0) ga q); rb1 = laned (zipWith (endOfP n 1) rb p); ga1 = laned (zipWith (endOfP n 1) ga q) }
-  pub small : Bytes e
+unfoldable pub endsP : ℕ → List ℕ → List ℕ → List ℕ → List ℕ → Ends
+endsP n rb ga p q = record { rb0 = laned (zipWith (endOfP n 0) rb p); ga0 = laned (zipWith (endOfP n 0) ga q); rb1 = laned (zipWith (endOfP n 1) rb p); ga1 = laned (zipWith (endOfP n 1) ga q) }
 
 -- a channel of both endpoints at the weight w of 256, not yet divided: its upper byte is the channel
 abbrev pub blend : ℕ → ℕ → ℕ → ℕ

@@ -9,7 +9,7 @@ ghost use Prim.Native.Nat.{_+_, _-_, _*_, _^_, _≤_, _<_};
 ghost use Rattle.laws.specs.Tables.{pick};
 ghost use Rattle.format.specs.Block.{field};
 ghost use Rattle.format.specs.Drawing.{promoted};
-ghost use Rattle.bc7_color.specs.Words.{blend, endOf, endOfP, Fitting, Holds, HoldsP, laned, Lanes, lanesOf, plain, solid, withP, wordBytes, woven};
+ghost use Rattle.bc7_color.specs.Words.{blend, endOf, endOfP, endsP, Fitting, Holds, laned, Lanes, lanesOf, plain, solid, withP, wordBytes, woven};
 
 pub mod old;
 
@@ -71,7 +71,7 @@ fn promote_p(x: u64, p: u64, bits: u32) -> u64
 // Endpoint k, 0 or 1, of lanes that have both.
 fn end_of(x: u64, k: u32, bits: u32) -> u64
     requires { ⌜ (4 ≤ bits) × (bits ≤ 8) × (k < 2) ⌝ }
-    ensures { λ r. ⌜ (r ≡ laned (map (λ v. endOf bits k v) (lanesOf x))) × Lanes 8 r ⌝ }
+    ensures { λ r. ⌜ r ≡ laned (map (endOf bits k) (lanesOf x)) ⌝ }
 {
     promote(parts(x, bits * k, bits), bits)
 }
@@ -79,7 +79,7 @@ fn end_of(x: u64, k: u32, bits: u32) -> u64
 // The same with p bits: a lane of p has both too.
 fn end_of_p(x: u64, p: u64, k: u32, bits: u32) -> u64
     requires { ⌜ (3 ≤ bits) × (bits ≤ 7) × (k < 2) ⌝ }
-    ensures { λ r. ⌜ (r ≡ laned (zipWith (endOfP bits k) (lanesOf x) (lanesOf p))) × Lanes 8 r ⌝ }
+    ensures { λ r. ⌜ r ≡ laned (zipWith (endOfP bits k) (lanesOf x) (lanesOf p)) ⌝ }
 {
     promote_p(parts(x, bits * k, bits), parts(p, k, 1), bits)
 }
@@ -87,7 +87,7 @@ fn end_of_p(x: u64, p: u64, k: u32, bits: u32) -> u64
 // Both endpoints in both words, with the p bits of their lanes.
 fn ends_p(rb: u64, ga: u64, p: u64, q: u64, bits: u32) -> Ends
     requires { ⌜ (3 ≤ bits) × (bits ≤ 7) ⌝ }
-    ensures { λ e. ⌜ HoldsP bits (lanesOf rb) (lanesOf ga) (lanesOf p) (lanesOf q) e ⌝ }
+    ensures { λ e. ⌜ e ≡ endsP bits (lanesOf rb) (lanesOf ga) (lanesOf p) (lanesOf q) ⌝ }
 {
     Ends {
         rb0: end_of_p(rb, p, 0, bits),

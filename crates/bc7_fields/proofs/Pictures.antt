@@ -41,7 +41,7 @@ four-at f (suc (suc zero)) h = refl
 four-at f (suc (suc (suc zero))) h = refl
 four-at f (suc (suc (suc (suc c)))) h = absurd (let z : ⊥ = omega arith in z)
 
-four-ext : (f g : ℕ → ℕ) → ((c : ℕ) → c < 4 → f c ≡ g c) → four f ≡ four g
+pub four-ext : (f g : ℕ → ℕ) → ((c : ℕ) → c < 4 → f c ≡ g c) → four f ≡ four g
 four-ext f g h = λ i. h 0 (omega arith) i ∷ h 1 (omega arith) i ∷ h 2 (omega arith) i ∷ h 3 (omega arith) i ∷ []
 
 -- a colour by its channels

@@ -3,8 +3,10 @@
 use mathlib.Core.Path.{_∙_}
 use mathlib.Core.List.{zipWith}
 use borrow.Author.Needs.{needs}
-use Rattle.bc7_color.specs.Words.{endOfP, endsOf, laned}
-use Rattle.bc7_color.proofs.Words.{lanes-four}
+use lib.Dec.{eqb}
+use Rattle.laws.specs.Tables.{pick}
+use Rattle.bc7_color.specs.Words.{endsOf, endsP, withP}
+use Rattle.bc7_color.proofs.Words.{end-p-lt, holds, lanes-four}
 use Rattle.bc7_color.proofs.clear_p.Statement.{statement}
 use Rattle.bc7_color.proofs.clear_p.Tie as tie
 
@@ -21,7 +23,7 @@ ends-p-requires : tie.Need-ends-p-requires
 ends-p-requires c κs = search needs
 
 returns : tie.Need-returns
-unfolding endsOf zipWith
+unfolding endsOf endsP zipWith
 returns c =
     let p = c .before in
     let g = p .before in
@@ -33,7 +35,8 @@ returns c =
     let rb = lanes-four (r .lanes .ensures) (x .red) (x .blue) (y .red) (y .blue) in
     let ga = lanes-four (g .lanes2 .ensures) (x .green) (x .alpha) (y .green) (y .alpha) in
     let ps = lanes-four (p .lanes3 .ensures) (x .ps) (x .ps) (y .ps) (y .ps) in
-    record { same = c .ends-p .ensures .same ∙ (λ i. record { rb0 = laned (zipWith (endOfP n 0) (rb i) (ps i)); ga0 = laned (zipWith (endOfP n 0) (ga i) (ps i)); rb1 = laned (zipWith (endOfP n 1) (rb i) (ps i)); ga1 = laned (zipWith (endOfP n 1) (ga i) (ps i)) }); small = c .ends-p .ensures .small }
+    holds (λ l. withP n (pick (eqb l 0) (s .args .x) (s .args .y))) (λ l k c. end-p-lt n k _ _ (s .pre .0) (s .pre .1))
+    (c .ends-p .ensures ∙ (λ i. endsP n (rb i) (ga i) (ps i) (ps i)))
 
 pub clear-p-spec : {M : Type 1} → statement M
 clear-p-spec =

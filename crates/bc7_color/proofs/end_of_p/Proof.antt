@@ -2,7 +2,7 @@
 -- Assumes nothing.
 use native.Mathlib.Omega.{arith}
 use borrow.Author.Needs.{needs}
-use Rattle.bc7_color.proofs.Words.{end-of-p, end-p-small, ends-within, parts-small}
+use Rattle.bc7_color.proofs.Words.{end-of-p, ends-within, parts-small}
 use Rattle.bc7_color.proofs.end_of_p.Statement.{statement}
 use Rattle.bc7_color.proofs.end_of_p.Tie as tie
 
@@ -23,10 +23,7 @@ promote-p-requires c κs =
 returns : tie.Need-returns
 returns c =
     let s = c .before .before .before in
-    let x = c .before .before .parts .ensures in
-    let p = c .before .parts2 .ensures in
-    (end-of-p (s .args .bits) (s .args .k) (s .args .x) (s .pre .2) (s .args .p) (s .pre .0) (s .pre .1) x p (c .promote-p .ensures),
-      end-p-small (s .args .bits) (s .args .k) (s .args .x) (s .pre .2) (s .args .p) (s .pre .0) (s .pre .1) x p (c .promote-p .ensures))
+    end-of-p (s .args .bits) (s .args .k) (s .args .x) (s .pre .2) (s .args .p) (s .pre .1) (c .before .before .parts .ensures) (c .before .parts2 .ensures) (c .promote-p .ensures)
 
 pub end-of-p-spec : {M : Type 1} → statement M
 end-of-p-spec =

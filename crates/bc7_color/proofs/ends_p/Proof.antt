@@ -1,6 +1,7 @@
 -- Both endpoints in both words.
 -- Assumes nothing.
 use borrow.Author.Needs.{needs}
+use Rattle.bc7_color.specs.Words.{endsP}
 use Rattle.bc7_color.proofs.ends_p.Statement.{statement}
 use Rattle.bc7_color.proofs.ends_p.Tie as tie
 
@@ -17,12 +18,9 @@ end-of-p-requires-4 : tie.Need-end-of-p-requires-4
 end-of-p-requires-4 c κs = search needs
 
 returns : tie.Need-returns
+unfolding endsP
 returns c =
-    let g1 = c .end-of-p4 .ensures in
-    let r1 = c .before .end-of-p3 .ensures in
-    let g0 = c .before .before .end-of-p2 .ensures in
-    let r0 = c .before .before .before .end-of-p .ensures in
-    record { same = λ i. record { rb0 = r0 .0 i; ga0 = g0 .0 i; rb1 = r1 .0 i; ga1 = g1 .0 i }; small = record { rb0 = r0 .1; ga0 = g0 .1; rb1 = r1 .1; ga1 = g1 .1 } }
+    λ i. record { rb0 = c .before .before .before .end-of-p .ensures i; ga0 = c .before .before .end-of-p2 .ensures i; rb1 = c .before .end-of-p3 .ensures i; ga1 = c .end-of-p4 .ensures i }
 
 pub ends-p-spec : {M : Type 1} → statement M
 ends-p-spec =

@@ -4,8 +4,10 @@ use mathlib.Core.Path.{_∙_}
 use mathlib.Core.List.{map, [], _∷_}
 use native.Mathlib.Omega.{arith}
 use borrow.Author.Needs.{needs}
-use Rattle.bc7_color.specs.Words.{endOf, endsOf, laned, plain}
-use Rattle.bc7_color.proofs.Words.{full, lanes-four}
+use lib.Dec.{eqb}
+use Rattle.laws.specs.Tables.{pick}
+use Rattle.bc7_color.specs.Words.{endOf, endsOf, laned, plain, solid}
+use Rattle.bc7_color.proofs.Words.{end-lt, full, holds, lanes-four, solid-lt}
 use Rattle.bc7_color.proofs.opaque.Statement.{statement}
 use Rattle.bc7_color.proofs.opaque.Tie as tie
 
@@ -54,17 +56,15 @@ returns c =
     let r1 = c .before .end-of3 .ensures in
     let g0 = c .before .before .end-of2 .ensures in
     let r0 = c .before .before .before .end-of .ensures in
-    record {
-      same = (λ i. record { rb0 = r0 .0 i; ga0 = g0 .0 i; rb1 = r1 .0 i; ga1 = g1 .0 i })
-      ∙ (λ i. record { rb0 = laned (map (endOf n 0) (rb i)); ga0 = laned (map (endOf n 0) (ga i)); rb1 = laned (map (endOf n 1) (rb i)); ga1 = laned (map (endOf n 1) (ga i)) })
-      ∙ (λ i. record {
-        rb0 = laned (plain n x 0 0 ∷ plain n x 0 2 ∷ plain n y 0 0 ∷ plain n y 0 2 ∷ []);
-        ga0 = laned (plain n x 0 1 ∷ alpha 0 (omega arith) i ∷ plain n y 0 1 ∷ alpha' 0 (omega arith) i ∷ []);
-        rb1 = laned (plain n x 1 0 ∷ plain n x 1 2 ∷ plain n y 1 0 ∷ plain n y 1 2 ∷ []);
-        ga1 = laned (plain n x 1 1 ∷ alpha 1 (omega arith) i ∷ plain n y 1 1 ∷ alpha' 1 (omega arith) i ∷ []);
-      });
-      small = record { rb0 = r0 .1; ga0 = g0 .1; rb1 = r1 .1; ga1 = g1 .1 };
-    }
+    holds (λ l. solid (plain n (pick (eqb l 0) x y))) (λ l. solid-lt (λ k c. end-lt n k _ (s .pre .0) (s .pre .1)))
+    ((λ i. record { rb0 = r0 i; ga0 = g0 i; rb1 = r1 i; ga1 = g1 i })
+    ∙ (λ i. record { rb0 = laned (map (endOf n 0) (rb i)); ga0 = laned (map (endOf n 0) (ga i)); rb1 = laned (map (endOf n 1) (rb i)); ga1 = laned (map (endOf n 1) (ga i)) })
+    ∙ (λ i. record {
+      rb0 = laned (plain n x 0 0 ∷ plain n x 0 2 ∷ plain n y 0 0 ∷ plain n y 0 2 ∷ []);
+      ga0 = laned (plain n x 0 1 ∷ alpha 0 (omega arith) i ∷ plain n y 0 1 ∷ alpha' 0 (omega arith) i ∷ []);
+      rb1 = laned (plain n x 1 0 ∷ plain n x 1 2 ∷ plain n y 1 0 ∷ plain n y 1 2 ∷ []);
+      ga1 = laned (plain n x 1 1 ∷ alpha 1 (omega arith) i ∷ plain n y 1 1 ∷ alpha' 1 (omega arith) i ∷ []);
+    }))
 
 pub opaque-spec : {M : Type 1} → statement M
 opaque-spec =

@@ -5,8 +5,10 @@ use mathlib.Core.List.{zipWith, [], _∷_}
 use Prim.Native.Nat.{ℕ, _+_, _-_, _^_, _<_}
 use native.Mathlib.Omega.{arith}
 use borrow.Author.Needs.{needs}
-use Rattle.bc7_color.specs.Words.{endOfP, endsOf, laned, withP}
-use Rattle.bc7_color.proofs.Words.{full-p, lanes-four}
+use lib.Dec.{eqb}
+use Rattle.laws.specs.Tables.{pick}
+use Rattle.bc7_color.specs.Words.{endsOf, endsP, laned, solid, withP}
+use Rattle.bc7_color.proofs.Words.{end-p-lt, full-p, holds, lanes-four, solid-lt}
 use Rattle.bc7_color.proofs.opaque_p.Statement.{statement}
 use Rattle.bc7_color.proofs.opaque_p.Tie as tie
 
@@ -32,7 +34,7 @@ ends-p-requires : tie.Need-ends-p-requires
 ends-p-requires c κs = search needs
 
 returns : tie.Need-returns
-unfolding endsOf zipWith
+unfolding endsOf endsP zipWith
 returns c =
     let q = c .before in
     let p = q .before in
@@ -52,17 +54,15 @@ returns c =
     let qs = lanes-four (q .lanes4 .ensures) (hx .ps) (omega arith) (hy .ps) (omega arith) in
     let alpha = full-p n (s .pre .0) (s .pre .1) (one .0) in
     let alpha' = full-p n (s .pre .0) (s .pre .1) (two .0) in
-    record {
-      same = c .ends-p .ensures .same
-      ∙ (λ i. record { rb0 = laned (zipWith (endOfP n 0) (rb i) (ps i)); ga0 = laned (zipWith (endOfP n 0) (ga i) (qs i)); rb1 = laned (zipWith (endOfP n 1) (rb i) (ps i)); ga1 = laned (zipWith (endOfP n 1) (ga i) (qs i)) })
-      ∙ (λ i. record {
-        rb0 = laned (withP n x 0 0 ∷ withP n x 0 2 ∷ withP n y 0 0 ∷ withP n y 0 2 ∷ []);
-        ga0 = laned (withP n x 0 1 ∷ alpha 0 (omega arith) i ∷ withP n y 0 1 ∷ alpha' 0 (omega arith) i ∷ []);
-        rb1 = laned (withP n x 1 0 ∷ withP n x 1 2 ∷ withP n y 1 0 ∷ withP n y 1 2 ∷ []);
-        ga1 = laned (withP n x 1 1 ∷ alpha 1 (omega arith) i ∷ withP n y 1 1 ∷ alpha' 1 (omega arith) i ∷ []);
-      });
-      small = c .ends-p .ensures .small;
-    }
+    holds (λ l. solid (withP n (pick (eqb l 0) x y))) (λ l. solid-lt (λ k c. end-p-lt n k _ _ (s .pre .0) (s .pre .1)))
+    (c .ends-p .ensures
+    ∙ (λ i. endsP n (rb i) (ga i) (ps i) (qs i))
+    ∙ (λ i. record {
+      rb0 = laned (withP n x 0 0 ∷ withP n x 0 2 ∷ withP n y 0 0 ∷ withP n y 0 2 ∷ []);
+      ga0 = laned (withP n x 0 1 ∷ alpha 0 (omega arith) i ∷ withP n y 0 1 ∷ alpha' 0 (omega arith) i ∷ []);
+      rb1 = laned (withP n x 1 0 ∷ withP n x 1 2 ∷ withP n y 1 0 ∷ withP n y 1 2 ∷ []);
+      ga1 = laned (withP n x 1 1 ∷ alpha 1 (omega arith) i ∷ withP n y 1 1 ∷ alpha' 1 (omega arith) i ∷ []);
+    }))
 
 pub opaque-p-spec : {M : Type 1} → statement M
 opaque-p-spec =
