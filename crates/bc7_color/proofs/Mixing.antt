@@ -6,25 +6,26 @@ use Prim.Native.Nat.{ℕ, zero, suc, _+_, _-_, _*_, _/_, _%_, _^_, _≤_, _<_}
 use native.Mathlib.Nat.{add-mul, mod-eq-of-lt, mul-le-mul-right}
 use native.Mathlib.Omega.{arith}
 use lib.ListN.{getD, replicate, take}
-use lib.Pow.{shr-lt, shr-mod}
+use lib.Pow.{shr-lt, shr-mod, split as split-at}
 use Rattle.laws.specs.Digits.{Fit, join, more, none, split, total}
 use Rattle.laws.proofs.Digits.{join-lt, split-at-place, split-join}
+use Rattle.laws.proofs.Fitting.{fit-get}
 use Rattle.laws.proofs.Lanes.{scale}
 use Rattle.format.specs.Block.{field}
 use Rattle.format.proofs.Drawing.{mean}
-use Rattle.bc7_color.specs.Words.{blend, laned, Lanes, lanesOf, wordBytes, woven}
+use Rattle.bc7_color.specs.Words.{blend, blends, laned, Lanes, lanesOf, wordBytes, woven}
 use Rattle.bc7_color.proofs.Words.{fit-map, fit-zip, laned-lanes, laned-lt, lanes-16}
 
 bytes-le : {vs : List ℕ} → Fit (replicate 4 8) vs → laned vs ≤ 0x00FF_00FF_00FF_00FF
 unfolding laned
 bytes-le (more h0 (more h1 (more h2 (more h3 none)))) = omega arith
 
--- that nothing is too large on the way
-pub record Steps (w e0 e1 : ℕ) : Type 0 where
-  pub halves : 256 * e0 + 0x0080_0080_0080_0080 < 2 ^ 64
-  pub less : w * e0 ≤ 256 * e0
+-- that nothing is too large on the way, where m is the largest weight
+pub record Steps (m w e0 e1 : ℕ) : Type 0 where
+  pub halves : m * e0 + 0x0080_0080_0080_0080 < 2 ^ 64
+  pub less : w * e0 ≤ m * e0
   pub times : w * e1 < 2 ^ 64
-  pub whole : (256 * e0 + 0x0080_0080_0080_0080 - w * e0) + w * e1 < 2 ^ 64
+  pub whole : (m * e0 + 0x0080_0080_0080_0080 - w * e0) + w * e1 < 2 ^ 64
 
 module _ (w : ℕ) (h : w ≤ 256) where
   pub blend-lt : (x y : ℕ) → x < 2 ^ 8 → y < 2 ^ 8 → blend w x y < 2 ^ 16
@@ -46,12 +47,56 @@ module _ (w : ℕ) (h : w ≤ 256) where
     mixed-word =
         ap₂ (λ (x y : ℕ). (256 * x + 0x0080_0080_0080_0080 - w * x) + w * y) (sym (laned-lanes h0)) (sym (laned-lanes h1)) ∙ four-blends _ _ _ _ _ _ _ _
 
-    pub steps : Steps w e0 e1
+    pub steps : Steps 256 w e0 e1
     steps =
         let le0 : e0 ≤ 0x00FF_00FF_00FF_00FF = rw (laned-lanes h0) at (bytes-le small0) in
         let le1 : e1 ≤ 0x00FF_00FF_00FF_00FF = rw (laned-lanes h1) at (bytes-le small1) in
         let times1 : w * e1 ≤ 256 * e1 = mul-le-mul-right e1 h in
         record { halves = omega arith; less = mul-le-mul-right e0 h; times = omega arith; whole = rw mixed-word (laned-lt (fit-zip 4 8 8 16 (blend w) blend-lt small0 small1)) }
+
+-- two lanes by two weights
+module _ (w v : ℕ) (hw : w ≤ 256) (hv : v ≤ 256) where
+  times : (a b : ℕ) → (v * 2 ^ 32 + w) * (b * 2 ^ 16 + a) ≡ laned ((w * a) ∷ (w * b) ∷ (v * a) ∷ (v * b) ∷ [])
+  unfolding laned
+  times a b = omega arith
+
+  part-of : (u x : ℕ) → u ≤ 256 → u * x + (256 - u) * x ≡ 256 * x
+  part-of u x h = let all : u + (256 - u) ≡ 256 = omega arith in sym (add-mul u (256 - u) x) ∙ ap (λ (y : ℕ). y * x) all
+
+  two-blends : (a b c d : ℕ)
+      → (0x0100_0000_0100 * (b * 2 ^ 16 + a) + 0x0080_0080_0080_0080 - (v * 2 ^ 32 + w) * (b * 2 ^ 16 + a)) + (v * 2 ^ 32 + w) * (d * 2 ^ 16 + c) ≡ laned (blend w a c ∷ blend w b d ∷ blend v a c ∷ blend v b d ∷ [])
+  unfolding laned
+  two-blends a b c d = omega (arith, times a b, times c d, part-of w a hw, part-of w b hw, part-of v a hv, part-of v b hv)
+
+alone : {vs : List ℕ} → Fit (8 ∷ 8 ∷ 0 ∷ 0 ∷ []) vs → laned vs ≡ getD vs 1 0 * 2 ^ 16 + getD vs 0 0
+unfolding laned
+alone (more h0 (more h1 (more h2 (more h3 none)))) = omega arith
+
+alone-le : {vs : List ℕ} → Fit (8 ∷ 8 ∷ 0 ∷ 0 ∷ []) vs → laned vs ≤ 0x00FF_00FF
+unfolding laned
+alone-le (more h0 (more h1 (more h2 (more h3 none)))) = omega arith
+
+module _ (w e0 e1 : ℕ) (hw : w % 2 ^ 32 ≤ 256) (hv : w / 2 ^ 32 ≤ 256) (h0 : e0 < 2 ^ 64) (h1 : e1 < 2 ^ 64)
+    (one0 : Fit (8 ∷ 8 ∷ 0 ∷ 0 ∷ []) (lanesOf e0)) (one1 : Fit (8 ∷ 8 ∷ 0 ∷ 0 ∷ []) (lanesOf e1)) where
+  pub blends-fit : Fit (replicate 4 16) (blends (w % 2 ^ 32) (w / 2 ^ 32) (lanesOf e0) (lanesOf e1))
+  blends-fit =
+      let lt : (u : ℕ) → u ≤ 256 → (i : ℕ) → getD (lanesOf e0) i 0 < 2 ^ 8 → getD (lanesOf e1) i 0 < 2 ^ 8 → blend u (getD (lanesOf e0) i 0) (getD (lanesOf e1) i 0) < 2 ^ 16 = λ u hu i ha hb. blend-lt u hu _ _ ha hb in
+      more (lt _ hw 0 (fit-get one0 0) (fit-get one1 0)) (more (lt _ hw 1 (fit-get one0 1) (fit-get one1 1)) (more (lt _ hv 0 (fit-get one0 0) (fit-get one1 0)) (more (lt _ hv 1 (fit-get one0 1) (fit-get one1 1)) none)))
+
+  pub mixed-2-word : (0x0100_0000_0100 * e0 + 0x0080_0080_0080_0080 - w * e0) + w * e1 ≡ laned (blends (w % 2 ^ 32) (w / 2 ^ 32) (lanesOf e0) (lanesOf e1))
+  mixed-2-word =
+      let two : w ≡ w / 2 ^ 32 * 2 ^ 32 + w % 2 ^ 32 = sym (split-at w 32) in
+      ap₂ (λ (x y : ℕ). (0x0100_0000_0100 * x + 0x0080_0080_0080_0080 - w * x) + w * y) (sym (laned-lanes h0) ∙ alone one0) (sym (laned-lanes h1) ∙ alone one1)
+      ∙ ap (λ (u : ℕ). (0x0100_0000_0100 * (getD (lanesOf e0) 1 0 * 2 ^ 16 + getD (lanesOf e0) 0 0) + 0x0080_0080_0080_0080 - u * (getD (lanesOf e0) 1 0 * 2 ^ 16 + getD (lanesOf e0) 0 0)) + u * (getD (lanesOf e1) 1 0 * 2 ^ 16 + getD (lanesOf e1) 0 0)) two
+      ∙ two-blends (w % 2 ^ 32) (w / 2 ^ 32) hw hv _ _ _ _
+
+  pub steps-2 : Steps 0x0100_0000_0100 w e0 e1
+  steps-2 =
+      let most : w ≤ 0x0100_0000_0100 = omega (arith, split-at w 32) in
+      let le0 : e0 ≤ 0x00FF_00FF = rw (laned-lanes h0) at (alone-le one0) in
+      let le1 : e1 ≤ 0x00FF_00FF = rw (laned-lanes h1) at (alone-le one1) in
+      let times1 : w * e1 ≤ 0x0100_0000_0100 * e1 = mul-le-mul-right e1 most in
+      record { halves = omega arith; less = mul-le-mul-right e0 most; times = omega arith; whole = rw mixed-2-word (laned-lt blends-fit) }
 
 -- bytes in turn
 tops : (n : ℕ) {vs : List ℕ} → Fit (replicate n 16) vs → map (λ v. field v 8 8) vs ≡ map (λ v. v / 256) vs

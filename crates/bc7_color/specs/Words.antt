@@ -46,6 +46,13 @@ pub record Bytes (e : Ends) : Type 0 where
   pub rb1 : Lanes 8 (e .rb1)
   pub ga1 : Lanes 8 (e .ga1)
 
+-- the first of the two colours stands alone: no lane of the other is used
+pub record Alone (e : Ends) : Type 0 where
+  pub rb0 : Fit (8 ∷ 8 ∷ 0 ∷ 0 ∷ []) (lanesOf (e .rb0))
+  pub ga0 : Fit (8 ∷ 8 ∷ 0 ∷ 0 ∷ []) (lanesOf (e .ga0))
+  pub rb1 : Fit (8 ∷ 8 ∷ 0 ∷ 0 ∷ []) (lanesOf (e .rb1))
+  pub ga1 : Fit (8 ∷ 8 ∷ 0 ∷ 0 ∷ []) (lanesOf (e .ga1))
+
 -- a channel of what is stored of a colour, and that all of it fits lanes
 abbrev pub channel : Stored → ℕ → ℕ
 channel x c = getD (x .r ∷ x .g ∷ x .b ∷ x .a ∷ []) c 0
@@ -87,6 +94,11 @@ endsP n rb ga p q = record { rb0 = laned (zipWith (endOfP n 0) rb p); ga0 = lane
 -- a channel of both endpoints at the weight w of 256, not yet divided: its upper byte is the channel
 abbrev pub blend : ℕ → ℕ → ℕ → ℕ
 blend w x y = (256 - w) * x + w * y + 128
+
+-- the lanes of two channels, at two weights
+abbrev pub blends : ℕ → ℕ → List ℕ → List ℕ → List ℕ
+blends w v xs ys =
+    blend w (getD xs 0 0) (getD ys 0 0) ∷ blend w (getD xs 1 0) (getD ys 1 0) ∷ blend v (getD xs 0 0) (getD ys 0 0) ∷ blend v (getD xs 1 0) (getD ys 1 0) ∷ []
 
 -- the bytes of a word, the first lowest
 unfoldable pub wordBytes : ℕ → List ℕ

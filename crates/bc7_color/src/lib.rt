@@ -5,11 +5,12 @@ ghost use mathlib.Core.Path.{_≡_};
 ghost use mathlib.Core.List.{[], _∷_, map, zipWith};
 ghost use lib.Dec.{eqb};
 ghost use lib.ListN.{drop, take};
-ghost use Prim.Native.Nat.{_+_, _-_, _*_, _^_, _≤_, _<_};
+ghost use Prim.Native.Nat.{_+_, _-_, _*_, _/_, _%_, _^_, _≤_, _<_};
+ghost use Rattle.laws.specs.Digits.{Fit};
 ghost use Rattle.laws.specs.Tables.{pick};
 ghost use Rattle.format.specs.Block.{field};
 ghost use Rattle.format.specs.Drawing.{promoted};
-ghost use Rattle.bc7_color.specs.Words.{blend, endOf, endOfP, endsP, Fitting, Holds, laned, Lanes, lanesOf, plain, solid, withP, wordBytes, woven};
+ghost use Rattle.bc7_color.specs.Words.{blend, blends, endOf, endOfP, endsP, Fitting, Holds, laned, Lanes, lanesOf, plain, solid, withP, wordBytes, woven};
 
 pub mod old;
 
@@ -151,6 +152,17 @@ pub fn mixed(weight: u64, e0: u64, e1: u64) -> u64
     ensures { λ r. ⌜ r ≡ laned (zipWith (blend weight) (lanesOf e0) (lanesOf e1)) ⌝ }
 {
     (256 * e0 + HALVES - weight * e0) + weight * e1
+}
+
+// The same for the two lanes of one colour and two weights, the second 32 bits above the first: a product of two parts by two is
+// four products, each in a lane of its own.
+//
+//     weights * e0 = (v * 2^32 + w) * (b * 2^16 + a)  =  v * b | v * a | w * b | w * a
+pub fn mixed_2(weights: u64, e0: u64, e1: u64) -> u64
+    requires { ⌜ (weights % 2 ^ 32 ≤ 256) × (weights / 2 ^ 32 ≤ 256) × Fit (8 ∷ 8 ∷ 0 ∷ 0 ∷ []) (lanesOf e0) × Fit (8 ∷ 8 ∷ 0 ∷ 0 ∷ []) (lanesOf e1) ⌝ }
+    ensures { λ r. ⌜ r ≡ laned (blends (weights % 2 ^ 32) (weights / 2 ^ 32) (lanesOf e0) (lanesOf e1)) ⌝ }
+{
+    (0x0100_0000_0100 * e0 + HALVES - weights * e0) + weights * e1
 }
 
 // Two colours of four bytes, from the upper bytes of the lanes:

@@ -12,8 +12,8 @@ use Rattle.laws.proofs.Filled.{Filled, filled-all, filled-next, filled-none}
 use Rattle.format.specs.Drawing.{weightOf}
 use Rattle.bc7_fields.specs.Painting.{between}
 use Rattle.bc7_color.specs.declared.Ends.{Ends}
-use Rattle.bc7_color.specs.Words.{blend, Bytes, endpoint, laned, Lanes, lanesOf, woven}
-use Rattle.bc7_color.proofs.Mixing.{blend-lt}
+use Rattle.bc7_color.specs.Words.{Alone, blend, blends, Bytes, endpoint, laned, Lanes, lanesOf, woven}
+use Rattle.bc7_color.proofs.Mixing.{blend-lt, blends-fit}
 use Rattle.bc7_color.proofs.Words.{fit-zip, lanes-laned}
 use Rattle.bc7_palette.specs.Colors.{keyed, lerped, shade}
 use Rattle.bc7_palette.proofs.Weights.{between-is}
@@ -27,20 +27,28 @@ pub shades : (w : ℕ) (e : Ends) → w ≤ 256 → Bytes e → {rb ga : ℕ} {b
 unfolding shade endpoint lerped lanesOf zipWith
 shades w e h b er eg ex = ex ∙ ap₂ woven (mixed-lanes w (e .rb0) (e .rb1) h (b .rb0) (b .rb1) er) (mixed-lanes w (e .ga0) (e .ga1) h (b .ga0) (b .ga1) eg)
 
--- each of them
-module _ (b k : ℕ) (least : 2 ≤ b) (most : b ≤ 4) (below : k < 2 ^ b) {w : ℕ} (ew : w ≡ 4 * weightOf b k) (e : Ends) where
-  shade-is : (l : ℕ) → shade e l w ≡ between b (endpoint e l 0) (endpoint e l 1) k
+-- each of two colours
+module _ (b k : ℕ) (least : 2 ≤ b) (most : b ≤ 4) (below : k < 2 ^ b) {w : ℕ} (ew : w ≡ 4 * weightOf b k) (e : Ends) (l : ℕ) where
+  pub shade-is : shade e l w ≡ between b (endpoint e l 0) (endpoint e l 1) k
   unfolding shade
-  shade-is l = between-is b k least most below ew (endpoint e l 0) (endpoint e l 1)
+  shade-is = between-is b k least most below ew (endpoint e l 0) (endpoint e l 1)
 
-  module _ {bytes : List ℕ} (ex : bytes ≡ shade e 0 w ++ shade e 1 w) where
-    pub low-is : {p : List ℕ} → p ≡ take 4 bytes → p ≡ between b (endpoint e 0 0) (endpoint e 0 1) k
-    unfolding shade
-    low-is ep = ep ∙ ap (take 4) ex ∙ shade-is 0
+  pub low-is : {bytes p : List ℕ} (j v : ℕ) → bytes ≡ shade e l w ++ shade e j v → p ≡ take 4 bytes → p ≡ between b (endpoint e l 0) (endpoint e l 1) k
+  unfolding shade
+  low-is j v ex ep = ep ∙ ap (take 4) ex ∙ shade-is
 
-    pub high-is : {p : List ℕ} → p ≡ drop 4 bytes → p ≡ between b (endpoint e 1 0) (endpoint e 1 1) k
-    unfolding shade
-    high-is ep = ep ∙ ap (drop 4) ex ∙ shade-is 1
+  pub high-is : {bytes p : List ℕ} (j v : ℕ) → bytes ≡ shade e j v ++ shade e l w → p ≡ drop 4 bytes → p ≡ between b (endpoint e l 0) (endpoint e l 1) k
+  unfolding shade
+  high-is j v ex ep = ep ∙ ap (drop 4) ex ∙ shade-is
+
+-- one colour at two weights
+pub shades-2 : (w : ℕ) (e : Ends) → w % 2 ^ 32 ≤ 256 → w / 2 ^ 32 ≤ 256 → e .rb0 < 2 ^ 64 → e .ga0 < 2 ^ 64 → e .rb1 < 2 ^ 64 → e .ga1 < 2 ^ 64 → Alone e → {rb ga : ℕ} {bytes : List ℕ}
+    → rb ≡ laned (blends (w % 2 ^ 32) (w / 2 ^ 32) (lanesOf (e .rb0)) (lanesOf (e .rb1))) → ga ≡ laned (blends (w % 2 ^ 32) (w / 2 ^ 32) (lanesOf (e .ga0)) (lanesOf (e .ga1)))
+    → bytes ≡ woven (lanesOf rb) (lanesOf ga) → bytes ≡ shade e 0 (w % 2 ^ 32) ++ shade e 0 (w / 2 ^ 32)
+unfolding shade endpoint lerped
+shades-2 w e hw hv r0 g0 r1 g1 one er eg ex =
+    ex
+    ∙ ap₂ woven (ap lanesOf er ∙ lanes-laned (blends-fit w (e .rb0) (e .rb1) hw hv r0 r1 (one .rb0) (one .rb1))) (ap lanesOf eg ∙ lanes-laned (blends-fit w (e .ga0) (e .ga1) hw hv g0 g1 (one .ga0) (one .ga1)))
 
 -- the place of index k in subset l
 pub keyed-at : (b t : ℕ) (ends : ℕ → ℕ → List ℕ) (k l : ℕ) → l < t → keyed b t ends (t * k + l) ≡ between b (ends l 0) (ends l 1) k

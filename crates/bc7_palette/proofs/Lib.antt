@@ -3,3 +3,4 @@ pub mod Weights
 pub mod Keyed
 pub mod Keys
 pub mod Reading
+pub mod Weighing

@@ -2,20 +2,22 @@
 // widths, a function for each: a width that is known only at run time costs a multiple.
 ghost use mathlib.Core.Path.{_≡_};
 ghost use mathlib.Core.List.{_++_};
-ghost use Prim.Native.Nat.{_+_, _*_, _^_, _≤_, _<_};
+ghost use Prim.Native.Nat.{_+_, _*_, _/_, _%_, _^_, _≤_, _<_};
 ghost use lib.ListN.{getD, replicate};
+ghost use Rattle.laws.specs.Digits.{row};
 ghost use Rattle.laws.specs.Tables.{over, table};
 ghost use Rattle.format.specs.Drawing.{weightOf};
 ghost use Rattle.bcn_indexes.specs.Indexes.{part};
 ghost use Rattle.bc7_fields.specs.Fields.{four};
 ghost use Rattle.bc7_fields.specs.Painting.{between, key, painted};
 ghost use Rattle.bc7_color.specs.Colors.{laned};
-ghost use Rattle.bc7_color.specs.Words.{Bytes, endpoint, wordBytes};
+ghost use Rattle.bc7_color.specs.Words.{Alone, Bytes, endpoint, wordBytes};
 ghost use Rattle.bc7_palette.specs.Colors.{endpoints, keyed, lerped, shade};
 use bc7_color::Ends;
 use bc7_color::high_color;
 use bc7_color::low_color;
 use bc7_color::mixed;
+use bc7_color::mixed_2;
 use bc7_color::old::bytes_at;
 use bc7_color::old::lanes;
 use bc7_color::two_colors;
@@ -58,6 +60,17 @@ fn mixed_colors(e: Ends, weight: u64) -> u64
     two_colors(
         mixed(weight, e.rb0, e.rb1),
         mixed(weight, e.ga0, e.ga1),
+    )
+}
+
+// The colours of one subset at two weights, the second 32 bits above the first: that of the first in the low half.
+pub fn two_shades(e: Ends, weights: u64) -> u64
+    requires { ⌜ (weights % 2 ^ 32 ≤ 256) × (weights / 2 ^ 32 ≤ 256) × Alone e ⌝ }
+    ensures { λ r. ⌜ wordBytes r ≡ shade e 0 (weights % 2 ^ 32) ++ shade e 0 (weights / 2 ^ 32) ⌝ }
+{
+    two_colors(
+        mixed_2(weights, e.rb0, e.rb1),
+        mixed_2(weights, e.ga0, e.ga1),
     )
 }
 
@@ -120,6 +133,48 @@ pub fn palette_3_3(e: Ends, f: Ends) -> [[u8; 4]; 32]
         q[4 * k + 3] = high_color(y);
     }
     q
+}
+
+// The weights of eight indexes of four bits, those of the even pixels, a byte each: four times an index, and one more for each
+// four, rounded. A sum is at most 17 and a weight 64, so no byte reaches the next.
+//
+//     i     0  1  2  3  4  5  6  7  8  9 10 11 12 13 14 15
+//     4 i   0  4  8 12 16 20 24 28 32 36 40 44 48 52 56 60
+//     (i + 2) / 4
+//           0  0  1  1  1  1  2  2  2  2  3  3  3  3  4  4
+fn weights_of(x: u64) -> u64
+    ensures { λ r. ⌜ r ≡ row 8 8 (λ j. weightOf 4 (part x 4 (2 * j))) ⌝ }
+{
+    let indexes = x & 0x0F0F_0F0F_0F0F_0F0F;
+    4 * indexes + (((indexes + 0x0202_0202_0202_0202) >> 2) & 0x0707_0707_0707_0707)
+}
+
+// Of eight weights those at place i and i + 4, 32 bits apart, and times 4.
+fn weights_at(weights: u64, i: usize) -> u64
+    requires { ⌜ i < 4 ⌝ }
+    ensures { λ r. ⌜ r ≡ row 2 32 (λ h. 4 * part weights 8 (i + 4 * h)) ⌝ }
+{
+    4 * ((weights >> (8 * (i as u32))) & 0x00FF_0000_00FF)
+}
+
+// Sixteen pixels by indexes of four bits. There are as many weights as pixels, so a palette would spare nothing: each pixel is
+// mixed at its own weight, two at a time.
+pub fn mix_16(e: Ends, x: u64) -> [[u8; 4]; 16]
+    requires { ⌜ Alone e ⌝ }
+    ensures { λ r. ⌜ r ≡ table 16 (λ q. between 4 (endpoint e 0 0) (endpoint e 0 1) (part x 4 q)) ⌝ }
+{
+    let even = weights_of(x);
+    let odd = weights_of(x >> 4);
+    let mut output = [[0u8; 4]; 16];
+    for i in 0..4usize {
+        let two = two_shades(e, weights_at(even, i));
+        output[2 * i] = low_color(two);
+        output[2 * i + 8] = high_color(two);
+        let next = two_shades(e, weights_at(odd, i));
+        output[2 * i + 1] = low_color(next);
+        output[2 * i + 9] = high_color(next);
+    }
+    output
 }
 
 const WEIGHTS_4: [u64; 16] = [

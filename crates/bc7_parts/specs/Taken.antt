@@ -6,12 +6,13 @@ use Prim.Native.Nat.{ℕ, _+_, _*_, _^_, _<_}
 use lib.Dec.{eqb}
 use Rattle.laws.specs.Tables.{pick}
 use Rattle.bcn_util.specs.declared.stream.BitStream.{BitStream}
+use Rattle.bcn_util.specs.declared.stream.Bits64.{Bits64}
 use Rattle.bcn_util.specs.declared.stream.Bits8.{Bits8}
 use Rattle.bcn_util.specs.declared.stream.Values2.{Values2}
 use Rattle.bcn_util.specs.declared.stream.Values4.{Values4}
 use Rattle.format.specs.Partitions.{anchors2, anchors3}
 use Rattle.bcn_indexes.specs.Indexes.{part}
-use Rattle.bcn_util.specs.Stream.{consumed2, consumed4, consumed8}
+use Rattle.bcn_util.specs.Stream.{consumed2, consumed4, consumed64, consumed8}
 
 -- how many bits a partition has, in a mode that has one
 abbrev pub setBits : ℕ → ℕ
@@ -35,6 +36,11 @@ pub record Fixes3 (id a b : ℕ) : Type 0 where
 
 pub record Taken1 (s : BitStream) (w : ℕ) (r : Bits8) : Type 0 where
   pub same : r ≡ consumed8 s w
+  pub small : r .value < 2 ^ w
+  pub moved : r .stream .at ≡ s .at + w
+
+pub record Taken64 (s : BitStream) (w : ℕ) (r : Bits64) : Type 0 where
+  pub same : r ≡ consumed64 s w
   pub small : r .value < 2 ^ w
   pub moved : r .stream .at ≡ s .at + w
 

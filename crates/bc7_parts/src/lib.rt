@@ -7,7 +7,7 @@ ghost use lib.Dec.{T};
 ghost use Rattle.format.specs.Partitions.{among, subset2, subset3};
 ghost use Rattle.bcn_indexes.specs.Indexes.{expanded};
 ghost use Rattle.bcn_util.specs.Stream.{nextBits};
-ghost use Rattle.bc7_parts.specs.Taken.{Fixes2, Fixes3, Maps, setBits, Taken1, Taken2, Taken4};
+ghost use Rattle.bc7_parts.specs.Taken.{Fixes2, Fixes3, Maps, setBits, Taken1, Taken2, Taken4, Taken64};
 use bcn_data::Fixups;
 use bcn_data::fixup_index_2;
 use bcn_data::fixup_indexes_3;
@@ -15,6 +15,7 @@ use bcn_data::subset_indexes_2;
 use bcn_data::subset_indexes_3;
 use bcn_indexes::Indexes;
 use bcn_util::stream::BitStream;
+use bcn_util::stream::Bits64;
 use bcn_util::stream::Bits8;
 use bcn_util::stream::Values2;
 use bcn_util::stream::Values4;
@@ -25,6 +26,13 @@ pub fn value(stream: BitStream, bits: u32) -> Bits8
     ensures { λ r. ⌜ Taken1 stream bits r ⌝ }
 {
     stream.consume_bits(bits)
+}
+
+pub fn values_1(stream: BitStream, bits: u32) -> Bits64
+    requires { ⌜ (bits < 64) × (stream .at + bits < 2 ^ 32) ⌝ }
+    ensures { λ r. ⌜ Taken64 stream bits r ⌝ }
+{
+    stream.take(bits)
 }
 
 pub fn values_2(stream: BitStream, bits: u32) -> Values2

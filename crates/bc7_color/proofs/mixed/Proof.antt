@@ -6,7 +6,7 @@ use Rattle.bc7_color.proofs.Mixing.{mixed-word, Steps, steps}
 use Rattle.bc7_color.proofs.mixed.Statement.{statement}
 use Rattle.bc7_color.proofs.mixed.Tie as tie
 
-on : (s : tie.Start) → Steps (s .args .weight) (s .args .e0) (s .args .e1)
+on : (s : tie.Start) → Steps 256 (s .args .weight) (s .args .e0) (s .args .e1)
 on s = steps (s .args .weight) (s .pre .0) (s .args .e0) (s .args .e1) (search needs) (search needs) (s .pre .1) (s .pre .2)
 
 mul-result : tie.Need-mul-result

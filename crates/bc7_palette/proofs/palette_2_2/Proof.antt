@@ -66,8 +66,8 @@ loop-again c =
     let k = at .before .loop .k in
     let weight = x .before .get-weight-2 .ensures in
     two-laid 4 2 (endpoint (s .args .e)) (at .loop-test .taken) (at .before .loop .inv)
-    (low-is 2 k (omega arith) (omega arith) (omega arith) weight (s .args .e) (x .mixed-colors .ensures) (c .before .low-color .ensures))
-    (high-is 2 k (omega arith) (omega arith) (omega arith) weight (s .args .e) (x .mixed-colors .ensures) (c .high-color .ensures))
+    (low-is 2 k (omega arith) (omega arith) (omega arith) weight (s .args .e) 0 1 _ (x .mixed-colors .ensures) (c .before .low-color .ensures))
+    (high-is 2 k (omega arith) (omega arith) (omega arith) weight (s .args .e) 1 0 _ (x .mixed-colors .ensures) (c .high-color .ensures))
 
 returns : tie.Need-returns Inv-loop μ-loop
 returns c = laid-all 4 2 2 _ (c .before .loop .inv) (omega arith)

@@ -66,8 +66,8 @@ loop-again c =
     let k = at .before .loop .k in
     let weight = x .before .get-weight-3 .ensures in
     two-laid 8 3 (endpoint (s .args .e)) (at .loop-test .taken) (at .before .loop .inv)
-    (low-is 3 k (omega arith) (omega arith) (omega arith) weight (s .args .e) (x .mixed-colors .ensures) (c .before .low-color .ensures))
-    (high-is 3 k (omega arith) (omega arith) (omega arith) weight (s .args .e) (x .mixed-colors .ensures) (c .high-color .ensures))
+    (low-is 3 k (omega arith) (omega arith) (omega arith) weight (s .args .e) 0 1 _ (x .mixed-colors .ensures) (c .before .low-color .ensures))
+    (high-is 3 k (omega arith) (omega arith) (omega arith) weight (s .args .e) 1 0 _ (x .mixed-colors .ensures) (c .high-color .ensures))
 
 returns : tie.Need-returns Inv-loop μ-loop
 returns c = laid-all 8 3 2 _ (c .before .loop .inv) (omega arith)

@@ -109,10 +109,10 @@ loop-again c =
     let first = x .before .get-weight-2 .ensures in
     let second = y .before .get-weight-22 .ensures in
     four-laid 4 2 (endpoints e f) (at .loop-test .taken) (at .before .loop .inv)
-    (low-is 2 k (omega arith) (omega arith) (omega arith) first e (x .mixed-colors .ensures) (c .before .before .before .low-color .ensures))
-    (high-is 2 k (omega arith) (omega arith) (omega arith) first e (x .mixed-colors .ensures) (c .before .before .high-color .ensures))
-    (low-is 2 k (omega arith) (omega arith) (omega arith) second f (y .mixed-colors2 .ensures) (c .before .low-color2 .ensures))
-    (high-is 2 k (omega arith) (omega arith) (omega arith) second f (y .mixed-colors2 .ensures) (c .high-color2 .ensures))
+    (low-is 2 k (omega arith) (omega arith) (omega arith) first e 0 1 _ (x .mixed-colors .ensures) (c .before .before .before .low-color .ensures))
+    (high-is 2 k (omega arith) (omega arith) (omega arith) first e 1 0 _ (x .mixed-colors .ensures) (c .before .before .high-color .ensures))
+    (low-is 2 k (omega arith) (omega arith) (omega arith) second f 0 1 _ (y .mixed-colors2 .ensures) (c .before .low-color2 .ensures))
+    (high-is 2 k (omega arith) (omega arith) (omega arith) second f 1 0 _ (y .mixed-colors2 .ensures) (c .high-color2 .ensures))
 
 returns : tie.Need-returns Inv-loop μ-loop
 returns c = laid-all 4 2 4 _ (c .before .loop .inv) (omega arith)
