@@ -1,22 +1,24 @@
 -- Words of four lanes: masks, sums and products that work on each lane by itself.
 -- Assumes nothing.
 use mathlib.Core.Path.{_≡_, refl, sym, ap, ap₂, _∙_, subst}
+use mathlib.Core.Bool.{Bool, true, false}
 use mathlib.Core.List.{List, [], _∷_, map, zipWith}
 use Prim.Native.Nat.{ℕ, zero, suc, _+_, _-_, _*_, _/_, _%_, _^_, _≤_, _<_}
-use native.Mathlib.Nat.{div-one, le-of-suc-le-suc, lt-of-lt-of-le, mod-eq-of-lt, mod-lt, mul-comm, mul-le-mul-left, mul-one, mul-zero, one-mul}
+use native.Mathlib.Nat.{div-one, le-of-suc-le-suc, lt-of-lt-of-le, mod-eq-of-lt, mod-lt, mul-comm, mul-le-mul-left, mul-one, mul-zero, one-mul, zero-div, zero-lt-suc, zero-mod}
 use native.Mathlib.Omega.{arith}
 use lib.Bits.{bitAnd}
 use lib.Dec.{eqb}
 use lib.ListN.{getD, replicate}
 use lib.Pow.{high, low, ones-lt, ones-split, pow-add, pow-mono, pow-pos}
 use Rattle.laws.specs.Digits.{Fit, join, more, none, split, total}
+use Rattle.laws.specs.Tables.{pick}
 use Rattle.laws.proofs.Cases.{pick-lt}
 use Rattle.laws.proofs.Digits.{join-lt, join-split, split-fits, split-join}
 use Rattle.laws.proofs.Lanes.{Within, lanes, mask-parts, more as more-within, none as none-within, onesIn, scale}
 use Rattle.format.specs.Block.{field}
 use Rattle.format.specs.Drawing.{promoted}
 use Rattle.bc7_color.specs.declared.Ends.{Ends}
-use Rattle.bc7_color.specs.Words.{endOf, endOfP, endpoint, endsOf, Holds, laned, Lanes, lanesOf, solid}
+use Rattle.bc7_color.specs.Words.{endOf, endOfP, endpoint, endsOf, first, Holds, HoldsOne, laned, Lanes, lanesOf, solid}
 use Rattle.bc7_color.proofs.Channels.{at-width}
 
 -- a word and its lanes
@@ -192,6 +194,14 @@ full-p n least most e k h =
     ∙ ap₂ (λ (x y : ℕ). promoted (n + 1) (x * 2 + y)) (half-ones n k h) (ap (λ (s : ℕ). field 3 s 1) (sym (one-mul k)) ∙ half-ones 1 k h)
     ∙ ap (promoted (n + 1)) (sym (ones-split n 1)) ∙ ones-255 (n + 1) (omega arith) (omega arith)
 
+field-none : (s w : ℕ) → field 0 s w ≡ 0
+unfolding field
+field-none s w = ap (λ (x : ℕ). x % 2 ^ w) (zero-div (2 ^ s)) ∙ zero-mod (2 ^ w)
+
+promoted-none : (n : ℕ) → 4 ≤ n → n ≤ 8 → promoted n 0 ≡ 0
+unfolding promoted
+promoted-none = at-width (λ n. promoted n 0 ≡ 0) refl refl refl refl refl
+
 -- an endpoint's channel is a byte
 pub end-lt : (n k v : ℕ) → 4 ≤ n → n ≤ 8 → endOf n k v < 2 ^ 8
 unfolding field
@@ -224,6 +234,72 @@ module _ (f : ℕ → ℕ → ℕ → ℕ) (each : (l k c : ℕ) → f l k c < 2
   endpoint-of (suc zero) (suc (suc k)) hl hk = absurd (let z : ⊥ = omega arith in z)
   endpoint-of (suc (suc l)) k hl hk = absurd (let z : ⊥ = omega arith in z)
 
+-- of two widths, either
+pub end-either-lt : (b : Bool) (n w k v : ℕ) → 4 ≤ n → n ≤ 8 → 4 ≤ w → w ≤ 8 → endOf (pick b w n) k v < 2 ^ 8
+end-either-lt true n w k v least most least' most' = end-lt w k v least' most'
+end-either-lt false n w k v least most least' most' = end-lt n k v least most
+
 -- where alpha is 255
 pub solid-lt : {f : ℕ → ℕ → ℕ} → ((k c : ℕ) → f k c < 2 ^ 8) → (k c : ℕ) → solid f k c < 2 ^ 8
 solid-lt {f} h k c = pick-lt (eqb c 3) 255 (f k c) (2 ^ 8) (omega arith) (h k c)
+
+-- where nothing is stored there is 0
+pub end-none : (n k : ℕ) → 4 ≤ n → n ≤ 8 → endOf n k 0 ≡ 0
+end-none n k least most = ap (promoted n) (field-none (n * k) n) ∙ promoted-none n least most
+
+pub end-p-none : (n k : ℕ) → 3 ≤ n → n ≤ 7 → endOfP n k 0 0 ≡ 0
+end-p-none n k least most = ap₂ (λ (v p : ℕ). promoted (n + 1) (v * 2 + p)) (field-none (n * k) n) (field-none k 1) ∙ promoted-none (n + 1) (omega arith) (omega arith)
+
+pub nothing : (c : ℕ) → _≡_ {A = ℕ} (getD (0 ∷ 0 ∷ 0 ∷ 0 ∷ []) c 0) 0
+nothing zero = refl
+nothing (suc zero) = refl
+nothing (suc (suc zero)) = refl
+nothing (suc (suc (suc zero))) = refl
+nothing (suc (suc (suc (suc c)))) = refl
+
+-- one colour
+module _ (f : ℕ → ℕ → ℕ) (each : (k c : ℕ) → f k c < 2 ^ 8) where
+  each-first : (l k c : ℕ) → first f l k c < 2 ^ 8
+  each-first l k c = pick-lt (eqb l 0) (f k c) 0 (2 ^ 8) (each k c) (omega arith)
+
+  two-lanes : (k c : ℕ) → Fit (8 ∷ 8 ∷ 0 ∷ 0 ∷ []) (lanesOf (laned (f k c ∷ f k (c + 2) ∷ 0 ∷ 0 ∷ [])))
+  two-lanes k c = rw (four-lanes (first f) each-first k c) (more (each k c) (more (each k (c + 2)) (more {w = 0} (zero-lt-suc 0) (more {w = 0} (zero-lt-suc 0) none))))
+
+  pub holds-one : {e : Ends} → e ≡ endsOf (first f) → HoldsOne f e
+  unfolding endsOf
+  holds-one e = record { same = e; each = each; one = rw e (record { rb0 = two-lanes 0 0; ga0 = two-lanes 0 1; rb1 = two-lanes 1 0; ga1 = two-lanes 1 1 }) }
+
+  pub endpoint-one : {e : Ends} → e ≡ endsOf (first f) → (k : ℕ) → k < 2 → endpoint e 0 k ≡ f k 0 ∷ f k 1 ∷ f k 2 ∷ f k 3 ∷ []
+  endpoint-one e k hk = ap (λ (e : Ends). endpoint e 0 k) e ∙ endpoint-of (first f) each-first 0 k (omega arith) hk
+
+pub ends-first : (h : ℕ → ℕ → ℕ → ℕ) → ((k c : ℕ) → h 1 k c ≡ 0) → endsOf h ≡ endsOf (first (h 0))
+unfolding endsOf
+ends-first h z = λ i. record {
+  rb0 = laned (h 0 0 0 ∷ h 0 0 2 ∷ z 0 0 i ∷ z 0 2 i ∷ []);
+  ga0 = laned (h 0 0 1 ∷ h 0 0 3 ∷ z 0 1 i ∷ z 0 3 i ∷ []);
+  rb1 = laned (h 0 1 0 ∷ h 0 1 2 ∷ z 1 0 i ∷ z 1 2 i ∷ []);
+  ga1 = laned (h 0 1 1 ∷ h 0 1 3 ∷ z 1 1 i ∷ z 1 3 i ∷ []);
+}
+
+-- its words: red and blue, and green and alpha that are promoted apart
+module _ (n k : ℕ) (least : 4 ≤ n) (most : n ≤ 8) where
+  pub end-two : {vs : List ℕ} {z a b : ℕ} → vs ≡ a ∷ b ∷ 0 ∷ 0 ∷ [] → z ≡ laned (map (endOf n k) vs) → z ≡ laned (endOf n k a ∷ endOf n k b ∷ 0 ∷ 0 ∷ [])
+  end-two {a = a} {b = b} er ez =
+      let zero-is = end-none n k least most in
+      ez ∙ ap (λ (l : List ℕ). laned (map (endOf n k) l)) er ∙ (λ i. laned (endOf n k a ∷ endOf n k b ∷ zero-is i ∷ zero-is i ∷ []))
+
+  module _ (w : ℕ) (least' : 4 ≤ w) (most' : w ≤ 8) {us vs : List ℕ} {z y g a : ℕ} (er : us ≡ g ∷ 0 ∷ 0 ∷ 0 ∷ []) (eq : vs ≡ 0 ∷ a ∷ 0 ∷ 0 ∷ [])
+      (ez : z ≡ laned (map (endOf n k) us)) (ey : y ≡ laned (map (endOf w k) vs)) where
+    pub end-apart : z + y ≡ laned (endOf n k g ∷ endOf w k a ∷ 0 ∷ 0 ∷ [])
+    unfolding laned
+    end-apart =
+        let zero-n = end-none n k least most in
+        let zero-w = end-none w k least' most' in
+        ap₂ (λ (u v : ℕ). u + v)
+        (ez ∙ ap (λ (l : List ℕ). laned (map (endOf n k) l)) er ∙ (λ i. laned (endOf n k g ∷ zero-n i ∷ zero-n i ∷ zero-n i ∷ [])))
+        (ey ∙ ap (λ (l : List ℕ). laned (map (endOf w k) l)) eq ∙ (λ i. laned (zero-w i ∷ endOf w k a ∷ zero-w i ∷ zero-w i ∷ [])))
+        ∙ omega arith
+
+    pub end-apart-fits : z + y < 2 ^ 64
+    end-apart-fits =
+        rw end-apart (laned-lt (wider 4 8 16 (omega arith) (more (end-lt n k g least most) (more (end-lt w k a least' most') (more {w = 8} (omega arith) (more {w = 8} (omega arith) none))))))

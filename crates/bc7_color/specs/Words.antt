@@ -71,13 +71,18 @@ endOf n k v = promoted n (field v (n * k) n)
 abbrev pub endOfP : ℕ → ℕ → ℕ → ℕ → ℕ
 endOfP n k v p = promoted (n + 1) (field v (n * k) n * 2 + field p k 1)
 
--- channel c of endpoint k of what is stored: without p bits, with them, and where no alpha is stored
+-- channel c of endpoint k of what is stored: without p bits and with them
 abbrev pub plain : ℕ → Stored → ℕ → ℕ → ℕ
 plain n x k c = endOf n k (channel x c)
 
 abbrev pub withP : ℕ → Stored → ℕ → ℕ → ℕ
 withP n x k c = endOfP n k (channel x c) (x .p)
 
+-- where alpha has a width of its own, w
+abbrev pub withAlpha : ℕ → ℕ → Stored → ℕ → ℕ → ℕ
+withAlpha n w x k c = endOf (pick (eqb c 3) w n) k (channel x c)
+
+-- and where no alpha is stored
 abbrev pub solid : (ℕ → ℕ → ℕ) → ℕ → ℕ → ℕ
 solid f k c = pick (eqb c 3) 255 (f k c)
 
@@ -86,6 +91,15 @@ pub record Holds (f : ℕ → ℕ → ℕ → ℕ) (e : Ends) : Type 0 where
   pub same : e ≡ endsOf f
   pub each : (l k c : ℕ) → f l k c < 2 ^ 8
   pub small : Bytes e
+
+-- those of one colour
+abbrev pub first : (ℕ → ℕ → ℕ) → ℕ → ℕ → ℕ → ℕ
+first f l k c = pick (eqb l 0) (f k c) 0
+
+pub record HoldsOne (f : ℕ → ℕ → ℕ) (e : Ends) : Type 0 where
+  pub same : e ≡ endsOf (first f)
+  pub each : (k c : ℕ) → f k c < 2 ^ 8
+  pub one : Alone e
 
 -- the same by the lanes of the words that they are made of
 unfoldable pub endsP : ℕ → List ℕ → List ℕ → List ℕ → List ℕ → Ends

@@ -10,7 +10,7 @@ ghost use Rattle.laws.specs.Digits.{Fit};
 ghost use Rattle.laws.specs.Tables.{pick};
 ghost use Rattle.format.specs.Block.{field};
 ghost use Rattle.format.specs.Drawing.{promoted};
-ghost use Rattle.bc7_color.specs.Words.{blend, blends, endOf, endOfP, endsP, Fitting, Holds, laned, Lanes, lanesOf, plain, solid, withP, wordBytes, woven};
+ghost use Rattle.bc7_color.specs.Words.{blend, blends, endOf, endOfP, endsP, Fitting, Holds, HoldsOne, laned, Lanes, lanesOf, plain, solid, withAlpha, withP, wordBytes, woven};
 
 pub mod old;
 
@@ -141,6 +141,37 @@ pub fn opaque(x: Stored, y: Stored, bits: u32) -> Ends
         ga0: end_of(ga, 0, bits),
         rb1: end_of(rb, 1, bits),
         ga1: end_of(ga, 1, bits),
+    }
+}
+
+// One colour with alpha and p bits. The words have room for another, which no lane is set of.
+pub fn alone_p(x: Stored, bits: u32) -> Ends
+    requires { ⌜ (3 ≤ bits) × (bits ≤ 7) × Fitting x ⌝ }
+    ensures { λ e. ⌜ HoldsOne (withP bits x) e ⌝ }
+{
+    let none = Stored {
+        r: 0,
+        g: 0,
+        b: 0,
+        a: 0,
+        p: 0,
+    };
+    clear_p(x, none, bits)
+}
+
+// One colour whose alpha has a width of its own: green and alpha are promoted apart, and meet in one word.
+pub fn alone(x: Stored, bits: u32, alpha_bits: u32) -> Ends
+    requires { ⌜ (4 ≤ bits) × (bits ≤ 8) × (4 ≤ «alpha_bits») × («alpha_bits» ≤ 8) × Fitting x ⌝ }
+    ensures { λ e. ⌜ HoldsOne (withAlpha bits «alpha_bits» x) e ⌝ }
+{
+    let rb = lanes(x.r, x.b, 0, 0);
+    let g = lanes(x.g, 0, 0, 0);
+    let a = lanes(0, x.a, 0, 0);
+    Ends {
+        rb0: end_of(rb, 0, bits),
+        ga0: end_of(g, 0, bits) + end_of(a, 0, alpha_bits),
+        rb1: end_of(rb, 1, bits),
+        ga1: end_of(g, 1, bits) + end_of(a, 1, alpha_bits),
     }
 }
 
