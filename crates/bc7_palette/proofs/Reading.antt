@@ -69,25 +69,25 @@ twice zero (suc (suc k)) hv hk = absurd (let z : ⊥ = omega arith in z)
 twice (suc zero) (suc (suc k)) hv hk = absurd (let z : ⊥ = omega arith in z)
 twice (suc (suc v)) k hv hk = absurd (let z : ⊥ = omega arith in z)
 
--- what a mode has read of subset l: the fields that have both endpoints, and the p bits
-module _ (m n l : ℕ) (x : Stored) where
-  pub record Read : Type 0 where
-    pub red : x .r ≡ field n (valueStart m 0 (2 * l)) (colourBits m + colourBits m)
-    pub green : x .g ≡ field n (valueStart m 1 (2 * l)) (colourBits m + colourBits m)
-    pub blue : x .b ≡ field n (valueStart m 2 (2 * l)) (colourBits m + colourBits m)
+-- what a mode has read of subset l: the fields that have both endpoints
+pub record Read (m n l : ℕ) (x : Stored) : Type 0 where
+  pub red : x .r ≡ field n (valueStart m 0 (2 * l)) (colourBits m + colourBits m)
+  pub green : x .g ≡ field n (valueStart m 1 (2 * l)) (colourBits m + colourBits m)
+  pub blue : x .b ≡ field n (valueStart m 2 (2 * l)) (colourBits m + colourBits m)
 
-  abbrev pub ReadP : Type 0
-  ReadP = (k : ℕ) → k < 2 → field (x .p) k 1 ≡ field n (pStart m (2 * l + k)) 1
+-- and the p bits: two of them, and in mode 1 one for both endpoints
+abbrev pub ReadP : ℕ → ℕ → ℕ → ℕ → Type 0
+ReadP m n l p = (k : ℕ) → k < 2 → field p k 1 ≡ field n (pStart m (2 * l + k)) 1
 
-  -- two p bits, and in mode 1 one for both endpoints
-  pub two-ps : eqb m 1 ≡ false → x .p ≡ field n (pStart m (2 * l)) 2 → ReadP
+module _ (m n l : ℕ) {p : ℕ} where
+  pub two-ps : eqb m 1 ≡ false → p ≡ field n (pStart m (2 * l)) 2 → ReadP m n l p
   unfolding pStart
   two-ps other e k hk =
       let one : k ≡ 1 * k = omega arith in
       ap₂ (λ (p s : ℕ). field p s 1) e one ∙ half n (pStart m (2 * l)) 1 k hk
       ∙ ap (λ (s : ℕ). field n s 1) (rw other (omega arith))
 
-  pub one-p : eqb m 1 ≡ true → x .p ≡ 3 * field n (pStart m (2 * l)) 1 → ReadP
+  pub one-p : eqb m 1 ≡ true → p ≡ 3 * field n (pStart m (2 * l)) 1 → ReadP m n l p
   unfolding pStart
   one-p first e k hk =
       ap (λ (p : ℕ). field p k 1) e ∙ twice (field n (pStart m (2 * l)) 1) k (field-lt n (pStart m (2 * l)) 1) hk
@@ -113,7 +113,7 @@ module _ (m n : ℕ) {l : ℕ} {x : Stored} (some : eqb (colourBits m) 0 ≡ fal
       (stored m n l k 2 (colourBits m) hk refl some (read .blue) without)
       (unstored m n (2 * l + k) 3 clear) c hc
 
-  module _ (with-p : eqb (pCount m) 0 ≡ false) (ps : ReadP m n l x) where
+  module _ (with-p : eqb (pCount m) 0 ≡ false) (ps : ReadP m n l (x .p)) where
     pub opaque-p-shown : alphaBits m ≡ 0 → Shown m n l (solid (withP (colourBits m) x))
     opaque-p-shown clear k c hk hc =
         by-channel (solid (withP (colourBits m) x) k) (endByte m n (2 * l + k))
