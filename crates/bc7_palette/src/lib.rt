@@ -57,10 +57,7 @@ fn mixed_colors(e: Ends, weight: u64) -> u64
     requires { ⌜ (weight ≤ 256) × Bytes e ⌝ }
     ensures { λ r. ⌜ wordBytes r ≡ shade e 0 weight ++ shade e 1 weight ⌝ }
 {
-    two_colors(
-        mixed(weight, e.rb0, e.rb1),
-        mixed(weight, e.ga0, e.ga1),
-    )
+    two_colors(mixed(weight, e.rb0, e.rb1), mixed(weight, e.ga0, e.ga1))
 }
 
 // The colours of one subset at two weights, the second 32 bits above the first: that of the first in the low half.

@@ -66,6 +66,15 @@ module _ {n a : ℕ} {s : BitStream} (o : On n a s) (w : ℕ) where
   pub got-on : {r : Bits64} → r ≡ consumed64 s w → On n (a + w) (r .stream)
   got-on e = rw e (on-skipped o w)
 
+  pub got-a : {r : Values2} → r ≡ consumed2 s w → r .a ≡ field n a w
+  got-a e = rw e (next-is o w)
+
+  pub got-b : {r : Values2} → r ≡ consumed2 s w → r .b ≡ field n (a + w) w
+  got-b e = rw e (next-is (on-skipped o w) w)
+
+  pub on-2 : {r : Values2} → r ≡ consumed2 s w → On n (a + 2 * w) (r .stream)
+  on-2 e = rw e (on-skipped o (2 * w))
+
 -- a loop that reads values of the widths f 0, f 1, .., from the start of n: after i turns it stands at the total of the first i
 module _ (f : ℕ → ℕ) {n : ℕ} {s : BitStream} where
   pub row-start : On n 0 s → On n (total (table 0 f)) s
