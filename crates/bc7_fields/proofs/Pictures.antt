@@ -30,11 +30,11 @@ use Rattle.bc7_fields.specs.Fields.{direct, directPixels, endByte, four}
 use Rattle.bc7_fields.proofs.Places.{index-at}
 use Rattle.bc7_fields.specs.Painting.{between, merged, painted, swapped, turned}
 
-part-lt : (x k q : ℕ) → part x k q < 2 ^ k
+pub part-lt : (x k q : ℕ) → part x k q < 2 ^ k
 unfolding part
 part-lt x k q = mod-lt (x / 2 ^ (q * k)) (pow-pos k)
 
-four-at : (f : ℕ → ℕ) (c : ℕ) → c < 4 → getD (four f) c 0 ≡ f c
+pub four-at : (f : ℕ → ℕ) (c : ℕ) → c < 4 → getD (four f) c 0 ≡ f c
 four-at f zero h = refl
 four-at f (suc zero) h = refl
 four-at f (suc (suc zero)) h = refl
@@ -125,6 +125,22 @@ keyed-law m n b k t s {p} eb es flat subsets palette x place places indexes =
     looked-up m n b s p eb es flat x place indexes (λ q hq.
     ap (λ (j : ℕ). getD p j []) (places q hq) ∙ palette .at (subset s q) (part x b q) (subsets q hq) (part-lt x b q))
 
+-- the palette of one subset, and pixels that are drawn by their own indexes
+module _ (m n b : ℕ) {e0 e1 : List ℕ} (p0 : e0 ≡ four (endByte m n 0)) (p1 : e1 ≡ four (endByte m n 1)) where
+  pub one-palette : Palette m n b 1 0 (table (2 ^ b) (between b e0 e1))
+  one-palette = record { at = at }
+    where
+      at : (l i : ℕ) → l < 1 → i < 2 ^ b → getD (table (2 ^ b) (between b e0 e1)) (i * 2 ^ 0 + l) [] ≡ colours m n b l i
+      at zero i hl hi =
+          ap (λ (j : ℕ). getD (table (2 ^ b) (between b e0 e1)) j []) (omega arith)
+          ∙ getD-table (2 ^ b) (between b e0 e1) [] i hi
+          ∙ ap₂ (λ (x y : List ℕ). between b x y i) p0 p1
+      at (suc l) i hl hi = absurd (let z : ⊥ = omega arith in z)
+
+pub drawn-each : (b x : ℕ) (e0 e1 : List ℕ) → table 16 (λ q. between b e0 e1 (part x b q)) ≡ painted (part x b) (table (2 ^ b) (between b e0 e1))
+unfolding painted
+drawn-each b x e0 e1 = table-same [] 16 _ _ (λ q hq. sym (getD-table (2 ^ b) (between b e0 e1) [] (part x b q) (part-lt x b q)))
+
 -- rotation after colour and alpha are joined
 module _ (r : ℕ) (colors alphas : List (List ℕ)) (h : r < 4) where
   abbrev joint : ℕ → ℕ → ℕ
@@ -151,6 +167,14 @@ module _ (m n r i : ℕ) (hr : r < 4) (es : splitAt m n ≡ Vector r i) where
       getD-table 16 _ [] q hq
       ∙ ap (λ (j : ℕ). getD (stack m n b 1) j []) (omega arith)
       ∙ stack-at m n b 1 0 (part x b q) (omega arith) (omega (arith, pow-mono {i = b} {j = 4} hb)) (part-lt x b q)
+      ∙ ap₂ (λ (w k : ℕ). four (λ c. drawn (endByte m n 0 c) (endByte m n 1 c) (weightOf w k))) (sym eb) (indexes q hq)
+
+  pub picture-by : (a b x : ℕ) {p : List (List ℕ)} → indexBits m a ≡ b → Palette m n b 1 0 p → ((q : ℕ) → q < 16 → part x b q ≡ atPlace m (Vector r i) n (index a q)) → Picture a (painted (part x b) p)
+  unfolding painted between
+  picture-by a b x {p} eb palette indexes q hq =
+      getD-table 16 _ [] q hq
+      ∙ ap (λ (j : ℕ). getD p j []) (omega arith)
+      ∙ palette .at 0 (part x b q) (omega arith) (part-lt x b q)
       ∙ ap₂ (λ (w k : ℕ). four (λ c. drawn (endByte m n 0 c) (endByte m n 1 c) (weightOf w k))) (sym eb) (indexes q hq)
 
   pub vector-law : (colors alphas : List (List ℕ)) → Picture i colors → Picture (1 - i) alphas → swapped r (merged colors alphas) ≡ directPixels m n

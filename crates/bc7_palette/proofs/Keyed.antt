@@ -3,12 +3,12 @@
 use mathlib.Core.Path.{_≡_, refl, sym, ap, ap₂, _∙_}
 use mathlib.Core.List.{List, [], _++_, zipWith}
 use Prim.Native.Nat.{ℕ, _+_, _*_, _/_, _%_, _^_, _≤_, _<_}
-use native.Mathlib.Nat.{mul-comm, mul-le-mul-left, mul-suc, mul-zero}
+use native.Mathlib.Nat.{mul-comm, mul-le-mul-left, mul-zero}
 use native.Mathlib.Omega.{arith}
 use lib.Arith.{digits-div, digits-mod}
 use lib.ListN.{drop, length, set, take}
 use Rattle.laws.specs.Tables.{table}
-use Rattle.laws.proofs.Filled.{Filled, filled-all, filled-next, filled-none}
+use Rattle.laws.proofs.Filled.{Filled, filled-all, filled-four, filled-none, filled-two}
 use Rattle.format.specs.Drawing.{weightOf}
 use Rattle.bc7_fields.specs.Painting.{between}
 use Rattle.bc7_color.specs.declared.Ends.{Ends}
@@ -70,28 +70,21 @@ module _ (n b t : ℕ) (ends : ℕ → ℕ → List ℕ) where
   pub laid-all : {k : ℕ} {q : List (List ℕ)} → Laid k q → n ≤ k → q ≡ table (t * n) (keyed b t ends)
   laid-all h l = filled-all (h .filled) (mul-le-mul-left t l)
 
-  -- one colour more, that of subset l
-  next : (k l j : ℕ) → k < n → l < t → j ≡ t * k + l → {p : List ℕ} {q : List (List ℕ)} → p ≡ between b (ends l 0) (ends l 1) k
-      → Filled (t * n) [] (keyed b t ends) j q → Filled (t * n) [] (keyed b t ends) (j + 1) (set q j p)
-  next k l j hk hl ej {p} ep h =
-      filled-next j p h (omega (arith, mul-le-mul-left t hk, mul-suc t k)) (ep ∙ sym (keyed-at b t ends k l hl) ∙ ap (keyed b t ends) (sym ej))
+placed : (b t : ℕ) (ends : ℕ → ℕ → List ℕ) (k l : ℕ) → l < t → {p : List ℕ} → p ≡ between b (ends l 0) (ends l 1) k → p ≡ keyed b t ends (t * k + l)
+placed b t ends k l hl e = e ∙ sym (keyed-at b t ends k l hl)
 
 module _ (n b : ℕ) (ends : ℕ → ℕ → List ℕ) {k : ℕ} {q : List (List ℕ)} (hk : k < n) where
   pub two-laid : {p0 p1 : List ℕ} → Laid n b 2 ends k q → p0 ≡ between b (ends 0 0) (ends 0 1) k → p1 ≡ between b (ends 1 0) (ends 1 1) k
       → Laid n b 2 ends (k + 1) (set (set q (2 * k) p0) (2 * k + 1) p1)
   two-laid h e0 e1 =
-      let end : 2 * (k + 1) ≡ 2 * k + 1 + 1 = omega arith in
-      record { within = omega arith; filled = rw end (next n b 2 ends k 1 (2 * k + 1) hk (omega arith) refl e1 (next n b 2 ends k 0 (2 * k) hk (omega arith) (omega arith) e0 (h .filled))) }
+      record { within = omega arith; filled = filled-two k (h .filled) (omega arith) (placed b 2 ends k 0 (omega arith) e0 ∙ ap (keyed b 2 ends) (omega arith)) (placed b 2 ends k 1 (omega arith) e1) }
 
   pub four-laid : {p0 p1 p2 p3 : List ℕ} → Laid n b 4 ends k q → p0 ≡ between b (ends 0 0) (ends 0 1) k → p1 ≡ between b (ends 1 0) (ends 1 1) k
       → p2 ≡ between b (ends 2 0) (ends 2 1) k → p3 ≡ between b (ends 3 0) (ends 3 1) k
       → Laid n b 4 ends (k + 1) (set (set (set (set q (4 * k) p0) (4 * k + 1) p1) (4 * k + 2) p2) (4 * k + 3) p3)
   four-laid h e0 e1 e2 e3 =
-      let one = next n b 4 ends k 0 (4 * k) hk (omega arith) (omega arith) e0 (h .filled) in
-      let two = next n b 4 ends k 1 (4 * k + 1) hk (omega arith) refl e1 one in
-      let at2 : 4 * k + 1 + 1 ≡ 4 * k + 2 = omega arith in
-      let three = next n b 4 ends k 2 (4 * k + 2) hk (omega arith) refl e2 (rw at2 at two) in
-      let at3 : 4 * k + 2 + 1 ≡ 4 * k + 3 = omega arith in
-      let all = next n b 4 ends k 3 (4 * k + 3) hk (omega arith) refl e3 (rw at3 at three) in
-      let end : 4 * (k + 1) ≡ 4 * k + 3 + 1 = omega arith in
-      record { within = omega arith; filled = rw end all }
+      record {
+        within = omega arith;
+        filled = filled-four k (h .filled) (omega arith)
+        (placed b 4 ends k 0 (omega arith) e0 ∙ ap (keyed b 4 ends) (omega arith)) (placed b 4 ends k 1 (omega arith) e1) (placed b 4 ends k 2 (omega arith) e2) (placed b 4 ends k 3 (omega arith) e3);
+      }

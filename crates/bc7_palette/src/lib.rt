@@ -24,7 +24,7 @@ use bc7_color::two_colors;
 
 // Weights are all multiplied by 4 compared to the original ones. A `match` and no constant array: the compiler makes a read-only
 // table of it or folds it away, where an array would be laid on the stack at each call.
-fn get_weight_2(index: usize) -> u64
+pub fn get_weight_2(index: usize) -> u64
     requires { ⌜ index < 4 ⌝ }
     ensures { λ r. ⌜ r ≡ 4 * weightOf 2 index ⌝ }
 {
@@ -36,7 +36,7 @@ fn get_weight_2(index: usize) -> u64
     }
 }
 
-fn get_weight_3(index: usize) -> u64
+pub fn get_weight_3(index: usize) -> u64
     requires { ⌜ index < 8 ⌝ }
     ensures { λ r. ⌜ r ≡ 4 * weightOf 3 index ⌝ }
 {

@@ -51,6 +51,11 @@ module _ (m n b : ℕ) (hm : m < 8) (eb : firstBits m ≡ b) where
   whole-law least most es =
       by-places Whole 1 (16 * b - 1) (0 ∷ []) es refl (λ q hq. omega arith) (omega (arith, pow-mono {i = b} {j = 4} most)) refl (size-1 b (omega arith)) _ (λ q hq. omega arith)
 
+  pub whole-keys : 0 < b → splitAt m n ≡ Whole → {p : List (List ℕ)} → Palette m n b 1 0 p → painted (part (word (0 ∷ []) (16 * b - 1)) b) p ≡ directPixels m n
+  whole-keys some es palette =
+      keyed-law m n b 1 0 Whole eb es refl (λ q hq. omega arith) palette (word (0 ∷ []) (16 * b - 1)) _ (λ q hq. omega arith)
+      (indexes-at m Whole 0 n b (16 * b - 1) (0 ∷ []) (omega arith) eb refl (size-1 b some) (ap (λ (a : ℕ). expanded b (0 ∷ []) (field n a (16 * b - 1))) (sym (index-start m Whole hm))))
+
 -- a word that has w bits for the subset of each pixel
 pub record Maps (w : ℕ) (of : ℕ → ℕ) (word : ℕ) : Type 0 where
   pub at : (q : ℕ) → q < 16 → part word w q ≡ of q
