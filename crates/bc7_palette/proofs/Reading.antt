@@ -20,7 +20,7 @@ use Rattle.bc7_fields.specs.Painting.{between}
 use Rattle.bc7_fields.proofs.Pictures.{colours, four-ext, Palette}
 use Rattle.bc7_color.specs.declared.Ends.{Ends}
 use Rattle.bc7_color.specs.declared.Stored.{Stored}
-use Rattle.bc7_color.specs.Words.{channel, endOf, endOfP, endpoint, endsOf, Holds, plain, solid, withP}
+use Rattle.bc7_color.specs.Words.{channel, endOf, endOfP, endpoint, endsOf, Holds, plain, solid, withAlpha, withP}
 use Rattle.bc7_color.proofs.Words.{endpoint-of}
 use Rattle.bc7_palette.specs.Colors.{endpoints, keyed}
 use Rattle.bc7_palette.proofs.Keyed.{keyed-at}
@@ -43,11 +43,11 @@ module _ (m n l k c b : ℕ) (hk : k < 2) (width : channelBits m c ≡ b) (some 
       ap (λ (v : ℕ). field v (b * k) b) read ∙ half n (valueStart m c (2 * l)) b k hk
       ∙ ap₂ (field n) (ap (λ (w : ℕ). valueStart m c (2 * l) + w * k) (sym width) ∙ next) (sym width)
 
-  pub stored : eqb (pCount m) 0 ≡ true → endOf b k v ≡ endByte m n (2 * l + k) c
+  stored : eqb (pCount m) 0 ≡ true → endOf b k v ≡ endByte m n (2 * l + k) c
   unfolding endByte eight
   stored without = ap₂ promoted (sym width) value-half ∙ sym (rw (width, some, without))
 
-  pub stored-p : eqb (pCount m) 0 ≡ false → (p : ℕ) → field p k 1 ≡ field n (pStart m (2 * l + k)) 1 → endOfP b k v p ≡ endByte m n (2 * l + k) c
+  stored-p : eqb (pCount m) 0 ≡ false → (p : ℕ) → field p k 1 ≡ field n (pStart m (2 * l + k)) 1 → endOfP b k v p ≡ endByte m n (2 * l + k) c
   unfolding endByte eight
   stored-p with-p p ep =
       ap₂ promoted (ap (λ (w : ℕ). w + 1) (sym width)) (ap₂ (λ (x y : ℕ). x * 2 + y) value-half ep)
@@ -112,6 +112,15 @@ module _ (m n : ℕ) {l : ℕ} {x : Stored} (some : eqb (colourBits m) 0 ≡ fal
       (stored m n l k 1 (colourBits m) hk refl some (read .green) without)
       (stored m n l k 2 (colourBits m) hk refl some (read .blue) without)
       (unstored m n (2 * l + k) 3 clear) c hc
+
+  -- alpha of a width of its own
+  pub clear-shown : eqb (alphaBits m) 0 ≡ false → x .a ≡ field n (valueStart m 3 (2 * l)) (alphaBits m + alphaBits m) → eqb (pCount m) 0 ≡ true → Shown m n l (withAlpha (colourBits m) (alphaBits m) x)
+  clear-shown some-alpha alpha without k c hk hc =
+      by-channel (withAlpha (colourBits m) (alphaBits m) x k) (endByte m n (2 * l + k))
+      (stored m n l k 0 (colourBits m) hk refl some (read .red) without)
+      (stored m n l k 1 (colourBits m) hk refl some (read .green) without)
+      (stored m n l k 2 (colourBits m) hk refl some (read .blue) without)
+      (stored m n l k 3 (alphaBits m) hk refl some-alpha alpha without) c hc
 
   module _ (with-p : eqb (pCount m) 0 ≡ false) (ps : ReadP m n l (x .p)) where
     pub opaque-p-shown : alphaBits m ≡ 0 → Shown m n l (solid (withP (colourBits m) x))
