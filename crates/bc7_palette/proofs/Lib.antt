@@ -1,5 +1,4 @@
 pub mod Mixing
 pub mod Weights
 pub mod Keyed
-pub mod Keys
 pub mod Reading

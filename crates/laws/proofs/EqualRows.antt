@@ -1,14 +1,14 @@
 -- Rows of n values in k bits each: one value read, a factor and a sum, and a mask that keeps the low bits of each.
 -- Assumes nothing.
 use mathlib.Core.Path.{_≡_, refl, sym, ap, ap₂, _∙_}
-use mathlib.Core.List.{List, []}
+use mathlib.Core.List.{List}
 use Prim.Native.Nat.{ℕ, zero, suc, _+_, _-_, _*_, _/_, _%_, _^_, _≤_, _<_}
-use native.Mathlib.Nat.{add-comm, add-mul, div-one, lt-of-lt-of-le, mod-lt, mul-assoc, mul-comm, zero-lt-suc, zero-mul}
+use native.Mathlib.Nat.{add-mul, div-one, lt-of-lt-of-le, mod-lt, mul-assoc, mul-comm, zero-mul}
 use native.Mathlib.Omega.{arith}
 use lib.Bits.{bitAnd, and-block, and-mask, and-zero-r}
 use lib.ListN.{getD}
 use lib.Pow.{mod-mod-pow, ones-lt, pow-mono, pow-pos, shr-shr, split as split-at}
-use Rattle.laws.specs.Digits.{Fit, join, row, split, total}
+use Rattle.laws.specs.Digits.{Fit, join, row}
 use Rattle.laws.specs.Tables.{table}
 use Rattle.laws.proofs.Digits.{join-lt, split-join}
 use Rattle.laws.proofs.Joining.{table-same}

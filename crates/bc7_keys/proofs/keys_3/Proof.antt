@@ -1,6 +1,6 @@
 -- Keys of indexes of three bits.
 -- Assumes nothing.
-use mathlib.Core.Path.{sym, ap, ap₂, _∙_}
+use mathlib.Core.Path.{sym, ap₂, _∙_}
 use Prim.Native.Nat.{ℕ, _+_, _*_, _^_}
 use native.Mathlib.Nat.{div-one}
 use borrow.Author.Needs.{needs}
