@@ -20,7 +20,8 @@ module _ {f : ℕ → List ℕ} {output : List (List ℕ)} where
   made-next {i} h l e = record { within = omega arith; filled = filled-next i _ (h .filled) l e }
 
   -- two at a time
-  pub made-two : {i : ℕ} {even odd : List ℕ} → Made f (2 * i) output → i < 8 → even ≡ f (2 * i) → odd ≡ f (2 * i + 1) → Made f (2 * (i + 1)) (set (set output (2 * i) even) (2 * i + 1) odd)
+  pub made-two : {i : ℕ} {even odd : List ℕ} → Made f (2 * i) output → i < 8 → even ≡ f (2 * i) → odd ≡ f (2 * i + 1)
+      → Made f (2 * (i + 1)) (set (set output (2 * i) even) (2 * i + 1) odd)
   made-two {i} h l e o =
       let one = filled-next (2 * i) _ (h .filled) (omega arith) e in
       let next : 2 * i + 1 + 1 ≡ 2 * (i + 1) = omega arith in
