@@ -46,27 +46,6 @@ fn with_p(v: u64, p: u64, bits: u32) -> u64
     v * 2 + p
 }
 
-// An endpoint without alpha.
-pub fn opaque(r: u64, g: u64, b: u64, bits: u32) -> [u8; 4]
-    requires { ⌜ (4 ≤ bits) × (bits ≤ 8) × (r < 2 ^ bits) × (g < 2 ^ bits) × (b < 2 ^ bits) ⌝ }
-    ensures { λ e. ⌜ e ≡ promoted bits r ∷ promoted bits g ∷ promoted bits b ∷ 255 ∷ [] ⌝ }
-{
-    promote(r, g, b, (1u64 << bits) - 1, bits)
-}
-
-// The same with a p bit below each value.
-pub fn opaque_p(r: u64, g: u64, b: u64, p: u64, bits: u32) -> [u8; 4]
-    requires { ⌜ (3 ≤ bits) × (bits ≤ 7) × (r < 2 ^ bits) × (g < 2 ^ bits) × (b < 2 ^ bits) × (p < 2) ⌝ }
-    ensures { λ e. ⌜ e ≡ promoted (bits + 1) (r * 2 + p) ∷ promoted (bits + 1) (g * 2 + p) ∷ promoted (bits + 1) (b * 2 + p) ∷ 255 ∷ [] ⌝ }
-{
-    opaque(
-        with_p(r, p, bits),
-        with_p(g, p, bits),
-        with_p(b, p, bits),
-        bits + 1,
-    )
-}
-
 // Red, green and blue of one, alpha of the other.
 pub fn with_alpha(color: [u8; 4], alpha: [u8; 4]) -> [u8; 4]
     ensures { λ r. ⌜ r ≡ getD color 0 0 ∷ getD color 1 0 ∷ getD color 2 0 ∷ getD alpha 3 0 ∷ [] ⌝ }

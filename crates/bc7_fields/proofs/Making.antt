@@ -20,7 +20,8 @@ module _ {f : ℕ → List ℕ} {output : List (List ℕ)} where
   made-next {i} h l e = record { within = omega arith; filled = filled-next i _ (h .filled) l e }
 
   -- two at a time
-  pub made-two : {i : ℕ} {even odd : List ℕ} → Made f (2 * i) output → i < 8 → even ≡ f (2 * i) → odd ≡ f (2 * i + 1) → Made f (2 * (i + 1)) (set (set output (2 * i) even) (2 * i + 1) odd)
+  pub made-two : {i : ℕ} {even odd : List ℕ} → Made f (2 * i) output → i < 8 → even ≡ f (2 * i) → odd ≡ f (2 * i + 1)
+      → Made f (2 * (i + 1)) (set (set output (2 * i) even) (2 * i + 1) odd)
   made-two {i} h l e o = record { within = omega arith; filled = filled-two i (h .filled) (omega arith) e o }
 
   pub made-all : {i : ℕ} → Made f i output → 16 ≤ i → output ≡ table 16 f

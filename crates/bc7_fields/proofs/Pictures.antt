@@ -117,7 +117,8 @@ subset-law m n b k s eb es flat subsets room x place places indexes =
 pub record Palette (m n b k t : ℕ) (p : List (List ℕ)) : Type 0 where
   pub at : (l i : ℕ) → l < k → i < 2 ^ b → getD p (i * 2 ^ t + l) [] ≡ colours m n b l i
 
-pub keyed-law : (m n b k t : ℕ) (s : Split) {p : List (List ℕ)} → firstBits m ≡ b → splitAt m n ≡ s → isVector s ≡ false → ((q : ℕ) → q < 16 → subset s q < k) → Palette m n b k t p → (x : ℕ) (place : ℕ → ℕ)
+pub keyed-law : (m n b k t : ℕ) (s : Split) {p : List (List ℕ)} → firstBits m ≡ b → splitAt m n ≡ s → isVector s ≡ false
+    → ((q : ℕ) → q < 16 → subset s q < k) → Palette m n b k t p → (x : ℕ) (place : ℕ → ℕ)
     → ((q : ℕ) → q < 16 → place q ≡ part x b q * 2 ^ t + subset s q)
     → ((q : ℕ) → q < 16 → part x b q ≡ atPlace m s n (index 0 q))
     → painted place p ≡ directPixels m n

@@ -29,7 +29,9 @@ every-other : (w o x : ℕ) → bitAnd (x / 2 ^ (o * w)) (evens w) ≡ row 8 (2 
 unfolding part
 every-other w o x =
     row-mask 8 (2 * w) w (omega arith) (x / 2 ^ (o * w))
-    ∙ row-same 8 (2 * w) _ _ (λ i l. ap (λ (y : ℕ). y % 2 ^ w) (shr-shr x (o * w) (i * (2 * w)) ∙ ap (λ (y : ℕ). x / 2 ^ y) (let z : o * w + i * (2 * w) ≡ (2 * i + o) * w = omega arith in z)))
+    ∙ row-same 8 (2 * w) _ _ (λ i l.
+    let place : o * w + i * (2 * w) ≡ (2 * i + o) * w = omega arith in
+    ap (λ (y : ℕ). y % 2 ^ w) (shr-shr x (o * w) (i * (2 * w)) ∙ ap (λ (y : ℕ). x / 2 ^ y) place))
 
 pub keys-word : (w s x map o : ℕ) → bitAnd (x / 2 ^ (o * w)) (evens w) * 2 ^ s + bitAnd (map / 2 ^ (o * w)) (evens w) ≡ everyOther w s x map o
 keys-word w s x map o =
@@ -71,7 +73,8 @@ module _ (w s x map : ℕ) (room : s ≤ w) (small : (q : ℕ) → q < 16 → pa
       let y : ℕ = everyOther w s x map o / 2 ^ (i * (2 * w)) in
       sym (mod-mod-pow y (w - s) (w + s))
       ∙ ap (λ (k : ℕ). y % 2 ^ k % 2 ^ (w + s)) whole
-      ∙ ap (λ (k : ℕ). k % 2 ^ (w + s)) (row-part 8 (2 * w) (λ i. keyOf w s x map (2 * i + o)) (λ j l. lt-of-lt-of-le (key-lt (2 * j + o) (omega arith)) (pow-mono (omega arith))) i hi)
+      ∙ ap (λ (k : ℕ). k % 2 ^ (w + s)) (row-part 8 (2 * w) (λ i. keyOf w s x map (2 * i + o))
+      (λ j l. lt-of-lt-of-le (key-lt (2 * j + o) (omega arith)) (pow-mono (omega arith))) i hi)
       ∙ mod-eq-of-lt (key-lt (2 * i + o) (omega arith))
 
   pub key-at : (q : ℕ) → q < 16 → keyAt w s (keysOf w s x map) q ≡ keyOf w s x map q
@@ -82,6 +85,10 @@ module _ (w s x map : ℕ) (room : s ≤ w) (small : (q : ℕ) → q < 16 → pa
       of b = pick b (everyOther w s x map 0) (everyOther w s x map 1) / 2 ^ (q / 2 * (2 * w)) % 2 ^ (w + s)
 
       go : (o : ℕ) → q % 2 ≡ o → of (eqb (q % 2) 0) ≡ keyOf w s x map q
-      go zero e = let z : 2 * (q / 2) + 0 ≡ q = omega arith in ap of (eq-eqb (q % 2) 0 e) ∙ read-back 0 (q / 2) (omega arith) (omega arith) ∙ ap (keyOf w s x map) z
-      go (suc zero) e = let z : 2 * (q / 2) + 1 ≡ q = omega arith in ap of (ne-eqb (q % 2) 0 (λ y. omega arith)) ∙ read-back 1 (q / 2) (omega arith) (omega arith) ∙ ap (keyOf w s x map) z
+      go zero e =
+          let z : 2 * (q / 2) + 0 ≡ q = omega arith in
+          ap of (eq-eqb (q % 2) 0 e) ∙ read-back 0 (q / 2) (omega arith) (omega arith) ∙ ap (keyOf w s x map) z
+      go (suc zero) e =
+          let z : 2 * (q / 2) + 1 ≡ q = omega arith in
+          ap of (ne-eqb (q % 2) 0 (λ y. omega arith)) ∙ read-back 1 (q / 2) (omega arith) (omega arith) ∙ ap (keyOf w s x map) z
       go (suc (suc o)) e = absurd (let z : ⊥ = omega arith in z)

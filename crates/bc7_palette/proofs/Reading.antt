@@ -2,8 +2,8 @@
 -- Assumes nothing.
 use mathlib.Core.Path.{_≡_, refl, sym, ap, ap₂, _∙_}
 use mathlib.Core.Bool.{true, false}
-use mathlib.Core.List.{List, [], _∷_}
-use Prim.Native.Nat.{ℕ, zero, suc, _+_, _*_, _/_, _%_, _^_, _≤_, _<_}
+use mathlib.Core.List.{List, []}
+use Prim.Native.Nat.{ℕ, zero, suc, _+_, _*_, _/_, _%_, _^_, _<_}
 use native.Mathlib.Nat.{add-zero, div-one, mod-mod, mul-add, mul-le-mul-left, mul-one, mul-suc, mul-zero}
 use native.Mathlib.Omega.{arith}
 use lib.Dec.{eqb}
@@ -20,7 +20,7 @@ use Rattle.bc7_fields.specs.Painting.{between}
 use Rattle.bc7_fields.proofs.Pictures.{colours, four-ext, Palette}
 use Rattle.bc7_color.specs.declared.Ends.{Ends}
 use Rattle.bc7_color.specs.declared.Stored.{Stored}
-use Rattle.bc7_color.specs.Words.{channel, endOf, endOfP, endpoint, endsOf, Holds, plain, solid, withAlpha, withP}
+use Rattle.bc7_color.specs.Words.{endOf, endOfP, endpoint, Holds, plain, solid, withAlpha, withP}
 use Rattle.bc7_color.proofs.Words.{endpoint-of}
 use Rattle.bc7_palette.specs.Colors.{endpoints, keyed}
 use Rattle.bc7_palette.proofs.Keyed.{keyed-at}

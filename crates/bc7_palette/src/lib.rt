@@ -9,7 +9,7 @@ ghost use Rattle.laws.specs.Tables.{over, table};
 ghost use Rattle.format.specs.Drawing.{weightOf};
 ghost use Rattle.bcn_indexes.specs.Indexes.{part};
 ghost use Rattle.bc7_fields.specs.Fields.{four};
-ghost use Rattle.bc7_fields.specs.Painting.{between, key, painted};
+ghost use Rattle.bc7_fields.specs.Painting.{between, painted};
 ghost use Rattle.bc7_color.specs.Colors.{laned};
 ghost use Rattle.bc7_color.specs.Words.{Alone, Bytes, endpoint, wordBytes};
 ghost use Rattle.bc7_palette.specs.Colors.{endpoints, keyed, lerped, shade};
@@ -264,57 +264,6 @@ fn part_of(x: u64, bits: u32, i: usize) -> usize
     ensures { λ r. ⌜ (r ≡ part x bits i) × (r < 2 ^ bits) ⌝ }
 {
     ((x >> ((i as u32) * bits)) % (1u64 << bits)) as usize
-}
-
-fn key_of(map: u64, k: u32, x: u64, bits: u32, i: usize) -> usize
-    requires { ⌜ (k ≤ 2) × (bits ≤ 3) × (i < 16) ⌝ }
-    ensures { λ r. ⌜ (r ≡ key k bits map x i) × (r < 32) ⌝ }
-{
-    (part_of(map, k, i) << bits) + part_of(x, bits, i)
-}
-
-// Two subsets, indexes of 2 bits.
-pub fn paint_2_2(p: [[u8; 4]; 32], map: u64, x: u64) -> [[u8; 4]; 16]
-    ensures { λ r. ⌜ r ≡ painted (key 1 2 map x) p ⌝ }
-{
-    let mut output = [[0u8; 4]; 16];
-    for i in 0..16usize {
-        output[i] = p[key_of(map, 1, x, 2, i)];
-    }
-    output
-}
-
-// Two subsets, indexes of 3 bits.
-pub fn paint_2_3(p: [[u8; 4]; 32], map: u64, x: u64) -> [[u8; 4]; 16]
-    ensures { λ r. ⌜ r ≡ painted (key 1 3 map x) p ⌝ }
-{
-    let mut output = [[0u8; 4]; 16];
-    for i in 0..16usize {
-        output[i] = p[key_of(map, 1, x, 3, i)];
-    }
-    output
-}
-
-// Three subsets, indexes of 2 bits.
-pub fn paint_3_2(p: [[u8; 4]; 32], map: u64, x: u64) -> [[u8; 4]; 16]
-    ensures { λ r. ⌜ r ≡ painted (key 2 2 map x) p ⌝ }
-{
-    let mut output = [[0u8; 4]; 16];
-    for i in 0..16usize {
-        output[i] = p[key_of(map, 2, x, 2, i)];
-    }
-    output
-}
-
-// Three subsets, indexes of 3 bits.
-pub fn paint_3_3(p: [[u8; 4]; 32], map: u64, x: u64) -> [[u8; 4]; 16]
-    ensures { λ r. ⌜ r ≡ painted (key 2 3 map x) p ⌝ }
-{
-    let mut output = [[0u8; 4]; 16];
-    for i in 0..16usize {
-        output[i] = p[key_of(map, 2, x, 3, i)];
-    }
-    output
 }
 
 pub fn paint_1(bits: u32, p: [[u8; 4]; 32], x: u64) -> [[u8; 4]; 16]

@@ -41,9 +41,11 @@ module _ (b w : ℕ) (s : String) (f : Fit (replicate 16 b) (digits s)) (least :
       let a : ℕ = join (4 ∷ 4 ∷ []) (marks 0 s) in
       let e : 48 - 16 * w + 16 * w ≡ 48 = omega arith in
       let apart : a * 2 ^ 48 ≡ a * 2 ^ (48 - 16 * w) * 2 ^ (16 * w) =
-      ap (λ (x : ℕ). a * 2 ^ x) (sym e) ∙ ap (λ (x : ℕ). a * x) (pow-add 2 (48 - 16 * w) (16 * w)) ∙ sym (mul-assoc a (2 ^ (48 - 16 * w)) (2 ^ (16 * w))) in
+      ap (λ (x : ℕ). a * 2 ^ x) (sym e) ∙ ap (λ (x : ℕ). a * x) (pow-add 2 (48 - 16 * w) (16 * w))
+      ∙ sym (mul-assoc a (2 ^ (48 - 16 * w)) (2 ^ (16 * w))) in
       sym (split-mod (replicate 16 w) (setOf w s))
-      ∙ ap (split (replicate 16 w)) (ap (λ (x : ℕ). setOf w s % 2 ^ x) bits ∙ ap (λ (x : ℕ). (x + map) % 2 ^ (16 * w)) apart ∙ low (a * 2 ^ (48 - 16 * w)) (16 * w) map-lt)
+      ∙ ap (split (replicate 16 w))
+      (ap (λ (x : ℕ). setOf w s % 2 ^ x) bits ∙ ap (λ (x : ℕ). (x + map) % 2 ^ (16 * w)) apart ∙ low (a * 2 ^ (48 - 16 * w)) (16 * w) map-lt)
       ∙ split-join wide
 
   subset-in : (q : ℕ) → q < 16 → setOf w s / 2 ^ (q * w) % 2 ^ w ≡ getD (digits s) q 0

@@ -2,7 +2,7 @@
 -- Assumes nothing.
 use Prim.Native.Nat.{ℕ, _+_, _*_, _^_}
 use Prim.Native.String.{String}
-use mathlib.Core.List.{List, [], _∷_}
+use mathlib.Core.List.{[], _∷_}
 use lib.ListN.{getD, replicate}
 use Rattle.laws.specs.Digits.{join}
 use Rattle.format.specs.Partitions.{digits, marks, strings2, strings3}

@@ -55,6 +55,7 @@ pub insert-machine : (n p : ℕ) → n < 2 ^ 63 → n + (n / 2 ^ p * 2 ^ p) % 2 
 unfolding inserted
 insert-machine n p hn =
     let above : ℕ = n / 2 ^ p * 2 ^ p in
-    let fits : above % 2 ^ 64 ≡ above = mod-eq-of-lt (lt-of-le-of-lt (div-mul-le-self n (2 ^ p)) (lt-of-lt-of-le hn (pow-mono {i = 63} {j = 64} (omega arith)))) in
+    let fits : above % 2 ^ 64 ≡ above =
+    mod-eq-of-lt (lt-of-le-of-lt (div-mul-le-self n (2 ^ p)) (lt-of-lt-of-le hn (pow-mono {i = 63} {j = 64} (omega arith)))) in
     let double : n / 2 ^ p * 2 ^ (p + 1) ≡ above * 2 = ap (λ (x : ℕ). n / 2 ^ p * x) (pow-add 2 p 1) ∙ sym (mul-assoc (n / 2 ^ p) (2 ^ p) 2) in
     omega (arith, split-at n p)

@@ -18,7 +18,8 @@ pub record Arms (f : ℕ → ℕ) (x s k : ℕ) (A : Type 0) : Type 0 where
 
 -- eight at a time, so that one call of omega serves eight
 pub eight-arms : {f : ℕ → ℕ} {x s k : ℕ} {P₀ P₁ P₂ P₃ P₄ P₅ P₆ P₇ A : Type 0}
-    → Arm f x s k P₀ × Arm f x s (k + 1) P₁ × Arm f x s (k + 2) P₂ × Arm f x s (k + 3) P₃ × Arm f x s (k + 4) P₄ × Arm f x s (k + 5) P₅ × Arm f x s (k + 6) P₆ × Arm f x s (k + 7) P₇
+    → Arm f x s k P₀ × Arm f x s (k + 1) P₁ × Arm f x s (k + 2) P₂ × Arm f x s (k + 3) P₃
+    × Arm f x s (k + 4) P₄ × Arm f x s (k + 5) P₅ × Arm f x s (k + 6) P₆ × Arm f x s (k + 7) P₇
     → Arms f x s (k + 8) A → Arms f x s k (P₀ ⊎ (P₁ ⊎ (P₂ ⊎ (P₃ ⊎ (P₄ ⊎ (P₅ ⊎ (P₆ ⊎ (P₇ ⊎ A))))))))
 eight-arms {f} {x} {s} {k} a rest = record {
   met = ⊎-elim (by-arm f x s k (a .0)) (⊎-elim (by-arm f x s (k + 1) (a .1)) (⊎-elim (by-arm f x s (k + 2) (a .2)) (⊎-elim (by-arm f x s (k + 3) (a .3))

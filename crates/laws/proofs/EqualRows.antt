@@ -1,14 +1,14 @@
 -- Rows of n values in k bits each: one value read, a factor and a sum, and a mask that keeps the low bits of each.
 -- Assumes nothing.
 use mathlib.Core.Path.{_≡_, refl, sym, ap, ap₂, _∙_}
-use mathlib.Core.List.{List, []}
+use mathlib.Core.List.{List}
 use Prim.Native.Nat.{ℕ, zero, suc, _+_, _-_, _*_, _/_, _%_, _^_, _≤_, _<_}
-use native.Mathlib.Nat.{add-comm, add-mul, div-one, lt-of-lt-of-le, mod-lt, mul-assoc, mul-comm, zero-lt-suc, zero-mul}
+use native.Mathlib.Nat.{add-mul, div-one, lt-of-lt-of-le, mod-lt, mul-assoc, mul-comm, zero-mul}
 use native.Mathlib.Omega.{arith}
 use lib.Bits.{bitAnd, and-block, and-mask, and-zero-r}
 use lib.ListN.{getD}
 use lib.Pow.{mod-mod-pow, ones-lt, pow-mono, pow-pos, shr-shr, split as split-at}
-use Rattle.laws.specs.Digits.{Fit, join, row, split, total}
+use Rattle.laws.specs.Digits.{Fit, join, row}
 use Rattle.laws.specs.Tables.{table}
 use Rattle.laws.proofs.Digits.{join-lt, split-join}
 use Rattle.laws.proofs.Joining.{table-same}
@@ -69,7 +69,9 @@ row-mask (suc n) k v h x =
     ∙ sym (ap (λ (y : ℕ). x / 2 ^ y % 2 ^ v) (zero-mul k) ∙ ap (λ (y : ℕ). y % 2 ^ v) (div-one x)) in
     let above : bitAnd (x / 2 ^ k) rest ≡ row n k (λ i. x / 2 ^ (suc i * k) % 2 ^ v) =
     row-mask n k v h (x / 2 ^ k)
-    ∙ row-same n k _ _ (λ i l. ap (λ (y : ℕ). y % 2 ^ v) (shr-shr x k (i * k) ∙ ap (λ (y : ℕ). x / 2 ^ y) (let z : k + i * k ≡ suc i * k = omega arith in z))) in
+    ∙ row-same n k _ _ (λ i l.
+    let place : k + i * k ≡ suc i * k = omega arith in
+    ap (λ (y : ℕ). y % 2 ^ v) (shr-shr x k (i * k) ∙ ap (λ (y : ℕ). x / 2 ^ y) place)) in
     ap₂ bitAnd (sym (split-at x k)) (row-cons n k (λ i. 2 ^ v - 1))
     ∙ and-block k (x / 2 ^ k) rest (x % 2 ^ k) (2 ^ v - 1) (mod-lt x (pow-pos k)) (lt-of-lt-of-le (ones-lt v) (pow-mono h))
     ∙ ap₂ (λ (y z : ℕ). y * 2 ^ k + z) above here

@@ -21,7 +21,10 @@ shl-result : tie.Need-shl-result
 shl-result c = search needs
 
 add-result : tie.Need-add-result
-add-result c = record { fits = rw (moved c) (omega (arith, shl-lt 48 (c .args .shift) (masked c (c .args .x)), pow-mono {i = 48 + c .args .shift} {j = 50} (omega arith), masked c (c .args .map))) }
+add-result c =
+    let shift = c .args .shift in
+    let top = pow-mono {i = 48 + shift} {j = 50} (omega arith) in
+    record { fits = rw (moved c) (omega (arith, shl-lt 48 shift (masked c (c .args .x)), top, masked c (c .args .map))) }
 
 returns : tie.Need-returns
 returns c = ap (λ (y : ℕ). y + bitAnd (c .args .map) (c .args .mask)) (moved c)

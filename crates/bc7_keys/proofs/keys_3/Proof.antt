@@ -1,6 +1,6 @@
 -- Keys of indexes of three bits.
 -- Assumes nothing.
-use mathlib.Core.Path.{sym, ap, ap₂, _∙_}
+use mathlib.Core.Path.{sym, ap₂, _∙_}
 use Prim.Native.Nat.{ℕ, _+_, _*_, _^_}
 use native.Mathlib.Nat.{div-one}
 use borrow.Author.Needs.{needs}
@@ -22,8 +22,9 @@ unfolding row table tableFrom
 returns c =
     let s = c .before .before in
     let word = keys-word 3 (s .args .shift) (s .args .x) (s .args .map) in
+    let merged : ℕ → ℕ → ℕ = λ x map. bitAnd x (evens 3) * 2 ^ s .args .shift + bitAnd map (evens 3) in
     λ j. record {
-      even = (c .before .above .ensures ∙ ap₂ (λ (x map : ℕ). bitAnd x (evens 3) * 2 ^ s .args .shift + bitAnd map (evens 3)) (sym (div-one (s .args .x))) (sym (div-one (s .args .map))) ∙ word 0) j;
+      even = (c .before .above .ensures ∙ ap₂ merged (sym (div-one (s .args .x))) (sym (div-one (s .args .map))) ∙ word 0) j;
       odd = (c .above2 .ensures ∙ word 1) j;
     }
 

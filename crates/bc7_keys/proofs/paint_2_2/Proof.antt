@@ -66,7 +66,8 @@ loop-less c = omega arith
 loop-again : tie.Need-loop-again Inv-loop μ-loop
 loop-again c =
     let at = c .before .before .before .before in
-    two-more 2 1 _ (at .before .before .args .t1) _ (at .before .loop .inv) (at .loop-test .taken) (c .before .before .before .key-of .ensures .0) (c .before .key-of2 .ensures .0)
+    two-more 2 1 _ (at .before .before .args .t1) _ (at .before .loop .inv) (at .loop-test .taken)
+    (c .before .before .before .key-of .ensures .0) (c .before .key-of2 .ensures .0)
 
 returns : tie.Need-returns Inv-loop μ-loop
 unfolding painted

@@ -1,7 +1,6 @@
 -- Mode 3: two subsets, and a p bit for each endpoint.
 -- Assumes nothing.
 use mathlib.Core.Path.{refl, sym, ap}
-use Prim.Native.Nat.{ℕ, _*_}
 use native.Mathlib.Omega.{arith}
 use borrow.Author.Needs.{needs}
 use Rattle.format.specs.declared.Split.the-variants.{Two}
@@ -45,7 +44,8 @@ indexes-2-requires : tie.Need-indexes-2-requires
 indexes-2-requires c κs =
     let p = c .before .before in
     let set = p .before .before .before .before in
-    let fixes = fixes-2 {w = 2} (omega (arith, set .before .extract-partition-set-id .ensures .small)) (omega arith) (omega arith) (set .set-2-2 .ensures) in
+    let id = set .before .extract-partition-set-id .ensures in
+    let fixes = fixes-2 {w = 2} (omega (arith, id .small)) (omega arith) (omega arith) (set .set-2-2 .ensures) in
     (omega arith, omega arith, fixes .above, fixes .last, omega (arith, p, p .before .before))
 
 keys-2-requires : tie.Need-keys-2-requires
@@ -58,24 +58,33 @@ returns : tie.Need-returns
 unfolding splitAt kindOfMode modeRow endpointCount field valueStart pStart headEnd
 returns c =
     let colors = c .before .before .before in
-    let p = colors .before .before in
-    let b = p .before in
-    let g = b .before in
-    let r = g .before in
-    let set = r .before in
+    let at-p = colors .before .before in
+    let at-b = at-p .before in
+    let at-g = at-b .before in
+    let at-r = at-g .before in
+    let set = at-r .before in
     let id = set .before .extract-partition-set-id .ensures in
     let s = set .before .before in
     let n = held (s .args .stream) in
     let start : On n 4 (s .args .stream) = record { of = refl; stands = s .pre } in
     let on-r = on-8 start 6 (id .same) in
-    let on-g = on-2 on-r 14 (r .values-2 .ensures .same) in
-    let on-b = on-2 on-g 14 (g .values-22 .ensures .same) in
-    let on-p = on-2 on-b 14 (b .values-23 .ensures .same) in
-    let on-x = on-2 on-p 2 (p .values-24 .ensures .same) in
-    two-keys 3 n 2 (omega arith) refl (omega arith) (omega arith) (omega (arith, id .small)) on-x (ap Two (sym (got-8 start 6 (id .same)))) (set .set-2-2 .ensures) (c .before .before .indexes-2 .ensures) (c .before .keys-2 .ensures)
+    let r = at-r .values-2 .ensures .same in
+    let on-g = on-2 on-r 14 r in
+    let g = at-g .values-22 .ensures .same in
+    let on-b = on-2 on-g 14 g in
+    let b = at-b .values-23 .ensures .same in
+    let on-p = on-2 on-b 14 b in
+    let p = at-p .values-24 .ensures .same in
+    let on-x = on-2 on-p 2 p in
+    two-keys 3 n 2 (omega arith) refl (omega arith) (omega arith) (omega (arith, id .small)) on-x (ap Two (sym (got-8 start 6 (id .same))))
+    (set .set-2-2 .ensures) (c .before .before .indexes-2 .ensures) (c .before .keys-2 .ensures)
     (two-palette 3 n 2 (λ x. solid (withP 7 x)) _ _ (colors .before .opaque-p .ensures)
-    (opaque-p-shown 3 n {l = 0} refl (record { red = got-a on-r 14 (r .values-2 .ensures .same); green = got-a on-g 14 (g .values-22 .ensures .same); blue = got-a on-b 14 (b .values-23 .ensures .same) }) refl (two-ps 3 n 0 refl (got-a on-p 2 (p .values-24 .ensures .same))) refl)
-    (opaque-p-shown 3 n {l = 1} refl (record { red = got-b on-r 14 (r .values-2 .ensures .same); green = got-b on-g 14 (g .values-22 .ensures .same); blue = got-b on-b 14 (b .values-23 .ensures .same) }) refl (two-ps 3 n 1 refl (got-b on-p 2 (p .values-24 .ensures .same))) refl)
+    (opaque-p-shown 3 n {l = 0} refl
+    (record { red = got-a on-r 14 r; green = got-a on-g 14 g; blue = got-a on-b 14 b })
+    refl (two-ps 3 n 0 refl (got-a on-p 2 p)) refl)
+    (opaque-p-shown 3 n {l = 1} refl
+    (record { red = got-b on-r 14 r; green = got-b on-g 14 g; blue = got-b on-b 14 b })
+    refl (two-ps 3 n 1 refl (got-b on-p 2 p)) refl)
     (colors .palette-2-2 .ensures))
     (c .paint-2-2 .ensures)
 

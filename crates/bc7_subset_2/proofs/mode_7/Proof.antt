@@ -1,7 +1,6 @@
 -- Mode 7: two subsets with alpha.
 -- Assumes nothing.
 use mathlib.Core.Path.{refl, sym, ap}
-use Prim.Native.Nat.{ℕ, _*_}
 use native.Mathlib.Omega.{arith}
 use borrow.Author.Needs.{needs}
 use Rattle.format.specs.declared.Split.the-variants.{Two}
@@ -48,7 +47,8 @@ indexes-2-requires : tie.Need-indexes-2-requires
 indexes-2-requires c κs =
     let p = c .before .before in
     let set = p .before .before .before .before .before in
-    let fixes = fixes-2 {w = 2} (omega (arith, set .before .extract-partition-set-id .ensures .small)) (omega arith) (omega arith) (set .set-2-2 .ensures) in
+    let id = set .before .extract-partition-set-id .ensures in
+    let fixes = fixes-2 {w = 2} (omega (arith, id .small)) (omega arith) (omega arith) (set .set-2-2 .ensures) in
     (omega arith, omega arith, fixes .above, fixes .last, omega (arith, p, p .before .before))
 
 keys-2-requires : tie.Need-keys-2-requires
@@ -61,26 +61,36 @@ returns : tie.Need-returns
 unfolding splitAt kindOfMode modeRow endpointCount field valueStart pStart headEnd
 returns c =
     let colors = c .before .before .before in
-    let p = colors .before .before in
-    let a = p .before in
-    let b = a .before in
-    let g = b .before in
-    let r = g .before in
-    let set = r .before in
+    let at-p = colors .before .before in
+    let at-a = at-p .before in
+    let at-b = at-a .before in
+    let at-g = at-b .before in
+    let at-r = at-g .before in
+    let set = at-r .before in
     let id = set .before .extract-partition-set-id .ensures in
     let s = set .before .before in
     let n = held (s .args .stream) in
     let start : On n 8 (s .args .stream) = record { of = refl; stands = s .pre } in
     let on-r = on-8 start 6 (id .same) in
-    let on-g = on-2 on-r 10 (r .values-2 .ensures .same) in
-    let on-b = on-2 on-g 10 (g .values-22 .ensures .same) in
-    let on-a = on-2 on-b 10 (b .values-23 .ensures .same) in
-    let on-p = on-2 on-a 10 (a .values-24 .ensures .same) in
-    let on-x = on-2 on-p 2 (p .values-25 .ensures .same) in
-    two-keys 7 n 2 (omega arith) refl (omega arith) (omega arith) (omega (arith, id .small)) on-x (ap Two (sym (got-8 start 6 (id .same)))) (set .set-2-2 .ensures) (c .before .before .indexes-2 .ensures) (c .before .keys-2 .ensures)
+    let r = at-r .values-2 .ensures .same in
+    let on-g = on-2 on-r 10 r in
+    let g = at-g .values-22 .ensures .same in
+    let on-b = on-2 on-g 10 g in
+    let b = at-b .values-23 .ensures .same in
+    let on-a = on-2 on-b 10 b in
+    let a = at-a .values-24 .ensures .same in
+    let on-p = on-2 on-a 10 a in
+    let p = at-p .values-25 .ensures .same in
+    let on-x = on-2 on-p 2 p in
+    two-keys 7 n 2 (omega arith) refl (omega arith) (omega arith) (omega (arith, id .small)) on-x (ap Two (sym (got-8 start 6 (id .same))))
+    (set .set-2-2 .ensures) (c .before .before .indexes-2 .ensures) (c .before .keys-2 .ensures)
     (two-palette 7 n 2 (withP 5) _ _ (colors .before .clear-p .ensures)
-    (clear-p-shown 7 n {l = 0} refl (record { red = got-a on-r 10 (r .values-2 .ensures .same); green = got-a on-g 10 (g .values-22 .ensures .same); blue = got-a on-b 10 (b .values-23 .ensures .same) }) refl (two-ps 7 n 0 refl (got-a on-p 2 (p .values-25 .ensures .same))) refl (got-a on-a 10 (a .values-24 .ensures .same)))
-    (clear-p-shown 7 n {l = 1} refl (record { red = got-b on-r 10 (r .values-2 .ensures .same); green = got-b on-g 10 (g .values-22 .ensures .same); blue = got-b on-b 10 (b .values-23 .ensures .same) }) refl (two-ps 7 n 1 refl (got-b on-p 2 (p .values-25 .ensures .same))) refl (got-b on-a 10 (a .values-24 .ensures .same)))
+    (clear-p-shown 7 n {l = 0} refl
+    (record { red = got-a on-r 10 r; green = got-a on-g 10 g; blue = got-a on-b 10 b })
+    refl (two-ps 7 n 0 refl (got-a on-p 2 p)) refl (got-a on-a 10 a))
+    (clear-p-shown 7 n {l = 1} refl
+    (record { red = got-b on-r 10 r; green = got-b on-g 10 g; blue = got-b on-b 10 b })
+    refl (two-ps 7 n 1 refl (got-b on-p 2 p)) refl (got-b on-a 10 a))
     (colors .palette-2-2 .ensures))
     (c .paint-2-2 .ensures)
 

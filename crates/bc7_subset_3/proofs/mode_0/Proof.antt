@@ -59,8 +59,15 @@ indexes-3-requires : tie.Need-indexes-3-requires
 indexes-3-requires c κs =
     let last = c .before .before .before in
     let set = last .before .before .before .before .before .before .before .before in
-    let fixes = fixes-3 {w = 3} (omega (arith, set .before .extract-partition-set-id .ensures .small)) (omega arith) (omega arith) (set .set-3-3 .ensures) in
-    (omega arith, omega arith, fixes .above, fixes .next, fixes .last, omega (arith, last, last .before .before .before, last .before .before .before .before .before .before))
+    let id = set .before .extract-partition-set-id .ensures in
+    let fixes = fixes-3 {w = 3} (omega (arith, id .small)) (omega arith) (omega arith) (set .set-3-3 .ensures) in (
+      omega arith,
+      omega arith,
+      fixes .above,
+      fixes .next,
+      fixes .last,
+      omega (arith, last, last .before .before .before, last .before .before .before .before .before .before),
+    )
 
 keys-3-requires : tie.Need-keys-3-requires
 keys-3-requires c κs = search needs
@@ -72,34 +79,49 @@ returns : tie.Need-returns
 unfolding splitAt kindOfMode modeRow endpointCount field valueStart pStart headEnd
 returns c =
     let colors = c .before .before .before in
-    let p3 = colors .before .before .before in
-    let p = p3 .before in
-    let b3 = p .before in
-    let b = b3 .before in
-    let g3 = b .before in
-    let g = g3 .before in
-    let r3 = g .before in
-    let r = r3 .before in
-    let set = r .before in
+    let at-p3 = colors .before .before .before in
+    let at-p = at-p3 .before in
+    let at-b3 = at-p .before in
+    let at-b = at-b3 .before in
+    let at-g3 = at-b .before in
+    let at-g = at-g3 .before in
+    let at-r3 = at-g .before in
+    let at-r = at-r3 .before in
+    let set = at-r .before in
     let id = set .before .extract-partition-set-id .ensures in
     let s = set .before .before in
     let n = held (s .args .stream) in
     let start : On n 1 (s .args .stream) = record { of = refl; stands = s .pre } in
     let on-r = on-8 start 4 (id .same) in
-    let on-r3 = on-2 on-r 8 (r .values-2 .ensures .same) in
-    let on-g = got-on on-r3 8 (r3 .values-1 .ensures .same) in
-    let on-g3 = on-2 on-g 8 (g .values-22 .ensures .same) in
-    let on-b = got-on on-g3 8 (g3 .values-12 .ensures .same) in
-    let on-b3 = on-2 on-b 8 (b .values-23 .ensures .same) in
-    let on-p = got-on on-b3 8 (b3 .values-13 .ensures .same) in
-    let on-p3 = on-2 on-p 2 (p .values-24 .ensures .same) in
-    let on-x = got-on on-p3 2 (p3 .values-14 .ensures .same) in
-    three-keys 0 n 3 (omega arith) refl (omega arith) (omega arith) (omega (arith, id .small)) on-x (ap Three (sym (got-8 start 4 (id .same)))) (set .set-3-3 .ensures) (c .before .before .indexes-3 .ensures) (c .before .keys-3 .ensures)
+    let r = at-r .values-2 .ensures .same in
+    let on-r3 = on-2 on-r 8 r in
+    let r3 = at-r3 .values-1 .ensures .same in
+    let on-g = got-on on-r3 8 r3 in
+    let g = at-g .values-22 .ensures .same in
+    let on-g3 = on-2 on-g 8 g in
+    let g3 = at-g3 .values-12 .ensures .same in
+    let on-b = got-on on-g3 8 g3 in
+    let b = at-b .values-23 .ensures .same in
+    let on-b3 = on-2 on-b 8 b in
+    let b3 = at-b3 .values-13 .ensures .same in
+    let on-p = got-on on-b3 8 b3 in
+    let p = at-p .values-24 .ensures .same in
+    let on-p3 = on-2 on-p 2 p in
+    let p3 = at-p3 .values-14 .ensures .same in
+    let on-x = got-on on-p3 2 p3 in
+    three-keys 0 n 3 (omega arith) refl (omega arith) (omega arith) (omega (arith, id .small)) on-x (ap Three (sym (got-8 start 4 (id .same))))
+    (set .set-3-3 .ensures) (c .before .before .indexes-3 .ensures) (c .before .keys-3 .ensures)
     (three-palette 0 n 3 (λ x. solid (withP 4 x)) _ _ (colors .before .before .opaque-p .ensures)
-    (opaque-p-shown 0 n {l = 0} refl (record { red = got-a on-r 8 (r .values-2 .ensures .same); green = got-a on-g 8 (g .values-22 .ensures .same); blue = got-a on-b 8 (b .values-23 .ensures .same) }) refl (two-ps 0 n 0 refl (got-a on-p 2 (p .values-24 .ensures .same))) refl)
-    (opaque-p-shown 0 n {l = 1} refl (record { red = got-b on-r 8 (r .values-2 .ensures .same); green = got-b on-g 8 (g .values-22 .ensures .same); blue = got-b on-b 8 (b .values-23 .ensures .same) }) refl (two-ps 0 n 1 refl (got-b on-p 2 (p .values-24 .ensures .same))) refl)
+    (opaque-p-shown 0 n {l = 0} refl
+    (record { red = got-a on-r 8 r; green = got-a on-g 8 g; blue = got-a on-b 8 b })
+    refl (two-ps 0 n 0 refl (got-a on-p 2 p)) refl)
+    (opaque-p-shown 0 n {l = 1} refl
+    (record { red = got-b on-r 8 r; green = got-b on-g 8 g; blue = got-b on-b 8 b })
+    refl (two-ps 0 n 1 refl (got-b on-p 2 p)) refl)
     _ _ (colors .before .opaque-p2 .ensures)
-    (opaque-p-shown 0 n {l = 2} refl (record { red = got-v on-r3 8 (r3 .values-1 .ensures .same); green = got-v on-g3 8 (g3 .values-12 .ensures .same); blue = got-v on-b3 8 (b3 .values-13 .ensures .same) }) refl (two-ps 0 n 2 refl (got-v on-p3 2 (p3 .values-14 .ensures .same))) refl)
+    (opaque-p-shown 0 n {l = 2} refl
+    (record { red = got-v on-r3 8 r3; green = got-v on-g3 8 g3; blue = got-v on-b3 8 b3 })
+    refl (two-ps 0 n 2 refl (got-v on-p3 2 p3)) refl)
     (colors .palette-3-3 .ensures))
     (c .paint-3-3 .ensures)
 

@@ -36,7 +36,8 @@ shl-result c = omega (arith, below-64 c)
 add-result : tie.Need-add-result
 add-result c =
     let top = c .args .index * c .args .bits + (c .args .bits - 1) in
-    record { fits = rw (insert-machine (c .args .compressed) top (c .pre .3)) (inserted-lt (c .args .compressed) top 63 (c .pre .3) (omega (arith, below-64 c))) }
+    let n = c .args .compressed in
+    record { fits = rw (insert-machine n top (c .pre .3)) (inserted-lt n top 63 (c .pre .3) (omega (arith, below-64 c))) }
 
 returns : tie.Need-returns
 returns c = insert-machine (c .args .compressed) (c .args .index * c .args .bits + (c .args .bits - 1)) (c .pre .3)

@@ -20,7 +20,8 @@ returns c =
     add-zero (m .set)
     ∙ by-arms (set3 2) (c .before .before .args .id) (m .set) (m .came)
     (eight-arms (omega arith) (eight-arms (omega arith) (eight-arms (omega arith) (eight-arms (omega arith) (
-    eight-arms (omega arith) (eight-arms (omega arith) (eight-arms (omega arith) (eight-arms (omega arith) (no-more (c .before .before .pre) (λ p. p .0 .rest))))))))))
+    eight-arms (omega arith) (eight-arms (omega arith) (eight-arms (omega arith) (eight-arms (omega arith)
+    (no-more (c .before .before .pre) (λ p. p .0 .rest))))))))))
 
 pub set-3-2-spec : {M : Type 1} → statement M
 set-3-2-spec = tie.close (tie.spec add-result returns)
