@@ -31,7 +31,8 @@ module _ (w : ℕ) (h : w ≤ 256) where
   pub blend-lt : (x y : ℕ) → x < 2 ^ 8 → y < 2 ^ 8 → blend w x y < 2 ^ 16
   blend-lt x y hx hy = omega (arith, mean (256 - w) w x y (omega arith) hx hy)
 
-  four-blends : (a b c d a' b' c' d' : ℕ) → (256 * laned (a ∷ b ∷ c ∷ d ∷ []) + 0x0080_0080_0080_0080 - w * laned (a ∷ b ∷ c ∷ d ∷ [])) + w * laned (a' ∷ b' ∷ c' ∷ d' ∷ [])
+  four-blends : (a b c d a' b' c' d' : ℕ)
+      → (256 * laned (a ∷ b ∷ c ∷ d ∷ []) + 0x0080_0080_0080_0080 - w * laned (a ∷ b ∷ c ∷ d ∷ [])) + w * laned (a' ∷ b' ∷ c' ∷ d' ∷ [])
       ≡ laned (blend w a a' ∷ blend w b b' ∷ blend w c c' ∷ blend w d d' ∷ [])
   unfolding laned
   four-blends a b c d a' b' c' d' =
@@ -45,14 +46,21 @@ module _ (w : ℕ) (h : w ≤ 256) where
     pub mixed-word : (256 * e0 + 0x0080_0080_0080_0080 - w * e0) + w * e1 ≡ laned (zipWith (blend w) (lanesOf e0) (lanesOf e1))
     unfolding lanesOf zipWith
     mixed-word =
-        ap₂ (λ (x y : ℕ). (256 * x + 0x0080_0080_0080_0080 - w * x) + w * y) (sym (laned-lanes h0)) (sym (laned-lanes h1)) ∙ four-blends _ _ _ _ _ _ _ _
+        ap₂ (λ (x y : ℕ). (256 * x + 0x0080_0080_0080_0080 - w * x) + w * y) (sym (laned-lanes h0)) (sym (laned-lanes h1))
+        ∙ four-blends _ _ _ _ _ _ _ _
 
     pub steps : Steps 256 w e0 e1
     steps =
         let le0 : e0 ≤ 0x00FF_00FF_00FF_00FF = rw (laned-lanes h0) at (bytes-le small0) in
         let le1 : e1 ≤ 0x00FF_00FF_00FF_00FF = rw (laned-lanes h1) at (bytes-le small1) in
         let times1 : w * e1 ≤ 256 * e1 = mul-le-mul-right e1 h in
-        record { halves = omega arith; less = mul-le-mul-right e0 h; times = omega arith; whole = rw mixed-word (laned-lt (fit-zip 4 8 8 16 (blend w) blend-lt small0 small1)) }
+        record {
+          halves = omega arith;
+          less = mul-le-mul-right e0 h;
+          times = omega arith;
+          whole = rw mixed-word
+              (laned-lt (fit-zip 4 8 8 16 (blend w) blend-lt small0 small1));
+        }
 
 -- two lanes by two weights
 module _ (w v : ℕ) (hw : w ≤ 256) (hv : v ≤ 256) where
@@ -64,7 +72,8 @@ module _ (w v : ℕ) (hw : w ≤ 256) (hv : v ≤ 256) where
   part-of u x h = let all : u + (256 - u) ≡ 256 = omega arith in sym (add-mul u (256 - u) x) ∙ ap (λ (y : ℕ). y * x) all
 
   two-blends : (a b c d : ℕ)
-      → (0x0100_0000_0100 * (b * 2 ^ 16 + a) + 0x0080_0080_0080_0080 - (v * 2 ^ 32 + w) * (b * 2 ^ 16 + a)) + (v * 2 ^ 32 + w) * (d * 2 ^ 16 + c) ≡ laned (blend w a c ∷ blend w b d ∷ blend v a c ∷ blend v b d ∷ [])
+      → (0x0100_0000_0100 * (b * 2 ^ 16 + a) + 0x0080_0080_0080_0080 - (v * 2 ^ 32 + w) * (b * 2 ^ 16 + a)) + (v * 2 ^ 32 + w) * (d * 2 ^ 16 + c)
+      ≡ laned (blend w a c ∷ blend w b d ∷ blend v a c ∷ blend v b d ∷ [])
   unfolding laned
   two-blends a b c d = omega (arith, times a b, times c d, part-of w a hw, part-of w b hw, part-of v a hv, part-of v b hv)
 
@@ -80,14 +89,23 @@ module _ (w e0 e1 : ℕ) (hw : w % 2 ^ 32 ≤ 256) (hv : w / 2 ^ 32 ≤ 256) (h0
     (one0 : Fit (8 ∷ 8 ∷ 0 ∷ 0 ∷ []) (lanesOf e0)) (one1 : Fit (8 ∷ 8 ∷ 0 ∷ 0 ∷ []) (lanesOf e1)) where
   pub blends-fit : Fit (replicate 4 16) (blends (w % 2 ^ 32) (w / 2 ^ 32) (lanesOf e0) (lanesOf e1))
   blends-fit =
-      let lt : (u : ℕ) → u ≤ 256 → (i : ℕ) → getD (lanesOf e0) i 0 < 2 ^ 8 → getD (lanesOf e1) i 0 < 2 ^ 8 → blend u (getD (lanesOf e0) i 0) (getD (lanesOf e1) i 0) < 2 ^ 16 = λ u hu i ha hb. blend-lt u hu _ _ ha hb in
-      more (lt _ hw 0 (fit-get one0 0) (fit-get one1 0)) (more (lt _ hw 1 (fit-get one0 1) (fit-get one1 1)) (more (lt _ hv 0 (fit-get one0 0) (fit-get one1 0)) (more (lt _ hv 1 (fit-get one0 1) (fit-get one1 1)) none)))
+      let lt : (u : ℕ) → u ≤ 256 → (i : ℕ) → getD (lanesOf e0) i 0 < 2 ^ 8 → getD (lanesOf e1) i 0 < 2 ^ 8 → blend u (getD (lanesOf e0) i 0)
+      (getD (lanesOf e1) i 0) < 2 ^ 16 =
+      λ u hu i ha hb. blend-lt u hu _ _ ha hb in
+      more (lt _ hw 0 (fit-get one0 0) (fit-get one1 0))
+      (more (lt _ hw 1 (fit-get one0 1) (fit-get one1 1))
+      (more (lt _ hv 0 (fit-get one0 0) (fit-get one1 0)) (more (lt _ hv 1 (fit-get one0 1) (fit-get one1 1)) none)))
 
-  pub mixed-2-word : (0x0100_0000_0100 * e0 + 0x0080_0080_0080_0080 - w * e0) + w * e1 ≡ laned (blends (w % 2 ^ 32) (w / 2 ^ 32) (lanesOf e0) (lanesOf e1))
+  abbrev low : ℕ → ℕ
+  low e = getD (lanesOf e) 1 0 * 2 ^ 16 + getD (lanesOf e) 0 0
+
+  pub mixed-2-word : (0x0100_0000_0100 * e0 + 0x0080_0080_0080_0080 - w * e0) + w * e1
+      ≡ laned (blends (w % 2 ^ 32) (w / 2 ^ 32) (lanesOf e0) (lanesOf e1))
   mixed-2-word =
       let two : w ≡ w / 2 ^ 32 * 2 ^ 32 + w % 2 ^ 32 = sym (split-at w 32) in
-      ap₂ (λ (x y : ℕ). (0x0100_0000_0100 * x + 0x0080_0080_0080_0080 - w * x) + w * y) (sym (laned-lanes h0) ∙ alone one0) (sym (laned-lanes h1) ∙ alone one1)
-      ∙ ap (λ (u : ℕ). (0x0100_0000_0100 * (getD (lanesOf e0) 1 0 * 2 ^ 16 + getD (lanesOf e0) 0 0) + 0x0080_0080_0080_0080 - u * (getD (lanesOf e0) 1 0 * 2 ^ 16 + getD (lanesOf e0) 0 0)) + u * (getD (lanesOf e1) 1 0 * 2 ^ 16 + getD (lanesOf e1) 0 0)) two
+      ap₂ (λ (x y : ℕ). (0x0100_0000_0100 * x + 0x0080_0080_0080_0080 - w * x) + w * y) (sym (laned-lanes h0) ∙ alone one0)
+      (sym (laned-lanes h1) ∙ alone one1)
+      ∙ ap (λ (u : ℕ). (0x0100_0000_0100 * low e0 + 0x0080_0080_0080_0080 - u * low e0) + u * low e1) two
       ∙ two-blends (w % 2 ^ 32) (w / 2 ^ 32) hw hv _ _ _ _
 
   pub steps-2 : Steps 0x0100_0000_0100 w e0 e1

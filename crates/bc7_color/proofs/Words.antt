@@ -10,7 +10,7 @@ use lib.Bits.{bitAnd}
 use lib.Dec.{eqb}
 use lib.ListN.{getD, replicate}
 use lib.Pow.{high, low, ones-lt, ones-split, pow-add, pow-mono, pow-pos}
-use Rattle.laws.specs.Digits.{Fit, join, more, none, split, total}
+use Rattle.laws.specs.Digits.{Fit, more, none, split}
 use Rattle.laws.specs.Tables.{pick}
 use Rattle.laws.proofs.Cases.{pick-lt}
 use Rattle.laws.proofs.Digits.{join-lt, join-split, split-fits, split-join}
@@ -19,7 +19,6 @@ use Rattle.format.specs.Block.{field}
 use Rattle.format.specs.Drawing.{promoted}
 use Rattle.bc7_color.specs.declared.Ends.{Ends}
 use Rattle.bc7_color.specs.Words.{endOf, endOfP, endpoint, endsOf, first, Holds, HoldsOne, laned, Lanes, lanesOf, solid}
-use Rattle.bc7_color.proofs.Channels.{at-width}
 
 -- a word and its lanes
 pub laned-lanes : {x : ℕ} → x < 2 ^ 64 → laned (lanesOf x) ≡ x
@@ -62,11 +61,14 @@ module _ (x at bits : ℕ) (room : at + bits ≤ 16) (hx : x < 2 ^ 64) where
   and-parts =
       let e : 16 - (at + bits) + (bits + at) ≡ 16 = omega arith in
       let ds : List ℕ = split (replicate 4 16) x in
-      let all : Within 16 ds = more-within (mod-lt x (pow-pos 16)) (more-within (mod-lt _ (pow-pos 16)) (more-within (mod-lt _ (pow-pos 16)) (more-within (mod-lt _ (pow-pos 16)) none-within))) in
+      let all : Within 16 ds =
+      more-within (mod-lt x (pow-pos 16))
+      (more-within (mod-lt _ (pow-pos 16)) (more-within (mod-lt _ (pow-pos 16)) (more-within (mod-lt _ (pow-pos 16)) none-within))) in
       let ones : 0x0001_0001_0001_0001 * (2 ^ bits - 1) ≡ onesIn 16 bits ds = omega arith in
       ap (λ (m : ℕ). bitAnd (x / 2 ^ at) m) ones
       ∙ ap (λ (y : ℕ). bitAnd (y / 2 ^ at) (onesIn 16 bits ds)) (sym (laned-lanes hx))
-      ∙ subst (λ (k : ℕ). Within k ds → bitAnd (lanes k ds / 2 ^ at) (onesIn k bits ds) ≡ lanes k (map (λ d. d / 2 ^ at % 2 ^ bits) ds)) e (mask-parts (16 - (at + bits)) at bits) all
+      ∙ subst (λ (k : ℕ). Within k ds → bitAnd (lanes k ds / 2 ^ at) (onesIn k bits ds) ≡ lanes k (map (λ d. d / 2 ^ at % 2 ^ bits) ds)) e
+      (mask-parts (16 - (at + bits)) at bits) all
 
 -- and the lanes of what is left
 pub lanes-16 : (x : ℕ) → Lanes 16 x
@@ -84,13 +86,27 @@ module _ (x at bits : ℕ) (most : bits ≤ 16) {r : ℕ} (e : r ≡ laned (map 
   pub parts-small : Lanes bits r
   parts-small = rw parts-lanes parts-fit
 
--- promotion: what is filled in are the top bits of the value
+-- promotion, width by width: what is filled in are the top bits of the value
+at-width : (P : ℕ → Type 0) → P 4 → P 5 → P 6 → P 7 → P 8 → (n : ℕ) → 4 ≤ n → n ≤ 8 → P n
+at-width P p4 p5 p6 p7 p8 zero l h = absurd (let z : ⊥ = omega arith in z)
+at-width P p4 p5 p6 p7 p8 (suc zero) l h = absurd (let z : ⊥ = omega arith in z)
+at-width P p4 p5 p6 p7 p8 (suc (suc zero)) l h = absurd (let z : ⊥ = omega arith in z)
+at-width P p4 p5 p6 p7 p8 (suc (suc (suc zero))) l h = absurd (let z : ⊥ = omega arith in z)
+at-width P p4 p5 p6 p7 p8 (suc (suc (suc (suc zero)))) l h = p4
+at-width P p4 p5 p6 p7 p8 (suc (suc (suc (suc (suc zero))))) l h = p5
+at-width P p4 p5 p6 p7 p8 (suc (suc (suc (suc (suc (suc zero)))))) l h = p6
+at-width P p4 p5 p6 p7 p8 (suc (suc (suc (suc (suc (suc (suc zero))))))) l h = p7
+at-width P p4 p5 p6 p7 p8 (suc (suc (suc (suc (suc (suc (suc (suc zero)))))))) l h = p8
+at-width P p4 p5 p6 p7 p8 (suc (suc (suc (suc (suc (suc (suc (suc (suc n))))))))) l h = absurd (let z : ⊥ = omega arith in z)
+
 abbrev Filled : ℕ → Type 0
 Filled n = (v : ℕ) → v < 2 ^ n → (2 ^ (8 - n) * v + v / 2 ^ (2 * n - 8) % 2 ^ (8 - n) ≡ promoted n v) × (promoted n v < 256)
 
 filled : (n : ℕ) → 4 ≤ n → n ≤ 8 → Filled n
 unfolding promoted
-filled = at-width Filled (λ v h. (omega arith, omega arith)) (λ v h. (omega arith, omega arith)) (λ v h. (omega arith, omega arith)) (λ v h. (omega arith, omega arith)) (λ v h. (omega arith, omega arith))
+filled =
+    at-width Filled (λ v h. (omega arith, omega arith)) (λ v h. (omega arith, omega arith)) (λ v h. (omega arith, omega arith))
+    (λ v h. (omega arith, omega arith)) (λ v h. (omega arith, omega arith))
 
 pub promoted-lt : (n : ℕ) {v : ℕ} → 4 ≤ n → n ≤ 8 → v < 2 ^ n → promoted n v < 256
 promoted-lt n {v} least most h = filled n least most v h .1
@@ -123,7 +139,8 @@ module _ (n : ℕ) {vs qs : List ℕ} (values : Fit (replicate 4 n) vs) (ps : Fi
   with-p-fits : Fit (replicate 4 (n + 1)) (zipWith (λ v q. v * 2 + q) vs qs)
   with-p-fits = fit-zip 4 n 1 (n + 1) _ (λ v q hv hq. rw (pow-add 2 n 1) (omega arith)) values ps
 
-four-sums : (a b c d e f g h : ℕ) → laned (a ∷ b ∷ c ∷ d ∷ []) * 2 + laned (e ∷ f ∷ g ∷ h ∷ []) ≡ laned ((a * 2 + e) ∷ (b * 2 + f) ∷ (c * 2 + g) ∷ (d * 2 + h) ∷ [])
+four-sums : (a b c d e f g h : ℕ)
+    → laned (a ∷ b ∷ c ∷ d ∷ []) * 2 + laned (e ∷ f ∷ g ∷ h ∷ []) ≡ laned ((a * 2 + e) ∷ (b * 2 + f) ∷ (c * 2 + g) ∷ (d * 2 + h) ∷ [])
 unfolding laned
 four-sums a b c d e f g h = omega arith
 
@@ -147,7 +164,8 @@ module _ (n x p : ℕ) (most : n ≤ 7) (hx : x < 2 ^ 64) (hp : p < 2 ^ 64) (val
   pub with-p-small : Lanes (n + 1) (x * 2 + p)
   with-p-small = rw with-p-lanes (with-p-fits n values ps)
 
-  pub promoted-p : laned (map (promoted (n + 1)) (lanesOf (x * 2 + p))) ≡ laned (zipWith (λ v q. promoted (n + 1) (v * 2 + q)) (lanesOf x) (lanesOf p))
+  pub promoted-p : laned (map (promoted (n + 1)) (lanesOf (x * 2 + p)))
+      ≡ laned (zipWith (λ v q. promoted (n + 1) (v * 2 + q)) (lanesOf x) (lanesOf p))
   unfolding lanesOf zipWith
   promoted-p = ap (λ (l : List ℕ). laned (map (promoted (n + 1)) l)) with-p-lanes
 
@@ -161,11 +179,14 @@ module _ (n k x : ℕ) (hk : k < 2) where
     unfolding lanesOf
     end-of = f ∙ ap (λ (l : List ℕ). laned (map (promoted n) l)) (parts-lanes x (n * k) n (omega arith) e)
 
-  module _ (p : ℕ) (most : n ≤ 7) {r q z : ℕ} (e : r ≡ laned (map (λ v. field v (n * k) n) (lanesOf x))) (d : q ≡ laned (map (λ v. field v k 1) (lanesOf p)))
+  module _ (p : ℕ) (most : n ≤ 7) {r q z : ℕ} (e : r ≡ laned (map (λ v. field v (n * k) n) (lanesOf x)))
+      (d : q ≡ laned (map (λ v. field v k 1) (lanesOf p)))
       (f : z ≡ laned (zipWith (λ v q. promoted (n + 1) (v * 2 + q)) (lanesOf r) (lanesOf q))) where
     pub end-of-p : z ≡ laned (zipWith (endOfP n k) (lanesOf x) (lanesOf p))
     unfolding lanesOf zipWith
-    end-of-p = f ∙ ap₂ (λ (l m : List ℕ). laned (zipWith (λ v q. promoted (n + 1) (v * 2 + q)) l m)) (parts-lanes x (n * k) n (omega arith) e) (parts-lanes p k 1 (omega arith) d)
+    end-of-p =
+        f ∙ ap₂ (λ (l m : List ℕ). laned (zipWith (λ v q. promoted (n + 1) (v * 2 + q)) l m)) (parts-lanes x (n * k) n (omega arith) e)
+        (parts-lanes p k 1 (omega arith) d)
 
 -- a word made of four values
 pub lanes-four : {r a b c d : ℕ} → r ≡ laned (a ∷ b ∷ c ∷ d ∷ []) → a < 2 ^ 16 → b < 2 ^ 16 → c < 2 ^ 16 → d < 2 ^ 16 → lanesOf r ≡ a ∷ b ∷ c ∷ d ∷ []
@@ -182,7 +203,8 @@ unfolding field
 half-ones n zero h =
     ap₂ (λ (x y : ℕ). x / 2 ^ y % 2 ^ n) (ones-split n n) (mul-zero n) ∙ ap (λ (x : ℕ). x % 2 ^ n) (div-one _) ∙ low (2 ^ n - 1) n (ones-lt n)
 half-ones n (suc zero) h =
-    ap₂ (λ (x y : ℕ). x / 2 ^ y % 2 ^ n) (ones-split n n) (mul-one n) ∙ ap (λ (x : ℕ). x % 2 ^ n) (high (2 ^ n - 1) n (ones-lt n)) ∙ mod-eq-of-lt (ones-lt n)
+    ap₂ (λ (x y : ℕ). x / 2 ^ y % 2 ^ n) (ones-split n n) (mul-one n) ∙ ap (λ (x : ℕ). x % 2 ^ n) (high (2 ^ n - 1) n (ones-lt n))
+    ∙ mod-eq-of-lt (ones-lt n)
 half-ones n (suc (suc k)) h = absurd (let z : ⊥ = omega arith in z)
 
 pub full : (n : ℕ) → 4 ≤ n → n ≤ 8 → {v : ℕ} → v ≡ 2 ^ (n + n) - 1 → (k : ℕ) → k < 2 → endOf n k v ≡ 255
@@ -210,26 +232,43 @@ end-lt n k v least most = promoted-lt n least most (mod-lt (v / 2 ^ (n * k)) (po
 pub end-p-lt : (n k v p : ℕ) → 3 ≤ n → n ≤ 7 → endOfP n k v p < 2 ^ 8
 unfolding field
 end-p-lt n k v p least most =
-    promoted-lt (n + 1) (omega arith) (omega arith) (rw (pow-add 2 n 1) (omega (arith, mod-lt (v / 2 ^ (n * k)) (pow-pos n), mod-lt (p / 2 ^ k) (pow-pos 1))))
+    promoted-lt (n + 1) (omega arith) (omega arith)
+    (rw (pow-add 2 n 1) (omega (arith, mod-lt (v / 2 ^ (n * k)) (pow-pos n), mod-lt (p / 2 ^ k) (pow-pos 1))))
 
 -- the words of bytes: their lanes, and the endpoints that are found in them
 module _ (f : ℕ → ℕ → ℕ → ℕ) (each : (l k c : ℕ) → f l k c < 2 ^ 8) where
   four : (k c : ℕ) → Fit (replicate 4 8) (f 0 k c ∷ f 0 k (c + 2) ∷ f 1 k c ∷ f 1 k (c + 2) ∷ [])
   four k c = more (each 0 k c) (more (each 0 k (c + 2)) (more (each 1 k c) (more (each 1 k (c + 2)) none)))
 
-  four-lanes : (k c : ℕ) → lanesOf (laned (f 0 k c ∷ f 0 k (c + 2) ∷ f 1 k c ∷ f 1 k (c + 2) ∷ [])) ≡ f 0 k c ∷ f 0 k (c + 2) ∷ f 1 k c ∷ f 1 k (c + 2) ∷ []
+  four-lanes : (k c : ℕ)
+      → lanesOf (laned (f 0 k c ∷ f 0 k (c + 2) ∷ f 1 k c ∷ f 1 k (c + 2) ∷ [])) ≡ f 0 k c ∷ f 0 k (c + 2) ∷ f 1 k c ∷ f 1 k (c + 2) ∷ []
   four-lanes k c = lanes-laned (wider 4 8 16 (omega arith) (four k c))
 
   pub holds : {e : Ends} → e ≡ endsOf f → Holds f e
   unfolding endsOf
-  holds e = record { same = e; each = each; small = rw e (record { rb0 = rw (four-lanes 0 0) (four 0 0); ga0 = rw (four-lanes 0 1) (four 0 1); rb1 = rw (four-lanes 1 0) (four 1 0); ga1 = rw (four-lanes 1 1) (four 1 1) }) }
+  holds e =
+      record {
+        same = e;
+        each = each;
+        small = rw e
+            (record {
+              rb0 = rw (four-lanes 0 0) (four 0 0);
+              ga0 = rw (four-lanes 0 1) (four 0 1);
+              rb1 = rw (four-lanes 1 0) (four 1 0);
+              ga1 = rw
+                  (four-lanes 1 1) (four 1 1);
+            });
+      }
 
   pub endpoint-of : (l k : ℕ) → l < 2 → k < 2 → endpoint (endsOf f) l k ≡ f l k 0 ∷ f l k 1 ∷ f l k 2 ∷ f l k 3 ∷ []
   unfolding endpoint endsOf
   endpoint-of zero zero hl hk = ap₂ {C = List ℕ} (λ r g. getD r 0 0 ∷ getD g 0 0 ∷ getD r 1 0 ∷ getD g 1 0 ∷ []) (four-lanes 0 0) (four-lanes 0 1)
-  endpoint-of zero (suc zero) hl hk = ap₂ {C = List ℕ} (λ r g. getD r 0 0 ∷ getD g 0 0 ∷ getD r 1 0 ∷ getD g 1 0 ∷ []) (four-lanes 1 0) (four-lanes 1 1)
-  endpoint-of (suc zero) zero hl hk = ap₂ {C = List ℕ} (λ r g. getD r 2 0 ∷ getD g 2 0 ∷ getD r 3 0 ∷ getD g 3 0 ∷ []) (four-lanes 0 0) (four-lanes 0 1)
-  endpoint-of (suc zero) (suc zero) hl hk = ap₂ {C = List ℕ} (λ r g. getD r 2 0 ∷ getD g 2 0 ∷ getD r 3 0 ∷ getD g 3 0 ∷ []) (four-lanes 1 0) (four-lanes 1 1)
+  endpoint-of zero (suc zero) hl hk =
+      ap₂ {C = List ℕ} (λ r g. getD r 0 0 ∷ getD g 0 0 ∷ getD r 1 0 ∷ getD g 1 0 ∷ []) (four-lanes 1 0) (four-lanes 1 1)
+  endpoint-of (suc zero) zero hl hk =
+      ap₂ {C = List ℕ} (λ r g. getD r 2 0 ∷ getD g 2 0 ∷ getD r 3 0 ∷ getD g 3 0 ∷ []) (four-lanes 0 0) (four-lanes 0 1)
+  endpoint-of (suc zero) (suc zero) hl hk =
+      ap₂ {C = List ℕ} (λ r g. getD r 2 0 ∷ getD g 2 0 ∷ getD r 3 0 ∷ getD g 3 0 ∷ []) (four-lanes 1 0) (four-lanes 1 1)
   endpoint-of zero (suc (suc k)) hl hk = absurd (let z : ⊥ = omega arith in z)
   endpoint-of (suc zero) (suc (suc k)) hl hk = absurd (let z : ⊥ = omega arith in z)
   endpoint-of (suc (suc l)) k hl hk = absurd (let z : ⊥ = omega arith in z)
@@ -248,7 +287,8 @@ pub end-none : (n k : ℕ) → 4 ≤ n → n ≤ 8 → endOf n k 0 ≡ 0
 end-none n k least most = ap (promoted n) (field-none (n * k) n) ∙ promoted-none n least most
 
 pub end-p-none : (n k : ℕ) → 3 ≤ n → n ≤ 7 → endOfP n k 0 0 ≡ 0
-end-p-none n k least most = ap₂ (λ (v p : ℕ). promoted (n + 1) (v * 2 + p)) (field-none (n * k) n) (field-none k 1) ∙ promoted-none (n + 1) (omega arith) (omega arith)
+end-p-none n k least most =
+    ap₂ (λ (v p : ℕ). promoted (n + 1) (v * 2 + p)) (field-none (n * k) n) (field-none k 1) ∙ promoted-none (n + 1) (omega arith) (omega arith)
 
 pub nothing : (c : ℕ) → _≡_ {A = ℕ} (getD (0 ∷ 0 ∷ 0 ∷ 0 ∷ []) c 0) 0
 nothing zero = refl
@@ -263,11 +303,14 @@ module _ (f : ℕ → ℕ → ℕ) (each : (k c : ℕ) → f k c < 2 ^ 8) where
   each-first l k c = pick-lt (eqb l 0) (f k c) 0 (2 ^ 8) (each k c) (omega arith)
 
   two-lanes : (k c : ℕ) → Fit (8 ∷ 8 ∷ 0 ∷ 0 ∷ []) (lanesOf (laned (f k c ∷ f k (c + 2) ∷ 0 ∷ 0 ∷ [])))
-  two-lanes k c = rw (four-lanes (first f) each-first k c) (more (each k c) (more (each k (c + 2)) (more {w = 0} (zero-lt-suc 0) (more {w = 0} (zero-lt-suc 0) none))))
+  two-lanes k c =
+      rw (four-lanes (first f) each-first k c)
+      (more (each k c) (more (each k (c + 2)) (more {w = 0} (zero-lt-suc 0) (more {w = 0} (zero-lt-suc 0) none))))
 
   pub holds-one : {e : Ends} → e ≡ endsOf (first f) → HoldsOne f e
   unfolding endsOf
-  holds-one e = record { same = e; each = each; one = rw e (record { rb0 = two-lanes 0 0; ga0 = two-lanes 0 1; rb1 = two-lanes 1 0; ga1 = two-lanes 1 1 }) }
+  holds-one e =
+      record { same = e; each = each; one = rw e (record { rb0 = two-lanes 0 0; ga0 = two-lanes 0 1; rb1 = two-lanes 1 0; ga1 = two-lanes 1 1 }) }
 
   pub endpoint-one : {e : Ends} → e ≡ endsOf (first f) → (k : ℕ) → k < 2 → endpoint e 0 k ≡ f k 0 ∷ f k 1 ∷ f k 2 ∷ f k 3 ∷ []
   endpoint-one e k hk = ap (λ (e : Ends). endpoint e 0 k) e ∙ endpoint-of (first f) each-first 0 k (omega arith) hk
@@ -283,7 +326,8 @@ ends-first h z = λ i. record {
 
 -- its words: red and blue, and green and alpha that are promoted apart
 module _ (n k : ℕ) (least : 4 ≤ n) (most : n ≤ 8) where
-  pub end-two : {vs : List ℕ} {z a b : ℕ} → vs ≡ a ∷ b ∷ 0 ∷ 0 ∷ [] → z ≡ laned (map (endOf n k) vs) → z ≡ laned (endOf n k a ∷ endOf n k b ∷ 0 ∷ 0 ∷ [])
+  pub end-two : {vs : List ℕ} {z a b : ℕ} → vs ≡ a ∷ b ∷ 0 ∷ 0 ∷ [] → z ≡ laned (map (endOf n k) vs)
+      → z ≡ laned (endOf n k a ∷ endOf n k b ∷ 0 ∷ 0 ∷ [])
   end-two {a = a} {b = b} er ez =
       let zero-is = end-none n k least most in
       ez ∙ ap (λ (l : List ℕ). laned (map (endOf n k) l)) er ∙ (λ i. laned (endOf n k a ∷ endOf n k b ∷ zero-is i ∷ zero-is i ∷ []))
@@ -302,4 +346,6 @@ module _ (n k : ℕ) (least : 4 ≤ n) (most : n ≤ 8) where
 
     pub end-apart-fits : z + y < 2 ^ 64
     end-apart-fits =
-        rw end-apart (laned-lt (wider 4 8 16 (omega arith) (more (end-lt n k g least most) (more (end-lt w k a least' most') (more {w = 8} (omega arith) (more {w = 8} (omega arith) none))))))
+        rw end-apart
+        (laned-lt (wider 4 8 16 (omega arith)
+        (more (end-lt n k g least most) (more (end-lt w k a least' most') (more {w = 8} (omega arith) (more {w = 8} (omega arith) none))))))

@@ -103,7 +103,14 @@ pub record HoldsOne (f : ℕ → ℕ → ℕ) (e : Ends) : Type 0 where
 
 -- the same by the lanes of the words that they are made of
 unfoldable pub endsP : ℕ → List ℕ → List ℕ → List ℕ → List ℕ → Ends
-endsP n rb ga p q = record { rb0 = laned (zipWith (endOfP n 0) rb p); ga0 = laned (zipWith (endOfP n 0) ga q); rb1 = laned (zipWith (endOfP n 1) rb p); ga1 = laned (zipWith (endOfP n 1) ga q) }
+endsP n rb ga p q =
+    record {
+      rb0 = laned (zipWith (endOfP n 0) rb p);
+      ga0 = laned (zipWith (endOfP n 0) ga q);
+      rb1 = laned (zipWith (endOfP n 1) rb p);
+      ga1 = laned
+          (zipWith (endOfP n 1) ga q);
+    }
 
 -- a channel of both endpoints at the weight w of 256, not yet divided: its upper byte is the channel
 abbrev pub blend : ℕ → ℕ → ℕ → ℕ
@@ -112,7 +119,8 @@ blend w x y = (256 - w) * x + w * y + 128
 -- the lanes of two channels, at two weights
 abbrev pub blends : ℕ → ℕ → List ℕ → List ℕ → List ℕ
 blends w v xs ys =
-    blend w (getD xs 0 0) (getD ys 0 0) ∷ blend w (getD xs 1 0) (getD ys 1 0) ∷ blend v (getD xs 0 0) (getD ys 0 0) ∷ blend v (getD xs 1 0) (getD ys 1 0) ∷ []
+    blend w (getD xs 0 0) (getD ys 0 0) ∷ blend w (getD xs 1 0) (getD ys 1 0) ∷ blend v (getD xs 0 0) (getD ys 0 0) ∷ blend v (getD xs 1 0)
+    (getD ys 1 0) ∷ []
 
 -- the bytes of a word, the first lowest
 unfoldable pub wordBytes : ℕ → List ℕ

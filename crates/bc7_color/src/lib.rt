@@ -12,8 +12,6 @@ ghost use Rattle.format.specs.Block.{field};
 ghost use Rattle.format.specs.Drawing.{promoted};
 ghost use Rattle.bc7_color.specs.Words.{blend, blends, endOf, endOfP, endsP, Fitting, Holds, HoldsOne, laned, Lanes, lanesOf, plain, solid, withAlpha, withP, wordBytes, woven};
 
-pub mod old;
-
 // What a block stores of a colour: each value has a channel of both endpoints, the first one's in the low bits, and p both p bits.
 pub struct Stored {
     pub r: u64,
@@ -36,6 +34,7 @@ const ONES: u64 = 0x0001_0001_0001_0001;
 // A half of 256 in each lane, for rounding.
 const HALVES: u64 = 0x0080_0080_0080_0080;
 
+// Four values in the lanes of a word, the first lowest.
 fn lanes(a: u64, b: u64, c: u64, d: u64) -> u64
     requires { ⌜ (a < 2 ^ 16) × (b < 2 ^ 16) × (c < 2 ^ 16) × (d < 2 ^ 16) ⌝ }
     ensures { λ r. ⌜ r ≡ laned (a ∷ b ∷ c ∷ d ∷ []) ⌝ }
@@ -43,9 +42,12 @@ fn lanes(a: u64, b: u64, c: u64, d: u64) -> u64
     a + (b << 16) + (c << 32) + (d << 48)
 }
 
-// The bits of each lane from bit `at` on. The shift brings them down, with low bits of the next lane on top:
+// The bits of each lane from bit `at` on. The shift brings them to the bottom of their lane, with low bits of the lane above on
+// top, and those the mask takes away.
 //
-//     ..mmm###..|..nnn###..   >> at    ##..mmm###|##..nnn        & ONES * 0b111    ......mmm|......nnn
+//     x                | ..mmm### | ..nnn### |
+//     x >> at          | .....mmm | ###..nnn |
+//     ONES * 0b111     | .....111 | .....111 |
 fn parts(x: u64, at: u32, bits: u32) -> u64
     requires { ⌜ at + bits ≤ 16 ⌝ }
     ensures { λ r. ⌜ r ≡ laned (map (λ v. field v at bits) (lanesOf x)) ⌝ }
@@ -53,7 +55,10 @@ fn parts(x: u64, at: u32, bits: u32) -> u64
     (x >> at) & (ONES * ((1u64 << bits) - 1))
 }
 
-// Each lane from `bits` bits to eight: shifted left, and filled from the top.
+// Each lane from `bits` bits to eight: shifted left, and the empty places filled from the top. With five bits abcde:
+//
+//     x << 3                   | abcde... |
+//     its three upper bits     | .....abc |
 fn promote(x: u64, bits: u32) -> u64
     requires { ⌜ (4 ≤ bits) × (bits ≤ 8) × Lanes bits x ⌝ }
     ensures { λ r. ⌜ r ≡ laned (map (promoted bits) (lanesOf x)) ⌝ }
@@ -196,10 +201,13 @@ pub fn mixed_2(weights: u64, e0: u64, e1: u64) -> u64
     (0x0100_0000_0100 * e0 + HALVES - weights * e0) + weights * e1
 }
 
-// Two colours of four bytes, from the upper bytes of the lanes:
+// Two colours of four bytes, from the upper bytes of the lanes. What is below them was left over by the proportion, and the two
+// sets of bytes that stay don't meet.
 //
-//     rb   BB..|RR..|bb..|rr..   >> 8        ..BB|..RR|..bb|..rr
-//     ga   AA..|GG..|aa..|gg..   mask        AA..|GG..|aa..|gg..     sum   AABB|GGRR.. by lanes, r g b a R G B A by bytes
+//     rb                       | B1 .. | R1 .. | B0 .. | R0 .. |
+//     ga                       | A1 .. | G1 .. | A0 .. | G0 .. |
+//     bytes of rb moved down   |    B1 |    R1 |    B0 |    R0 |
+//     both                     | A1 B1 | G1 R1 | A0 B0 | G0 R0 |     from the lowest byte on: red, green, blue, alpha
 pub fn two_colors(rb: u64, ga: u64) -> u64
     ensures { λ r. ⌜ wordBytes r ≡ woven (lanesOf rb) (lanesOf ga) ⌝ }
 {

@@ -1,21 +1,19 @@
 -- From palettes, maps and words of indexes to what the number shows.
 -- Assumes nothing.
 use mathlib.Core.Path.{_≡_, refl, sym, ap, ap₂, _∙_, subst}
-use mathlib.Core.Logic.{⊎-elim}
 use mathlib.Core.Bool.{Bool, false, true}
 use mathlib.Core.List.{List, [], _∷_}
-use Prim.Native.Nat.{ℕ, zero, suc, _+_, _-_, _*_, _/_, _^_, _≤_, _<_}
-use native.Mathlib.Nat.{eq-or-lt-of-le, le-of-suc-le-suc, mod-lt, mul-le-mul-right, suc-mul}
+use Prim.Native.Nat.{ℕ, zero, suc, _+_, _-_, _*_, _/_, _^_, _<_}
+use native.Mathlib.Nat.{mod-lt}
 use native.Mathlib.Omega.{arith}
 use lib.Dec.{T, eqb}
-use lib.ListN.{getD, length, replicate}
-use lib.Pow.{pow-mono, pow-pos}
+use lib.ListN.{getD, length}
+use lib.Pow.{pow-pos}
 use Rattle.format.specs.declared.Split.{Split}
 use Rattle.format.specs.declared.Split.the-variants.{Three, Two, Vector, Whole}
 use Rattle.laws.specs.Digits.{total}
-use Rattle.laws.specs.Tables.{over, pick, table}
+use Rattle.laws.specs.Tables.{pick, table}
 use Rattle.laws.proofs.Joining.{table-same}
-use Rattle.laws.proofs.Over.{length-over, over-in, over-out}
 use Rattle.laws.proofs.Part.{getD-table}
 use Rattle.format.specs.Block.{field}
 use Rattle.format.specs.Drawing.{drawn, weightOf}
@@ -60,36 +58,17 @@ indexes-at m s a n b t an ha eb ea et ex q hq = rw (ex, ← et, ← ea, ← eb) 
 
 -- where there are subsets
 flat-direct : (m : ℕ) (s : Split) (n q c : ℕ) → isVector s ≡ false
-    → direct m s n q c ≡ drawn (endByte m n (2 * subset s q + 0) c) (endByte m n (2 * subset s q + 1) c) (weightOf (firstBits m) (atPlace m s n (index 0 q)))
+    → direct m s n q c ≡ drawn (endByte m n (2 * subset s q + 0) c) (endByte m n (2 * subset s q + 1) c)
+    (weightOf (firstBits m) (atPlace m s n (index 0 q)))
 unfolding direct rotated arrayOf
 flat-direct m Whole n q c e = refl
 flat-direct m (Two a) n q c e = refl
 flat-direct m (Three a) n q c e = refl
 flat-direct m (Vector r i) n q c e = absurd (subst T e tt)
 
--- the colours of subset l, and the palettes of the first k subsets one after the other
+-- the colours of subset l
 abbrev pub colours : ℕ → ℕ → ℕ → ℕ → ℕ → List ℕ
 colours m n b l = between b (four (endByte m n (2 * l + 0))) (four (endByte m n (2 * l + 1)))
-
-unfoldable pub stack : ℕ → ℕ → ℕ → ℕ → List (List ℕ)
-stack m n b zero = replicate 32 (replicate 4 0)
-stack m n b (suc k) = over (stack m n b k) (k * 2 ^ b) (2 ^ b) (colours m n b k)
-
-module _ (m n b : ℕ) where
-  stack-length : (k : ℕ) → length (stack m n b k) ≡ 32
-  unfolding stack
-  stack-length zero = refl
-  stack-length (suc k) = length-over (stack m n b k) (k * 2 ^ b) (2 ^ b) (colours m n b k) ∙ stack-length k
-
-  -- index i of subset l
-  pub stack-at : (k l i : ℕ) → l < k → k * 2 ^ b ≤ 32 → i < 2 ^ b → getD (stack m n b k) (l * 2 ^ b + i) [] ≡ colours m n b l i
-  unfolding stack
-  stack-at zero l i hl hk hi = absurd (let z : ⊥ = omega arith in z)
-  stack-at (suc k) l i hl hk hi =
-      let room : k * 2 ^ b + 2 ^ b ≤ 32 = omega (arith, suc-mul k (2 ^ b)) in
-      ⊎-elim (λ e. ap (λ (l : ℕ). getD (stack m n b (suc k)) (l * 2 ^ b + i) []) e ∙ over-in (stack m n b k) (k * 2 ^ b) (2 ^ b) _ [] i (omega (arith, stack-length k)) hi ∙ ap (λ (l : ℕ). colours m n b l i) (sym e))
-      (λ h. over-out (stack m n b k) (k * 2 ^ b) (2 ^ b) _ [] _ (λ w. omega (arith, w .0, mul-le-mul-right {m = suc l} {n = k} (2 ^ b) h, suc-mul l (2 ^ b))) ∙ stack-at k l i h (omega arith) hi)
-      (eq-or-lt-of-le (le-of-suc-le-suc hl))
 
 -- a mode with subsets, whose pixels are looked up: each finds the colour of its subset at its index
 looked-up : (m n b : ℕ) (s : Split) (p : List (List ℕ)) → firstBits m ≡ b → splitAt m n ≡ s → isVector s ≡ false → (x : ℕ) (place : ℕ → ℕ)
@@ -100,18 +79,9 @@ unfolding painted directPixels between
 looked-up m n b s p eb es flat x place indexes found =
     table-same [] 16 _ _ (λ q hq.
     found q hq
-    ∙ four-ext _ _ (λ c hc. ap₂ (λ (w i : ℕ). drawn (endByte m n (2 * subset s q + 0) c) (endByte m n (2 * subset s q + 1) c) (weightOf w i)) (sym eb) (indexes q hq) ∙ sym (flat-direct m s n q c flat)))
+    ∙ four-ext _ _ (λ c hc. ap₂ (λ (w i : ℕ). drawn (endByte m n (2 * subset s q + 0) c) (endByte m n (2 * subset s q + 1) c) (weightOf w i))
+    (sym eb) (indexes q hq) ∙ sym (flat-direct m s n q c flat)))
     ∙ ap (λ (s : Split). table 16 (λ q. four (direct m s n q))) (sym es)
-
--- with the palettes of k subsets one after the other
-pub subset-law : (m n b k : ℕ) (s : Split) → firstBits m ≡ b → splitAt m n ≡ s → isVector s ≡ false → ((q : ℕ) → q < 16 → subset s q < k) → k * 2 ^ b ≤ 32 → (x : ℕ) (place : ℕ → ℕ)
-    → ((q : ℕ) → q < 16 → place q ≡ subset s q * 2 ^ b + part x b q)
-    → ((q : ℕ) → q < 16 → part x b q ≡ atPlace m s n (index 0 q))
-    → painted place (stack m n b k) ≡ directPixels m n
-subset-law m n b k s eb es flat subsets room x place places indexes =
-    looked-up m n b s (stack m n b k) eb es flat x place indexes (λ q hq.
-    ap (λ (j : ℕ). getD (stack m n b k) j []) (places q hq)
-    ∙ stack-at m n b k (subset s q) (part x b q) (subsets q hq) room (part-lt x b q))
 
 -- a palette by keys: the colours of k subsets, that of index i and subset l at i * 2 ^ t + l
 pub record Palette (m n b k t : ℕ) (p : List (List ℕ)) : Type 0 where
@@ -150,8 +120,10 @@ module _ (r : ℕ) (colors alphas : List (List ℕ)) (h : r < 4) where
   pub turned-is : swapped r (merged colors alphas) ≡ turned r colors alphas
   unfolding swapped merged turned
   turned-is =
-      table-same [] 16 (λ q. four (λ c. getD (getD (table 16 (λ q. four (joint q))) q []) (rotated r c) 0)) (λ q. four (λ c. joint q (rotated r c))) (λ q hq. four-ext _ _ (λ c hc.
-      ap (λ (l : List ℕ). getD l (rotated r c) 0) (getD-table 16 (λ q. four (joint q)) [] q hq) ∙ four-at (joint q) (rotated r c) (rotated-lt r c h hc)))
+      table-same [] 16 (λ q. four (λ c. getD (getD (table 16 (λ q. four (joint q))) q []) (rotated r c) 0)) (λ q. four (λ c. joint q (rotated r c)))
+      (λ q hq. four-ext _ _ (λ c hc.
+      ap (λ (l : List ℕ). getD l (rotated r c) 0) (getD-table 16 (λ q. four (joint q)) [] q hq) ∙ four-at (joint q) (rotated r c)
+      (rotated-lt r c h hc)))
 
 -- where there are a vector and its scalar
 module _ (m n r i : ℕ) (hr : r < 4) (es : splitAt m n ≡ Vector r i) where
@@ -161,22 +133,6 @@ module _ (m n r i : ℕ) (hr : r < 4) (es : splitAt m n ≡ Vector r i) where
 
   abbrev pub Picture : ℕ → List (List ℕ) → Type 0
   Picture a picture = (q : ℕ) → q < 16 → getD picture q [] ≡ four (shade a q)
-
-  pub picture : (a b x : ℕ) → b ≤ 4 → indexBits m a ≡ b → ((q : ℕ) → q < 16 → part x b q ≡ atPlace m (Vector r i) n (index a q)) → Picture a (painted (part x b) (stack m n b 1))
-  unfolding painted between
-  picture a b x hb eb indexes q hq =
-      getD-table 16 _ [] q hq
-      ∙ ap (λ (j : ℕ). getD (stack m n b 1) j []) (omega arith)
-      ∙ stack-at m n b 1 0 (part x b q) (omega arith) (omega (arith, pow-mono {i = b} {j = 4} hb)) (part-lt x b q)
-      ∙ ap₂ (λ (w k : ℕ). four (λ c. drawn (endByte m n 0 c) (endByte m n 1 c) (weightOf w k))) (sym eb) (indexes q hq)
-
-  pub picture-by : (a b x : ℕ) {p : List (List ℕ)} → indexBits m a ≡ b → Palette m n b 1 0 p → ((q : ℕ) → q < 16 → part x b q ≡ atPlace m (Vector r i) n (index a q)) → Picture a (painted (part x b) p)
-  unfolding painted between
-  picture-by a b x {p} eb palette indexes q hq =
-      getD-table 16 _ [] q hq
-      ∙ ap (λ (j : ℕ). getD p j []) (omega arith)
-      ∙ palette .at 0 (part x b q) (omega arith) (part-lt x b q)
-      ∙ ap₂ (λ (w k : ℕ). four (λ c. drawn (endByte m n 0 c) (endByte m n 1 c) (weightOf w k))) (sym eb) (indexes q hq)
 
   pub vector-law : (colors alphas : List (List ℕ)) → Picture i colors → Picture (1 - i) alphas → swapped r (merged colors alphas) ≡ directPixels m n
   unfolding turned directPixels direct arrayOf lineAt

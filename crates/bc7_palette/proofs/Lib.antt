@@ -1,4 +1,3 @@
-pub mod Mixing
 pub mod Weights
 pub mod Keyed
 pub mod Reading

@@ -29,13 +29,17 @@ use Rattle.bc7_palette.proofs.Keyed.{keyed-at}
 half : (n s b k : ℕ) → k < 2 → field (field n s (b + b)) (b * k) b ≡ field n (s + b * k) b
 unfolding field
 half n s b zero h =
-    rw (mul-zero b) (ap (λ (x : ℕ). x % 2 ^ b) (div-one (n / 2 ^ s % 2 ^ (b + b))) ∙ mod-mod-pow (n / 2 ^ s) b b ∙ ap (λ (x : ℕ). n / 2 ^ x % 2 ^ b) (sym (add-zero s)))
+    rw (mul-zero b)
+    (ap (λ (x : ℕ). x % 2 ^ b) (div-one (n / 2 ^ s % 2 ^ (b + b))) ∙ mod-mod-pow (n / 2 ^ s) b b ∙ ap (λ (x : ℕ). n / 2 ^ x % 2 ^ b)
+    (sym (add-zero s)))
 half n s b (suc zero) h =
-    rw (mul-one b) (ap (λ (x : ℕ). x % 2 ^ b) (field-shr (n / 2 ^ s) b b) ∙ mod-mod (n / 2 ^ s / 2 ^ b) (2 ^ b) ∙ ap (λ (x : ℕ). x % 2 ^ b) (shr-shr n s b))
+    rw (mul-one b)
+    (ap (λ (x : ℕ). x % 2 ^ b) (field-shr (n / 2 ^ s) b b) ∙ mod-mod (n / 2 ^ s / 2 ^ b) (2 ^ b) ∙ ap (λ (x : ℕ). x % 2 ^ b) (shr-shr n s b))
 half n s b (suc (suc k)) h = absurd (let z : ⊥ = omega arith in z)
 
 -- a channel of an endpoint, from the field that has both endpoints of subset l, with and without p bits
-module _ (m n l k c b : ℕ) (hk : k < 2) (width : channelBits m c ≡ b) (some : eqb b 0 ≡ false) {v : ℕ} (read : v ≡ field n (valueStart m c (2 * l)) (b + b)) where
+module _ (m n l k c b : ℕ) (hk : k < 2) (width : channelBits m c ≡ b) (some : eqb b 0 ≡ false) {v : ℕ}
+    (read : v ≡ field n (valueStart m c (2 * l)) (b + b)) where
   value-half : field v (b * k) b ≡ field n (valueStart m c (2 * l + k)) (channelBits m c)
   unfolding valueStart
   value-half =
@@ -114,7 +118,8 @@ module _ (m n : ℕ) {l : ℕ} {x : Stored} (some : eqb (colourBits m) 0 ≡ fal
       (unstored m n (2 * l + k) 3 clear) c hc
 
   -- alpha of a width of its own
-  pub clear-shown : eqb (alphaBits m) 0 ≡ false → x .a ≡ field n (valueStart m 3 (2 * l)) (alphaBits m + alphaBits m) → eqb (pCount m) 0 ≡ true → Shown m n l (withAlpha (colourBits m) (alphaBits m) x)
+  pub clear-shown : eqb (alphaBits m) 0 ≡ false → x .a ≡ field n (valueStart m 3 (2 * l)) (alphaBits m + alphaBits m) → eqb (pCount m) 0 ≡ true
+      → Shown m n l (withAlpha (colourBits m) (alphaBits m) x)
   clear-shown some-alpha alpha without k c hk hc =
       by-channel (withAlpha (colourBits m) (alphaBits m) x k) (endByte m n (2 * l + k))
       (stored m n l k 0 (colourBits m) hk refl some (read .red) without)
@@ -131,7 +136,8 @@ module _ (m n : ℕ) {l : ℕ} {x : Stored} (some : eqb (colourBits m) 0 ≡ fal
         (stored-p m n l k 2 (colourBits m) hk refl some (read .blue) with-p (x .p) (ps k hk))
         (unstored m n (2 * l + k) 3 clear) c hc
 
-    pub clear-p-shown : alphaBits m ≡ colourBits m → x .a ≡ field n (valueStart m 3 (2 * l)) (colourBits m + colourBits m) → Shown m n l (withP (colourBits m) x)
+    pub clear-p-shown : alphaBits m ≡ colourBits m → x .a ≡ field n (valueStart m 3 (2 * l)) (colourBits m + colourBits m)
+        → Shown m n l (withP (colourBits m) x)
     clear-p-shown same alpha k c hk hc =
         by-channel (withP (colourBits m) x k) (endByte m n (2 * l + k))
         (stored-p m n l k 0 (colourBits m) hk refl some (read .red) with-p (x .p) (ps k hk))
@@ -141,25 +147,32 @@ module _ (m n : ℕ) {l : ℕ} {x : Stored} (some : eqb (colourBits m) 0 ≡ fal
 
 -- palettes: the colours of as many subsets as are shown
 module _ (m n b : ℕ) where
-  ends-shown : (g : Stored → ℕ → ℕ → ℕ) (x y : Stored) {e : Ends} → Holds (λ l. g (pick (eqb l 0) x y)) e → (l j : ℕ) → l < 2 → Shown m n j (g (pick (eqb l 0) x y)) → (k : ℕ) → k < 2
+  ends-shown : (g : Stored → ℕ → ℕ → ℕ) (x y : Stored) {e : Ends} → Holds (λ l. g (pick (eqb l 0) x y)) e → (l j : ℕ) → l < 2
+      → Shown m n j (g (pick (eqb l 0) x y)) → (k : ℕ) → k < 2
       → endpoint e l k ≡ four (endByte m n (2 * j + k))
   ends-shown g x y {e} h l j hl shows k hk =
       ap (λ (e : Ends). endpoint e l k) (h .same) ∙ endpoint-of _ (h .each) l k hl hk ∙ four-ext _ _ (λ c hc. shows k c hk hc)
 
-  palette-at : (t : ℕ) (ends : ℕ → ℕ → List ℕ) (l i : ℕ) → l < t → i < 2 ^ b → ((k : ℕ) → k < 2 → ends l k ≡ four (endByte m n (2 * l + k))) → getD (table (t * 2 ^ b) (keyed b t ends)) (t * i + l) [] ≡ colours m n b l i
+  palette-at : (t : ℕ) (ends : ℕ → ℕ → List ℕ) (l i : ℕ) → l < t → i < 2 ^ b → ((k : ℕ) → k < 2 → ends l k ≡ four (endByte m n (2 * l + k)))
+      → getD (table (t * 2 ^ b) (keyed b t ends)) (t * i + l) [] ≡ colours m n b l i
   palette-at t ends l i hl hi are =
       getD-table (t * 2 ^ b) (keyed b t ends) [] (t * i + l) (omega (arith, mul-le-mul-left t hi, mul-suc t i))
       ∙ keyed-at b t ends i l hl
       ∙ ap₂ (λ (p q : List ℕ). between b p q i) (are 0 (omega arith)) (are 1 (omega arith))
 
-  module _ (g : Stored → ℕ → ℕ → ℕ) (x y : Stored) {e : Ends} (holds : Holds (λ l. g (pick (eqb l 0) x y)) e) (first : Shown m n 0 (g x)) (second : Shown m n 1 (g y)) where
+  module _ (g : Stored → ℕ → ℕ → ℕ) (x y : Stored) {e : Ends} (holds : Holds (λ l. g (pick (eqb l 0) x y)) e) (first : Shown m n 0 (g x))
+      (second : Shown m n 1 (g y)) where
     ends-2 : (l : ℕ) → l < 2 → (k : ℕ) → k < 2 → endpoint e l k ≡ four (endByte m n (2 * l + k))
     ends-2 zero hl = ends-shown g x y holds 0 0 hl first
     ends-2 (suc zero) hl = ends-shown g x y holds 1 1 hl second
     ends-2 (suc (suc l)) hl = absurd (let z : ⊥ = omega arith in z)
 
     pub two-palette : {q : List (List ℕ)} → q ≡ table (2 * 2 ^ b) (keyed b 2 (endpoint e)) → Palette m n b 2 1 q
-    two-palette eq = record { at = λ l i hl hi. let place : i * 2 ^ 1 + l ≡ 2 * i + l = omega arith in rw (eq, place) (palette-at 2 (endpoint e) l i hl hi (ends-2 l hl)) }
+    two-palette eq =
+        record {
+          at = λ l i hl hi. let place : i * 2 ^ 1 + l ≡ 2 * i + l = omega arith in rw (eq, place)
+              (palette-at 2 (endpoint e) l i hl hi (ends-2 l hl));
+        }
 
     module _ (z w : Stored) {f : Ends} (more-held : Holds (λ l. g (pick (eqb l 0) z w)) f) (third : Shown m n 2 (g z)) where
       ends-3 : (l : ℕ) → l < 3 → (k : ℕ) → k < 2 → endpoints e f l k ≡ four (endByte m n (2 * l + k))
@@ -170,4 +183,8 @@ module _ (m n b : ℕ) where
       ends-3 (suc (suc (suc l))) hl = absurd (let z : ⊥ = omega arith in z)
 
       pub three-palette : {q : List (List ℕ)} → q ≡ table (4 * 2 ^ b) (keyed b 4 (endpoints e f)) → Palette m n b 3 2 q
-      three-palette eq = record { at = λ l i hl hi. let place : i * 2 ^ 2 + l ≡ 4 * i + l = omega arith in rw (eq, place) (palette-at 4 (endpoints e f) l i (omega arith) hi (ends-3 l hl)) }
+      three-palette eq =
+          record {
+            at = λ l i hl hi. let place : i * 2 ^ 2 + l ≡ 4 * i + l = omega arith in rw (eq, place)
+                (palette-at 4 (endpoints e f) l i (omega arith) hi (ends-3 l hl));
+          }

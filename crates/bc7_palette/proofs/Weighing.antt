@@ -1,9 +1,9 @@
 -- The weights of indexes of four bits, eight at a time.
 -- Assumes nothing.
-use mathlib.Core.Path.{_≡_, refl, sym, ap, ap₂, _∙_}
+use mathlib.Core.Path.{_≡_, sym, ap, ap₂, _∙_}
 use mathlib.Core.Bool.{Bool}
 use mathlib.Core.List.{List, []}
-use Prim.Native.Nat.{ℕ, _+_, _-_, _*_, _/_, _%_, _^_, _≤_, _<_}
+use Prim.Native.Nat.{ℕ, _+_, _*_, _/_, _%_, _^_, _≤_, _<_}
 use native.Mathlib.Nat.{add-comm, mod-lt, mul-comm, not-suc-le-zero}
 use native.Mathlib.Omega.{arith}
 use lib.Bits.{bitAnd}
@@ -12,7 +12,7 @@ use lib.ListN.{length, set}
 use lib.Pow.{field, mod-mod-pow, pow-pos, shr-shr}
 use Rattle.laws.specs.Digits.{row}
 use Rattle.laws.specs.Tables.{below, table, tableFrom}
-use Rattle.laws.proofs.EqualRows.{row-linear, row-lt, row-mask, row-part, row-same}
+use Rattle.laws.proofs.EqualRows.{row-linear, row-mask, row-part, row-same}
 use Rattle.laws.proofs.Part.{Part, part-all, part-none, part-set}
 use Rattle.laws.proofs.Tests.{at}
 use Rattle.format.specs.Drawing.{weightOf, weights}
@@ -59,12 +59,14 @@ module _ (x : ℕ) where
       let z : ℕ = y / 2 ^ (i * 8) in
       ap (λ (u : ℕ). u % 2 ^ 3) (shr-shr y 2 (i * 8) ∙ ap (λ (s : ℕ). y / 2 ^ s) (add-comm 2 (i * 8)) ∙ sym (shr-shr y (i * 8) 2))
       ∙ sym (mod-mod-pow (z / 2 ^ 2) 3 3)
-      ∙ ap (λ (u : ℕ). u % 2 ^ 3) (sym (field z 6 2) ∙ ap (λ (u : ℕ). u / 2 ^ 2) (row-part 8 8 (λ j. index j + 2) (λ j h. omega (arith, index-lt j)) i l)))
+      ∙ ap (λ (u : ℕ). u % 2 ^ 3)
+      (sym (field z 6 2) ∙ ap (λ (u : ℕ). u / 2 ^ 2) (row-part 8 8 (λ j. index j + 2) (λ j h. omega (arith, index-lt j)) i l)))
 
   weights-word : row 8 8 index * 4 + row 8 8 (λ j. (index j + 2) / 4 % 8) ≡ row 8 8 (λ j. weightOf 4 (index j))
   weights-word = row-linear 8 8 4 index (λ j. (index j + 2) / 4 % 8) ∙ row-same 8 8 _ _ (λ j l. weight-is (index j) (index-lt j))
 
-  pub weights-are : 4 * bitAnd x 0x0F0F_0F0F_0F0F_0F0F + bitAnd ((bitAnd x 0x0F0F_0F0F_0F0F_0F0F + 0x0202_0202_0202_0202) / 2 ^ 2) 0x0707_0707_0707_0707 ≡ row 8 8 (λ j. weightOf 4 (index j))
+  pub weights-are : 4 * bitAnd x 0x0F0F_0F0F_0F0F_0F0F
+      + bitAnd ((bitAnd x 0x0F0F_0F0F_0F0F_0F0F + 0x0202_0202_0202_0202) / 2 ^ 2) 0x0707_0707_0707_0707 ≡ row 8 8 (λ j. weightOf 4 (index j))
   weights-are =
       ap (λ (i : ℕ). 4 * i + bitAnd ((i + 0x0202_0202_0202_0202) / 2 ^ 2) 0x0707_0707_0707_0707) indexes
       ∙ ap₂ (λ (y z : ℕ). y + z) (mul-comm 4 (row 8 8 index)) (ap (λ (y : ℕ). bitAnd (y / 2 ^ 2) 0x0707_0707_0707_0707) more-two ∙ fourths)
@@ -77,7 +79,8 @@ module _ (x i : ℕ) (hi : i < 4) {all : ℕ} (ea : all ≡ row 8 8 (λ j. weigh
 
   weight-at : (j : ℕ) → j < 8 → part all 8 j ≡ weightOf 4 (part x 4 (2 * j))
   unfolding part
-  weight-at j h = ap (λ (y : ℕ). y / 2 ^ (j * 8) % 2 ^ 8) ea ∙ row-part 8 8 (λ j. weightOf 4 (part x 4 (2 * j))) (λ k l. omega (arith, weight-64 k)) j h
+  weight-at j h =
+      ap (λ (y : ℕ). y / 2 ^ (j * 8) % 2 ^ 8) ea ∙ row-part 8 8 (λ j. weightOf 4 (part x 4 (2 * j))) (λ k l. omega (arith, weight-64 k)) j h
 
   pub record Two (w : ℕ) : Type 0 where
     pub low : w % 2 ^ 32 ≡ 4 * weightOf 4 (part x 4 (2 * i))
@@ -90,7 +93,8 @@ module _ (x i : ℕ) (hi : i < 4) {all : ℕ} (ea : all ≡ row 8 8 (λ j. weigh
   two-weights e =
       let a : part all 8 (i + 0) ≡ weightOf 4 (part x 4 (2 * i)) = ap (part all 8) (omega arith) ∙ weight-at i (omega arith) in
       let next : 2 * (i + 4) ≡ 2 * i + 8 = omega arith in
-      let b : part all 8 (i + 4) ≡ weightOf 4 (part x 4 (2 * i + 8)) = weight-at (i + 4) (omega arith) ∙ ap (λ (q : ℕ). weightOf 4 (part x 4 q)) next in
+      let b : part all 8 (i + 4) ≡ weightOf 4 (part x 4 (2 * i + 8)) =
+      weight-at (i + 4) (omega arith) ∙ ap (λ (q : ℕ). weightOf 4 (part x 4 q)) next in
       let la : weightOf 4 (part x 4 (2 * i)) ≤ 64 = weight-64 i in
       let lb : weightOf 4 (part x 4 (2 * i + 8)) ≤ 64 = rw next at (weight-64 (i + 4)) in
       record { low = omega arith; high = omega arith; low-256 = omega arith; high-256 = omega arith }
@@ -123,8 +127,8 @@ module _ {f : ℕ → List ℕ} {out : List (List ℕ)} where
   column m j hm ej h ea eb = record {
     within = omega arith;
     made = part-set {P = λ q. (q % 8 < m + 1) × (q < m + 8)} j _
-    (part-set {P = λ q. q % 8 < m} m _ (h .made) (omega arith) ea (λ k lk q ne. omega (arith, q .0, q .1, ne)))
-    (omega arith) (eb ∙ ap f (sym ej)) (λ k lk q ne. (q, omega (arith, ne)));
+        (part-set {P = λ q. q % 8 < m} m _ (h .made) (omega arith) ea (λ k lk q ne. omega (arith, q .0, q .1, ne)))
+        (omega arith) (eb ∙ ap f (sym ej)) (λ k lk q ne. (q, omega (arith, ne)));
   }
 
   pub all-columns : {m : ℕ} → Columns f m out → 8 ≤ m → out ≡ table 16 f
@@ -133,7 +137,8 @@ module _ {f : ℕ → List ℕ} {out : List (List ℕ)} where
 -- an index is that of the pixel before it, a place further down
 pub next-index : (x q : ℕ) → part (x / 2 ^ 4) 4 q ≡ part x 4 (q + 1)
 unfolding part
-next-index x q = let place : 4 + q * 4 ≡ (q + 1) * 4 = omega arith in ap (λ (y : ℕ). y % 2 ^ 4) (shr-shr x 4 (q * 4) ∙ ap (λ (s : ℕ). x / 2 ^ s) place)
+next-index x q =
+    let place : 4 + q * 4 ≡ (q + 1) * 4 = omega arith in ap (λ (y : ℕ). y % 2 ^ 4) (shr-shr x 4 (q * 4) ∙ ap (λ (s : ℕ). x / 2 ^ s) place)
 
 pub index-16 : (x q : ℕ) → part x 4 q < 2 ^ 4
 unfolding part

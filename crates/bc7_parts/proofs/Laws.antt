@@ -7,7 +7,6 @@ use Prim.Native.Nat.{ℕ, _+_, _-_, _*_, _/_, _%_, _^_, _≤_, _<_}
 use native.Mathlib.Nat.{lt-of-lt-of-le}
 use native.Mathlib.Omega.{arith}
 use lib.ListN.{getD}
-use lib.Pow.{pow-mono}
 use Rattle.format.specs.declared.Split.{Split}
 use Rattle.format.specs.declared.Split.the-variants.{Three, Two, Whole}
 use Rattle.laws.specs.Digits.{total}
@@ -24,7 +23,7 @@ use Rattle.bcn_indexes.specs.Indexes.{expanded, indexWidths, part}
 use Rattle.bcn_indexes.proofs.Anchors.{size-1, size-2, size-3}
 use Rattle.bc7_fields.specs.Fields.{directPixels}
 use Rattle.bc7_fields.specs.Painting.{painted}
-use Rattle.bc7_fields.proofs.Pictures.{Palette, indexes-at, keyed-law, stack, subset-law}
+use Rattle.bc7_fields.proofs.Pictures.{Palette, indexes-at, keyed-law}
 use Rattle.bcn_data.specs.Sets.{set2, set3}
 use Rattle.bcn_data.proofs.Maps.{anchors-in2, anchors-in3}
 use Rattle.bcn_data.proofs.SetWords.{anchor-of2, second-of3, subset-of2, subset-of3, third-of3}
@@ -36,20 +35,10 @@ use Rattle.bc7_keys.proofs.KeyWords.{key-at}
 abbrev indexStart : ℕ → ℕ
 indexStart m = getD (83 ∷ 82 ∷ 99 ∷ 98 ∷ 50 ∷ 66 ∷ 65 ∷ 98 ∷ []) m 0
 
--- a mode with subsets: the palettes of all, looked up by a map and a word of indexes without the top bit of each anchor
+-- the word of a mode's indexes, stored without the top bit of each anchor, and a mode with one subset
 module _ (m n b : ℕ) (hm : m < 8) (eb : firstBits m ≡ b) where
   abbrev word : List ℕ → ℕ → ℕ
   word an t = expanded b an (field n (indexStart m) t)
-
-  by-places : (s : Split) (k t : ℕ) (an : List ℕ) → splitAt m n ≡ s → isVector s ≡ false → ((q : ℕ) → q < 16 → subset s q < k) → k * 2 ^ b ≤ 32 → anchors s ≡ an → total (indexWidths b an) ≡ t
-      → (place : ℕ → ℕ) → ((q : ℕ) → q < 16 → place q ≡ subset s q * 2 ^ b + part (word an t) b q) → painted place (stack m n b k) ≡ directPixels m n
-  by-places s k t an es flat subsets room ea et place places =
-      subset-law m n b k s eb es flat subsets room (word an t) place places
-      (indexes-at m s 0 n b t an (omega arith) eb ea et (ap (λ (a : ℕ). expanded b an (field n a t)) (sym (index-start m s hm))))
-
-  pub whole-law : 2 ≤ b → b ≤ 4 → splitAt m n ≡ Whole → painted (part (word (0 ∷ []) (16 * b - 1)) b) (stack m n b 1) ≡ directPixels m n
-  whole-law least most es =
-      by-places Whole 1 (16 * b - 1) (0 ∷ []) es refl (λ q hq. omega arith) (omega (arith, pow-mono {i = b} {j = 4} most)) refl (size-1 b (omega arith)) _ (λ q hq. omega arith)
 
   pub whole-keys : 0 < b → splitAt m n ≡ Whole → {p : List (List ℕ)} → Palette m n b 1 0 p → painted (part (word (0 ∷ []) (16 * b - 1)) b) p ≡ directPixels m n
   whole-keys some es palette =

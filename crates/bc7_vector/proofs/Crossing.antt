@@ -3,34 +3,30 @@
 use mathlib.Core.Path.{_≡_, refl, sym, ap, ap₂, _∙_}
 use mathlib.Core.Bool.{Bool, true, false}
 use mathlib.Core.List.{List, [], _∷_, _++_}
-use Prim.Native.Nat.{ℕ, zero, suc, _+_, _-_, _*_, _/_, _%_, _^_, _≤_, _<_}
-use native.Mathlib.Nat.{le-of-suc-le-suc, mod-eq-of-lt, mod-lt, mod-mod, mul-le-mul-left}
+use Prim.Native.Nat.{ℕ, zero, suc, _+_, _*_, _/_, _%_, _^_, _≤_, _<_}
+use native.Mathlib.Nat.{mod-eq-of-lt, mod-lt, mod-mod}
 use native.Mathlib.Omega.{arith}
-use lib.Bits.{and-mask, and-mod, and-shr, and-zero-r, bitAnd}
+use lib.Bits.{and-mask, and-zero-r, bitAnd}
 use lib.ListN.{drop, getD, replicate, take}
 use lib.Pow.{pow-pos, shr-lt}
 use Rattle.laws.specs.Digits.{Fit, join, more, none, split}
 use Rattle.laws.specs.Tables.{table}
-use Rattle.laws.proofs.Digits.{join-lt, join-split, split-fits, split-join}
+use Rattle.laws.proofs.Digits.{join-lt, join-split, split-join}
 use Rattle.laws.proofs.Fitting.{fit-get}
 use Rattle.laws.proofs.Joining.{table-same}
 use Rattle.laws.proofs.Part.{getD-table}
-use Rattle.laws.proofs.Putting.{ands}
+use Rattle.laws.proofs.Putting.{split-and}
 use Rattle.laws.proofs.Rows.{split-mod}
-use Rattle.format.specs.Drawing.{drawn, weightOf}
-use Rattle.format.proofs.Drawing.{weight-le}
+use Rattle.format.specs.Drawing.{weightOf}
+use Rattle.format.proofs.Drawing.{drawn-lt, weight-le}
 use Rattle.bc7_fields.specs.Painting.{between}
 use Rattle.bc7_color.specs.declared.Ends.{Ends}
-use Rattle.bc7_color.specs.Words.{Alone, endpoint, lanesOf, wordBytes}
+use Rattle.bc7_color.specs.Words.{Alone, endpoint, wordBytes}
 use Rattle.bc7_palette.specs.Colors.{shade}
 use Rattle.bc7_palette.proofs.Keyed.{shade-is}
 use Rattle.bc7_vector.specs.Crossing.{crossed, kept, keptWord}
 
--- a mask works byte by byte
-split-and : (ws : List ℕ) (x m : ℕ) → split ws (bitAnd x m) ≡ ands (split ws x) (split ws m)
-split-and [] x m = refl
-split-and (w ∷ ws) x m = ap₂ {C = List ℕ} (λ v l. v ∷ l) (and-mod x m w) (ap (split ws) (and-shr x m w) ∙ split-and ws (x / 2 ^ w) (m / 2 ^ w))
-
+-- a mask of whole bytes
 byte-stays : (v : ℕ) → bitAnd (v % 2 ^ 8) 255 ≡ v % 2 ^ 8
 byte-stays v = and-mask (v % 2 ^ 8) 8 ∙ mod-mod v (2 ^ 8)
 
@@ -58,7 +54,8 @@ high-half {x} h =
     sym (join-split (replicate 4 8) (x / 2 ^ 32) (shr-lt 32 32 h)) ∙ ap (λ (y : ℕ). join (replicate 4 8) (split (replicate 4 8) y)) down
 
 -- two weights of b bits, 32 bits apart
-module _ (b k : ℕ) (least : 2 ≤ b) (most : b ≤ 4) (below : 2 * k + 1 < 2 ^ b) {u v : ℕ} (eu : u ≡ 4 * weightOf b (2 * k)) (ev : v ≡ 4 * weightOf b (2 * k + 1)) where
+module _ (b k : ℕ) (least : 2 ≤ b) (most : b ≤ 4) (below : 2 * k + 1 < 2 ^ b) {u v : ℕ} (eu : u ≡ 4 * weightOf b (2 * k))
+    (ev : v ≡ 4 * weightOf b (2 * k + 1)) where
   pub record Pair : Type 0 where
     pub fits : u + (v * 2 ^ 32) % 2 ^ 64 < 2 ^ 64
     pub low : (u + (v * 2 ^ 32) % 2 ^ 64) % 2 ^ 32 ≡ 4 * weightOf b (2 * k)
@@ -73,10 +70,12 @@ module _ (b k : ℕ) (least : 2 ≤ b) (most : b ≤ 4) (below : 2 * k + 1 < 2 ^
       let whole : (v * 2 ^ 32) % 2 ^ 64 ≡ v * 2 ^ 32 = mod-eq-of-lt (omega arith) in
       record { fits = omega arith; low = omega arith; high = omega arith; low-256 = omega arith; high-256 = omega arith }
 
-  pub two-between : (e : Ends) {bytes : List ℕ} → bytes ≡ shade e 0 ((u + (v * 2 ^ 32) % 2 ^ 64) % 2 ^ 32) ++ shade e 0 ((u + (v * 2 ^ 32) % 2 ^ 64) / 2 ^ 32)
+  pub two-between : (e : Ends) {bytes : List ℕ}
+      → bytes ≡ shade e 0 ((u + (v * 2 ^ 32) % 2 ^ 64) % 2 ^ 32) ++ shade e 0 ((u + (v * 2 ^ 32) % 2 ^ 64) / 2 ^ 32)
       → bytes ≡ between b (endpoint e 0 0) (endpoint e 0 1) (2 * k) ++ between b (endpoint e 0 0) (endpoint e 0 1) (2 * k + 1)
   two-between e h =
-      h ∙ ap₂ {C = List ℕ} (λ x y. x ++ y) (shade-is b (2 * k) least most (omega arith) (pair .low) e 0) (shade-is b (2 * k + 1) least most below (pair .high) e 0)
+      h ∙ ap₂ {C = List ℕ} (λ x y. x ++ y) (shade-is b (2 * k) least most (omega arith) (pair .low) e 0)
+      (shade-is b (2 * k + 1) least most below (pair .high) e 0)
 
 -- words of colours of which a part is kept
 take-kept : (color : Bool) (l m : List ℕ) → take 4 (kept color l ++ m) ≡ kept color l
@@ -89,27 +88,25 @@ unfolding kept
 drop-kept true l m = refl
 drop-kept false l m = refl
 
-module _ (color : Bool) (b j k : ℕ) (e0 e1 : List ℕ) {bytes all : List ℕ} (two : all ≡ between b e0 e1 j ++ between b e0 e1 k) (part : bytes ≡ kept color (take 4 all) ++ kept color (drop 4 all)) where
+module _ (color : Bool) (b j k : ℕ) (e0 e1 : List ℕ) {bytes all : List ℕ} (two : all ≡ between b e0 e1 j ++ between b e0 e1 k)
+    (part : bytes ≡ kept color (take 4 all) ++ kept color (drop 4 all)) where
   pub both-kept : bytes ≡ kept color (between b e0 e1 j) ++ kept color (between b e0 e1 k)
   unfolding between
   both-kept = part ∙ ap (λ (l : List ℕ). kept color (take 4 l) ++ kept color (drop 4 l)) two
 
   pub low-kept : {w : ℕ} → w ≡ join (replicate 4 8) (take 4 bytes) → w ≡ keptWord color (between b e0 e1 j)
   unfolding keptWord
-  low-kept e = e ∙ ap (λ (l : List ℕ). join (replicate 4 8) (take 4 l)) both-kept ∙ ap (join (replicate 4 8)) (take-kept color (between b e0 e1 j) (kept color (between b e0 e1 k)))
+  low-kept e =
+      e ∙ ap (λ (l : List ℕ). join (replicate 4 8) (take 4 l)) both-kept
+      ∙ ap (join (replicate 4 8)) (take-kept color (between b e0 e1 j) (kept color (between b e0 e1 k)))
 
   pub high-kept : {w : ℕ} → w ≡ join (replicate 4 8) (drop 4 bytes) → w ≡ keptWord color (between b e0 e1 k)
   unfolding keptWord
-  high-kept e = e ∙ ap (λ (l : List ℕ). join (replicate 4 8) (drop 4 l)) both-kept ∙ ap (join (replicate 4 8)) (drop-kept color (between b e0 e1 j) (kept color (between b e0 e1 k)))
+  high-kept e =
+      e ∙ ap (λ (l : List ℕ). join (replicate 4 8) (drop 4 l)) both-kept
+      ∙ ap (join (replicate 4 8)) (drop-kept color (between b e0 e1 j) (kept color (between b e0 e1 k)))
 
 -- colours between two endpoints are bytes
-drawn-lt : (x y w : ℕ) → x < 2 ^ 8 → y < 2 ^ 8 → w ≤ 64 → drawn x y w < 2 ^ 8
-unfolding drawn
-drawn-lt x y w hx hy h =
-    let p : (64 - w) * x ≤ (64 - w) * 255 = mul-le-mul-left (64 - w) (le-of-suc-le-suc hx) in
-    let q : w * y ≤ w * 255 = mul-le-mul-left w (le-of-suc-le-suc hy) in
-    omega arith
-
 pub between-fits : (b k : ℕ) (e : Ends) → Alone e → 2 ≤ b → b ≤ 4 → k < 2 ^ b → Fit (replicate 4 8) (between b (endpoint e 0 0) (endpoint e 0 1) k)
 unfolding between endpoint
 between-fits b k e one least most h =
@@ -142,7 +139,8 @@ Colors = 8 ∷ 8 ∷ 8 ∷ 0 ∷ 8 ∷ 8 ∷ 8 ∷ 0 ∷ []
 abbrev Alpha : List ℕ
 Alpha = 0 ∷ 0 ∷ 0 ∷ 8 ∷ []
 
-sums : {bs cs : List ℕ} → Fit Colors bs → Fit Alpha cs → join (replicate 8 8) bs + join (replicate 4 8) cs * 0x0001_0000_0001 ≡ join (replicate 8 8) (crossed (take 4 bs) cs ++ crossed (drop 4 bs) cs)
+sums : {bs cs : List ℕ} → Fit Colors bs → Fit Alpha cs
+    → join (replicate 8 8) bs + join (replicate 4 8) cs * 0x0001_0000_0001 ≡ join (replicate 8 8) (crossed (take 4 bs) cs ++ crossed (drop 4 bs) cs)
 unfolding crossed
 sums (more h0 (more h1 (more h2 (more h3 (more h4 (more h5 (more h6 (more h7 none)))))))) (more k0 (more k1 (more k2 (more k3 none)))) = omega arith
 
@@ -152,7 +150,8 @@ sums-fit (more h0 (more h1 (more h2 (more h3 (more h4 (more h5 (more h6 (more h7
     more h0 (more h1 (more h2 (more k3 (more h4 (more h5 (more h6 (more k3 none)))))))
 
 module _ {x a : ℕ} (hx : x < 2 ^ 64) (ha : a < 2 ^ 32) (colors : Fit Colors (wordBytes x)) (alpha : Fit Alpha (take 4 (wordBytes a))) where
-  whole : x + a * 0x0001_0000_0001 ≡ join (replicate 8 8) (crossed (take 4 (wordBytes x)) (take 4 (wordBytes a)) ++ crossed (drop 4 (wordBytes x)) (take 4 (wordBytes a)))
+  whole : x + a * 0x0001_0000_0001
+      ≡ join (replicate 8 8) (crossed (take 4 (wordBytes x)) (take 4 (wordBytes a)) ++ crossed (drop 4 (wordBytes x)) (take 4 (wordBytes a)))
   unfolding wordBytes
   whole =
       ap₂ (λ (u v : ℕ). u + v * 0x0001_0000_0001) (sym (join-split (replicate 8 8) x hx)) (sym (mod-eq-of-lt ha) ∙ low-half a)
@@ -161,7 +160,8 @@ module _ {x a : ℕ} (hx : x < 2 ^ 64) (ha : a < 2 ^ 32) (colors : Fit Colors (w
   pub alphas-fit : x + a * 0x0001_0000_0001 < 2 ^ 64
   alphas-fit = rw whole (join-lt (sums-fit colors alpha))
 
-  pub alphas-bytes : wordBytes (x + a * 0x0001_0000_0001) ≡ crossed (take 4 (wordBytes x)) (take 4 (wordBytes a)) ++ crossed (drop 4 (wordBytes x)) (take 4 (wordBytes a))
+  pub alphas-bytes : wordBytes (x + a * 0x0001_0000_0001)
+      ≡ crossed (take 4 (wordBytes x)) (take 4 (wordBytes a)) ++ crossed (drop 4 (wordBytes x)) (take 4 (wordBytes a))
   unfolding wordBytes
   alphas-bytes = ap (split (replicate 8 8)) whole ∙ split-join (sums-fit colors alpha)
 
@@ -195,13 +195,20 @@ module _ (alphas : List ℕ) (low high j : ℕ) where
       let rest : (4 * j + k) % 4 ≡ k = omega arith in
       rw (down, rest)
 
-  pub low-pairs : {bytes p q : List ℕ} → bytes ≡ crossed (take 4 (wordBytes low)) (take 4 (wordBytes (getD alphas j 0))) ++ crossed (drop 4 (wordBytes low)) (take 4 (wordBytes (getD alphas j 0)))
+  pub low-pairs : {bytes p q : List ℕ}
+      → bytes ≡ crossed (take 4 (wordBytes low)) (take 4 (wordBytes (getD alphas j 0))) ++ crossed (drop 4 (wordBytes low))
+      (take 4 (wordBytes (getD alphas j 0)))
       → p ≡ take 4 bytes → q ≡ drop 4 bytes → (p ≡ pairAt alphas low high (4 * j)) × (q ≡ pairAt alphas low high (4 * j + 1))
   unfolding crossed
-  low-pairs e ep eq =
-      (ep ∙ ap (take 4) e ∙ sym (pair-at 0 (omega arith)) ∙ ap (pairAt alphas low high) (omega arith), eq ∙ ap (drop 4) e ∙ sym (pair-at 1 (omega arith)))
+  low-pairs e ep eq = (
+    ep ∙ ap (take 4) e ∙ sym (pair-at 0 (omega arith)) ∙ ap (pairAt alphas low high) (omega arith),
+    eq ∙ ap (drop 4) e ∙ sym
+        (pair-at 1 (omega arith)),
+  )
 
-  pub high-pairs : {bytes p q : List ℕ} → bytes ≡ crossed (take 4 (wordBytes high)) (take 4 (wordBytes (getD alphas j 0))) ++ crossed (drop 4 (wordBytes high)) (take 4 (wordBytes (getD alphas j 0)))
+  pub high-pairs : {bytes p q : List ℕ}
+      → bytes ≡ crossed (take 4 (wordBytes high)) (take 4 (wordBytes (getD alphas j 0))) ++ crossed (drop 4 (wordBytes high))
+      (take 4 (wordBytes (getD alphas j 0)))
       → p ≡ take 4 bytes → q ≡ drop 4 bytes → (p ≡ pairAt alphas low high (4 * j + 2)) × (q ≡ pairAt alphas low high (4 * j + 3))
   unfolding crossed
   high-pairs e ep eq = (ep ∙ ap (take 4) e ∙ sym (pair-at 2 (omega arith)), eq ∙ ap (drop 4) e ∙ sym (pair-at 3 (omega arith)))
@@ -213,13 +220,16 @@ module _ (e : Ends) (one : Alone e) where
   color-fits : (k : ℕ) → k < 4 → Fit (replicate 4 8) (color k)
   color-fits k h = between-fits 2 k e one (omega arith) (omega arith) h
 
-  pub alpha-is : {alphas : List ℕ} → alphas ≡ table 4 (λ k. keptWord false (color k)) → (j : ℕ) → j < 4 → take 4 (wordBytes (getD alphas j 0)) ≡ kept false (color j)
+  pub alpha-is : {alphas : List ℕ} → alphas ≡ table 4 (λ k. keptWord false (color k)) → (j : ℕ) → j < 4
+      → take 4 (wordBytes (getD alphas j 0)) ≡ kept false (color j)
   unfolding wordBytes keptWord
   alpha-is ea j h =
-      ap (λ (l : List ℕ). take 4 (wordBytes (getD l j 0))) ea ∙ ap (λ (w : ℕ). take 4 (wordBytes w)) (getD-table 4 (λ k. keptWord false (color k)) 0 j h)
+      ap (λ (l : List ℕ). take 4 (wordBytes (getD l j 0))) ea
+      ∙ ap (λ (w : ℕ). take 4 (wordBytes w)) (getD-table 4 (λ k. keptWord false (color k)) 0 j h)
       ∙ split-join (kept-bytes (color-fits j h))
 
-  pub alpha-fits : {alphas : List ℕ} → alphas ≡ table 4 (λ k. keptWord false (color k)) → (j : ℕ) → j < 4 → Fit Alpha (take 4 (wordBytes (getD alphas j 0)))
+  pub alpha-fits : {alphas : List ℕ} → alphas ≡ table 4 (λ k. keptWord false (color k)) → (j : ℕ) → j < 4
+      → Fit Alpha (take 4 (wordBytes (getD alphas j 0)))
   alpha-fits ea j h = rw (alpha-is ea j h) (kept-alpha (color-fits j h))
 
   pub colors-fit : {bytes : List ℕ} (j k : ℕ) → j < 4 → k < 4 → bytes ≡ kept true (color j) ++ kept true (color k) → Fit Colors bytes

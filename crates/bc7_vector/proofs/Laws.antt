@@ -45,12 +45,16 @@ chosen-one-by-one (suc (suc (suc zero))) h p = refl
 chosen-one-by-one (suc (suc (suc (suc r)))) h p = absurd (let z : ⊥ = omega arith in z)
 
 -- a vector and its scalar, whose endpoints are given: the picture by the indexes of set a, which start at bit s
-module _ (m n r i : ℕ) (hr : r < 4) (es : splitAt m n ≡ Vector r i) {e0 e1 : List ℕ} (p0 : e0 ≡ four (endByte m n 0)) (p1 : e1 ≡ four (endByte m n 1)) where
-  pub by-set : (a b s : ℕ) → a < 2 → indexBits m a ≡ b → 2 ≤ b → start m (Vector r i) (34 + (16 * a + 0)) ≡ s → {x : ℕ} → x ≡ expanded b (0 ∷ []) (field n s (16 * b - 1))
+module _ (m n r i : ℕ) (hr : r < 4) (es : splitAt m n ≡ Vector r i) {e0 e1 : List ℕ} (p0 : e0 ≡ four (endByte m n 0))
+    (p1 : e1 ≡ four (endByte m n 1)) where
+  pub by-set : (a b s : ℕ) → a < 2 → indexBits m a ≡ b → 2 ≤ b → start m (Vector r i) (34 + (16 * a + 0)) ≡ s → {x : ℕ}
+      → x ≡ expanded b (0 ∷ []) (field n s (16 * b - 1))
       → Picture m n r i hr es a (table 16 (λ q. between b e0 e1 (part x b q)))
   unfolding between
   by-set a b s ha eb least ea {x} ex q hq =
-      let indexes = indexes-at m (Vector r i) a n b (16 * b - 1) (0 ∷ []) ha eb refl (size-1 b (omega arith)) (ex ∙ ap (λ (s : ℕ). expanded b (0 ∷ []) (field n s (16 * b - 1))) (sym ea)) in
+      let indexes =
+      indexes-at m (Vector r i) a n b (16 * b - 1) (0 ∷ []) ha eb refl (size-1 b (omega arith))
+      (ex ∙ ap (λ (s : ℕ). expanded b (0 ∷ []) (field n s (16 * b - 1))) (sym ea)) in
       getD-table 16 _ [] q hq
       ∙ ap₂ (λ (u v : List ℕ). four (λ c. drawn (getD u c 0) (getD v c 0) (weightOf b (part x b q)))) p0 p1
       ∙ ap₂ (λ (w k : ℕ). four (λ c. drawn (endByte m n 0 c) (endByte m n 1 c) (weightOf w k))) (sym eb) (indexes q hq)
@@ -61,14 +65,17 @@ unfolding merged crossed
 merged-is f g = table-same [] 16 _ _ (λ q hq. ap₂ crossed (getD-table 16 f [] q hq) (getD-table 16 g [] q hq))
 
 -- the index mode says which set serves the vector
-pub vector-either : (m n r i : ℕ) (hr : r < 4) (es : splitAt m n ≡ Vector r i) → i < 2 → (f g : ℕ → List ℕ) → Picture m n r i hr es 0 (table 16 f) → Picture m n r i hr es 1 (table 16 g)
+pub vector-either : (m n r i : ℕ) (hr : r < 4) (es : splitAt m n ≡ Vector r i) → i < 2 → (f g : ℕ → List ℕ) → Picture m n r i hr es 0 (table 16 f)
+    → Picture m n r i hr es 1 (table 16 g)
     → swapped r (table 16 (λ q. pick (eqb i 0) (crossed (f q) (g q)) (crossed (g q) (f q)))) ≡ directPixels m n
 vector-either m n r zero hr es h f g p q = ap (swapped r) (sym (merged-is f g)) ∙ vector-law m n r 0 hr es (table 16 f) (table 16 g) p q
 vector-either m n r (suc zero) hr es h f g p q = ap (swapped r) (sym (merged-is g f)) ∙ vector-law m n r 1 hr es (table 16 g) (table 16 f) q p
 vector-either m n r (suc (suc i)) hr es h f g p q = absurd (let z : ⊥ = omega arith in z)
 
 -- all pairs, looked up by keys
-pub paired : (x y : ℕ) (f : ℕ → List ℕ) → painted (keyAt 2 2 (keysOf 2 2 y x)) (table 16 (λ i. crossed (f (i % 4)) (f (i / 4)))) ≡ table 16 (λ q. crossed (f (part x 2 q)) (f (part y 2 q)))
+pub paired : (x y : ℕ) (f : ℕ → List ℕ)
+    → painted (keyAt 2 2 (keysOf 2 2 y x)) (table 16 (λ i. crossed (f (i % 4)) (f (i / 4))))
+    ≡ table 16 (λ q. crossed (f (part x 2 q)) (f (part y 2 q)))
 unfolding painted
 paired x y f =
     table-same [] 16 _ _ (λ q hq.
@@ -81,7 +88,8 @@ paired x y f =
     ∙ ap₂ (λ (j k : ℕ). crossed (f j) (f k)) low high)
 
 -- the sums of words
-summed : (color : Bool) {l a : List ℕ} → Fit (replicate 4 8) l → Fit (replicate 4 8) a → take 4 (wordBytes (keptWord color l + keptWord (not color) a)) ≡ pick color (crossed l a) (crossed a l)
+summed : (color : Bool) {l a : List ℕ} → Fit (replicate 4 8) l → Fit (replicate 4 8) a
+    → take 4 (wordBytes (keptWord color l + keptWord (not color) a)) ≡ pick color (crossed l a) (crossed a l)
 summed true {l} {a} fl fa = sum-bytes fl fa
 summed false {l} {a} fl fa = ap (λ (x : ℕ). take 4 (wordBytes x)) (add-comm (keptWord false l) (keptWord true a)) ∙ sum-bytes fa fl
 
@@ -90,21 +98,30 @@ summed-lt true fl fa = sum-lt fl fa
 summed-lt false {l} {a} fl fa = rw (add-comm (keptWord false l) (keptWord true a)) (sum-lt fa fl)
 
 module _ (color : Bool) (e : Ends) (one : Alone e) {p q : List ℕ}
-    (ep : p ≡ table 4 (λ k. keptWord color (between 2 (endpoint e 0 0) (endpoint e 0 1) k))) (eq : q ≡ table 8 (λ k. keptWord (not color) (between 3 (endpoint e 0 0) (endpoint e 0 1) k))) where
+    (ep : p ≡ table 4 (λ k. keptWord color (between 2 (endpoint e 0 0) (endpoint e 0 1) k)))
+    (eq : q ≡ table 8 (λ k. keptWord (not color) (between 3 (endpoint e 0 0) (endpoint e 0 1) k))) where
   pub words-apart : Apart p q
   words-apart i j hi hj =
-      rw (ep, eq, getD-table 4 (λ k. keptWord color (between 2 (endpoint e 0 0) (endpoint e 0 1) k)) 0 i hi, getD-table 8 (λ k. keptWord (not color) (between 3 (endpoint e 0 0) (endpoint e 0 1) k)) 0 j hj)
+      rw (
+        ep,
+        eq,
+        getD-table 4 (λ k. keptWord color (between 2 (endpoint e 0 0) (endpoint e 0 1) k)) 0 i hi,
+        getD-table 8
+            (λ k. keptWord (not color) (between 3 (endpoint e 0 0) (endpoint e 0 1) k)) 0 j hj,
+      )
       (summed-lt color (between-fits 2 i e one (omega arith) (omega arith) hi) (between-fits 3 j e one (omega arith) (omega arith) hj))
 
   pub words-summed : (x y : ℕ) → table 16 (λ i. take 4 (wordBytes (getD p (part x 2 i) 0 + getD q (part y 3 i) 0)))
-      ≡ table 16 (λ i. pick color (crossed (between 2 (endpoint e 0 0) (endpoint e 0 1) (part x 2 i)) (between 3 (endpoint e 0 0) (endpoint e 0 1) (part y 3 i)))
+      ≡ table 16 (λ i. pick color (crossed (between 2 (endpoint e 0 0) (endpoint e 0 1) (part x 2 i))
+      (between 3 (endpoint e 0 0) (endpoint e 0 1) (part y 3 i)))
       (crossed (between 3 (endpoint e 0 0) (endpoint e 0 1) (part y 3 i)) (between 2 (endpoint e 0 0) (endpoint e 0 1) (part x 2 i))))
   words-summed x y =
       table-same [] 16 _ _ (λ i hi.
       ap₂ (λ (u v : ℕ). take 4 (wordBytes (u + v)))
       (ap (λ (l : List ℕ). getD l (part x 2 i) 0) ep ∙ getD-table 4 _ 0 (part x 2 i) (part-lt x 2 i))
       (ap (λ (l : List ℕ). getD l (part y 3 i) 0) eq ∙ getD-table 8 _ 0 (part y 3 i) (part-lt y 3 i))
-      ∙ summed color (between-fits 2 (part x 2 i) e one (omega arith) (omega arith) (part-lt x 2 i)) (between-fits 3 (part y 3 i) e one (omega arith) (omega arith) (part-lt y 3 i)))
+      ∙ summed color (between-fits 2 (part x 2 i) e one (omega arith) (omega arith) (part-lt x 2 i))
+      (between-fits 3 (part y 3 i) e one (omega arith) (omega arith) (part-lt y 3 i)))
 
 -- where the second indexes of modes 4 and 5 start, and what their split is
 pub second-4 : (r i : ℕ) → start 4 (Vector r i) 50 ≡ 81
@@ -118,7 +135,8 @@ second-5 r i = refl
 pub split-4 : (n : ℕ) → splitAt 4 n ≡ Vector (field n 5 2) (field n 7 1)
 unfolding splitAt field modeRow kindOfMode
 split-4 n =
-    λ j. Vector (ap (λ (x : ℕ). x % 2 ^ 2) (div-one (n / 2 ^ 5)) j) ((ap (λ (x : ℕ). x / 2 ^ 2 % 2 ^ 1) (div-one (n / 2 ^ 5)) ∙ ap (λ (x : ℕ). x % 2 ^ 1) (shr-shr n 5 2)) j)
+    λ j. Vector (ap (λ (x : ℕ). x % 2 ^ 2) (div-one (n / 2 ^ 5)) j)
+    ((ap (λ (x : ℕ). x / 2 ^ 2 % 2 ^ 1) (div-one (n / 2 ^ 5)) ∙ ap (λ (x : ℕ). x % 2 ^ 1) (shr-shr n 5 2)) j)
 
 pub split-5 : (n : ℕ) → splitAt 5 n ≡ Vector (field n 6 2) 0
 unfolding splitAt field modeRow kindOfMode

@@ -3,7 +3,6 @@
 ghost use mathlib.Core.Path.{_≡_};
 ghost use mathlib.Core.List.{[], _∷_, _++_};
 ghost use Prim.Native.Nat.{_+_, _*_, _/_, _%_, _^_, _≤_, _<_};
-ghost use lib.Dec.{eqb};
 ghost use lib.ListN.{drop, getD, replicate, take};
 ghost use Rattle.laws.specs.Digits.{Fit, join};
 ghost use Rattle.laws.specs.Tables.{pick, table};
@@ -147,7 +146,12 @@ fn paint_2_and_3(p: [u32; 4], q: [u32; 8], x: u64, y: u64) -> [[u8; 4]; 16]
     output
 }
 
-// The alpha of a word in both of two colours that have none.
+// The alpha of a word in both of two colours that have none. Times 2^32 + 1 it stands in both halves, and where one of two bytes
+// is 0 their sum carries nothing.
+//
+//     colors                   | 00 B1 G1 R1 | 00 B0 G0 R0 |
+//     alpha                    |             | A  00 00 00 |
+//     alpha * (2^32 + 1)       | A  00 00 00 | A  00 00 00 |
 fn with_alphas(colors: u64, alpha: u32) -> u64
     requires { ⌜ Fit (8 ∷ 8 ∷ 8 ∷ 0 ∷ 8 ∷ 8 ∷ 8 ∷ 0 ∷ []) (wordBytes colors) × Fit (0 ∷ 0 ∷ 0 ∷ 8 ∷ []) (take 4 (wordBytes alpha)) ⌝ }
     ensures { λ r. ⌜ wordBytes r ≡ crossed (take 4 (wordBytes colors)) (take 4 (wordBytes alpha)) ++ crossed (drop 4 (wordBytes colors)) (take 4 (wordBytes alpha)) ⌝ }
@@ -221,8 +225,5 @@ pub fn mode_5(stream: BitStream) -> [[u8; 4]; 16]
     let e = alone(stored, 7, 8);
     let x = indexes_1(2, a.stream);
     let y = indexes_1(2, a.stream.skip(31));
-    swap_channels(
-        paint_4(palette_2_and_2(e), keys_2(y, 2, x)),
-        rotation.value,
-    )
+    swap_channels(paint_4(palette_2_and_2(e), keys_2(y, 2, x)), rotation.value)
 }

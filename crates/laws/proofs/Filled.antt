@@ -20,12 +20,14 @@ module _ {A : Type 0} {n : ℕ} {d : A} {f : ℕ → A} where
   filled-next i v h l e = part-set i v h l e (λ k lk q ne. omega arith)
 
   -- two and four at a time
-  pub filled-two : {out : List A} {a b : A} (i : ℕ) → Filled n d f (2 * i) out → 2 * i + 1 < n → a ≡ f (2 * i) → b ≡ f (2 * i + 1) → Filled n d f (2 * (i + 1)) (set (set out (2 * i) a) (2 * i + 1) b)
+  pub filled-two : {out : List A} {a b : A} (i : ℕ) → Filled n d f (2 * i) out → 2 * i + 1 < n → a ≡ f (2 * i) → b ≡ f (2 * i + 1)
+      → Filled n d f (2 * (i + 1)) (set (set out (2 * i) a) (2 * i + 1) b)
   filled-two i h l ea eb =
       let next : 2 * i + 1 + 1 ≡ 2 * (i + 1) = omega arith in
       rw next at (filled-next (2 * i + 1) _ (filled-next (2 * i) _ h (omega arith) ea) l eb)
 
-  pub filled-four : {out : List A} {a b c e : A} (i : ℕ) → Filled n d f (4 * i) out → 4 * i + 3 < n → a ≡ f (4 * i) → b ≡ f (4 * i + 1) → c ≡ f (4 * i + 2) → e ≡ f (4 * i + 3)
+  pub filled-four : {out : List A} {a b c e : A} (i : ℕ) → Filled n d f (4 * i) out → 4 * i + 3 < n
+      → a ≡ f (4 * i) → b ≡ f (4 * i + 1) → c ≡ f (4 * i + 2) → e ≡ f (4 * i + 3)
       → Filled n d f (4 * (i + 1)) (set (set (set (set out (4 * i) a) (4 * i + 1) b) (4 * i + 2) c) (4 * i + 3) e)
   filled-four i h l ea eb ec ee =
       let at2 : 4 * i + 1 + 1 ≡ 4 * i + 2 = omega arith in

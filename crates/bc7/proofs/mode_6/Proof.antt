@@ -66,12 +66,20 @@ returns c =
     let on-x = got-on on-p 2 (p .values-15 .ensures .same) in
     let shown =
     clear-p-shown 6 n {l = 0} refl
-    (record { red = got-v on-r 14 (r .values-1 .ensures .same); green = got-v on-g 14 (g .values-12 .ensures .same); blue = got-v on-b 14 (b .values-13 .ensures .same) })
+    (record {
+      red = got-v on-r 14 (r .values-1 .ensures .same);
+      green = got-v on-g 14 (g .values-12 .ensures .same);
+      blue = got-v on-b 14
+          (b .values-13 .ensures .same);
+    })
     refl (two-ps 6 n 0 refl (got-v on-p 2 (p .values-15 .ensures .same))) refl (got-v on-a 14 (a .values-14 .ensures .same)) in
-    let end : (k : ℕ) → k < 2 → endpoint (c .before .alone-p .result) 0 k ≡ four (endByte 6 n (2 * 0 + k)) = λ k hk. endpoint-one (withP 7 _) (ends .each) (ends .same) k hk ∙ four-ext _ _ (λ c hc. shown k c hk hc) in
+    let end : (k : ℕ) → k < 2 → endpoint (c .before .alone-p .result) 0 k ≡ four (endByte 6 n (2 * 0 + k)) =
+    λ k hk. endpoint-one (withP 7 _) (ends .each) (ends .same) k hk ∙ four-ext _ _ (λ c hc. shown k c hk hc) in
     c .mix-16 .ensures
     ∙ drawn-each 4 _ _ _
-    ∙ ap (λ (y : ℕ). painted (part y 4) (table 16 (between 4 (endpoint (c .before .alone-p .result) 0 0) (endpoint (c .before .alone-p .result) 0 1)))) (x .indexes-1 .ensures ∙ ap (expanded 4 (0 ∷ [])) (next-is on-x 63))
+    ∙ ap (λ (y : ℕ). painted (part y 4)
+    (table 16 (between 4 (endpoint (c .before .alone-p .result) 0 0) (endpoint (c .before .alone-p .result) 0 1)))) (x .indexes-1 .ensures ∙ ap
+    (expanded 4 (0 ∷ [])) (next-is on-x 63))
     ∙ whole-keys 6 n 4 (omega arith) refl (omega arith) refl (one-palette 6 n 4 (end 0 (omega arith)) (end 1 (omega arith)))
 
 pub mode-6-spec : {M : Type 1} → statement M

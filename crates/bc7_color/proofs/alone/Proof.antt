@@ -24,7 +24,6 @@ module _ (words : tie.After-lanes3) where
   alpha : lanesOf (words .lanes3 .result) ≡ 0 ∷ start .args .x .a ∷ 0 ∷ 0 ∷ []
   alpha = lanes-four (words .lanes3 .ensures) (omega arith) (start .pre .4 .alpha) (omega arith) (omega arith)
 
-
 lanes-requires : tie.Need-lanes-requires
 lanes-requires c κs = search needs
 
@@ -47,7 +46,10 @@ add-t10 : tie.Need-add-t10
 add-t10 c =
     let words = c .before .before .before in
     let s = start words in
-    record { fits = end-apart-fits (s .args .bits) 0 (s .pre .0) (s .pre .1) (s .args .alpha-bits) (s .pre .2) (s .pre .3) (green words) (alpha words) (c .before .end-of2 .ensures) (c .end-of3 .ensures) }
+    record {
+      fits = end-apart-fits (s .args .bits) 0 (s .pre .0) (s .pre .1) (s .args .alpha-bits) (s .pre .2) (s .pre .3) (green words)
+          (alpha words) (c .before .end-of2 .ensures) (c .end-of3 .ensures);
+    }
 
 end-of-requires-4 : tie.Need-end-of-requires-4
 end-of-requires-4 c κs = search needs
@@ -62,7 +64,10 @@ add-t14 : tie.Need-add-t14
 add-t14 c =
     let words = c .before .before .before .before .before .before in
     let s = start words in
-    record { fits = end-apart-fits (s .args .bits) 1 (s .pre .0) (s .pre .1) (s .args .alpha-bits) (s .pre .2) (s .pre .3) (green words) (alpha words) (c .before .end-of5 .ensures) (c .end-of6 .ensures) }
+    record {
+      fits = end-apart-fits (s .args .bits) 1 (s .pre .0) (s .pre .1) (s .args .alpha-bits) (s .pre .2) (s .pre .3) (green words)
+          (alpha words) (c .before .end-of5 .ensures) (c .end-of6 .ensures);
+    }
 
 returns : tie.Need-returns
 unfolding endsOf

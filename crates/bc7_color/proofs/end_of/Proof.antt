@@ -1,7 +1,6 @@
 -- One endpoint of four lanes.
 -- Assumes nothing.
 use native.Mathlib.Omega.{arith}
-use borrow.Author.Needs.{needs}
 use Rattle.bc7_color.proofs.Words.{end-of, ends-within, parts-small}
 use Rattle.bc7_color.proofs.end_of.Statement.{statement}
 use Rattle.bc7_color.proofs.end_of.Tie as tie
@@ -16,7 +15,9 @@ promote-requires : tie.Need-promote-requires
 promote-requires c κs = let s = c .before in (s .pre .0, s .pre .1, parts-small (s .args .x) _ (s .args .bits) (omega arith) (c .parts .ensures))
 
 returns : tie.Need-returns
-returns c = let s = c .before .before in end-of (s .args .bits) (s .args .k) (s .args .x) (s .pre .2) (s .pre .1) (c .before .parts .ensures) (c .promote .ensures)
+returns c =
+    let s =
+    c .before .before in end-of (s .args .bits) (s .args .k) (s .args .x) (s .pre .2) (s .pre .1) (c .before .parts .ensures) (c .promote .ensures)
 
 pub end-of-spec : {M : Type 1} → statement M
 end-of-spec = tie.close (tie.spec mul-parts parts-requires promote-requires returns)

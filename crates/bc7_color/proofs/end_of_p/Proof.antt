@@ -17,13 +17,19 @@ parts-requires-2 c κs = search needs
 
 promote-p-requires : tie.Need-promote-p-requires
 promote-p-requires c κs =
-    let s = c .before .before in
-    (s .pre .0, s .pre .1, parts-small (s .args .x) _ (s .args .bits) (omega arith) (c .before .parts .ensures), parts-small (s .args .p) _ 1 (omega arith) (c .parts2 .ensures))
+    let s = c .before .before in (
+      s .pre .0,
+      s .pre .1,
+      parts-small (s .args .x) _ (s .args .bits) (omega arith) (c .before .parts .ensures),
+      parts-small (s .args .p) _ 1
+          (omega arith) (c .parts2 .ensures),
+    )
 
 returns : tie.Need-returns
 returns c =
     let s = c .before .before .before in
-    end-of-p (s .args .bits) (s .args .k) (s .args .x) (s .pre .2) (s .args .p) (s .pre .1) (c .before .before .parts .ensures) (c .before .parts2 .ensures) (c .promote-p .ensures)
+    end-of-p (s .args .bits) (s .args .k) (s .args .x) (s .pre .2) (s .args .p) (s .pre .1) (c .before .before .parts .ensures)
+    (c .before .parts2 .ensures) (c .promote-p .ensures)
 
 pub end-of-p-spec : {M : Type 1} → statement M
 end-of-p-spec =

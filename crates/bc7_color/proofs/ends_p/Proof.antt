@@ -20,7 +20,12 @@ end-of-p-requires-4 c κs = search needs
 returns : tie.Need-returns
 unfolding endsP
 returns c =
-    λ i. record { rb0 = c .before .before .before .end-of-p .ensures i; ga0 = c .before .before .end-of-p2 .ensures i; rb1 = c .before .end-of-p3 .ensures i; ga1 = c .end-of-p4 .ensures i }
+    λ i. record {
+      rb0 = c .before .before .before .end-of-p .ensures i;
+      ga0 = c .before .before .end-of-p2 .ensures i;
+      rb1 = c .before .end-of-p3 .ensures i;
+      ga1 = c .end-of-p4 .ensures i;
+    }
 
 pub ends-p-spec : {M : Type 1} → statement M
 ends-p-spec =

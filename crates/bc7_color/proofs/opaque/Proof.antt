@@ -58,7 +58,13 @@ returns c =
     let r0 = c .before .before .before .end-of .ensures in
     holds (λ l. solid (plain n (pick (eqb l 0) x y))) (λ l. solid-lt (λ k c. end-lt n k _ (s .pre .0) (s .pre .1)))
     ((λ i. record { rb0 = r0 i; ga0 = g0 i; rb1 = r1 i; ga1 = g1 i })
-    ∙ (λ i. record { rb0 = laned (map (endOf n 0) (rb i)); ga0 = laned (map (endOf n 0) (ga i)); rb1 = laned (map (endOf n 1) (rb i)); ga1 = laned (map (endOf n 1) (ga i)) })
+    ∙ (λ i. record {
+      rb0 = laned (map (endOf n 0) (rb i));
+      ga0 = laned (map (endOf n 0) (ga i));
+      rb1 = laned (map (endOf n 1) (rb i));
+      ga1 = laned
+          (map (endOf n 1) (ga i));
+    })
     ∙ (λ i. record {
       rb0 = laned (plain n x 0 0 ∷ plain n x 0 2 ∷ plain n y 0 0 ∷ plain n y 0 2 ∷ []);
       ga0 = laned (plain n x 0 1 ∷ alpha 0 (omega arith) i ∷ plain n y 0 1 ∷ alpha' 0 (omega arith) i ∷ []);

@@ -11,13 +11,19 @@ mul-promote : tie.Need-mul-promote
 mul-promote c = omega (arith, with-p-lt (c .args .bits) (c .args .x) (c .args .p) (c .pre .1) (search needs) (search needs) (c .pre .2) (c .pre .3))
 
 add-promote : tie.Need-add-promote
-add-promote c = record { fits = with-p-lt (c .args .bits) (c .args .x) (c .args .p) (c .pre .1) (search needs) (search needs) (c .pre .2) (c .pre .3) }
+add-promote c =
+    record { fits = with-p-lt (c .args .bits) (c .args .x) (c .args .p) (c .pre .1) (search needs) (search needs) (c .pre .2) (c .pre .3) }
 
 add-promote-2 : tie.Need-add-promote-2
 add-promote-2 c = search needs
 
 promote-requires : tie.Need-promote-requires
-promote-requires c κs = (omega arith, omega arith, with-p-small (c .args .bits) (c .args .x) (c .args .p) (c .pre .1) (search needs) (search needs) (c .pre .2) (c .pre .3))
+promote-requires c κs = (
+  omega arith,
+  omega arith,
+  with-p-small (c .args .bits) (c .args .x) (c .args .p) (c .pre .1) (search needs) (search needs) (c .pre .2)
+      (c .pre .3),
+)
 
 returns : tie.Need-returns
 returns c =

@@ -129,11 +129,15 @@ loop-again c =
     let end : 2 * (i + 1) ≡ 2 * i + 1 + 1 = omega arith in
     let even =
     column (2 * i) (2 * i + 8) (omega arith) refl (at .before .loop .inv)
-    (low-is 4 (part n 4 (2 * i)) (omega arith) (omega arith) (index-16 n (2 * i)) (w .low) e 0 0 _ (x .two-shades .ensures) (y .before .before .before .low-color .ensures))
-    (high-is 4 (part n 4 (2 * i + 8)) (omega arith) (omega arith) (index-16 n (2 * i + 8)) (w .high) e 0 0 _ (x .two-shades .ensures) (y .before .before .high-color .ensures)) in
+    (low-is 4 (part n 4 (2 * i)) (omega arith) (omega arith) (index-16 n (2 * i)) (w .low) e 0 0 _ (x .two-shades .ensures)
+    (y .before .before .before .low-color .ensures))
+    (high-is 4 (part n 4 (2 * i + 8)) (omega arith) (omega arith) (index-16 n (2 * i + 8)) (w .high) e 0 0 _ (x .two-shades .ensures)
+    (y .before .before .high-color .ensures)) in
     rw end (column (2 * i + 1) (2 * i + 9) (omega arith) (omega arith) even
-    (low-is 4 (part (n / 2 ^ 4) 4 (2 * i)) (omega arith) (omega arith) (index-16 (n / 2 ^ 4) (2 * i)) (v .low) e 0 0 _ (y .two-shades2 .ensures) (c .before .low-color2 .ensures) ∙ ap color (next-index n (2 * i)))
-    (high-is 4 (part (n / 2 ^ 4) 4 (2 * i + 8)) (omega arith) (omega arith) (index-16 (n / 2 ^ 4) (2 * i + 8)) (v .high) e 0 0 _ (y .two-shades2 .ensures) (c .high-color2 .ensures) ∙ ap color (next-index n (2 * i + 8) ∙ ap (part n 4) ninth)))
+    (low-is 4 (part (n / 2 ^ 4) 4 (2 * i)) (omega arith) (omega arith) (index-16 (n / 2 ^ 4) (2 * i)) (v .low) e 0 0 _ (y .two-shades2 .ensures)
+    (c .before .low-color2 .ensures) ∙ ap color (next-index n (2 * i)))
+    (high-is 4 (part (n / 2 ^ 4) 4 (2 * i + 8)) (omega arith) (omega arith) (index-16 (n / 2 ^ 4) (2 * i + 8)) (v .high) e 0 0 _
+    (y .two-shades2 .ensures) (c .high-color2 .ensures) ∙ ap color (next-index n (2 * i + 8) ∙ ap (part n 4) ninth)))
 
 returns : tie.Need-returns Inv-loop μ-loop
 returns c = all-columns (c .before .loop .inv) (omega arith)

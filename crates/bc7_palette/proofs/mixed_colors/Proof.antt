@@ -17,7 +17,8 @@ two-colors-requires c κs = search needs
 returns : tie.Need-returns
 returns c =
     let s = c .before .before .before in
-    shades (s .args .weight) (s .args .e) (s .pre .0) (s .pre .1) (c .before .before .mixed .ensures) (c .before .mixed2 .ensures) (c .two-colors .ensures)
+    shades (s .args .weight) (s .args .e) (s .pre .0) (s .pre .1) (c .before .before .mixed .ensures) (c .before .mixed2 .ensures)
+    (c .two-colors .ensures)
 
 pub mixed-colors-spec : {M : Type 1} → statement M
 mixed-colors-spec =

@@ -23,7 +23,8 @@ get-weight-3-requires : tie.Need-get-weight-3-requires Inv-loop μ-loop
 get-weight-3-requires c κs = omega arith
 
 mixed-colors-requires : tie.Need-mixed-colors-requires Inv-loop μ-loop
-mixed-colors-requires c κs = (weight-256 3 (c .before .before .loop .k) (omega arith) (omega arith) (omega arith) (c .get-weight-3 .ensures), c .before .before .before .pre)
+mixed-colors-requires c κs =
+    (weight-256 3 (c .before .before .loop .k) (omega arith) (omega arith) (omega arith) (c .get-weight-3 .ensures), c .before .before .before .pre)
 
 low-color-requires : tie.Need-low-color-requires Inv-loop μ-loop
 low-color-requires c κs = search needs

@@ -23,7 +23,10 @@ get-weight-3-requires : tie.Need-get-weight-3-requires Inv-loop μ-loop
 get-weight-3-requires c κs = omega arith
 
 mixed-colors-requires : tie.Need-mixed-colors-requires Inv-loop μ-loop
-mixed-colors-requires c κs = (weight-256 3 (c .before .before .loop .k) (omega arith) (omega arith) (omega arith) (c .get-weight-3 .ensures), c .before .before .before .pre .0)
+mixed-colors-requires c κs = (
+  weight-256 3 (c .before .before .loop .k) (omega arith) (omega arith) (omega arith) (c .get-weight-3 .ensures),
+  c .before .before .before .pre .0,
+)
 
 get-weight-3-requires-2 : tie.Need-get-weight-3-requires-2 Inv-loop μ-loop
 get-weight-3-requires-2 c κs = omega arith

@@ -14,7 +14,13 @@ add-result : tie.Need-add-result
 add-result c = omega (arith, and-le-r (c .args .x) 0x0F0F_0F0F_0F0F_0F0F)
 
 add-result-2 : tie.Need-add-result-2
-add-result-2 c = omega (arith, and-le-r (c .args .x) 0x0F0F_0F0F_0F0F_0F0F, and-le-r ((bitAnd (c .args .x) 0x0F0F_0F0F_0F0F_0F0F + 0x0202_0202_0202_0202) / 2 ^ 2) 0x0707_0707_0707_0707)
+add-result-2 c =
+    omega (
+      arith,
+      and-le-r (c .args .x) 0x0F0F_0F0F_0F0F_0F0F,
+      and-le-r
+          ((bitAnd (c .args .x) 0x0F0F_0F0F_0F0F_0F0F + 0x0202_0202_0202_0202) / 2 ^ 2) 0x0707_0707_0707_0707,
+    )
 
 returns : tie.Need-returns
 returns c = weights-are (c .args .x)

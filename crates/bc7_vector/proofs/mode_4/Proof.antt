@@ -1,7 +1,6 @@
 -- Mode 4: a vector and its scalar, and the index mode.
 -- Assumes nothing.
 use mathlib.Core.Path.{_≡_, refl, ap, ap₂, _∙_}
-use mathlib.Core.Bool.{Bool}
 use mathlib.Core.List.{List, [], _∷_}
 use Prim.Native.Nat.{ℕ, _+_, _*_, _<_}
 use native.Mathlib.Omega.{arith}
@@ -71,7 +70,8 @@ paint-2-and-3-requires c κs =
 
 swap-channels-requires : tie.Need-swap-channels-requires
 swap-channels-requires c κs =
-    let rotation = c .before .before .before .before .before .before .before .before .before .before .before .before .before .before .value .ensures in
+    let rotation =
+    c .before .before .before .before .before .before .before .before .before .before .before .before .before .before .value .ensures in
     omega (arith, rotation .small)
 
 returns : tie.Need-returns
@@ -99,23 +99,41 @@ returns c =
     let on-a = got-on on-b 10 (b .values-13 .ensures .same) in
     let on-x = got-on on-a 12 (a .values-14 .ensures .same) in
     let e = ends .alone .result in
-    let stored : Stored = record { r = r .values-1 .result .value; g = g .values-12 .result .value; b = b .values-13 .result .value; a = a .values-14 .result .value; p = 0 } in
+    let stored : Stored =
+    record {
+      r = r .values-1 .result .value;
+      g = g .values-12 .result .value;
+      b = b .values-13 .result .value;
+      a = a .values-14 .result .value;
+      p = 0;
+    } in
     let shown =
     clear-shown 4 n {l = 0} {x = stored} refl
-    (record { red = got-v on-r 10 (r .values-1 .ensures .same); green = got-v on-g 10 (g .values-12 .ensures .same); blue = got-v on-b 10 (b .values-13 .ensures .same) })
+    (record {
+      red = got-v on-r 10 (r .values-1 .ensures .same);
+      green = got-v on-g 10 (g .values-12 .ensures .same);
+      blue = got-v on-b 10
+          (b .values-13 .ensures .same);
+    })
     refl (got-v on-a 12 (a .values-14 .ensures .same)) refl in
-    let end : (k : ℕ) → k < 2 → endpoint e 0 k ≡ four (endByte 4 n (2 * 0 + k)) = λ k hk. endpoint-one (withAlpha 5 6 stored) (ends .alone .ensures .each) (ends .alone .ensures .same) k hk ∙ four-ext _ _ (λ c hc. shown k c hk hc) in
+    let end : (k : ℕ) → k < 2 → endpoint e 0 k ≡ four (endByte 4 n (2 * 0 + k)) =
+    λ k hk. endpoint-one (withAlpha 5 6 stored) (ends .alone .ensures .each) (ends .alone .ensures .same) k hk
+    ∙ four-ext _ _ (λ c hc. shown k c hk hc) in
     let first-is : x .indexes-1 .result ≡ expanded 2 (0 ∷ []) (field n 50 31) = x .indexes-1 .ensures ∙ ap (expanded 2 (0 ∷ [])) (next-is on-x 31) in
     let on-y : On n 81 (y .before .skip .result) = rw (y .before .skip .ensures) (on-skipped on-x 31) in
-    let second-is : y .indexes-12 .result ≡ expanded 3 (0 ∷ []) (field n 81 47) = y .indexes-12 .ensures ∙ ap (expanded 3 (0 ∷ [])) (next-is on-y 47) in
+    let second-is : y .indexes-12 .result ≡ expanded 3 (0 ∷ []) (field n 81 47) =
+    y .indexes-12 .ensures ∙ ap (expanded 3 (0 ∷ [])) (next-is on-y 47) in
     let f : ℕ → List ℕ = λ q. between 2 (endpoint e 0 0) (endpoint e 0 1) (part (x .indexes-1 .result) 2 q) in
     let h : ℕ → List ℕ = λ q. between 3 (endpoint e 0 0) (endpoint e 0 1) (part (y .indexes-12 .result) 3 q) in
     c .swap-channels .ensures
     ∙ ap₂ swapped (got-8 on-rotation 2 (rotation .value .ensures .same))
-    (c .before .paint-2-and-3 .ensures ∙ words-summed _ e (ends .alone .ensures .one) (first .words-2 .ensures) (third .words-3 .ensures) (x .indexes-1 .result) (y .indexes-12 .result)
-    ∙ ap (λ (i : ℕ). table 16 (λ q. pick (eqb i 0) (crossed (f q) (h q)) (crossed (h q) (f q)))) (got-8 on-mode 1 (index-mode .value2 .ensures .same)))
+    (c .before .paint-2-and-3 .ensures ∙ words-summed _ e (ends .alone .ensures .one) (first .words-2 .ensures) (third .words-3 .ensures)
+    (x .indexes-1 .result) (y .indexes-12 .result)
+    ∙ ap (λ (i : ℕ). table 16 (λ q. pick (eqb i 0) (crossed (f q) (h q)) (crossed (h q) (f q))))
+    (got-8 on-mode 1 (index-mode .value2 .ensures .same)))
     ∙ vector-either 4 n (field n 5 2) (field n 7 1) small (split-4 n) (field-lt n 7 1) f h
-    (by-set 4 n _ _ small (split-4 n) (end 0 (omega arith)) (end 1 (omega arith)) 0 2 50 (omega arith) refl (omega arith) (index-start 4 _ (omega arith)) first-is)
+    (by-set 4 n _ _ small (split-4 n) (end 0 (omega arith)) (end 1 (omega arith)) 0 2 50 (omega arith) refl (omega arith)
+    (index-start 4 _ (omega arith)) first-is)
     (by-set 4 n _ _ small (split-4 n) (end 0 (omega arith)) (end 1 (omega arith)) 1 3 81 (omega arith) refl (omega arith) (second-4 _ _) second-is)
 
 pub mode-4-spec : {M : Type 1} → statement M

@@ -89,20 +89,36 @@ returns c =
     let on-a = got-on on-b 14 (b .values-13 .ensures .same) in
     let on-x = got-on on-a 16 (a .values-14 .ensures .same) in
     let e = ends .alone .result in
-    let stored : Stored = record { r = r .values-1 .result .value; g = g .values-12 .result .value; b = b .values-13 .result .value; a = a .values-14 .result .value; p = 0 } in
+    let stored : Stored =
+    record {
+      r = r .values-1 .result .value;
+      g = g .values-12 .result .value;
+      b = b .values-13 .result .value;
+      a = a .values-14 .result .value;
+      p = 0;
+    } in
     let shown =
     clear-shown 5 n {l = 0} {x = stored} refl
-    (record { red = got-v on-r 14 (r .values-1 .ensures .same); green = got-v on-g 14 (g .values-12 .ensures .same); blue = got-v on-b 14 (b .values-13 .ensures .same) })
+    (record {
+      red = got-v on-r 14 (r .values-1 .ensures .same);
+      green = got-v on-g 14 (g .values-12 .ensures .same);
+      blue = got-v on-b 14
+          (b .values-13 .ensures .same);
+    })
     refl (got-v on-a 16 (a .values-14 .ensures .same)) refl in
-    let end : (k : ℕ) → k < 2 → endpoint e 0 k ≡ four (endByte 5 n (2 * 0 + k)) = λ k hk. endpoint-one (withAlpha 7 8 stored) (ends .alone .ensures .each) (ends .alone .ensures .same) k hk ∙ four-ext _ _ (λ c hc. shown k c hk hc) in
+    let end : (k : ℕ) → k < 2 → endpoint e 0 k ≡ four (endByte 5 n (2 * 0 + k)) =
+    λ k hk. endpoint-one (withAlpha 7 8 stored) (ends .alone .ensures .each) (ends .alone .ensures .same) k hk
+    ∙ four-ext _ _ (λ c hc. shown k c hk hc) in
     let first : x .indexes-1 .result ≡ expanded 2 (0 ∷ []) (field n 66 31) = x .indexes-1 .ensures ∙ ap (expanded 2 (0 ∷ [])) (next-is on-x 31) in
     let on-y : On n 97 (y .before .skip .result) = rw (y .before .skip .ensures) (on-skipped on-x 31) in
     let second : y .indexes-12 .result ≡ expanded 2 (0 ∷ []) (field n 97 31) = y .indexes-12 .ensures ∙ ap (expanded 2 (0 ∷ [])) (next-is on-y 31) in
     c .swap-channels .ensures
     ∙ ap₂ swapped (got-8 on-rotation 2 (rotation .value .ensures .same))
-    (c .before .paint-4 .ensures ∙ ap₂ (λ (k : Keys) (p : List (List ℕ)). painted (keyAt 2 2 k) p) (keys .keys-2 .ensures) (palette .palette-2-and-2 .ensures) ∙ paired (x .indexes-1 .result) (y .indexes-12 .result) (between 2 (endpoint e 0 0) (endpoint e 0 1)))
+    (c .before .paint-4 .ensures ∙ ap₂ (λ (k : Keys) (p : List (List ℕ)). painted (keyAt 2 2 k) p) (keys .keys-2 .ensures)
+    (palette .palette-2-and-2 .ensures) ∙ paired (x .indexes-1 .result) (y .indexes-12 .result) (between 2 (endpoint e 0 0) (endpoint e 0 1)))
     ∙ vector-either 5 n (field n 6 2) 0 small (split-5 n) (omega arith) _ _
-    (by-set 5 n _ 0 small (split-5 n) (end 0 (omega arith)) (end 1 (omega arith)) 0 2 66 (omega arith) refl (omega arith) (index-start 5 _ (omega arith)) first)
+    (by-set 5 n _ 0 small (split-5 n) (end 0 (omega arith)) (end 1 (omega arith)) 0 2 66 (omega arith) refl (omega arith)
+    (index-start 5 _ (omega arith)) first)
     (by-set 5 n _ 0 small (split-5 n) (end 0 (omega arith)) (end 1 (omega arith)) 1 2 97 (omega arith) refl (omega arith) (second-5 _ 0) second)
 
 pub mode-5-spec : {M : Type 1} → statement M

@@ -70,7 +70,8 @@ loop-again c =
     let at = x .before in
     let s = at .before .before in
     made-next (at .before .loop .inv) (at .loop-test .taken)
-    (c .low-color .ensures ∙ ap₂ (λ (i j : ℕ). take 4 (wordBytes (getD (s .args .t1) i 0 + getD (s .args .t2) j 0))) (x .part-of .ensures .0) (y .part-of2 .ensures .0))
+    (c .low-color .ensures ∙ ap₂ (λ (i j : ℕ). take 4 (wordBytes (getD (s .args .t1) i 0 + getD (s .args .t2) j 0))) (x .part-of .ensures .0)
+    (y .part-of2 .ensures .0))
 
 returns : tie.Need-returns Inv-loop μ-loop
 returns c = made-all (c .before .loop .inv) (omega arith)

@@ -27,8 +27,10 @@ record Words (c : tie.After-keep2 Inv-loop μ-loop) : Type 0 where
   e : Ends
   one : Alone e
   alphas-are : c .before .before .before .before .words-2 .result ≡ table 4 (λ k. keptWord false (between 2 (endpoint e 0 0) (endpoint e 0 1) k))
-  low-is : wordBytes (c .before .before .keep .result) ≡ kept true (between 2 (endpoint e 0 0) (endpoint e 0 1) 0) ++ kept true (between 2 (endpoint e 0 0) (endpoint e 0 1) 1)
-  high-is : wordBytes (c .keep2 .result) ≡ kept true (between 2 (endpoint e 0 0) (endpoint e 0 1) 2) ++ kept true (between 2 (endpoint e 0 0) (endpoint e 0 1) 3)
+  low-is : wordBytes (c .before .before .keep .result)
+      ≡ kept true (between 2 (endpoint e 0 0) (endpoint e 0 1) 0) ++ kept true (between 2 (endpoint e 0 0) (endpoint e 0 1) 1)
+  high-is : wordBytes (c .keep2 .result)
+      ≡ kept true (between 2 (endpoint e 0 0) (endpoint e 0 1) 2) ++ kept true (between 2 (endpoint e 0 0) (endpoint e 0 1) 3)
 
 words : (c : tie.After-keep2 Inv-loop μ-loop) → Words c
 words c =
@@ -68,8 +70,11 @@ array-read-with-alphas c = omega arith
 
 with-alphas-requires : tie.Need-with-alphas-requires Inv-loop μ-loop
 with-alphas-requires c κs =
-    let start = words (c .before .before) in
-    (colors-fit (start .e) (start .one) 0 1 (omega arith) (omega arith) (start .low-is), alpha-fits (start .e) (start .one) (start .alphas-are) (c .before .loop .j) (c .loop-test .taken))
+    let start = words (c .before .before) in (
+      colors-fit (start .e) (start .one) 0 1 (omega arith) (omega arith) (start .low-is),
+      alpha-fits (start .e) (start .one) (start .alphas-are)
+          (c .before .loop .j) (c .loop-test .taken),
+    )
 
 mul-with-alphas-2 : tie.Need-mul-with-alphas-2 Inv-loop μ-loop
 mul-with-alphas-2 c = omega arith
@@ -80,8 +85,11 @@ array-read-with-alphas-2 c = omega arith
 with-alphas-requires-2 : tie.Need-with-alphas-requires-2 Inv-loop μ-loop
 with-alphas-requires-2 c κs =
     let at = c .before in
-    let start = words (at .before .before) in
-    (colors-fit (start .e) (start .one) 2 3 (omega arith) (omega arith) (start .high-is), alpha-fits (start .e) (start .one) (start .alphas-are) (at .before .loop .j) (at .loop-test .taken))
+    let start = words (at .before .before) in (
+      colors-fit (start .e) (start .one) 2 3 (omega arith) (omega arith) (start .high-is),
+      alpha-fits (start .e) (start .one) (start .alphas-are)
+          (at .before .loop .j) (at .loop-test .taken),
+    )
 
 low-color-requires : tie.Need-low-color-requires Inv-loop μ-loop
 low-color-requires c κs = search needs
@@ -153,8 +161,12 @@ loop-again c =
     let at = x .before in
     let two = at .before .before in
     let j = at .before .loop .j in
-    let p = low-pairs _ (two .before .before .keep .result) (two .keep2 .result) j (x .with-alphas .ensures) (c .before .before .before .low-color .ensures) (c .before .before .high-color .ensures) in
-    let q = high-pairs _ (two .before .before .keep .result) (two .keep2 .result) j (y .with-alphas2 .ensures) (c .before .low-color2 .ensures) (c .high-color2 .ensures) in
+    let p =
+    low-pairs _ (two .before .before .keep .result) (two .keep2 .result) j (x .with-alphas .ensures) (c .before .before .before .low-color .ensures)
+    (c .before .before .high-color .ensures) in
+    let q =
+    high-pairs _ (two .before .before .keep .result) (two .keep2 .result) j (y .with-alphas2 .ensures) (c .before .low-color2 .ensures)
+    (c .high-color2 .ensures) in
     (omega arith, filled-four j (at .before .loop .inv .1) (omega arith) (p .0) (p .1) (q .0) (q .1))
 
 returns : tie.Need-returns Inv-loop μ-loop

@@ -22,7 +22,10 @@ get-weight-3-requires-2 : tie.Need-get-weight-3-requires-2
 get-weight-3-requires-2 c κs = search needs
 
 add-two-shades : tie.Need-add-two-shades
-add-two-shades c = let s = c .before .before in record { fits = pair 3 (s .args .k) (omega arith) (omega arith) (omega arith) (c .before .get-weight-3 .ensures) (c .get-weight-32 .ensures) .fits }
+add-two-shades c =
+    let s = c .before .before in
+    let w = pair 3 (s .args .k) (omega arith) (omega arith) (omega arith) (c .before .get-weight-3 .ensures) (c .get-weight-32 .ensures) in
+    record { fits = w .fits }
 
 two-shades-requires : tie.Need-two-shades-requires
 two-shades-requires c κs =
@@ -33,7 +36,8 @@ two-shades-requires c κs =
 returns : tie.Need-returns
 returns c =
     let s = c .before .before .before in
-    two-between 3 (s .args .k) (omega arith) (omega arith) (omega arith) (c .before .before .get-weight-3 .ensures) (c .before .get-weight-32 .ensures) (s .args .e) (c .two-shades .ensures)
+    two-between 3 (s .args .k) (omega arith) (omega arith) (omega arith) (c .before .before .get-weight-3 .ensures)
+    (c .before .get-weight-32 .ensures) (s .args .e) (c .two-shades .ensures)
 
 pub shades-3-spec : {M : Type 1} → statement M
 shades-3-spec =

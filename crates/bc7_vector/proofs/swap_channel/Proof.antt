@@ -2,7 +2,6 @@
 -- Assumes nothing.
 use mathlib.Core.Path.{ap, _∙_}
 use mathlib.Core.List.{[], _∷_}
-use Prim.Native.Nat.{ℕ}
 use borrow.Author.Needs.{needs}
 use lib.Dec.{eqb}
 use lib.ListN.{getD}
@@ -71,7 +70,8 @@ returns c =
     let rotation = s .args .rotation in
     let alpha =
     c .chosen6 .ensures
-    ∙ ap (pick (eqb rotation 3) (getD p 2 0)) (or-green .chosen5 .ensures ∙ ap (pick (eqb rotation 2) (getD p 1 0)) (red-or-alpha .chosen4 .ensures)) in
+    ∙ ap (pick (eqb rotation 3) (getD p 2 0))
+    (or-green .chosen5 .ensures ∙ ap (pick (eqb rotation 2) (getD p 1 0)) (red-or-alpha .chosen4 .ensures)) in
     (λ i. r .chosen .ensures i ∷ g .chosen2 .ensures i ∷ b .chosen3 .ensures i ∷ alpha i ∷ []) ∙ chosen-one-by-one rotation (s .pre) p
 
 pub swap-channel-spec : {M : Type 1} → statement M

@@ -67,10 +67,12 @@ loop-again c =
     let s = at .before .before in
     let k = at .before .loop .k in
     let e0 = endpoint (s .args .e) 0 0 in
-    let e1 = endpoint (s .args .e) 0 1 in
-    (omega arith, filled-two k (at .before .loop .inv .1) (omega arith)
-    (low-kept (s .args .color) 2 (2 * k) (2 * k + 1) e0 e1 (x .before .shades-2 .ensures) (x .keep .ensures) (c .before .low-word .ensures))
-    (high-kept (s .args .color) 2 (2 * k) (2 * k + 1) e0 e1 (x .before .shades-2 .ensures) (x .keep .ensures) (c .high-word .ensures)))
+    let e1 = endpoint (s .args .e) 0 1 in (
+      omega arith,
+      filled-two k (at .before .loop .inv .1) (omega arith)
+          (low-kept (s .args .color) 2 (2 * k) (2 * k + 1) e0 e1 (x .before .shades-2 .ensures) (x .keep .ensures) (c .before .low-word .ensures))
+          (high-kept (s .args .color) 2 (2 * k) (2 * k + 1) e0 e1 (x .before .shades-2 .ensures) (x .keep .ensures) (c .high-word .ensures)),
+    )
 
 returns : tie.Need-returns Inv-loop μ-loop
 returns c = filled-all (c .before .loop .inv .1) (omega arith)
