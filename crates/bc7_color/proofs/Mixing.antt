@@ -128,7 +128,7 @@ unfolding laned
 weave {a} {b} {c} {d} {e} {f} {g} {h} (more ha (more hb (more hc (more hd none)))) (more he (more hf (more hg (more hh none)))) =
     ap (λ (x : ℕ). laned (a ∷ b ∷ c ∷ d ∷ []) + x) (mod-eq-of-lt (omega arith)) ∙ omega arith
 
-pub woven-bytes : {xs ys : List ℕ} → Fit (replicate 4 16) xs → Fit (replicate 4 16) ys → Fit (replicate 8 8) (woven xs ys)
+woven-bytes : {xs ys : List ℕ} → Fit (replicate 4 16) xs → Fit (replicate 4 16) ys → Fit (replicate 8 8) (woven xs ys)
 woven-bytes (more ha (more hb (more hc (more hd none)))) (more he (more hf (more hg (more hh none)))) =
     let top : (v : ℕ) → v < 2 ^ 16 → v / 256 < 2 ^ 8 = λ v h. shr-lt 8 8 h in
     more (top _ ha) (more (top _ he) (more (top _ hb) (more (top _ hf) (more (top _ hc) (more (top _ hg) (more (top _ hd) (more (top _ hh) none)))))))

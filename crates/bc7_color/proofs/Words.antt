@@ -80,7 +80,7 @@ module _ (x at bits : ℕ) (most : bits ≤ 16) {r : ℕ} (e : r ≡ laned (map 
   unfolding field
   parts-fit = fit-map 4 16 bits _ (λ v h. mod-lt (v / 2 ^ at) (pow-pos bits)) (lanes-16 x)
 
-  pub parts-lanes : lanesOf r ≡ map (λ v. field v at bits) (lanesOf x)
+  parts-lanes : lanesOf r ≡ map (λ v. field v at bits) (lanesOf x)
   parts-lanes = ap lanesOf e ∙ lanes-laned (wider 4 bits 16 most parts-fit)
 
   pub parts-small : Lanes bits r
@@ -158,7 +158,7 @@ module _ (n x p : ℕ) (most : n ≤ 7) (hx : x < 2 ^ 64) (hp : p < 2 ^ 64) (val
   pub with-p-lt : x * 2 + p < 2 ^ 64
   with-p-lt = rw with-p (laned-lt with-p-16)
 
-  pub with-p-lanes : lanesOf (x * 2 + p) ≡ joined
+  with-p-lanes : lanesOf (x * 2 + p) ≡ joined
   with-p-lanes = ap lanesOf with-p ∙ lanes-laned with-p-16
 
   pub with-p-small : Lanes (n + 1) (x * 2 + p)
@@ -283,7 +283,7 @@ pub solid-lt : {f : ℕ → ℕ → ℕ} → ((k c : ℕ) → f k c < 2 ^ 8) →
 solid-lt {f} h k c = pick-lt (eqb c 3) 255 (f k c) (2 ^ 8) (omega arith) (h k c)
 
 -- where nothing is stored there is 0
-pub end-none : (n k : ℕ) → 4 ≤ n → n ≤ 8 → endOf n k 0 ≡ 0
+end-none : (n k : ℕ) → 4 ≤ n → n ≤ 8 → endOf n k 0 ≡ 0
 end-none n k least most = ap (promoted n) (field-none (n * k) n) ∙ promoted-none n least most
 
 pub end-p-none : (n k : ℕ) → 3 ≤ n → n ≤ 7 → endOfP n k 0 0 ≡ 0

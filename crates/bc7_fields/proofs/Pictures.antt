@@ -7,7 +7,7 @@ use Prim.Native.Nat.{ℕ, zero, suc, _+_, _-_, _*_, _/_, _^_, _<_}
 use native.Mathlib.Nat.{mod-lt}
 use native.Mathlib.Omega.{arith}
 use lib.Dec.{T, eqb}
-use lib.ListN.{getD, length}
+use lib.ListN.{getD}
 use lib.Pow.{pow-pos}
 use Rattle.format.specs.declared.Split.{Split}
 use Rattle.format.specs.declared.Split.the-variants.{Three, Two, Vector, Whole}
@@ -32,7 +32,7 @@ pub part-lt : (x k q : ℕ) → part x k q < 2 ^ k
 unfolding part
 part-lt x k q = mod-lt (x / 2 ^ (q * k)) (pow-pos k)
 
-pub four-at : (f : ℕ → ℕ) (c : ℕ) → c < 4 → getD (four f) c 0 ≡ f c
+four-at : (f : ℕ → ℕ) (c : ℕ) → c < 4 → getD (four f) c 0 ≡ f c
 four-at f zero h = refl
 four-at f (suc zero) h = refl
 four-at f (suc (suc zero)) h = refl
@@ -41,15 +41,6 @@ four-at f (suc (suc (suc (suc c)))) h = absurd (let z : ⊥ = omega arith in z)
 
 pub four-ext : (f g : ℕ → ℕ) → ((c : ℕ) → c < 4 → f c ≡ g c) → four f ≡ four g
 four-ext f g h = λ i. h 0 (omega arith) i ∷ h 1 (omega arith) i ∷ h 2 (omega arith) i ∷ h 3 (omega arith) i ∷ []
-
--- a colour by its channels
-pub four-of : (l : List ℕ) → length l ≡ 4 → four (λ c. getD l c 0) ≡ l
-four-of [] e = absurd (let z : ⊥ = omega arith in z)
-four-of (r ∷ []) e = absurd (let z : ⊥ = omega arith in z)
-four-of (r ∷ g ∷ []) e = absurd (let z : ⊥ = omega arith in z)
-four-of (r ∷ g ∷ b ∷ []) e = absurd (let z : ⊥ = omega arith in z)
-four-of (r ∷ g ∷ b ∷ a ∷ []) e = refl
-four-of (r ∷ g ∷ b ∷ a ∷ x ∷ l) e = absurd (let z : ⊥ = omega arith in z)
 
 -- the word of the indexes of set a
 pub indexes-at : (m : ℕ) (s : Split) (a n b t : ℕ) (an : List ℕ) {x : ℕ} → a < 2 → indexBits m a ≡ b → anchors s ≡ an → total (indexWidths b an) ≡ t

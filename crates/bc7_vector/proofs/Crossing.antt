@@ -220,7 +220,7 @@ module _ (e : Ends) (one : Alone e) where
   color-fits : (k : ℕ) → k < 4 → Fit (replicate 4 8) (color k)
   color-fits k h = between-fits 2 k e one (omega arith) (omega arith) h
 
-  pub alpha-is : {alphas : List ℕ} → alphas ≡ table 4 (λ k. keptWord false (color k)) → (j : ℕ) → j < 4
+  alpha-is : {alphas : List ℕ} → alphas ≡ table 4 (λ k. keptWord false (color k)) → (j : ℕ) → j < 4
       → take 4 (wordBytes (getD alphas j 0)) ≡ kept false (color j)
   unfolding wordBytes keptWord
   alpha-is ea j h =

@@ -4,21 +4,19 @@ use mathlib.Core.Path.{_≡_, refl, sym, ap, ap₂, _∙_}
 use mathlib.Core.Bool.{Bool, true, false, not}
 use mathlib.Core.List.{List, [], _∷_}
 use Prim.Native.Nat.{ℕ, zero, suc, _+_, _-_, _*_, _/_, _%_, _^_, _≤_, _<_}
-use native.Mathlib.Nat.{add-comm, div-one, mod-one}
+use native.Mathlib.Nat.{add-comm}
 use native.Mathlib.Omega.{arith}
 use lib.Dec.{eqb}
 use lib.ListN.{getD, replicate, take}
-use lib.Pow.{shr-shr}
 use Rattle.format.specs.declared.Split.the-variants.{Vector}
 use Rattle.laws.specs.Digits.{Fit}
-use Rattle.laws.specs.Tables.{pick, table, tableFrom}
+use Rattle.laws.specs.Tables.{pick, table}
 use Rattle.laws.proofs.Joining.{table-same}
 use Rattle.laws.proofs.Part.{getD-table}
 use Rattle.format.specs.Block.{field}
 use Rattle.format.specs.Drawing.{drawn, weightOf}
 use Rattle.format.specs.Lines.{rotated}
-use Rattle.format.specs.Modes.{endpointCount, indexBits, kindOfMode, modeRow}
-use Rattle.format.specs.Places.{placeAt, width, widths}
+use Rattle.format.specs.Modes.{indexBits}
 use Rattle.format.specs.Splits.{splitAt}
 use Rattle.format.proofs.Starts.{start}
 use Rattle.bcn_indexes.specs.Indexes.{expanded, part}
@@ -122,22 +120,3 @@ module _ (color : Bool) (e : Ends) (one : Alone e) {p q : List ℕ}
       (ap (λ (l : List ℕ). getD l (part y 3 i) 0) eq ∙ getD-table 8 _ 0 (part y 3 i) (part-lt y 3 i))
       ∙ summed color (between-fits 2 (part x 2 i) e one (omega arith) (omega arith) (part-lt x 2 i))
       (between-fits 3 (part y 3 i) e one (omega arith) (omega arith) (part-lt y 3 i)))
-
--- where the second indexes of modes 4 and 5 start, and what their split is
-pub second-4 : (r i : ℕ) → start 4 (Vector r i) 50 ≡ 81
-unfolding start widths table tableFrom placeAt width modeRow endpointCount
-second-4 r i = refl
-
-pub second-5 : (r i : ℕ) → start 5 (Vector r i) 50 ≡ 97
-unfolding start widths table tableFrom placeAt width modeRow endpointCount
-second-5 r i = refl
-
-pub split-4 : (n : ℕ) → splitAt 4 n ≡ Vector (field n 5 2) (field n 7 1)
-unfolding splitAt field modeRow kindOfMode
-split-4 n =
-    λ j. Vector (ap (λ (x : ℕ). x % 2 ^ 2) (div-one (n / 2 ^ 5)) j)
-    ((ap (λ (x : ℕ). x / 2 ^ 2 % 2 ^ 1) (div-one (n / 2 ^ 5)) ∙ ap (λ (x : ℕ). x % 2 ^ 1) (shr-shr n 5 2)) j)
-
-pub split-5 : (n : ℕ) → splitAt 5 n ≡ Vector (field n 6 2) 0
-unfolding splitAt field modeRow kindOfMode
-split-5 n = λ j. Vector (ap (λ (x : ℕ). x % 2 ^ 2) (div-one (n / 2 ^ 6)) j) (mod-one (n / 2 ^ 6 / 2 ^ 0 / 2 ^ 2) j)

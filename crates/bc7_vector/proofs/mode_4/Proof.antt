@@ -17,12 +17,13 @@ use Rattle.bcn_indexes.specs.Indexes.{expanded, part}
 use Rattle.bc7_fields.specs.Fields.{endByte, four, headEnd, valueStart}
 use Rattle.bc7_fields.specs.Painting.{between, swapped}
 use Rattle.bc7_fields.proofs.Pictures.{four-ext}
+use Rattle.bc7_fields.proofs.Places.{second-4, split-4}
 use Rattle.bc7_color.specs.declared.Stored.{Stored}
 use Rattle.bc7_color.specs.Words.{endpoint, withAlpha}
 use Rattle.bc7_color.proofs.Words.{endpoint-one}
 use Rattle.bc7_palette.proofs.Reading.{clear-shown}
 use Rattle.bc7_vector.specs.Crossing.{crossed}
-use Rattle.bc7_vector.proofs.Laws.{by-set, second-4, split-4, vector-either, words-apart, words-summed}
+use Rattle.bc7_vector.proofs.Laws.{by-set, vector-either, words-apart, words-summed}
 use Rattle.bc7_vector.proofs.mode_4.Statement.{statement}
 use Rattle.bc7_vector.proofs.mode_4.Tie as tie
 

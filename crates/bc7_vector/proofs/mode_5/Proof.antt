@@ -15,13 +15,14 @@ use Rattle.bcn_indexes.specs.Indexes.{expanded}
 use Rattle.bc7_fields.specs.Fields.{endByte, four, headEnd, valueStart}
 use Rattle.bc7_fields.specs.Painting.{between, painted, swapped}
 use Rattle.bc7_fields.proofs.Pictures.{four-ext}
+use Rattle.bc7_fields.proofs.Places.{second-5, split-5}
 use Rattle.bc7_color.specs.declared.Stored.{Stored}
 use Rattle.bc7_color.specs.Words.{endpoint, withAlpha}
 use Rattle.bc7_color.proofs.Words.{endpoint-one}
 use Rattle.bc7_keys.specs.declared.Keys.{Keys}
 use Rattle.bc7_keys.specs.Keys.{keyAt}
 use Rattle.bc7_palette.proofs.Reading.{clear-shown}
-use Rattle.bc7_vector.proofs.Laws.{by-set, paired, second-5, split-5, vector-either}
+use Rattle.bc7_vector.proofs.Laws.{by-set, paired, vector-either}
 use Rattle.bc7_vector.proofs.mode_5.Statement.{statement}
 use Rattle.bc7_vector.proofs.mode_5.Tie as tie
 
