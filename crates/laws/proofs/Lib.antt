@@ -1,6 +1,7 @@
 pub mod Tests
 pub mod Scan
 pub mod Cases
+pub mod Arms
 pub mod Part
 pub mod Filled
 pub mod Over
@@ -9,6 +10,7 @@ pub mod First
 pub mod Refusals
 pub mod Digits
 pub mod Rows
+pub mod EqualRows
 pub mod Padding
 pub mod Fitting
 pub mod Putting
