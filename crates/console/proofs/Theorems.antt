@@ -9,7 +9,7 @@ use Rattle.line_rules.specs.Replace.{callOf, replaced}
 use Rattle.line_rules.proofs.Theorems.{refused-same}
 use Rattle.wire.specs.Wire.{replacementOf}
 use Rattle.sheet_rules.proofs.Theorems.{refused-row-leaves, refused-sheet-leaves}
-use Rattle.console.specs.Promises.{Decodes, DecodesRow, Determined, Gives, Packs, ReadsHead, Replaces, ReplacesIn, Unpacks, Writes, WritesHead}
+use Rattle.console.specs.Promises.{Decodes, DecodesRow, Determined, Gives, Packs, ReadsHead, ReadsLine, Replaces, ReplacesIn, Unpacks, Writes, WritesHead}
 
 one-given : {A : Type 0} (refusal : ℕ) (left : A) → Determined (Gives refusal left)
 one-given refusal left a b x y p q = (p .0 ∙ sym (q .0), p .1 ∙ sym (q .1))
@@ -22,6 +22,9 @@ determined-bc7-unpack block before = one-given _ _
 
 pub determined-bc7-pack : (bytes before : List ℕ) → Determined (Packs bytes before)
 determined-bc7-pack bytes before = one-given _ _
+
+pub determined-bc7-read-line : (block : List ℕ) (line : ℕ) (before : List ℕ × List ℕ) → Determined (ReadsLine block line before)
+determined-bc7-read-line block line before = one-given _ _
 
 pub determined-bc7-replace-line : (block : List ℕ) (line : ℕ) (bytes : List ℕ) → Determined (Replaces block line bytes)
 determined-bc7-replace-line block line bytes = one-given _ _
@@ -50,6 +53,9 @@ refused-bc7-unpack-leaves block before = refused-leaves _ _ before
 
 pub refused-bc7-pack-leaves : (bytes before : List ℕ) → Leaves before (Packs bytes before)
 refused-bc7-pack-leaves bytes before = refused-leaves _ _ before
+
+pub refused-bc7-read-line-leaves : (block : List ℕ) (line : ℕ) (before : List ℕ × List ℕ) → Leaves before (ReadsLine block line before)
+refused-bc7-read-line-leaves block line before = refused-leaves _ _ before
 
 pub refused-bc7-replace-line-leaves : (block : List ℕ) (line : ℕ) (bytes : List ℕ) → Leaves block (Replaces block line bytes)
 unfolding replaced

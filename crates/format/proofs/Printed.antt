@@ -9,7 +9,7 @@ use Rattle.format.specs.declared.Split.the-variants.{Three, Two}
 use Rattle.laws.specs.Digits.{split}
 use Rattle.laws.specs.Tables.{table, tableFrom}
 use Rattle.format.specs.Lines.{anchorOf}
-use Rattle.format.specs.Partitions.{anchors2, anchors3, digits, marks, strings2, strings3, subset2, subset3}
+use Rattle.format.specs.Partitions.{anchors2, anchors3, digits, howMany, marks, strings2, strings3, subset2, subset3}
 
 -- the subsets of the pixels 0 to 15 as a number, pixel 0 lowest: a bit for each of two subsets, two bits of three
 unfoldable pub printed2 : List ℕ
@@ -72,3 +72,7 @@ strings-are-as-printed = (refl, refl, refl, refl, refl)
 pub partition-2-of-three : anchors3 2 ∷ map (subset3 2) (anchors3 2) ∷ [] ≡ (0 ∷ 8 ∷ 15 ∷ []) ∷ (0 ∷ 2 ∷ 1 ∷ []) ∷ []
 unfolding anchors3 subset3 strings3 digits marks
 partition-2-of-three = refl
+
+-- how many pixels of a row of subsets lie in each
+pub counted : map (λ (k : ℕ). howMany k (0 ∷ 2 ∷ 1 ∷ 2 ∷ [])) (0 ∷ 1 ∷ 2 ∷ 3 ∷ []) ≡ 1 ∷ 1 ∷ 2 ∷ 0 ∷ []
+counted = refl

@@ -37,10 +37,10 @@ pub record Heads : Type 0 where
       (9 ∷ []) ∷ (9 ∷ 0x80 ∷ []) ∷ (9 ∷ 0x81 ∷ 0x00 ∷ []) ∷ (9 ∷ 0x80 ∷ 0x80 ∷ 0x80 ∷ 0x01 ∷ []) ∷ [])
       ≡ number 0 2 ∷ number 128 3 ∷ number 2097151 4 ∷ none ∷ none ∷ none ∷ none ∷ []
   pub heads-read : map readHead
-      ((0x01 ∷ 0x05 ∷ 0x06 ∷ 0x60 ∷ []) ∷ (0x01 ∷ 0x80 ∷ 0x20 ∷ 0x80 ∷ 0x20 ∷ []) ∷
+      ((0x01 ∷ 0x05 ∷ 0x06 ∷ 0x60 ∷ []) ∷ (0x01 ∷ 0x01 ∷ 0x01 ∷ []) ∷ (0x01 ∷ 0x80 ∷ 0x20 ∷ 0x80 ∷ 0x20 ∷ []) ∷
       (0x80 ∷ []) ∷ (0x02 ∷ 0x80 ∷ []) ∷ (0x01 ∷ 0x00 ∷ 0x80 ∷ []) ∷
       (0x01 ∷ 0x00 ∷ 0x01 ∷ []) ∷ (0x01 ∷ 0x81 ∷ 0x20 ∷ 0x01 ∷ []) ∷ (0x01 ∷ 0x01 ∷ 0x81 ∷ 0x20 ∷ []) ∷ [])
-      ≡ head 5 6 3 ∷ head 4096 4096 5 ∷ noHead 7 ∷ noHead 8 ∷ noHead 7 ∷ noHead 9 ∷ noHead 9 ∷ noHead 9 ∷ []
+      ≡ head 5 6 3 ∷ head 1 1 3 ∷ head 4096 4096 5 ∷ noHead 7 ∷ noHead 8 ∷ noHead 7 ∷ noHead 9 ∷ noHead 9 ∷ noHead 9 ∷ []
   pub heads-written : writeHead 5 6 ∷ writeHead 4096 4096 ∷ writeHead 0 1 ∷ writeHead 4097 1 ∷ writeHead 1 4097 ∷ []
       ≡ written 0 (0x01 ∷ 0x05 ∷ 0x06 ∷ 0 ∷ 0 ∷ 0 ∷ 0 ∷ []) 3 ∷ written 0 (0x01 ∷ 0x80 ∷ 0x20 ∷ 0x80 ∷ 0x20 ∷ 0 ∷ 0 ∷ []) 5 ∷
       written 9 (0 ∷ 0 ∷ 0 ∷ 0 ∷ 0 ∷ 0 ∷ 0 ∷ []) 0 ∷ written 9 (0 ∷ 0 ∷ 0 ∷ 0 ∷ 0 ∷ 0 ∷ 0 ∷ []) 0 ∷ written 9 (0 ∷ 0 ∷ 0 ∷ 0 ∷ 0 ∷ 0 ∷ 0 ∷ []) 0 ∷

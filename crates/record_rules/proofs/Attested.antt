@@ -56,7 +56,7 @@ abbrev pub record7 : Record
 record7 = like7 (Two 13) 1 indexes7 sixteenZeros
 
 -- a record of zeros in a mode; that of mode 0 is what a refusal answers beside its number
-abbrev zerosOf : ℕ → Record
+abbrev pub zerosOf : ℕ → Record
 zerosOf m = record {
   mode = m;
   split = Whole;

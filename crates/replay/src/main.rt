@@ -5,6 +5,7 @@ ghost use Prim.Native.Nat.{_+_, _≤_, _<_};
 ghost use lib.ListN.{length};
 use console::bc7_decode_block;
 use console::bc7_pack;
+use console::bc7_read_line;
 use console::bc7_replace_line;
 use console::bc7_unpack;
 use console::sheet_decode_row;
@@ -109,6 +110,22 @@ fn pack_call() -> bool {
     let mut block = [0u8; 16];
     write_refusal(bc7_pack(&record, &mut block));
     write_block(&block)
+}
+
+fn read_line_call() -> bool {
+    let mut block = [0u8; 16];
+    if !filled(&mut block) {
+        return false;
+    }
+    let mut line = [0u8; 4];
+    if !filled(&mut line) {
+        return false;
+    }
+    let mut held = [0u8; 26];
+    let mut widths = [0u8; 26];
+    write_refusal(bc7_read_line(&block, number(&line, 0), &mut held, &mut widths));
+    io::write_all(STDOUT_FILENO, &held);
+    io::write_all(STDOUT_FILENO, &widths)
 }
 
 fn replace_call() -> bool {
@@ -274,6 +291,7 @@ fn call(letter: u8) -> bool {
         b'O' => row_call(),
         b'S' => sheet_call(),
         b'l' => list_call(),
+        b'r' => read_line_call(),
         _ => false,
     }
 }
