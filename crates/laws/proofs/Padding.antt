@@ -26,7 +26,8 @@ sets-next {A} l at xs d i e h =
 -- bytes behind bytes
 pub stored-append : (p : List ℕ × ℕ) (xs ys : List ℕ) → stored (stored p xs) ys ≡ stored p (xs ++ ys)
 stored-append p xs ys =
-    ap₂ (λ (l : List ℕ) (n : ℕ). (l, n)) (sets-append (p .0) (p .1) xs ys) (add-assoc (p .1) (length xs) (length ys) ∙ ap (λ (n : ℕ). p .1 + n) (sym (length-append xs ys)))
+    ap₂ (λ (l : List ℕ) (n : ℕ). (l, n)) (sets-append (p .0) (p .1) xs ys)
+    (add-assoc (p .1) (length xs) (length ys) ∙ ap (λ (n : ℕ). p .1 + n) (sym (length-append xs ys)))
 
 drop-zeros : (k n : ℕ) → drop k (replicate {A = ℕ} n 0) ≡ replicate (n - k) 0
 drop-zeros zero n = rw sub-zero
@@ -48,9 +49,9 @@ written-none {l} {i} = record { bytes = refl; ends = sym (add-zero i) }
 
 pub written-then : {k l m : List ℕ} {g i j : ℕ} {xs ys : List ℕ} → Written k g xs l i → Written l i ys m j → Written k g (xs ++ ys) m j
 written-then {k} {l} {m} {g} {i} {j} {xs} {ys} v w =
-    let p = stored-append (k, g) xs ys in
     let first : (l, i) ≡ stored (k, g) xs = ap₂ (λ (l : List ℕ) (n : ℕ). (l, n)) (v .bytes) (v .ends) in
-    let both : (m, j) ≡ stored (k, g) (xs ++ ys) = ap₂ (λ (l : List ℕ) (n : ℕ). (l, n)) (w .bytes) (w .ends) ∙ ap (λ (q : List ℕ × ℕ). stored q ys) first ∙ p in
+    let second : (m, j) ≡ stored (l, i) ys = ap₂ (λ (l : List ℕ) (n : ℕ). (l, n)) (w .bytes) (w .ends) in
+    let both = second ∙ ap (λ (q : List ℕ × ℕ). stored q ys) first ∙ stored-append (k, g) xs ys in
     record { bytes = ap (λ (q : List ℕ × ℕ). q .0) both; ends = ap (λ (q : List ℕ × ℕ). q .1) both }
 
 -- the list stays as long as it was

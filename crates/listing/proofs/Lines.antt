@@ -18,6 +18,7 @@ module _ (out₀ : List ℕ) (at₀ from : ℕ) (bs : List ℕ) where
   unfolding blocksText
   lines-none = written-none
 
-  pub lines-more : (n : ℕ) {out out' : List ℕ} {at at' : ℕ} → Lines n out at → Written out at (blockText (from + n) (blockAt bs (16 * n))) out' at' → Lines (n + 1) out' at'
+  pub lines-more : (n : ℕ) {out out' : List ℕ} {at at' : ℕ} → Lines n out at → Written out at (blockText (from + n) (blockAt bs (16 * n))) out' at'
+      → Lines (n + 1) out' at'
   unfolding blocksText
   lines-more n {out} {out'} {at} {at'} e f = subst (λ (m : ℕ). Written out₀ at₀ (blocksText from m bs) out' at') (sym (add-one n)) (written-then e f)

@@ -19,7 +19,8 @@ use Rattle.listing_rules.proofs.Turns.{done, ready-start, rest-start, restOf, s
 module _ (s : List ℕ) (at n end : ℕ) (e : NextEnd at n (length s) end) where
   came-is : take (end - at) (drop at s) ≡ take n (drop at s)
   came-is =
-      ⊎-elim (λ l. let all = e .all l in take-all (end - at) (drop at s) (omega (arith, length-drop at s)) ∙ sym (take-all n (drop at s) (omega (arith, length-drop at s))))
+      ⊎-elim (λ l. let all = e .all l in take-all (end - at) (drop at s) (omega (arith, length-drop at s)) ∙ sym
+      (take-all n (drop at s) (omega (arith, length-drop at s))))
       (λ l. let all : end - at ≡ n = omega (arith, e .few) in ap (λ (k : ℕ). take k (drop at s)) all) (lt-or end (at + n))
 
   left-is : drop end s ≡ drop n (drop at s)
@@ -56,13 +57,15 @@ module _ {s out₀ out : List ℕ} {m : Machine} {at said : ℕ} (f : Fed s out�
 
   pub fed-turn : {end : ℕ} {out' : List ℕ} {said' : ℕ} {m' : Machine} → NextEnd at (wantedOf m) (length s) end
       → let came = take (end - at) (drop at s) in
-      Written out said (textOf m came) out' said' → said' + spareOf (nextOf m came) ≤ said + 40 * (length came / 16) + spareOf m → m' ≡ nextOf m came → Ready m' → Fed s out₀ out' m' end said'
+      Written out said (textOf m came) out' said' → said' + spareOf (nextOf m came) ≤ said + 40 * (length came / 16) + spareOf m
+      → m' ≡ nextOf m came → Ready m' → Fed s out₀ out' m' end said'
   fed-turn {end} {out'} {said'} {m'} e w b n r = record {
     ready = r;
     within = e .within;
     room = omega (arith, came-length s at (wantedOf m) end e, e .within, e .behind, f .room, b, ap spareOf n);
     long = written-long w ∙ f .long;
-    rest = λ after next v. f .rest after next (rw (step m (drop at s) (f .ready), ← came-is s at (wantedOf m) end e, ← left-is s at (wantedOf m) end e, ← n) (written-then w v));
+    rest = λ after next v. f .rest after next
+        (rw (step m (drop at s) (f .ready), ← came-is s at (wantedOf m) end e, ← left-is s at (wantedOf m) end e, ← n) (written-then w v));
   }
 
   pub fed-whole : wantedOf m ≡ 0 → Written out₀ 0 (listing s) out said

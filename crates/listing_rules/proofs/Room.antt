@@ -60,7 +60,9 @@ module _ (m : Machine) (came : List ℕ) where
   pub asked : (at room : ℕ) {p : Phase} → m .phase ≡ p → Asked (m .phase) at room → Asked p at room
   asked at room e h = subst (λ (p : Phase). Asked p at room) e h
 
-  pub says : {p : Phase} {before after : List ℕ} {at next : ℕ} → m .phase ≡ p → Written before at (textIn p m came) after next → next + spareOf (nextIn p m came) ≤ at + 40 * (length came / 16) + spareIn p
+  pub says : {p : Phase} {before after : List ℕ} {at next : ℕ} → m .phase ≡ p → Written before at (textIn p m came) after next
+      → next + spareOf (nextIn p m came) ≤ at + 40 * (length came / 16) + spareIn p
       → Written before at (textOf m came) after next × (next + spareOf (nextOf m came) ≤ at + 40 * (length came / 16) + spareOf m)
   says {p} {before} {after} {at} {next} e w l =
-      subst (λ (p : Phase). Written before at (textIn p m came) after next × (next + spareOf (nextIn p m came) ≤ at + 40 * (length came / 16) + spareIn p)) (sym e) (w, l)
+      subst (λ (p : Phase). Written before at (textIn p m came) after next ×
+      (next + spareOf (nextIn p m came) ≤ at + 40 * (length came / 16) + spareIn p)) (sym e) (w, l)

@@ -37,11 +37,13 @@ module _ (r : HeadReader) (came : List ℕ) where
       go [] e = refl
       go (b ∷ bs) e = absurd (let q : ⊥ = omega arith in q)
 
-  pub taken-one : (length came ≡ 0 → ⊥) → {q : HeadReader} {more : Bool} → q ≡ withByte r (getD came 0 0) → more ≡ goesOn q → record { reader = q; ends = not more } ≡ takenOf r came
+  pub taken-one : (length came ≡ 0 → ⊥) → {q : HeadReader} {more : Bool} → q ≡ withByte r (getD came 0 0) → more ≡ goesOn q
+      → record { reader = q; ends = not more } ≡ takenOf r came
   unfolding takenOf
   taken-one = go came
     where
-      go : (came : List ℕ) → (length came ≡ 0 → ⊥) → {q : HeadReader} {more : Bool} → q ≡ withByte r (getD came 0 0) → more ≡ goesOn q → record { reader = q; ends = not more } ≡ takenOf r came
+      go : (came : List ℕ) → (length came ≡ 0 → ⊥) → {q : HeadReader} {more : Bool} → q ≡ withByte r (getD came 0 0) → more ≡ goesOn q
+          → record { reader = q; ends = not more } ≡ takenOf r came
       go [] n e f = absurd (n refl)
       go (b ∷ bs) n e f = rw (f, e)
 
@@ -72,19 +74,22 @@ turns-ended true = refl
 turns-ended false = refl
 
 -- what holds before rows that a head declares, and at the end, holds behind the head
-behind-head : (P : Machine → Type 0) (r : HeadReader) → ((w h : ℕ) → Sized w h → P (inRows (across w) (across h) 0)) → P (ended false) → P (begun (headTaken r))
+behind-head : (P : Machine → Type 0) (r : HeadReader) → ((w h : ℕ) → Sized w h → P (inRows (across w) (across h) 0)) → P (ended false)
+    → P (begun (headTaken r))
 unfolding begun headTaken
 behind-head P r rows end = go (eqb (readHead taken .refusal) 0) refl
   where
     taken : List ℕ
     taken = take (r .count) (r .bytes)
 
-    go : (t : Bool) → eqb (readHead taken .refusal) 0 ≡ t → P (pick t (inRows (across (readHead taken .width)) (across (readHead taken .height)) 0) (ended false))
+    go : (t : Bool) → eqb (readHead taken .refusal) 0 ≡ t
+        → P (pick t (inRows (across (readHead taken .width)) (across (readHead taken .height)) 0) (ended false))
     go true e = rows _ _ (head-sized taken (eqb-true _ 0 e))
     go false e = end
 
 -- and what holds there and at the head with a byte more holds after each byte of the head
-after-byte : (P : Machine → Type 0) (r : HeadReader) → ((q : HeadReader) → P (begun (headTaken q))) → ((b : ℕ) → goesOn (withByte r b) ≡ true → P (atHead (withByte r b)))
+after-byte : (P : Machine → Type 0) (r : HeadReader) → ((q : HeadReader) → P (begun (headTaken q)))
+    → ((b : ℕ) → goesOn (withByte r b) ≡ true → P (atHead (withByte r b)))
     → (came : List ℕ) → P (nextIn Head (atHead r) came)
 unfolding takenOf
 after-byte P r behind more [] = behind r
@@ -98,8 +103,11 @@ after-byte P r behind more (b ∷ bs) = go (goesOn (withByte r b)) refl
 ready-next : (p : Phase) (m : Machine) (came : List ℕ) → ReadyIn p m → Ready (nextIn p m came)
 ready-next Head m came h =
     after-byte Ready (m .reader)
-    (λ q. behind-head Ready q (λ w h s. ready-rows (across w) (across h) 0 (omega (arith, s .within-wide)) (omega (arith, s .wide)) (omega (arith, s .within-high))) (ready-ended false)) (λ b e. e) came
-ready-next Row m came h = pick-either Ready (eqb (length came) _) (ready-rows _ _ _ (h .within) (h .some) (omega (arith, h .within, h .more, h .numbers))) (ready-ended false)
+    (λ q. behind-head Ready q
+    (λ w h s. ready-rows (across w) (across h) 0 (omega (arith, s .within-wide)) (omega (arith, s .wide)) (omega (arith, s .within-high)))
+    (ready-ended false)) (λ b e. e) came
+ready-next Row m came h = pick-either Ready (eqb (length came) _)
+    (ready-rows _ _ _ (h .within) (h .some) (omega (arith, h .within, h .more, h .numbers))) (ready-ended false)
 ready-next End m came h = ready-ended (eqb (length came) 0)
 ready-next Listed m came h = ready-ended true
 ready-next Refused m came h = ready-ended false
@@ -109,15 +117,25 @@ turns-next : (p : Phase) (m : Machine) (came : List ℕ) → ReadyIn p m → tur
 unfolding withByte
 turns-next Head m came h =
     after-byte (λ n. turnsOf n ≤ turnsIn Head m - 1) (m .reader)
-    (λ q. behind-head (λ n. turnsOf n ≤ turnsIn Head m - 1) q (λ w h s. turns-rows _ _ _ _ (omega (arith, s .within-high))) (omega (arith, turns-ended false)))
+    (λ q. behind-head (λ n. turnsOf n ≤ turnsIn Head m - 1) q (λ w h s. turns-rows _ _ _ _ (omega (arith, s .within-high)))
+    (omega (arith, turns-ended false)))
     (λ b e. omega (arith, goes-both (m .reader) h .0)) came
-turns-next Row m came h = pick-either (λ n. turnsOf n ≤ turnsIn Row m - 1) (eqb (length came) _) (turns-rows _ _ _ _ (omega (arith, h .more))) (omega (arith, turns-ended false))
+turns-next Row m came h = pick-either (λ n. turnsOf n ≤ turnsIn Row m - 1) (eqb (length came) _) (turns-rows _ _ _ _ (omega (arith, h .more)))
+    (omega (arith, turns-ended false))
 turns-next End m came h = omega (arith, turns-ended (eqb (length came) 0))
 turns-next Listed m came h = omega (arith, turns-ended true)
 turns-next Refused m came h = omega (arith, turns-ended false)
 
-pub nexts : (m : Machine) (came : List ℕ) → Ready m → {n : Machine} → n ≡ nextOf m came → (n ≡ nextOf m came) × (Ready n × (turnsOf n ≤ turnsOf m - 1))
-nexts m came h e = (e, (subst Ready (sym e) (ready-next (m .phase) m came h), subst (λ (n : Machine). turnsOf n ≤ turnsOf m - 1) (sym e) (turns-next (m .phase) m came h)))
+pub nexts : (m : Machine) (came : List ℕ) → Ready m → {n : Machine} → n ≡ nextOf m came
+    → (n ≡ nextOf m came) × (Ready n × (turnsOf n ≤ turnsOf m - 1))
+nexts m came h e = (
+  e,
+  (
+    subst Ready (sym e) (ready-next (m .phase) m came h),
+    subst (λ (n : Machine). turnsOf n ≤ turnsOf m - 1) (sym e)
+        (turns-next (m .phase) m came h),
+  ),
+)
 
 -- it never wants more than the buffer holds, and at the end nothing
 wanted-in : (p : Phase) (m : Machine) → ReadyIn p m → (wantedIn p (m .columns) ≤ 16384) × (wantedIn p (m .columns) ≤ 16384 * turnsIn p m)
@@ -130,7 +148,8 @@ wanted-in Refused m h = (omega arith, omega arith)
 wanted-within : (m : Machine) → Ready m → (wantedOf m ≤ 16384) × (wantedOf m ≤ 16384 * turnsOf m)
 wanted-within m h = wanted-in (m .phase) m h
 
-pub wants : (m : Machine) → Ready m → {p : Phase} {n : ℕ} → m .phase ≡ p → n ≡ wantedIn p (m .columns) → (n ≡ wantedOf m) × ((n ≤ 16384) × (n ≤ 16384 * turnsOf m))
+pub wants : (m : Machine) → Ready m → {p : Phase} {n : ℕ} → m .phase ≡ p → n ≡ wantedIn p (m .columns)
+    → (n ≡ wantedOf m) × ((n ≤ 16384) × (n ≤ 16384 * turnsOf m))
 wants m h {p} {n} at e =
     let q : n ≡ wantedOf m = e ∙ sym (ap (λ (p : Phase). wantedIn p (m .columns)) at) in
     (q, (omega (arith, q, wanted-within m h .0), omega (arith, q, wanted-within m h .1)))
@@ -196,7 +215,8 @@ all-came n s = go (leb n (length s)) refl
 
 row-step : (c k from : ℕ) (s : List ℕ) → 1 ≤ k
     → rowsListing c from k s
-    ≡ (listed from (take (16 * c) s) ++ unlessExact (eqb (length (take (16 * c) s)) (16 * c))) ++ restOf (nextInRows c k from (length (take (16 * c) s))) (drop (16 * c) s)
+    ≡ (listed from (take (16 * c) s) ++ unlessExact (eqb (length (take (16 * c) s)) (16 * c))) ++ restOf
+    (nextInRows c k from (length (take (16 * c) s))) (drop (16 * c) s)
 unfolding rowsListing
 row-step c zero from s h = absurd (not-suc-le-zero h)
 row-step c (suc k) from s h = rw (all-came (16 * c) s) (go (leb (16 * c) (length s)))
@@ -215,7 +235,8 @@ none-came : (s : List ℕ) → eqb (length (take 1 s)) 0 ≡ eqb (length s) 0
 none-came [] = refl
 none-came (b ∷ bs) = ne-eqb (suc (length (take 0 bs))) 0 (λ q. omega (arith, q)) ∙ sym (ne-eqb (suc (length bs)) 0 (λ q. omega (arith, q)))
 
-end-step : (c from : ℕ) (s : List ℕ) → rowsListing c from 0 s ≡ unlessExact (eqb (length (take 1 s)) 0) ++ restOf (ended (eqb (length (take 1 s)) 0)) (drop 1 s)
+end-step : (c from : ℕ) (s : List ℕ)
+    → rowsListing c from 0 s ≡ unlessExact (eqb (length (take 1 s)) 0) ++ restOf (ended (eqb (length (take 1 s)) 0)) (drop 1 s)
 unfolding rowsListing
 end-step c from s = rw (rest-ended, append-nil, none-came s)
 
@@ -229,7 +250,8 @@ step-in End m s h = end-step (m .columns) (m .from) s
 step-in Listed m s h = sym (rest-ended true s)
 step-in Refused m s h = sym (rest-ended false s)
 
-pub step : (m : Machine) (s : List ℕ) → Ready m → restOf m s ≡ textOf m (take (wantedOf m) s) ++ restOf (nextOf m (take (wantedOf m) s)) (drop (wantedOf m) s)
+pub step : (m : Machine) (s : List ℕ) → Ready m
+    → restOf m s ≡ textOf m (take (wantedOf m) s) ++ restOf (nextOf m (take (wantedOf m) s)) (drop (wantedOf m) s)
 unfolding restOf
 step m s h = step-in (m .phase) m s h
 
@@ -249,14 +271,17 @@ done m s h e = done-in (m .phase) m s h e
 -- a run from a state that is ready, in as many turns as it has to go
 pub runs : (k : ℕ) (m : Machine) (s : List ℕ) → turnsOf m ≤ k → Ready m → Run m s (restOf m s)
 runs zero m s l h = let e : wantedOf m ≡ 0 = omega (arith, wanted-within m h .1, l) in subst (λ (t : List ℕ). Run m s t) (sym (done m s h e)) (over e)
-runs (suc k) m s l h = go (wantedOf m) refl (λ e. runs k (nextOf m came) (drop (wantedOf m) s) (omega (arith, turns-next (m .phase) m came h, l)) (ready-next (m .phase) m came h))
+runs (suc k) m s l h = go (wantedOf m) refl
+    (λ e. runs k (nextOf m came) (drop (wantedOf m) s) (omega (arith, turns-next (m .phase) m came h, l)) (ready-next (m .phase) m came h))
   where
     came : List ℕ
     came = take (wantedOf m) s
 
-    go : (n : ℕ) → wantedOf m ≡ n → ((wantedOf m ≡ 0 → ⊥) → Run (nextOf m came) (drop (wantedOf m) s) (restOf (nextOf m came) (drop (wantedOf m) s))) → Run m s (restOf m s)
+    go : (n : ℕ) → wantedOf m ≡ n
+        → ((wantedOf m ≡ 0 → ⊥) → Run (nextOf m came) (drop (wantedOf m) s) (restOf (nextOf m came) (drop (wantedOf m) s))) → Run m s (restOf m s)
     go zero e r = subst (λ (t : List ℕ). Run m s t) (sym (done m s h e)) (over e)
-    go (suc n) e r = let some : wantedOf m ≡ 0 → ⊥ = λ z. omega (arith, e, z) in subst (λ (t : List ℕ). Run m s t) (sym (step m s h)) (turn some (r some))
+    go (suc n) e r =
+        let some : wantedOf m ≡ 0 → ⊥ = λ z. omega (arith, e, z) in subst (λ (t : List ℕ). Run m s t) (sym (step m s h)) (turn some (r some))
 
 -- a reader that wants no byte more takes none
 fed-stopped : (r : HeadReader) (s : List ℕ) → goesOn r ≡ false → fed r s ≡ r
@@ -271,12 +296,14 @@ head-taken r [] e = ap (fromHead r) (sym (drop-nil (reach (9 - r .count) (r .num
 head-taken r (b ∷ bs) e =
     let g = goes-both r e in
     let room : 9 - r .count - 1 ≡ 9 - (r .count + 1) = omega arith in
-    rw (e, reach-step (9 - r .count) (r .numbers) b bs (omega (arith, g .0)) (g .1), room) (go (goesOn (withByte r b)) refl (head-taken (withByte r b) bs))
+    rw (e, reach-step (9 - r .count) (r .numbers) b bs (omega (arith, g .0)) (g .1), room)
+    (go (goesOn (withByte r b)) refl (head-taken (withByte r b) bs))
   where
     rest : ℕ
     rest = reach (9 - withByte r b .count) (withByte r b .numbers) bs
 
-    go : (t : Bool) → goesOn (withByte r b) ≡ t → (goesOn (withByte r b) ≡ true → inHead (withByte r b) bs ≡ fromHead (fed (withByte r b) bs) (drop rest bs))
+    go : (t : Bool) → goesOn (withByte r b) ≡ t
+        → (goesOn (withByte r b) ≡ true → inHead (withByte r b) bs ≡ fromHead (fed (withByte r b) bs) (drop rest bs))
         → pick t (inHead (withByte r b) bs) (fromHead (withByte r b) bs) ≡ fromHead (fed (withByte r b) bs) (drop rest bs)
     go true q more = more q
     go false q more = sym (ap₂ fromHead (fed-stopped (withByte r b) bs q) (ap (λ (n : ℕ). drop n bs) (stops (withByte r b) bs q)))

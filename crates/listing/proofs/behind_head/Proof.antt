@@ -25,7 +25,11 @@ in-rows-requires c κs = search needs
 
 returns-2 : tie.Need-returns-2
 unfolding begun
-returns-2 c = rw (eq-eqb _ 0 (c .before .before .before .if1 .left), ← c .before .before .blocks-across .ensures, ← c .before .blocks-across2 .ensures) (c .in-rows .ensures)
+returns-2 c = rw (
+  eq-eqb _ 0 (c .before .before .before .if1 .left),
+  ← c .before .before .blocks-across .ensures,
+  ← c .before .blocks-across2 .ensures,
+) (c .in-rows .ensures)
 
 pub behind-head-spec : {M : Type 1} → statement M
 behind-head-spec =

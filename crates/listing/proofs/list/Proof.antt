@@ -50,7 +50,8 @@ returns : tie.Need-returns
 returns c =
     let told = c .before .before in
     let a = told .before .before .before .before .before .before in
-    says (a .args .machine) (a .args .came .now) (told .before .before .enum-told .given .1) (told .list-at-head .ensures .0) (omega (arith, told .list-at-head .ensures .1))
+    says (a .args .machine) (a .args .came .now) (told .before .before .enum-told .given .1) (told .list-at-head .ensures .0)
+    (omega (arith, told .list-at-head .ensures .1))
 
 same-length-2 : tie.Need-same-length-2
 same-length-2 c = search needs

@@ -25,7 +25,8 @@ returns c =
     let head = told .before .before in
     let taken = head .before .before .before in (
       rw (← taken .take-byte .ensures .0, head .before .before .if1 .taken, ← head .head-of .ensures .0) (told .list-head .ensures .0),
-      rw (← taken .take-byte .ensures .0, head .before .before .if1 .taken) (omega (arith, spare-begun (taken .take-byte .result .reader), told .list-head .ensures .1)),
+      rw (← taken .take-byte .ensures .0, head .before .before .if1 .taken)
+          (omega (arith, spare-begun (taken .take-byte .result .reader), told .list-head .ensures .1)),
     )
 
 returns-2 : tie.Need-returns-2

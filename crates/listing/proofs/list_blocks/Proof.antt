@@ -44,8 +44,12 @@ loop-less c = omega arith
 loop-again : tie.Need-loop-again Inv-loop μ-loop
 loop-again c =
     let b = c .before .before in
-    let l = b .before .before .before .before in
-    (omega arith, omega (arith, b .list-block .ensures .1), lines-more _ _ _ _ (l .loop .k) (l .loop .inv .2) (rw (b .before .before .load .ensures) at (b .list-block .ensures .0)))
+    let l = b .before .before .before .before in (
+      omega arith,
+      omega (arith, b .list-block .ensures .1),
+      lines-more _ _ _ _ (l .loop .k) (l .loop .inv .2)
+          (rw (b .before .before .load .ensures) at (b .list-block .ensures .0)),
+    )
 
 same-length : tie.Need-same-length Inv-loop μ-loop
 same-length c = written-long (c .before .loop .inv .2)

@@ -21,8 +21,11 @@ same-length c = search needs
 returns : tie.Need-returns
 returns c =
     let refused = c .before .before in
-    let lines = refused .before .before .before .before in
-    (written-then (lines .list-blocks .ensures .0) (refused .refuse-unless .ensures .0), omega (arith, refused .refuse-unless .ensures .1, lines .list-blocks .ensures .1))
+    let lines = refused .before .before .before .before in (
+      written-then (lines .list-blocks .ensures .0) (refused .refuse-unless .ensures .0),
+      omega
+          (arith, refused .refuse-unless .ensures .1, lines .list-blocks .ensures .1),
+    )
 
 pub list-row-spec : {M : Type 1} → statement M
 list-row-spec =

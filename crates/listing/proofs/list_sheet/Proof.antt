@@ -16,7 +16,8 @@ abbrev μ-loop : tie.MeasureT-loop
 
 -- what is cut out of the sheet
 ends : (c : tie.After-end-of Inv-loop μ-loop)
-    → NextEnd (c .before .before .before .before .loop .at) (wantedOf (c .before .before .before .before .loop .machine)) (length (c .before .before .before .before .before .before .before .before .args .sheet .now)) (c .end-of .result)
+    → NextEnd (c .before .before .before .before .loop .at) (wantedOf (c .before .before .before .before .loop .machine))
+    (length (c .before .before .before .before .before .before .before .before .args .sheet .now)) (c .end-of .result)
 ends c = rw (c .before .wanted2 .ensures .0) at (c .end-of .ensures)
 
 start-requires : tie.Need-start-requires Inv-loop μ-loop
@@ -59,10 +60,17 @@ next-requires : tie.Need-next-requires Inv-loop μ-loop
 next-requires c κs = c .before .before .before .before .before .before .before .before .before .before .loop .inv .ready
 
 loop-less : tie.Need-loop-less Inv-loop μ-loop
-loop-less c = omega (arith, c .next .ensures .1 .1, c .before .before .before .before .before .before .before .before .before .before .wanted .ensures .1 .1, c .before .before .before .before .before .before .before .before .before .if1 .taken)
+loop-less c = omega (
+  arith,
+  c .next .ensures .1 .1,
+  c .before .before .before .before .before .before .before .before .before .before .wanted .ensures .1 .1,
+  c .before .before .before .before .before .before .before .before .before .if1 .taken,
+)
 
 loop-again : tie.Need-loop-again Inv-loop μ-loop
-loop-again c = fed-turn (c .before .before .before .before .before .before .before .before .before .before .before .loop .inv) (ends (c .before .before .before .before .before .before .before)) (c .before .before .before .before .list .ensures .0) (c .before .before .before .before .list .ensures .1) (c .next .ensures .0) (c .next .ensures .1 .0)
+loop-again c = fed-turn (c .before .before .before .before .before .before .before .before .before .before .before .loop .inv)
+    (ends (c .before .before .before .before .before .before .before)) (c .before .before .before .before .list .ensures .0)
+    (c .before .before .before .before .list .ensures .1) (c .next .ensures .0) (c .next .ensures .1 .0)
 
 same-length : tie.Need-same-length Inv-loop μ-loop
 same-length c = c .before .before .loop .inv .long

@@ -12,13 +12,15 @@ enum-told : tie.Need-enum-told
 enum-told c = search needs
 
 next-at-head-requires : tie.Need-next-at-head-requires
-next-at-head-requires c κs = let a = c .before .before .before in subst (λ (p : Phase). ReadyIn p (a .args .machine)) (c .enum-told .given .1) (a .pre)
+next-at-head-requires c κs =
+    let a = c .before .before .before in subst (λ (p : Phase). ReadyIn p (a .args .machine)) (c .enum-told .given .1) (a .pre)
 
 enum-told-2 : tie.Need-enum-told-2
 enum-told-2 c = search needs
 
 next-in-rows-requires : tie.Need-next-in-rows-requires
-next-in-rows-requires c κs = let a = c .before .before .before in subst (λ (p : Phase). ReadyIn p (a .args .machine)) (c .enum-told2 .given .1) (a .pre)
+next-in-rows-requires c κs =
+    let a = c .before .before .before in subst (λ (p : Phase). ReadyIn p (a .args .machine)) (c .enum-told2 .given .1) (a .pre)
 
 enum-told-3 : tie.Need-enum-told-3
 enum-told-3 c = search needs
@@ -41,27 +43,32 @@ stopped-requires-3 c κs = search needs
 returns : tie.Need-returns
 returns c =
     let a = c .before .before .before .before in
-    nexts (a .args .machine) (a .args .came .now) (a .pre) (c .next-at-head .ensures ∙ sym (ap (λ (p : Phase). nextIn p (a .args .machine) (a .args .came .now)) (c .before .enum-told .given .1)))
+    nexts (a .args .machine) (a .args .came .now) (a .pre)
+    (c .next-at-head .ensures ∙ sym (ap (λ (p : Phase). nextIn p (a .args .machine) (a .args .came .now)) (c .before .enum-told .given .1)))
 
 returns-2 : tie.Need-returns-2
 returns-2 c =
     let a = c .before .before .before .before in
-    nexts (a .args .machine) (a .args .came .now) (a .pre) (c .next-in-rows .ensures ∙ sym (ap (λ (p : Phase). nextIn p (a .args .machine) (a .args .came .now)) (c .before .enum-told2 .given .1)))
+    nexts (a .args .machine) (a .args .came .now) (a .pre)
+    (c .next-in-rows .ensures ∙ sym (ap (λ (p : Phase). nextIn p (a .args .machine) (a .args .came .now)) (c .before .enum-told2 .given .1)))
 
 returns-3 : tie.Need-returns-3
 returns-3 c =
     let a = c .before .before .before .before in
-    nexts (a .args .machine) (a .args .came .now) (a .pre) (c .stopped .ensures ∙ sym (ap (λ (p : Phase). nextIn p (a .args .machine) (a .args .came .now)) (c .before .enum-told3 .given .1)))
+    nexts (a .args .machine) (a .args .came .now) (a .pre)
+    (c .stopped .ensures ∙ sym (ap (λ (p : Phase). nextIn p (a .args .machine) (a .args .came .now)) (c .before .enum-told3 .given .1)))
 
 returns-4 : tie.Need-returns-4
 returns-4 c =
     let a = c .before .before .before .before in
-    nexts (a .args .machine) (a .args .came .now) (a .pre) (c .stopped2 .ensures ∙ sym (ap (λ (p : Phase). nextIn p (a .args .machine) (a .args .came .now)) (c .before .enum-told4 .given .1)))
+    nexts (a .args .machine) (a .args .came .now) (a .pre)
+    (c .stopped2 .ensures ∙ sym (ap (λ (p : Phase). nextIn p (a .args .machine) (a .args .came .now)) (c .before .enum-told4 .given .1)))
 
 returns-5 : tie.Need-returns-5
 returns-5 c =
     let a = c .before .before .before .before in
-    nexts (a .args .machine) (a .args .came .now) (a .pre) (c .stopped3 .ensures ∙ sym (ap (λ (p : Phase). nextIn p (a .args .machine) (a .args .came .now)) (c .before .enum-told5 .given .1)))
+    nexts (a .args .machine) (a .args .came .now) (a .pre)
+    (c .stopped3 .ensures ∙ sym (ap (λ (p : Phase). nextIn p (a .args .machine) (a .args .came .now)) (c .before .enum-told5 .given .1)))
 
 pub next-spec : {M : Type 1} → statement M
 next-spec =

@@ -16,7 +16,11 @@ same-length : tie.Need-same-length
 same-length c = search needs
 
 returns-2 : tie.Need-returns-2
-returns-2 c = (rw (c .before .before .before .before .if1 .left) (c .before .before .refused-line .ensures .0), rw (c .before .before .before .before .if1 .left) (omega arith))
+returns-2 c = (
+  rw (c .before .before .before .before .if1 .left) (c .before .before .refused-line .ensures .0),
+  rw
+      (c .before .before .before .before .if1 .left) (omega arith),
+)
 
 pub refuse-unless-spec : {M : Type 1} → statement M
 refuse-unless-spec = tie.close (tie.spec returns refused-line-requires same-length returns-2)

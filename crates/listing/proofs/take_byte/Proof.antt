@@ -21,7 +21,10 @@ goes-on-requires : tie.Need-goes-on-requires
 goes-on-requires c κs = search needs
 
 returns-2 : tie.Need-returns-2
-returns-2 c = (taken-one _ _ (c .before .before .before .if1 .left) (c .before .with-byte .ensures .0) (c .goes-on .ensures), c .before .with-byte .ensures .1 .1)
+returns-2 c = (
+  taken-one _ _ (c .before .before .before .if1 .left) (c .before .with-byte .ensures .0) (c .goes-on .ensures),
+  c .before .with-byte .ensures .1 .1,
+)
 
 pub take-byte-spec : {M : Type 1} → statement M
 take-byte-spec =

@@ -31,7 +31,8 @@ array-share-prefix-text : tie.Need-array-share-prefix-text
 array-share-prefix-text c = search needs
 
 slice-aggregate-write-all : tie.Need-slice-aggregate-write-all
-slice-aggregate-write-all c = let listed = c .before .before .before in sym (length-take-le (listed .list-sheet .result) (listed .list-sheet .last .1 .0) (search needs))
+slice-aggregate-write-all c =
+    let listed = c .before .before .before in sym (length-take-le (listed .list-sheet .result) (listed .list-sheet .last .1 .0) (search needs))
 
 write-all-requires : tie.Need-write-all-requires
 write-all-requires c κs = search needs

@@ -55,7 +55,15 @@ list-requires c κs =
     let w = c .before .before .before .before .before .before .before .before .wanted2 .ensures in (
       l .inv .0,
       simp (length-take, length-drop) (omega (arith, w .0, c .before .before .before .before .before .before .read-wanted .ensures .0)),
-      simp (length-take, length-drop) (omega (arith, w .1 .0, c .before .before .before .before .before .before .read-wanted .ensures .0, spare-most (l .machine), l .inv .2, c .before .before .before .before .before .before .before .before .before .before .before .before .before .before .before .pre .1)),
+      simp (length-take, length-drop)
+          (omega (
+            arith,
+            w .1 .0,
+            c .before .before .before .before .before .before .read-wanted .ensures .0,
+            spare-most (l .machine),
+            l .inv .2,
+            c .before .before .before .before .before .before .before .before .before .before .before .before .before .before .before .pre .1,
+          )),
     )
 
 write-whole-requires : tie.Need-write-whole-requires Inv-loop μ-loop
@@ -89,8 +97,12 @@ loop-less c = search needs
 
 loop-again : tie.Need-loop-again Inv-loop μ-loop
 loop-again c =
-    let l = c .before .before .before .before .before .before .before .before .before .before .before .before .before .before .before .before .before .before .before .before .loop in
-    (c .next .ensures .1 .0, omega (arith, c .before .before .before .before .before .before .before .before .before .before .before .before .before .before .before .read-wanted .ensures .1, l .inv .1), omega (arith, written-long (c .before .before .before .before .before .before .before .before .list .ensures .0), l .inv .2))
+    let l = c .before .before .before .before .before .before .before .before .before .before .before .before .before .before .before .before .before .before .before .before .loop in (
+      c .next .ensures .1 .0,
+      omega
+          (arith, c .before .before .before .before .before .before .before .before .before .before .before .before .before .before .before .read-wanted .ensures .1, l .inv .1),
+      omega (arith, written-long (c .before .before .before .before .before .before .before .before .list .ensures .0), l .inv .2),
+    )
 
 enum-told : tie.Need-enum-told Inv-loop μ-loop
 enum-told c = search needs

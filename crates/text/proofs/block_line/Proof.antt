@@ -41,7 +41,8 @@ returns c =
     let mode = drawn .before .before .before .before in
     let number = mode .before .before .before .before in
     let told = written-then (written-then (number .put-number .ensures .0) (mode .put-spaced .ensures .0)) (drawn .put-pixel .ensures .0) in
-    let marked = written-then (written-then told (space .put .ensures .0)) (rw (space .before .before .opacity-mark .ensures) at (mark .put2 .ensures .0)) in
+    let marked = written-then (written-then told (space .put .ensures .0))
+    (rw (space .before .before .opacity-mark .ensures) at (mark .put2 .ensures .0)) in
     (written-then marked (ended .put3 .ensures .0), omega arith)
 
 pub block-line-spec : {M : Type 1} → statement M

@@ -52,7 +52,8 @@ returns-3 c =
     let ten = one .before .before .before .before in
     let hundred = ten .before .before .before .before in
     let n = hundred .before .before .before .before .before .before .args .n in (
-      rw (three-digits n (omega arith) (omega arith)) (written-then (written-then (hundred .put-digit4 .ensures .0) (ten .put-digit5 .ensures .0)) (one .put-digit6 .ensures .0)),
+      rw (three-digits n (omega arith) (omega arith))
+          (written-then (written-then (hundred .put-digit4 .ensures .0) (ten .put-digit5 .ensures .0)) (one .put-digit6 .ensures .0)),
       omega arith,
     )
 
@@ -64,8 +65,10 @@ same-length-4 c = search needs
 
 returns-4 : tie.Need-returns-4
 returns-4 c =
-    let four = c .before .before in
-    (rw (four-digits (four .before .before .before .before .before .before .args .n) (omega arith) (omega arith)) (four .put-last-four .ensures .0), omega arith)
+    let four = c .before .before in (
+      rw (four-digits (four .before .before .before .before .before .before .args .n) (omega arith) (omega arith)) (four .put-last-four .ensures .0),
+      omega arith,
+    )
 
 pub put-few-spec : {M : Type 1} → statement M
 put-few-spec =

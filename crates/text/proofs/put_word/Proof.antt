@@ -25,7 +25,12 @@ add-out : tie.Need-add-out Inv-loop μ-loop
 add-out c = omega arith
 
 slice-write-out : tie.Need-slice-write-out Inv-loop μ-loop
-slice-write-out c = omega (arith, ap length (c .before .before .loop .inv .1), length-sets (c .before .before .before .args .out .now) (c .before .before .before .args .at) (take (c .before .before .loop .i) (c .before .before .before .args .word .now)))
+slice-write-out c = omega (
+  arith,
+  ap length (c .before .before .loop .inv .1),
+  length-sets (c .before .before .before .args .out .now)
+      (c .before .before .before .args .at) (take (c .before .before .loop .i) (c .before .before .before .args .word .now)),
+)
 
 add-i : tie.Need-add-i Inv-loop μ-loop
 add-i c = omega arith
@@ -44,8 +49,14 @@ same-length c = ap length (c .before .loop .inv .1) ∙ simp length-sets
 
 returns : tie.Need-returns Inv-loop μ-loop
 returns c =
-    let a = c .before .before .args in
-    (record { bytes = c .before .loop .inv .1 ∙ ap (sets (a .out .now) (a .at)) (take-all (c .before .loop .i) (a .word .now) (omega arith)); ends = omega arith }, omega arith)
+    let a = c .before .before .args in (
+      record {
+        bytes = c .before .loop .inv .1 ∙ ap (sets (a .out .now) (a .at))
+            (take-all (c .before .loop .i) (a .word .now) (omega arith));
+        ends = omega arith;
+      },
+      omega arith,
+    )
 
 pub put-word-spec : {M : Type 1} → statement M
 put-word-spec =

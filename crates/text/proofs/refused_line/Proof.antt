@@ -26,8 +26,11 @@ returns : tie.Need-returns
 unfolding refusedLine ascii
 returns c =
     let ended = c .before .before in
-    let number = ended .before .before .before .before in
-    (written-then (written-then (number .before .before .before .before .put-word .ensures .0) (number .put-spaced .ensures .0)) (ended .put .ensures .0), omega arith)
+    let number = ended .before .before .before .before in (
+      written-then (written-then (number .before .before .before .before .put-word .ensures .0) (number .put-spaced .ensures .0))
+          (ended .put .ensures .0),
+      omega arith,
+    )
 
 pub refused-line-spec : {M : Type 1} → statement M
 refused-line-spec =

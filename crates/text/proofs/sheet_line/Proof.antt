@@ -35,7 +35,8 @@ returns c =
     let high = ended .before .before .before .before in
     let space = high .before .before .before .before in
     let wide = space .before .before .before .before in
-    let told = written-then (written-then (wide .before .before .before .before .put-word .ensures .0) (wide .put-number .ensures .0)) (space .put .ensures .0) in
+    let told = written-then (written-then (wide .before .before .before .before .put-word .ensures .0) (wide .put-number .ensures .0))
+    (space .put .ensures .0) in
     (written-then (written-then told (high .put-number2 .ensures .0)) (ended .put2 .ensures .0), omega arith)
 
 pub sheet-line-spec : {M : Type 1} → statement M
