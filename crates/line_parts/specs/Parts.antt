@@ -81,13 +81,13 @@ abbrev pub asGiven : Replacement → ℕ → Stored
 asGiven g x = record { endpoints = g .endpoints; p = g .p; indexes = x }
 
 abbrev pub turnedRound : Replacement → ℕ → Stored
-turnedRound g x = record {
-  endpoints =
-      getD (g .endpoints) 4 0 ∷ getD (g .endpoints) 5 0 ∷ getD (g .endpoints) 6 0 ∷ getD (g .endpoints) 7 0 ∷ getD (g .endpoints) 0 0 ∷ getD (g .endpoints) 1 0 ∷ getD (g .endpoints) 2 0
-      ∷ getD (g .endpoints) 3 0 ∷ [];
-  p = getD (g .p) 1 0 ∷ getD (g .p) 0 0 ∷ [];
-  indexes = x;
-}
+turnedRound g x =
+    let e : ℕ → ℕ = λ i. getD (g .endpoints) i 0 in
+    record {
+      endpoints = e 4 ∷ e 5 ∷ e 6 ∷ e 7 ∷ e 0 ∷ e 1 ∷ e 2 ∷ e 3 ∷ [];
+      p = getD (g .p) 1 0 ∷ getD (g .p) 0 0 ∷ [];
+      indexes = x;
+    }
 
 unfoldable pub storedAs : LinePart → Replacement → ℕ → ℕ → Stored
 storedAs part g x mask = pick (eqb (field x (part .anchor * part .index + (part .index - 1)) 1) 0) (asGiven g x) (turnedRound g (mask - x))
