@@ -6,16 +6,16 @@ ghost use lib.ListN.{replicate};
 ghost use Rattle.format.specs.Block.{modeOf};
 ghost use Rattle.record_rules.specs.Records.{packed, packedAs, recordOf, taken, zeroRecord};
 ghost use Rattle.record_widths.specs.Rows.{rowOf};
-use crate::reading::mode_of;
-use crate::reading::parts_of;
-use crate::reading::read_endpoints;
-use crate::reading::read_indexes;
-use crate::reading::read_p;
-use crate::reading::read_second;
-use crate::reading::read_split;
-use crate::writing::anchors_fit;
-use crate::writing::record_fits;
-use crate::writing::write_record;
+use record_reading::mode_of;
+use record_reading::parts_of;
+use record_reading::read_endpoints;
+use record_reading::read_indexes;
+use record_reading::read_p;
+use record_reading::read_second;
+use record_reading::read_split;
+use record_fits::anchors_fit;
+use record_fits::record_fits;
+use record_writing::write_record;
 use bcn_util::stream::BitStream;
 use format::Split;
 use record_places::splits::kind_of;
@@ -25,9 +25,6 @@ use record_rules::Unpacked;
 use record_widths::ModeRow;
 use record_widths::anchors_of;
 use record_widths::mode_row;
-
-pub mod reading;
-pub mod writing;
 
 // What a refused block answers.
 fn zero_record() -> Record

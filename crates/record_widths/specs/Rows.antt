@@ -45,6 +45,12 @@ pixelsOf x = x .a ∷ x .b ∷ x .c ∷ []
 abbrev pub anchorsOf : Split → Anchors
 anchorsOf s = record { a = getD (anchors s) 0 0; b = getD (anchors s) 1 0; c = getD (anchors s) 2 0 }
 
+-- the anchors are pixels
+pub record Pixels (a : Anchors) : Type 0 where
+  pub first : a .a < 16
+  pub second : a .b < 16
+  pub third : a .c < 16
+
 abbrev pub noAnchors : Anchors
 noAnchors = record { a = 16; b = 16; c = 16 }
 

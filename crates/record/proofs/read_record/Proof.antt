@@ -1,7 +1,7 @@
 -- `read_record` meets its contract.
 -- Assumes nothing.
-use mathlib.Core.Path.{_≡_, ap, _∙_}
-use Prim.Native.Nat.{ℕ, _+_, _≤_}
+use mathlib.Core.Path.{_≡_}
+use Prim.Native.Nat.{ℕ, _+_}
 use native.Mathlib.Omega.{arith}
 use mir.Syntax.{w8}
 use mir.Val.{Fits}
@@ -13,8 +13,8 @@ use Rattle.format.proofs.Subsets.{sixteen-bytes}
 use Rattle.bcn_util.proofs.On.{On}
 use Rattle.record_widths.specs.Rows.{OfMode}
 use Rattle.record_widths.proofs.Bounds.{small}
-use Rattle.record.proofs.Heads.{marker-on}
-use Rattle.record.proofs.Standing.{first-room, p-room, partition-64, record-read, rise, second-room, the-split, values-room}
+use Rattle.record_reading.proofs.Heads.{marker-on}
+use Rattle.record_reading.proofs.Standing.{first-room, p-room, partition-64, record-read, rise, second-room, the-split, values-room}
 use borrow.Author.Needs.{needs}
 use Rattle.record.proofs.read_record.Statement.{statement}
 use Rattle.record.proofs.read_record.Tie as tie
