@@ -74,7 +74,7 @@ module _ (m : ℕ) (s : Split) where
       go true e = h x (has-parts l x e .0)
       go false e = refl
 
-  line-from : (l : ℕ) (f g : Place → ℕ) → ((x : Place) → own m s l f x ≡ own m s l g x) → lineOf m s l f ≡ lineOf m s l g
+  pub line-from : (l : ℕ) (f g : Place → ℕ) → ((x : Place) → own m s l f x ≡ own m s l g x) → lineOf m s l f ≡ lineOf m s l g
   unfolding lineOf
   line-from l f g h =
       λ i. record { value = λ k c. h (valuePlace s l k c) i; p = λ k. h (pPlace m l k) i; index = λ q. h (indexPlace s l q) i }

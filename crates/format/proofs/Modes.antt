@@ -1,13 +1,15 @@
 -- What the table of modes says of the two kinds of split: by vector, or by subsets.
 -- Assumes nothing.
 use mathlib.Core.Path.{_≡_, refl, sym, _∙_, subst}
-use mathlib.Core.Logic.{_≢_}
+use mathlib.Core.Logic.{_≢_, _⊎_, inl, inr, ⊎-elim}
 use mathlib.Core.Bool.{Bool, true, false, not}
-use mathlib.Core.List.{[], _∷_}
+use mathlib.Core.List.{List, [], _∷_}
 use Prim.Native.Nat.{ℕ, zero, suc, _*_, _^_, _≤_, _<_}
 use native.Mathlib.Nat.{lt-of-lt-of-le}
 use native.Mathlib.Omega.{arith}
-use lib.Dec.{T, eqb, eqb→eq, leb, leb→le}
+use borrow.Author.Tests.{eq-eqb}
+use lib.Dec.{T, eqb, eqb→eq, leb, leb→le, lit<, ltb, ltb→lt}
+use lib.ListN.{getD}
 use lib.Pow.{pow-mono}
 use Rattle.format.specs.declared.Split.{Split}
 use Rattle.format.specs.declared.Split.the-variants.{Whole, Two, Three, Vector}
@@ -171,3 +173,47 @@ the-anchor (Three a) q l hp hq t e =
     (at 16 (λ q. implies (among q (anchors3 a)) (eqb q (firstIn (subset3 a) (subset3 a q) (anchors3 a))))
     (at 64 (λ a. below 16 (λ q. implies (among q (anchors3 a)) (eqb q (firstIn (subset3 a) (subset3 a q) (anchors3 a))))) anchors-3 a hp) q hq) t))
 the-anchor (Vector r i) q l hp hq t e = only-zero q l t
+
+-- the anchor of a line is an anchor, and a pixel
+pub anchor-is : (s : Split) (l : ℕ) → T (among (anchorOf s l) (anchors s))
+unfolding anchorOf anchors2 anchors3
+anchor-is s l = go s
+  where
+    or-right : (b c : Bool) → T c → T (or b c)
+    or-right true c t = tt
+    or-right false c t = t
+
+    found : (sub : ℕ → ℕ) (xs : List ℕ) → (firstIn sub l xs ≡ 0) ⊎ T (among (firstIn sub l xs) xs)
+    found sub [] = inl refl
+    found sub (a ∷ rest) = here (eqb (sub a) l) (found sub rest)
+      where
+        here : (b : Bool) → (firstIn sub l rest ≡ 0) ⊎ T (among (firstIn sub l rest) rest) → (pick b a (firstIn sub l rest) ≡ 0) ⊎ T (among (pick b a (firstIn sub l rest)) (a ∷ rest))
+        here true e = inr (rw (eq-eqb a a refl) tt)
+        here false (inl e) = inl e
+        here false (inr t) = inr (or-right (eqb (firstIn sub l rest) a) _ t)
+
+    with-0 : (sub : ℕ → ℕ) (rest : List ℕ) → T (among (firstIn sub l (0 ∷ rest)) (0 ∷ rest))
+    with-0 sub rest = ⊎-elim (λ e. rw e tt) (λ t. t) (found sub (0 ∷ rest))
+
+    go : (s : Split) → T (among (firstIn (subset s) l (anchors s)) (anchors s))
+    go Whole = with-0 (λ q. 0) []
+    go (Two a) = with-0 (subset2 a) (marks 0 (getD strings2 a ""))
+    go (Three a) = with-0 (subset3 a) (marks 0 (getD strings3 a ""))
+    go (Vector r i) = with-0 (λ q. 0) []
+
+lines-2 : T (below 64 (λ a. below 3 (λ l. ltb (firstIn (subset2 a) l (anchors2 a)) 16)))
+unfolding digits marks strings2 subset2 anchors2
+lines-2 = tt
+
+lines-3 : T (below 64 (λ a. below 3 (λ l. ltb (firstIn (subset3 a) l (anchors3 a)) 16)))
+unfolding digits marks strings3 subset3 anchors3
+lines-3 = tt
+
+pub anchor-lt : (s : Split) (l : ℕ) → partition s < 64 → l < 3 → anchorOf s l < 16
+unfolding anchorOf
+anchor-lt Whole l hp hl = rw (first-only l) (lit< tt)
+anchor-lt (Two a) l hp hl =
+    ltb→lt _ 16 (at 3 (λ l. ltb (firstIn (subset2 a) l (anchors2 a)) 16) (at 64 (λ a. below 3 (λ l. ltb (firstIn (subset2 a) l (anchors2 a)) 16)) lines-2 a hp) l hl)
+anchor-lt (Three a) l hp hl =
+    ltb→lt _ 16 (at 3 (λ l. ltb (firstIn (subset3 a) l (anchors3 a)) 16) (at 64 (λ a. below 3 (λ l. ltb (firstIn (subset3 a) l (anchors3 a)) 16)) lines-3 a hp) l hl)
+anchor-lt (Vector r i) l hp hl = rw (first-only l) (lit< tt)

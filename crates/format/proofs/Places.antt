@@ -1,8 +1,9 @@
 -- The places and their stored order, and the total width.
 -- Assumes nothing.
 use mathlib.Core.Path.{_≡_, refl, sym, ap, ap₂, _∙_}
-use mathlib.Core.List.{List}
-use Prim.Native.Nat.{ℕ, zero, suc, _+_, _-_, _*_, _/_, _%_, _^_, _<_}
+use mathlib.Core.List.{List, []}
+use Prim.Native.Nat.{ℕ, zero, suc, _+_, _-_, _*_, _/_, _%_, _^_, _≤_, _<_}
+use native.Mathlib.Nat.{le-refl}
 use native.Mathlib.Omega.{arith}
 use borrow.Author.Tests.{lt-ltb, le-ltb}
 use lib.Dec.{T, eqb, eqb→eq, ltb, ltb→lt, lt→ltb}
@@ -12,13 +13,14 @@ use Rattle.format.specs.declared.Split.{Split}
 use Rattle.format.specs.declared.Split.the-variants.{Whole, Two, Three, Vector}
 use Rattle.laws.specs.Digits.{Fit, total}
 use Rattle.laws.specs.Tables.{below, table, tableFrom}
+use Rattle.laws.proofs.Cases.{pick-less}
 use Rattle.laws.proofs.Fitting.{fit-get}
 use Rattle.laws.proofs.Joining.{table-same}
 use Rattle.laws.proofs.Part.{getD-table, length-table}
 use Rattle.laws.proofs.Rows.{fit-table}
 use Rattle.laws.proofs.Tests.{at, both-intro, both-left, both-right}
-use Rattle.format.specs.Modes.{endpointCount, kindOfMode, modeRow, partitionBits}
-use Rattle.format.specs.Partitions.{anchors2, anchors3, digits, marks, strings2, strings3}
+use Rattle.format.specs.Modes.{endpointCount, indexBits, kindOfMode, modeRow, partitionBits}
+use Rattle.format.specs.Partitions.{among, anchors2, anchors3, digits, marks, strings2, strings3}
 use Rattle.format.specs.Places.{Place, head, index, inside, listOf, pbit, placeAt, pos, value, width, widths}
 use Rattle.format.specs.Splits.{anchors, indexMode, kindOf, ofKind, partition, rotation}
 
@@ -66,6 +68,9 @@ pub inside-placeAt : (i : ℕ) → i < 66 → T (inside (placeAt i))
 unfolding placeAt
 inside-placeAt i h = at 66 (λ i. inside (placeAt i)) tt i h
 
+pub pos-one : (x y : Place) → T (inside x) → T (inside y) → pos x ≡ pos y → x ≡ y
+pos-one x y hx hy e = sym (placeAt-pos x hx) ∙ ap placeAt e ∙ placeAt-pos y hy
+
 -- a list by its places, and back
 pub at-list : (f : Place → ℕ) (x : Place) → T (inside x) → getD (listOf f) (pos x) 0 ≡ f x
 unfolding listOf
@@ -94,6 +99,14 @@ fit-at m s vs f x h = rw (getD-table 66 (λ i. width m (anchors s) (placeAt i)) 
 pub length-widths : (m : ℕ) (s : Split) → length (widths m s) ≡ 66
 unfolding widths
 length-widths m s = length-table 66 _
+
+-- an anchor's width is no more than the full one
+pub width-le : (m : ℕ) (an : List ℕ) (x : Place) → width m an x ≤ width m [] x
+unfolding width
+width-le m an (head k) = le-refl _
+width-le m an (value c e) = le-refl _
+width-le m an (pbit k) = le-refl _
+width-le m an (index a q) = pick-less (among q an) (indexBits m a)
 
 -- the total
 all-128 : T (below 8 (λ m. below (2 ^ partitionBits m) (λ a. eqb (total (widths m (ofKind (kindOfMode m) a 0 0))) 128)))

@@ -1,15 +1,17 @@
 -- What code needs: each place as a field of the number, where it starts, and how the next one starts.
 -- Assumes nothing.
 use mathlib.Core.Path.{_≡_, sym, ap, ap₂, _∙_}
+use mathlib.Core.Logic.{⊎-elim}
 use mathlib.Core.List.{[], _∷_}
 use Prim.Native.Nat.{ℕ, suc, _+_, _/_, _%_, _^_, _<_, _≤_}
-use native.Mathlib.Nat.{le-of-lt}
+use native.Mathlib.Nat.{eq-or-lt-of-le, le-of-lt, le-refl}
+use native.Mathlib.Omega.{arith}
 use lib.Dec.{T, eqb, eqb→eq}
 use lib.ListN.{getD, take}
 use Rattle.format.specs.declared.Split.{Split}
 use Rattle.laws.specs.Digits.{total}
 use Rattle.laws.specs.Tables.{table, tableFrom}
-use Rattle.laws.proofs.Rows.{digit, take-table, total-more}
+use Rattle.laws.proofs.Rows.{digit, take-table, total-more, total-room}
 use Rattle.laws.proofs.Tests.{at}
 use Rattle.format.specs.Modes.{endpointCount, modeRow}
 use Rattle.format.specs.Places.{Place, atPlace, inside, placeAt, pos, width, widths}
@@ -33,6 +35,13 @@ at-field m s n x h =
 
 pub start-next : (m : ℕ) (s : Split) (i : ℕ) → i < 66 → start m s (suc i) ≡ start m s i + width m (anchors s) (placeAt i)
 start-next m s i h = start-is m s (suc i) h ∙ total-more i _ ∙ ap (λ (b : ℕ). b + width m (anchors s) (placeAt i)) (sym (start-is m s i (le-of-lt h)))
+
+-- what stands before a place ends where that starts
+pub start-room : (m : ℕ) (s : Split) (i j : ℕ) → i < j → j ≤ 66 → start m s i + width m (anchors s) (placeAt i) ≤ start m s j
+start-room m s i j h l = rw (start-is m s i (omega arith), start-is m s j l) (total-room (λ k. width m (anchors s) (placeAt k)) i j h)
+
+pub start-le : (m : ℕ) (s : Split) (i j : ℕ) → i ≤ j → j ≤ 66 → start m s i ≤ start m s j
+start-le m s i j h l = ⊎-elim (λ e. rw e (le-refl (start m s j))) (λ k. omega (arith, start-room m s i j k l)) (eq-or-lt-of-le h)
 
 -- the indexes start at a bit that goes by the mode alone
 pub index-start : (m : ℕ) (s : Split) → m < 8 → start m s 34 ≡ getD (83 ∷ 82 ∷ 99 ∷ 98 ∷ 50 ∷ 66 ∷ 65 ∷ 98 ∷ []) m 0

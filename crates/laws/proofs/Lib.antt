@@ -12,5 +12,6 @@ pub mod Rows
 pub mod Padding
 pub mod Fitting
 pub mod Putting
+pub mod Replacing
 pub mod Masks
 pub mod Lanes

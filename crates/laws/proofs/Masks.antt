@@ -9,6 +9,9 @@ use native.Mathlib.Omega.{arith}
 use lib.Pow.{pow-pos, pow-add, high, low, shr-mod, shr-shr, mod-pow-add, split as split-at, shl-shr}
 use lib.Bits.{bitAnd, and-high}
 use Rattle.laws.specs.Digits.{Fit, inserted, join, more, none, removed, total}
+use Rattle.laws.specs.Tables.{table}
+use Rattle.laws.proofs.Putting.{ands}
+use Rattle.laws.proofs.Rows.{table-cons, table-none}
 
 -- what a byte of j + w bits has above w bits is what the mask leaves of it
 pub over : (j w : ℕ) (v : ℕ) → v < 2 ^ (j + w) → bitAnd v (2 ^ (j + w) - 2 ^ w) ≡ v / 2 ^ w * 2 ^ w
@@ -27,6 +30,15 @@ join-plus (more {w = w} {v = x} {ws = ws} {vs = xs} h f) (more {v = y} {vs = ys}
     let e : join ws (plus xs ys) ≡ join ws xs + join ws ys = join-plus f g in
     let d : (join ws xs + join ws ys) * 2 ^ w ≡ join ws xs * 2 ^ w + join ws ys * 2 ^ w = add-mul (join ws xs) (join ws ys) (2 ^ w) in
     ap (λ (z : ℕ). z * 2 ^ w + (x + y)) e ∙ ap (λ (z : ℕ). z + (x + y)) d ∙ omega arith
+
+-- both, of rows that are tables
+pub plus-table : (n : ℕ) (a b : ℕ → ℕ) → plus (table n a) (table n b) ≡ table n (λ k. a k + b k)
+plus-table zero a b = rw (table-none a, table-none (λ k. a k + b k))
+plus-table (suc n) a b = rw (table-cons n a, table-cons n b, table-cons n (λ k. a k + b k)) (ap {B = List ℕ} (λ l. (a 0 + b 0) ∷ l) (plus-table n (λ k. a (suc k)) (λ k. b (suc k))))
+
+pub ands-table : (n : ℕ) (a b : ℕ → ℕ) → ands (table n a) (table n b) ≡ table n (λ k. bitAnd (a k) (b k))
+ands-table zero a b = rw (table-none a, table-none (λ k. bitAnd (a k) (b k)))
+ands-table (suc n) a b = rw (table-cons n a, table-cons n b, table-cons n (λ k. bitAnd (a k) (b k))) (ap {B = List ℕ} (λ l. bitAnd (a 0) (b 0) ∷ l) (ands-table n (λ k. a (suc k)) (λ k. b (suc k))))
 
 inserted-low : (n p : ℕ) → inserted n p ≡ (n / 2 ^ p * 2) * 2 ^ p + n % 2 ^ p
 unfolding inserted

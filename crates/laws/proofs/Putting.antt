@@ -22,13 +22,13 @@ and-join (more {w = w} {v = x} {ws = ws} {vs = xs} h f) (more {v = y} {vs = ys} 
     and-block w (join ws xs) (join ws ys) x y h k ∙ ap (λ (z : ℕ). z * 2 ^ w + bitAnd x y) (and-join f g)
 
 -- at position 0
-at-zero : (n c v : ℕ) → replacedAt n 0 c v ≡ n / 2 ^ c * 2 ^ c + v
+pub at-zero : (n c v : ℕ) → replacedAt n 0 c v ≡ n / 2 ^ c * 2 ^ c + v
 unfolding replacedAt
 at-zero n c v =
     ap₂ (λ (x y : ℕ). n / 2 ^ x * 2 ^ x + y) (zero-add c) (ap₂ (λ (x y : ℕ). x + y) (mul-one v) (mod-one n) ∙ add-zero v)
 
 -- further up: the low digit stays, and the rest is replaced in
-up : (n s w c v : ℕ) → replacedAt n (s + w) c v ≡ replacedAt (n / 2 ^ w) s c v * 2 ^ w + n % 2 ^ w
+pub up : (n s w c v : ℕ) → replacedAt n (s + w) c v ≡ replacedAt (n / 2 ^ w) s c v * 2 ^ w + n % 2 ^ w
 unfolding replacedAt
 up n s w c v =
     let e : s + w + c ≡ s + c + w = add-assoc s w c ∙ ap (λ (x : ℕ). s + x) (add-comm w c) ∙ sym (add-assoc s c w) in

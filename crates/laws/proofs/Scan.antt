@@ -7,6 +7,7 @@ use Prim.Native.Nat.{ℕ, zero, suc, _+_, _<_}
 use native.Mathlib.Nat.{eq-or-lt-of-le, le-of-suc-le-suc, le-refl, lt-trans, not-suc-le-zero}
 use native.Mathlib.Numerals.{add-one}
 use Rattle.laws.specs.Tables.{below, both}
+use Rattle.laws.proofs.Tests.{no-both}
 
 pub scan-more : (f : ℕ → Bool) (i : ℕ) → below i f ≡ true → f i ≡ true → below (i + 1) f ≡ true
 scan-more f i h e = rw (add-one, e, h)
@@ -21,6 +22,15 @@ scan-fails (suc n) f i h e =
     ⊎-elim (λ q. ap (λ (b : Bool). both b (below n f)) (ap f (sym q) ∙ e))
     (λ l. ap (both (f n)) (scan-fails n f i l e) ∙ both-false (f n))
     (eq-or-lt-of-le (le-of-suc-le-suc h))
+
+-- where not all pass, one fails
+pub scan-found : (n : ℕ) (f : ℕ → Bool) → below n f ≡ false → (k : ℕ) × ((k < n) × (f k ≡ false))
+scan-found zero f e = absurd (no-both refl e)
+scan-found (suc n) f e = go (f n) refl e (scan-found n f)
+  where
+    go : (b : Bool) → f n ≡ b → both b (below n f) ≡ false → (below n f ≡ false → (k : ℕ) × ((k < n) × (f k ≡ false))) → (k : ℕ) × ((k < suc n) × (f k ≡ false))
+    go true t e more = let (k, (h, x)) = more e in (k, (lt-trans h (le-refl (suc n)), x))
+    go false t e more = (n, (le-refl (suc n), t))
 
 pub scan-same : (n : ℕ) (f g : ℕ → Bool) → ((k : ℕ) → k < n → f k ≡ g k) → below n f ≡ below n g
 scan-same zero f g h = refl

@@ -1,3 +1,2 @@
-pub mod Widths
-pub mod ThroughRecord
+pub mod Opening
 pub mod Ways

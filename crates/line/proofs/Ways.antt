@@ -1,100 +1,57 @@
--- The ways through `replace_line`: a refusal, and a line put into the record and packed.
+-- The ways through `replace_line`: the refusals in order, and the line put in.
 -- Assumes nothing.
 use mathlib.Core.Path.{_≡_, refl, sym, ap, ap₂, _∙_}
 use mathlib.Core.Logic.{_≢_}
 use mathlib.Core.Bool.{Bool, true, false, not}
-use mathlib.Core.List.{List}
-use Prim.Native.Nat.{ℕ, suc, _+_, _*_, _/_, _%_, _<_, _≤_}
-use native.Mathlib.Nat.{mod-lt}
+use mathlib.Core.List.{List, []}
+use Prim.Native.Nat.{ℕ, suc, _-_, _^_, _<_, _≤_}
 use native.Mathlib.Omega.{arith}
 use borrow.Author.Tests.{eq-eqb, eqb-false, eqb-true, not-false, not-true}
-use lib.Dec.{T, eqb, ltb, ltb→lt, lit<}
-use lib.ListN.{getD}
+use lib.Bits.{bitAnd}
+use lib.Dec.{eqb}
+use lib.ListN.{length, getD}
+use Rattle.line.specs.declared.Opened.{Opened}
+use Rattle.bcn_util.specs.declared.stream.BitStream.{BitStream}
+use Rattle.line_parts.specs.declared.LinePart.{LinePart}
+use Rattle.line_parts.specs.declared.Stored.{Stored}
 use Rattle.line_rules.specs.declared.Replacement.{Replacement}
-use Rattle.record_rules.specs.declared.Record.{Record}
-use Rattle.record_rules.specs.declared.Unpacked.{Unpacked}
-use Rattle.record_rules.specs.declared.Packed.{Packed}
+use Rattle.record_widths.specs.declared.ModeRow.{ModeRow}
 use Rattle.format.specs.declared.Split.{Split}
-use Rattle.laws.specs.Digits.{Fit}
+use Rattle.laws.specs.Digits.{Fit, join}
 use Rattle.laws.specs.Refusals.{Given, here, then}
-use Rattle.laws.specs.Tables.{both, pick}
-use Rattle.laws.proofs.Cases.{pick-lt}
-use Rattle.laws.proofs.Part.{getD-table}
+use Rattle.laws.specs.Tables.{both, pick, table}
+use Rattle.laws.proofs.Part.{part-all}
 use Rattle.laws.proofs.Refusals.{accepted-when, exactly}
-use Rattle.laws.proofs.Tests.{both-left, both-right, both-true, no-both}
-use Rattle.format.specs.Block.{eights, modeOf}
-use Rattle.format.specs.Lines.{Line, has, laid, withLine}
+use Rattle.laws.proofs.Tests.{both-true, no-both}
+use Rattle.format.specs.Block.{bytesOf, eights, modeOf, number}
 use Rattle.format.specs.Modes.{lines}
-use Rattle.format.specs.Places.{Place, head, index, inside, opened, pbit, value}
+use Rattle.format.specs.Places.{opened}
 use Rattle.format.specs.Splits.{splitOf}
-use Rattle.format.proofs.Opening.{opened-good}
-use Rattle.format.proofs.Reserved.{open-mode, reserved-mode, zero-byte}
-use Rattle.record_rules.specs.Records.{made, packed, packedAs, recordOf, says, taken, unpackedAs, zeroRecord}
-use Rattle.record_rules.proofs.Packing.{made-ext}
+use Rattle.format.proofs.Reserved.{reserved-mode, zero-byte}
+use Rattle.bcn_util.specs.Stream.{held}
+use Rattle.bcn_indexes.specs.Indexes.{indexWidths}
+use Rattle.record_widths.specs.Rows.{rowOf}
 use Rattle.line_rules.specs.Acceptable.{Within, callRules}
-use Rattle.line_rules.specs.Coded.{LineOfBlock}
-use Rattle.line_rules.specs.Replace.{after, callOf, lineFits, lineGiven, oriented, put, refusal, replaced, replacedAs}
-use Rattle.line_rules.proofs.Accepting.{fits-within, on-block, second, within-fits}
+use Rattle.line_rules.specs.Replace.{after, callOf, lineGiven, refusal, refusalIn, replaced, replacedAs}
+use Rattle.line_rules.proofs.Accepting.{on-block, second}
 use Rattle.line_rules.proofs.Blocks.{unchanged}
-use Rattle.line_turning.specs.Coded.{givenAs}
-use Rattle.line.proofs.ThroughRecord.{through-record}
+use Rattle.line_parts.specs.Parts.{ownPixel, partsFit, storedAs}
+use Rattle.line_parts.proofs.Given.{only-kept, parts-within, small-indexes, within-kept, within-parts}
+use Rattle.line_parts.proofs.Parts.{IsPart}
+use Rattle.line_parts.proofs.Storing.{is-stored, mask-above}
+use Rattle.line_parts.proofs.Words.{Small, maskPart, word, word-fits}
+use Rattle.line_fields.specs.Fields.{LineReady, linePut}
+use Rattle.line_fields.proofs.Whole.{line-block, line-ready}
+use Rattle.line.specs.Opened.{IsOpened}
+use Rattle.line.proofs.Opening.{good, line-is}
 
--- a line as a replacement gives it is that line, at every place
-laid-given : (m : ℕ) (o : Line) (x : Place) → T (inside x) → laid m (lineGiven (givenAs o)) x ≡ laid m o x
-unfolding laid lineGiven givenAs
-laid-given m o (head k) i = refl
-laid-given m o (value c e) i =
-    let hc : c < 4 = ltb→lt c 4 (both-left (ltb c 4) (ltb e 6) i) in
-    getD-table 8 (λ i. o .value (i / 4) (i % 4)) 0 (4 * (e % 2) + c) (omega arith)
-    ∙ ap₂ (o .value) (let z : (4 * (e % 2) + c) / 4 ≡ e % 2 = omega arith in z) (let z : (4 * (e % 2) + c) % 4 ≡ c = omega arith in z)
-laid-given m o (pbit k) i = getD-table 2 (o .p) 0 (pick (eqb m 1) 0 (k % 2)) (pick-lt (eqb m 1) 0 (k % 2) 2 (lit< tt) (mod-lt k (lit< tt)))
-laid-given m o (index a q) i = getD-table 16 (o .index) 0 q (ltb→lt q 16 (both-right (ltb a 2) (ltb q 16) i))
+module _ (bs : List ℕ) (sixteen : Fit eights bs) (l : ℕ) (g : Replacement) (long : length (g .indexes) ≡ 16) where
+  abbrev m : ℕ
+  m = modeOf bs
 
--- what taking apart says of the block
-taken-refused : (bs : List ℕ) → taken bs .refusal ≢ 0 → modeOf bs ≡ 8
-unfolding taken
-taken-refused bs n = go (eqb (modeOf bs) 8) refl n
-  where
-    go : (b : Bool) → eqb (modeOf bs) 8 ≡ b → pick b (unpackedAs 1 zeroRecord) (unpackedAs 0 (recordOf bs)) .refusal ≢ 0 → modeOf bs ≡ 8
-    go true e n = eqb-true (modeOf bs) 8 e
-    go false e n = absurd (n refl)
+  abbrev s : Split
+  s = splitOf bs
 
-taken-accepted : (bs : List ℕ) → taken bs .refusal ≡ 0 → (modeOf bs ≢ 8) × (taken bs .«record» ≡ recordOf bs)
-unfolding taken
-taken-accepted bs n = go (eqb (modeOf bs) 8) refl n
-  where
-    go : (b : Bool) → eqb (modeOf bs) 8 ≡ b → pick b (unpackedAs 1 zeroRecord) (unpackedAs 0 (recordOf bs)) .refusal ≡ 0
-        → (modeOf bs ≢ 8) × (pick b (unpackedAs 1 zeroRecord) (unpackedAs 0 (recordOf bs)) .«record» ≡ recordOf bs)
-    go true e n = absurd (let y : ⊥ = omega arith in y)
-    go false e n = (eqb-false (modeOf bs) 8 e, refl)
-
-module _ (bs : List ℕ) (sixteen : Fit eights bs) (u : Unpacked) (eu : u ≡ taken bs) (ok : u .refusal ≡ 0) where
-  nonzero : getD bs 0 0 ≢ 0
-  nonzero z = taken-accepted bs (rw eu at ok) .0 (reserved-mode bs z)
-
-  the-record : u .«record» ≡ recordOf bs
-  the-record = ap (λ (v : Unpacked). v .«record») eu ∙ taken-accepted bs (rw eu at ok) .1
-
-  the-mode : u .«record» .mode ≡ modeOf bs
-  unfolding recordOf made
-  the-mode = ap (λ (r : Record). r .mode) the-record
-
-  the-split : u .«record» .split ≡ splitOf bs
-  unfolding recordOf made
-  the-split = ap (λ (r : Record). r .split) the-record
-
-  with-line : (l : ℕ) (ln : Line) → made (u .«record» .mode) (u .«record» .split) (withLine (u .«record» .mode) (u .«record» .split) l ln (says (u .«record»)))
-      ≡ made (modeOf bs) (splitOf bs) (withLine (modeOf bs) (splitOf bs) l ln (says (recordOf bs)))
-  unfolding recordOf made
-  with-line l ln = ap (λ (r : Record). made (r .mode) (r .split) (withLine (r .mode) (r .split) l ln (says r))) the-record
-
-  pub mode-below : u .«record» .mode < 8
-  mode-below = rw the-mode (open-mode bs sixteen nonzero)
-
-  pub the-line : (l : ℕ) → l < lines (u .«record» .mode) → LineOfBlock (u .«record» .mode) (u .«record» .split) l
-  the-line l h = rw (the-mode, the-split) (record { places = opened bs; holds = opened-good bs sixteen (open-mode bs sixteen nonzero); line = rw the-mode at h })
-
-module _ (bs : List ℕ) (sixteen : Fit eights bs) (l : ℕ) (g : Replacement) where
   -- a refused call hands back the block
   refused-with : {n : ℕ} → Given (callRules bs (callOf l g)) (suc n) → replacedAs (suc n) bs ≡ replaced bs l g
   unfolding replaced
@@ -102,63 +59,85 @@ module _ (bs : List ℕ) (sixteen : Fit eights bs) (l : ℕ) (g : Replacement) w
       let e : refusal bs (callOf l g) ≡ suc n = exactly (on-block bs sixteen (callOf l g)) (suc n) .1 a in
       sym (ap₂ replacedAs e (unchanged bs (callOf l g) (λ z. let y : ⊥ = omega arith in y)))
 
-  -- the line put into the record and packed is the answer
-  accepted-with : refusal bs (callOf l g) ≡ 0 → (o : Replacement) → o ≡ givenAs (oriented (modeOf bs) (splitOf bs) l (lineGiven g))
-      → replacedAs 0 (packed (made (modeOf bs) (splitOf bs) (withLine (modeOf bs) (splitOf bs) l (lineGiven o) (says (recordOf bs)))) .block) ≡ replaced bs l g
-  unfolding replaced withLine put
-  accepted-with e o eo =
-      let m : ℕ = modeOf bs in
-      let s : Split = splitOf bs in
-      let ln : Line = oriented m s l (lineGiven g) in
-      let same =
-      made-ext m s (withLine m s l (lineGiven o) (says (recordOf bs))) (withLine m s l ln (says (recordOf bs)))
-      (λ x i. ap (λ (v : ℕ). pick (has m s l x) v (says (recordOf bs) x)) (ap (λ (o : Replacement). laid m (lineGiven o) x) eo ∙ laid-given m ln x i)) in
-      let p : packed (made m s (withLine m s l (lineGiven o) (says (recordOf bs)))) ≡ packedAs 0 (after bs (callOf l g)) = ap packed same ∙ through-record bs sixteen (callOf l g) e in
-      ap₂ replacedAs (sym e) (ap (λ (a : Packed). a .block) p)
+  pub way-1 : m ≡ 8 → replacedAs 1 bs ≡ replaced bs l g
+  way-1 e = refused-with (here (λ n. n (zero-byte bs sixteen e)))
 
-  -- in mode 1 the p bits differ
-  abbrev differ : ℕ → Bool
-  differ m = both (eqb m 1) (not (eqb (getD (g .p) 0 0) (getD (g .p) 1 0)))
+  module _ (low : m < 8) where
+    nonzero : getD bs 0 0 ≢ 0
+    nonzero z = let e : m ≡ 8 = reserved-mode bs z in omega arith
 
-  module _ (u : Unpacked) (eu : u ≡ taken bs) where
-    pub way-1 : u .refusal ≢ 0 → replacedAs 1 bs ≡ replaced bs l g
-    way-1 n = refused-with (here (λ z. z (zero-byte bs sixteen (taken-refused bs (rw eu at n)))))
+    pub way-2 : lines m ≤ l → replacedAs 2 bs ≡ replaced bs l g
+    way-2 h = refused-with (then nonzero (here (λ b. omega arith)))
 
-    module _ (ok : u .refusal ≡ 0) where
-      mode-is : u .«record» .mode ≡ modeOf bs
-      mode-is = the-mode bs sixteen u eu ok
+    -- the indexes as a word
+    indexes-table : table 16 (λ q. getD (g .indexes) q 0) ≡ g .indexes
+    indexes-table = sym (part-all {d = 0} {P = λ k. Unit {0}} (record { long = long; done = λ k h t. refl }) (λ k h. tt))
 
-      split : u .«record» .split ≡ splitOf bs
-      split = the-split bs sixteen u eu ok
+    module _ (hl : l < lines m) {o : Opened} (i : IsOpened bs l o) where
+      abbrev x : LinePart
+      x = o .part
 
-      pub way-2 : lines (u .«record» .mode) ≤ l → replacedAs 2 bs ≡ replaced bs l g
-      way-2 h = refused-with (then (nonzero bs sixteen u eu ok) (here (λ b. omega (arith, rw mode-is at h))))
+      pub is : IsPart m s l x
+      is = line-is bs sixteen low l hl i
 
-      module _ (below : l < lines (u .«record» .mode)) where
-        pub way-3 : lineFits (u .«record» .mode) (u .«record» .split) l (lineGiven g) ≡ false → replacedAs 3 bs ≡ replaced bs l g
-        way-3 e =
-            refused-with (then (nonzero bs sixteen u eu ok) (then (rw mode-is at below)
-            (here (λ w. no-both (within-fits (modeOf bs) (splitOf bs) l (lineGiven g) w) (rw (mode-is, split) at e)))))
+      pub way-3 : partsFit x g ≡ false → replacedAs 3 bs ≡ replaced bs l g
+      way-3 e = refused-with (then nonzero (then hl (here (λ w. no-both (within-parts is g w) e))))
 
-        module _ (fits : lineFits (u .«record» .mode) (u .«record» .split) l (lineGiven g) ≡ true) where
-          within : Within (modeOf bs) (splitOf bs) l (lineGiven g)
-          within = fits-within (modeOf bs) (splitOf bs) l (lineGiven g) (rw (mode-is, split) at fits)
+      module _ (fits : partsFit x g ≡ true) where
+        abbrev v : ℕ → ℕ
+        v q = getD (g .indexes) q 0
 
-          pub way-4 : differ (u .«record» .mode) ≡ true → replacedAs 4 bs ≡ replaced bs l g
-          unfolding lineGiven
-          way-4 e =
-              let p = both-true (eqb (u .«record» .mode) 1) _ e in
-              refused-with (then (nonzero bs sixteen u eu ok) (then (rw mode-is at below) (then within (here (λ f. eqb-false _ _ (not-true _ (p .1)) (f (sym mode-is ∙ eqb-true _ 1 (p .0))))))))
+        small : Small (x .index) v
+        small = small-indexes is g fits
 
-          same : differ (u .«record» .mode) ≡ false → modeOf bs ≡ 1 → lineGiven g .p 0 ≡ lineGiven g .p 1
-          unfolding lineGiven
-          same e z = eqb-true _ _ (not-false _ (second (eqb (u .«record» .mode) 1) _ (eq-eqb _ 1 (mode-is ∙ z)) e))
+        pub indexes-fit : Fit (indexWidths (x .index) []) (g .indexes)
+        indexes-fit = rw indexes-table at (word-fits (x .index) v small)
 
-          pub way-5 : differ (u .«record» .mode) ≡ false
-              → (o : Replacement) → o ≡ givenAs (oriented (u .«record» .mode) (u .«record» .split) l (lineGiven g))
-              → (r : Record) → r ≡ made (u .«record» .mode) (u .«record» .split) (withLine (u .«record» .mode) (u .«record» .split) l (lineGiven o) (says (u .«record»)))
-              → (k : Packed) → k ≡ packed r → replacedAs 0 (k .block) ≡ replaced bs l g
-          way-5 e o eo r er k ek =
-              let a : refusal bs (callOf l g) ≡ 0 = accepted-when (on-block bs sixteen (callOf l g)) .1 (nonzero bs sixteen u eu ok, (rw mode-is at below, (within, (same e, tt)))) in
-              ap (λ (k : Packed). replacedAs 0 (k .block)) (ek ∙ ap packed (er ∙ with-line bs sixteen u eu ok l (lineGiven o)))
-              ∙ accepted-with a o (rw (mode-is, split) at eo)
+        module _ {wd mask : ℕ} (ew : wd ≡ join (indexWidths (x .index) []) (g .indexes)) (em : mask ≡ word (x .index) (maskPart x)) where
+          word-is : wd ≡ word (x .index) v
+          word-is = ew ∙ ap (join (indexWidths (x .index) [])) (sym indexes-table)
+
+          pub way-3-others : eqb (bitAnd wd mask) wd ≡ false → replacedAs 3 bs ≡ replaced bs l g
+          way-3-others e = refused-with (then nonzero (then hl (here (λ w. eqb-false (bitAnd wd mask) wd e (rw (word-is, em) (within-kept is g small w))))))
+
+          module _ (alone : eqb (bitAnd wd mask) wd ≡ true) where
+            kept : (q : ℕ) → q < 16 → pick (ownPixel (x .pixels) q) (v q) 0 ≡ v q
+            kept = only-kept is g small (rw (word-is, em) at (eqb-true (bitAnd wd mask) wd alone))
+
+            within : Within m s l (lineGiven g)
+            within = parts-within is g fits kept
+
+            abbrev differ : Bool
+            differ = both (eqb m 1) (not (eqb (getD (g .p) 0 0) (getD (g .p) 1 0)))
+
+            pub way-4 : differ ≡ true → replacedAs 4 bs ≡ replaced bs l g
+            unfolding lineGiven
+            way-4 e =
+                let p = both-true (eqb m 1) _ e in
+                refused-with (then nonzero (then hl (then within (here (λ f. eqb-false _ _ (not-true _ (p .1)) (f (eqb-true _ 1 (p .0))))))))
+
+            pub below-mask : wd ≤ mask
+            below-mask = rw (word-is, em) (mask-above is g small kept)
+
+            module _ (same : differ ≡ false) {st : Stored} (es : st ≡ storedAs x g wd mask) where
+              accepted : refusal bs (callOf l g) ≡ 0
+              unfolding lineGiven
+              accepted =
+                  accepted-when (on-block bs sixteen (callOf l g)) .1
+                  (nonzero, (hl, (within, ((λ z. eqb-true _ _ (not-false _ (second (eqb m 1) _ (eq-eqb m 1 z) same))), tt))))
+
+              in-mode : refusalIn m s l (lineGiven g) ≡ 0
+              unfolding refusal
+              in-mode = accepted
+
+              pub ready : {row : ModeRow} → row ≡ rowOf m → LineReady (o .stream) m row l x mask st
+              unfolding opened
+              ready er =
+                  line-ready (good bs sixteen low) l (lineGiven g) in-mode is (is-stored is g small kept (rw (word-is, em) at es)) (number bs) (λ y h. refl) em (o .stream) (i .holds) (i .stands) er
+
+              pub way-0 : {row : ModeRow} → row ≡ rowOf m → (r : BitStream) → r .low < 2 ^ 64 → r .high < 2 ^ 64 → held r ≡ linePut (o .stream) m row l x mask st
+                  → replacedAs 0 (bytesOf (held r)) ≡ replaced bs l g
+              unfolding opened replaced after
+              way-0 er r hlo hhi e =
+                  rw accepted
+                  (ap (replacedAs 0) (line-block (good bs sixteen low) l (lineGiven g) in-mode is (is-stored is g small kept (rw (word-is, em) at es)) (number bs) (λ y h. refl) em (o .stream) (i .holds) (i .stands) er r hlo hhi e))

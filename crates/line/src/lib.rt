@@ -1,22 +1,54 @@
-// Replacing a line of a block: an endpoint pair with its p bits and its indexes. The pair is turned where its anchor's index
-// has its top bit set, so that what is drawn is always what was given, and nothing else in the block changes.
+// Replacing a line of a block: an endpoint pair with its p bits and its indexes. Only the head of the block is read; the line's own
+// fields are put into the block's number, turned where its anchor's index has its top bit set, and nothing else changes.
 ghost use mathlib.Core.Path.{_≡_};
 ghost use mathlib.Core.Bool.{not};
+ghost use Prim.Native.Nat.{_<_};
 ghost use lib.Dec.{eqb};
 ghost use lib.ListN.{getD};
 ghost use Rattle.laws.specs.Tables.{both};
-ghost use Rattle.line_rules.specs.Replace.{replaced};
-use crate::fitting::line_fits;
-use crate::putting::with_line;
+ghost use Rattle.format.specs.Block.{bytesOf, modeOf};
+ghost use Rattle.format.specs.Modes.{lines};
+ghost use Rattle.bcn_util.specs.Stream.{held};
+ghost use Rattle.record_widths.specs.Rows.{rowOf};
+ghost use Rattle.line_rules.specs.Replace.{replaced, replacedAs};
+ghost use Rattle.line.specs.Opened.{IsOpened};
+use bcn_util::stream::BitStream;
+use bcn_util::writer::BitWriter;
+use line_fields::put_line;
+use line_parts::LinePart;
+use line_parts::line_part;
+use line_parts::mask_of;
+use line_parts::only_own;
+use line_parts::oriented;
+use line_parts::parts_fit;
 use line_rules::Replaced;
 use line_rules::Replacement;
-use line_turning::oriented;
-use record::pack;
-use record::unpack;
+use record::reading::mode_of;
+use record::reading::read_split;
+use record::writing::word_of;
+use record_widths::ModeRow;
 use record_widths::mode_row;
 
-pub mod fitting;
-pub mod putting;
+// A block's number, with the stream where its values start, and the parts of a line of it.
+pub struct Opened {
+    pub stream: BitStream,
+    pub part: LinePart,
+}
+
+// The mode is the block's and not the reserved one.
+fn open_line(block: [u8; 16], mode: u8, row: ModeRow, line: u32) -> Opened
+    requires { ⌜ (mode ≡ modeOf block) × (mode < 8) × (row ≡ rowOf mode) × (line < lines mode) ⌝ }
+    ensures { λ r. ⌜ IsOpened block line r ⌝ }
+{
+    let head = read_split(row, BitStream::new(block).skip(mode as u32 + 1));
+    let split = head.split;
+    let stream = head.stream;
+    let part = line_part(row, split, line);
+    Opened {
+        stream: stream,
+        part: part,
+    }
+}
 
 // In mode 1 one p bit is stored for both endpoints.
 fn p_bits_differ(mode: u8, new: Replacement) -> bool
@@ -31,45 +63,59 @@ fn p_bits_differ(mode: u8, new: Replacement) -> bool
     true
 }
 
+fn refused(refusal: u8, block: [u8; 16]) -> Replaced
+    ensures { λ r. ⌜ r ≡ replacedAs refusal block ⌝ }
+{
+    Replaced {
+        refusal: refusal,
+        block: block,
+    }
+}
+
+// The bytes of the number that a stream holds.
+fn bytes_of(s: BitStream) -> [u8; 16]
+    ensures { λ r. ⌜ r ≡ bytesOf (held s) ⌝ }
+{
+    let writer = BitWriter {
+        low: s.low,
+        high: s.high,
+        at: 128,
+    };
+    writer.finish()
+}
+
 // The block with the line replaced, or the first refusal that applies: 1, 2, 3, 4.
 pub fn replace_line(block: [u8; 16], line: u32, new: Replacement) -> Replaced
     ensures { λ r. ⌜ r ≡ replaced block line new ⌝ }
 {
-    let unpacked = unpack(block);
-    if unpacked.refusal != 0 {
-        return Replaced {
-            refusal: 1,
-            block: block,
-        };
+    let mode = mode_of(block);
+    if mode == 8 {
+        return refused(1, block);
     }
-    let before = unpacked.record;
-    let mode = before.mode;
-    let split = before.split;
     let row = mode_row(mode);
     if line >= row.lines {
-        return Replaced {
-            refusal: 2,
-            block: block,
-        };
+        return refused(2, block);
     }
-    let l = line as usize;
-    if !line_fits(mode, split, l, new) {
-        return Replaced {
-            refusal: 3,
-            block: block,
-        };
+    let opened = open_line(block, mode, row, line);
+    let part = opened.part;
+    if !parts_fit(part, new) {
+        return refused(3, block);
+    }
+    let given = new.indexes;
+    let indexes = word_of(given, part.index);
+    let pixels = part.pixels;
+    let mask = mask_of(pixels, part.index);
+    if !only_own(indexes, mask) {
+        return refused(3, block);
     }
     if p_bits_differ(mode, new) {
-        return Replaced {
-            refusal: 4,
-            block: block,
-        };
+        return refused(4, block);
     }
-    let stored = oriented(mode, split, l, new);
-    let packed = pack(with_line(before, l, stored));
-    let after = packed.block;
+    let stored = oriented(part, new, indexes, mask);
+    let after = put_line(opened.stream, mode, row, line, part, mask, stored);
+    let bytes = bytes_of(after);
     Replaced {
         refusal: 0,
-        block: after,
+        block: bytes,
     }
 }

@@ -12,7 +12,7 @@ use Rattle.format.specs.declared.Split.{Split}
 use Rattle.laws.specs.Digits.{Fit}
 use Rattle.laws.specs.Refusals.{refuse, unless}
 use Rattle.laws.specs.Tables.{below, both}
-use Rattle.laws.proofs.Refusals.{Answers, Tests, answers, by-eqb, by-not, by-not-ltb, by-test, none, rule}
+use Rattle.laws.proofs.Refusals.{Answers, Decided, Tests, answers, by-eqb, by-not, by-not-ltb, by-test, none, rule}
 use Rattle.laws.proofs.Tests.{T-true, at, below-intro, both-intro, both-true, true-T}
 use Rattle.format.specs.Block.{eights, modeOf}
 use Rattle.format.specs.Lines.{Line}
@@ -71,8 +71,9 @@ module _ (m : ℕ) (s : Split) (l : ℕ) (ln : Line) where
   accepted-is e = let (o, (h, (w, (p, u)))) = answering .met e in record { line = h; within = w; same-p = p }
 
 -- on a block: mode 8 is a first byte of zero
+pub open-is : (bs : List ℕ) → Fit eights bs → Decided (refuse 1 (eqb (modeOf bs) 8)) 1 (getD bs 0 0 ≢ 0)
+open-is bs sixteen = by-test tt (eqb (modeOf bs) 8) (λ e z. eqb-false (modeOf bs) 8 e (reserved-mode bs z)) (λ n. ne-eqb (modeOf bs) 8 (λ z. n (zero-byte bs sixteen z)))
+
 pub on-block : (bs : List ℕ) → Fit eights bs → (c : Call) → Answers (refusal bs c) (callRules bs c)
 unfolding refusal refusalIn
-on-block bs sixteen c =
-    answers (rule (by-test tt (eqb (modeOf bs) 8) (λ e z. eqb-false (modeOf bs) 8 e (reserved-mode bs z)) (λ n. ne-eqb (modeOf bs) 8 (λ z. n (zero-byte bs sixteen z))))
-    λ o. behind-1 (modeOf bs) (splitOf bs) (c .line) (c .given))
+on-block bs sixteen c = answers (rule (open-is bs sixteen) λ o. behind-1 (modeOf bs) (splitOf bs) (c .line) (c .given))

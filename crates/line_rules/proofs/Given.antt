@@ -28,7 +28,7 @@ oriented-means m s l ln q c h2 h4 hi = go (topSet m s l ln)
     go true = turned-means m s l ln q c h2 h4 hi
     go false = refl
 
-same-oriented : (m : ℕ) (s : Split) (l : ℕ) (ln : Line) → ln .p 0 ≡ ln .p 1 → oriented m s l ln .p 0 ≡ oriented m s l ln .p 1
+pub same-oriented : (m : ℕ) (s : Split) (l : ℕ) (ln : Line) → ln .p 0 ≡ ln .p 1 → oriented m s l ln .p 0 ≡ oriented m s l ln .p 1
 unfolding oriented turned
 same-oriented m s l ln e = go (topSet m s l ln)
   where

@@ -6,4 +6,6 @@ pub mod Blocks
 pub mod Sequences
 pub mod Own
 pub mod OwnWidths
+pub mod Reading
+pub mod TooWide
 pub mod Theorems

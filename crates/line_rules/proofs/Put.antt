@@ -4,10 +4,10 @@ use mathlib.Core.Path.{_≡_, refl, sym, ap, _∙_}
 use mathlib.Core.Logic.{_≢_}
 use mathlib.Core.Bool.{Bool, true, false}
 use mathlib.Core.List.{[]}
-use Prim.Native.Nat.{ℕ, zero, suc, _+_, _-_, _*_, _%_, _^_, _<_, _≤_}
+use Prim.Native.Nat.{ℕ, zero, suc, _+_, _-_, _*_, _/_, _%_, _^_, _<_, _≤_}
 use native.Mathlib.Nat.{le-refl, le-trans, lt-of-lt-of-le, pow-suc, mod-lt}
 use native.Mathlib.Omega.{arith}
-use borrow.Author.Tests.{eqb-true, eqb-false, eq-eqb, ne-eqb, leb-true, leb-false}
+use borrow.Author.Tests.{eqb-true, eqb-false, eq-eqb, ne-eqb, leb-true, leb-false, ltb-true}
 use lib.Dec.{T, eqb, ltb, ltb→lt, lit<}
 use lib.Pow.{pow-mono, pow-pos, ones-sub-lt}
 use Rattle.format.specs.declared.Split.{Split}
@@ -20,7 +20,7 @@ use Rattle.format.specs.Places.{Place, head, index, inside, pbit, value, width}
 use Rattle.format.specs.Splits.{anchors, indexMode, isVector, subset}
 use Rattle.format.specs.WellFormed.{WellFormed}
 use Rattle.format.proofs.Lens.{has-head, has-parts}
-use Rattle.format.proofs.Modes.{good-64, good-index-mode, good-subset, lines-le, the-anchor}
+use Rattle.format.proofs.Modes.{good-64, good-index-mode, good-subset, good-vector, lines-le, the-anchor}
 use Rattle.line_rules.specs.Acceptable.{Acceptable, Within}
 use Rattle.line_rules.specs.Replace.{oriented, ownWidth, put, refusalIn, topSet}
 use Rattle.line_rules.proofs.Accepting.{accepted-is}
@@ -104,7 +104,31 @@ array-is true a i l sub ha hi e z = go (eqb a i) refl e
     go true p q = rw (eq-eqb l 0 (sym q)) (eqb-true a i p)
     go false p q = rw (ne-eqb l 0 (λ y. omega arith)) (let n : a ≢ i = eqb-false a i p in let r : a ≡ 1 - i = omega arith in r)
 
+-- which of the line's values and p bits a place of the line is
+pub own-pbit : (m : ℕ) (s : Split) (l k : ℕ) → has m s l (pbit k) ≡ true → pPlace m l (pick (eqb m 1) 0 (k % 2)) ≡ pbit k
+unfolding pPlace
+own-pbit m s l k h = ap pbit (go (eqb m 1) refl)
+  where
+    go : (b : Bool) → eqb m 1 ≡ b → pick b l (2 * l + pick b 0 (k % 2)) ≡ k
+    go true b = let z : k ≡ l = rw b at (has-parts m s l (pbit k) h .2) in sym z
+    go false b = let z : k / 2 ≡ l = rw b at (has-parts m s l (pbit k) h .2) in let y : 2 * l + k % 2 ≡ k = omega arith in y
+
 module _ {m : ℕ} {s : Split} {f : Place → ℕ} (g : WellFormed m s f) where
+  pub own-value : (l c e : ℕ) → has m s l (value c e) ≡ true → valuePlace s l (e % 2) c ≡ value c e
+  unfolding valuePlace width
+  own-value l c e h = ap (value c) (go (isVector s) refl)
+    where
+      not-none : (b : Bool) (w : ℕ) → pick b w 0 ≢ 0 → b ≡ true
+      not-none true w n = refl
+      not-none false w n = absurd (n refl)
+
+      there : e < endpointCount m
+      there = ltb-true e (endpointCount m) (not-none (ltb e (endpointCount m)) _ (has-parts m s l (value c e) h .1))
+
+      go : (v : Bool) → isVector s ≡ v → pick v (e % 2) (2 * l + e % 2) ≡ e
+      go true v = let z : e % 2 ≡ e = omega (arith, there, good-vector g v .ends) in z
+      go false v = let z : e / 2 ≡ l = rw v at (has-parts m s l (value c e) h .2) in let y : 2 * l + e % 2 ≡ e = omega arith in y
+
   pub has-array : (l a q : ℕ) → has m s l (index a q) ≡ true → a ≡ arrayOf s l
   unfolding arrayOf width
   has-array l a q h =

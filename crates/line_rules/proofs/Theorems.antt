@@ -1,4 +1,4 @@
--- DEMAND 3: WHAT IS PROVED of replacing lines, in one place. `Fit eights bs` says that bs is sixteen bytes.
+-- DEMAND 3: WHAT IS PROVED of replacing lines and of reading them, in one place. `Fit eights bs` says that bs is sixteen bytes.
 -- Assumes nothing.
 use mathlib.Core.Path.{_≡_, refl, sym, ap, _∙_}
 use mathlib.Core.Logic.{_≢_, _↔_}
@@ -6,9 +6,10 @@ use mathlib.Core.Bool.{true, false}
 use mathlib.Core.List.{List, _∷_, _++_}
 use Prim.Native.Nat.{ℕ, _<_}
 use lib.Dec.{T}
-use lib.ListN.{getD}
+use lib.ListN.{length, getD}
 use Rattle.line_rules.specs.declared.Replacement.{Replacement}
 use Rattle.line_rules.specs.declared.Replaced.{Replaced}
+use Rattle.line_rules.specs.declared.LineRead.{LineRead}
 use Rattle.laws.specs.Digits.{Fit}
 use Rattle.laws.specs.Refusals.{Given}
 use Rattle.laws.proofs.Refusals.{accepted-when as met-when, exactly}
@@ -23,12 +24,15 @@ use Rattle.format.proofs.Opening.{opened-good}
 use Rattle.format.proofs.Reserved.{open-mode, reserved-mode, zero-byte}
 use Rattle.line_rules.specs.Acceptable.{Acceptable, OwnWidths, callRules}
 use Rattle.line_rules.specs.Calls.{afterAll, last, lastOfEach, seen}
-use Rattle.line_rules.specs.Replace.{Call, after, oriented, refusal, replaced}
+use Rattle.line_rules.specs.Read.{TooWide, givenAs, lineRead, readRules, turnedIn}
+use Rattle.line_rules.specs.Replace.{Call, after, callOf, lineGiven, oriented, refusal, replaced, replacedAs, topSet}
 use Rattle.line_rules.proofs.Accepting.{on-block}
 use Rattle.line_rules.proofs.Blocks.{after-mode, after-sixteen, after-split, full-alpha, given-drawn, others-kept, places-kept, places-stored, same-refusal, unchanged}
 use Rattle.line_rules.proofs.Draws.{drawn-by-one}
 use Rattle.line_rules.proofs.OwnWidths.{own-widths}
+use Rattle.line_rules.proofs.Reading.{given-back, other-read, put-draws, put-is-read, read-after, read-answers, read-drawn, read-not-turned, replaced-by-read}
 use Rattle.line_rules.proofs.Sequences.{all-stays, bytes-trade, first-stays, lasts, same-lasts, sequence-draws, trading}
+use Rattle.line_rules.proofs.TooWide.{refused-with-3}
 
 -- a call is accepted exactly when the first byte isn't zero, the line number is below the mode's count, every value is within
 -- the width that it has in that line, and in mode 1 the p bits are equal
@@ -150,6 +154,56 @@ pub last-call-is-seen : (bs : List ℕ) → Fit eights bs → (cs : List Call) (
     → pixel (afterAll bs cs) q ch ≡ seen (modeOf bs) (splitOf bs) l q ch (pixel bs q ch) (last (modeOf bs) (splitOf bs) l cs)
 last-call-is-seen bs h cs l q ch hq hc d = sequence-draws (modeOf bs) (splitOf bs) l q ch hq hc d cs bs (first-stays bs h)
 
--- DEMAND 1: any two answers that the promise of `replace_line` admits coincide
+-- A LINE THAT IS READ: refused with 1 and 2 exactly when replacing it is
+pub read-refused-when : (bs : List ℕ) → Fit eights bs → (l n : ℕ) → (lineRead bs l .refusal ≡ n) ↔ Given (readRules bs l) n
+unfolding lineRead
+read-refused-when bs h l = exactly (read-answers bs h l)
+
+-- it draws what the block shows
+pub read-draws : (bs : List ℕ) → Fit eights bs → (l : ℕ) → lineRead bs l .refusal ≡ 0 → (q ch : ℕ) → q < 16 → ch < 4 → draws (modeOf bs) (splitOf bs) l q ch ≡ true
+    → meant (modeOf bs) (splitOf bs) l (lineGiven (lineRead bs l .line)) q ch ≡ pixel bs q ch
+unfolding lineRead
+read-draws = read-drawn
+
+-- replacing a line by what was read gives the block back, byte for byte: it is accepted, and not turned
+pub read-and-replaced : (bs : List ℕ) → Fit eights bs → (l : ℕ) → lineRead bs l .refusal ≡ 0
+    → (replaced bs l (lineRead bs l .line) ≡ replacedAs 0 bs) × (topSet (modeOf bs) (splitOf bs) l (lineGiven (lineRead bs l .line)) ≡ false)
+unfolding lineRead
+read-and-replaced bs h l e = (replaced-by-read bs h l e, read-not-turned bs h l e)
+
+-- reading what an accepted call put gives what was given, or its turned form exactly where the index at the anchor had its top
+-- bit set, and in both cases a line that draws the same
+pub record PutAndRead (bs : List ℕ) (l : ℕ) (g : Replacement) : Type 0 where
+  pub refusal : lineRead (after bs (callOf l g)) l .refusal ≡ 0
+  pub given : topSet (modeOf bs) (splitOf bs) l (lineGiven g) ≡ false → lineRead (after bs (callOf l g)) l .line ≡ g
+  pub turned : topSet (modeOf bs) (splitOf bs) l (lineGiven g) ≡ true → lineRead (after bs (callOf l g)) l .line ≡ givenAs (turnedIn (modeOf bs) (splitOf bs) l (lineGiven g))
+  pub draws-the-same : (q ch : ℕ) → q < 16 → ch < 4 → draws (modeOf bs) (splitOf bs) l q ch ≡ true
+      → meant (modeOf bs) (splitOf bs) l (lineGiven (lineRead (after bs (callOf l g)) l .line)) q ch ≡ meant (modeOf bs) (splitOf bs) l (lineGiven g) q ch
+
+-- (g is a replacement of 8 values, 2 p bits and 16 indexes)
+pub put-and-read : (bs : List ℕ) → Fit eights bs → (l : ℕ) (g : Replacement) → length (g .endpoints) ≡ 8 → length (g .p) ≡ 2 → length (g .indexes) ≡ 16
+    → refusal bs (callOf l g) ≡ 0 → PutAndRead bs l g
+unfolding lineRead
+put-and-read bs h l g he hp hi e = record {
+  refusal = read-after bs h (callOf l g) e;
+  given = λ t. put-is-read bs h (callOf l g) e ∙ rw (t, ← (given-back g he hp hi));
+  turned = λ t. put-is-read bs h (callOf l g) e ∙ rw t;
+  draws-the-same = put-draws bs h (callOf l g) e;
+}
+
+-- reading another line gives what it gave before, refused or not
+pub others-read-as-before : (bs : List ℕ) → Fit eights bs → (c : Call) (l : ℕ) → c .line ≢ l → lineRead (after bs c) l ≡ lineRead bs l
+others-read-as-before = other-read
+
+-- the widths are what 3 looks at: a replacement is refused with 3 exactly when the line can be read and one of its 26 values needs
+-- more than its width
+pub refused-with-3-when : (bs : List ℕ) (l : ℕ) (g : Replacement) → (refusal bs (callOf l g) ≡ 3) ↔ ((lineRead bs l .refusal ≡ 0) × TooWide g (lineRead bs l .widths))
+unfolding lineRead
+refused-with-3-when = refused-with-3
+
+-- DEMAND 1: any two answers that the promises of `replace_line` and `read_line` admit coincide
 pub determined-replace-line : (bs : List ℕ) (l : ℕ) (g : Replacement) (a b : Replaced) → a ≡ replaced bs l g → b ≡ replaced bs l g → a ≡ b
 determined-replace-line bs l g a b ea eb = ea ∙ sym eb
+
+pub determined-read-line : (bs : List ℕ) (l : ℕ) (a b : LineRead) → a ≡ lineRead bs l → b ≡ lineRead bs l → a ≡ b
+determined-read-line bs l a b ea eb = ea ∙ sym eb

@@ -1,5 +1,5 @@
-// Replacing a line of a block, as definitions (specs/) and their laws (proofs/), and no code: which calls are refused, what block
-// a call leaves, and what any list of calls leaves and draws (proofs/Theorems).
+// Reading and replacing a line of a block, as definitions (specs/) and their laws (proofs/), and no code: which calls are refused,
+// what block a call leaves, what any list of calls leaves and draws, and what is read of it (proofs/Theorems).
 
 // A line as it is given: endpoint k, channel c at 4 * k + c; an index of the line's full width for each pixel. What the line
 // hasn't got is zero.
@@ -13,4 +13,12 @@ pub struct Replacement {
 pub struct Replaced {
     pub refusal: u8,
     pub block: [u8; 16],
+}
+
+// A line as it stands, and how many bits each of its parts has, in the same order: none where the line hasn't got the part. A
+// refusal has zeros in both.
+pub struct LineRead {
+    pub refusal: u8,
+    pub line: Replacement,
+    pub widths: Replacement,
 }

@@ -27,10 +27,9 @@ use Rattle.format.specs.Splits.{anchors, indexMode, kindOf, ofKind, partition, 
 use Rattle.format.specs.WellFormed.{WellFormed}
 use Rattle.format.proofs.Modes.{good-parts}
 use Rattle.format.proofs.Opening.{block-ext, good-kind, opened-good}
-use Rattle.format.proofs.Places.{inside-placeAt, inside-value, placeAt-pos, pos-lt, split-of-kind}
+use Rattle.format.proofs.Places.{inside-placeAt, inside-value, placeAt-pos, pos-lt, split-of-kind, width-le}
 use Rattle.record_rules.specs.Answers.{packRules}
 use Rattle.record_rules.specs.Records.{Shaped, made, packRefusal, packed, packedAs, recordOf, says, taken, unpackedAs, zeroRecord}
-use Rattle.record_rules.proofs.Widths.{width-le}
 use Rattle.record_rules.proofs.Answering.{clear-stored, packed-as, packing, stored-clear}
 
 module _ {m : ℕ} {s : Split} {f : Place → ℕ} (g : WellFormed m s f) where

@@ -4,27 +4,18 @@ use mathlib.Core.Path.{_≡_, refl, sym, ap, subst}
 use mathlib.Core.Bool.{true, false}
 use mathlib.Core.List.{List, []}
 use Prim.Native.Nat.{ℕ, _/_, _^_, _≤_, _<_}
-use native.Mathlib.Nat.{div-eq-of-lt, div-lt-iff-lt-mul, le-of-suc-le-suc, le-refl, le-trans, lt-of-not-le, one-mul}
+use native.Mathlib.Nat.{div-eq-of-lt, div-lt-iff-lt-mul, le-of-suc-le-suc, le-trans, lt-of-not-le, one-mul}
 use borrow.Author.Tests.{le-ltb, lt-ltb}
 use lib.Dec.{T, leb, leb→le, lit<, ltb, ltb→lt}
 use lib.Pow.{pow-pos}
 use Rattle.laws.specs.Tables.{below}
-use Rattle.laws.proofs.Cases.{pick-less}
 use Rattle.laws.proofs.Scan.{scan-same}
 use Rattle.laws.proofs.Tests.{at, both-right}
-use Rattle.format.specs.Modes.{endpointCount, indexBits, modeRow}
+use Rattle.format.specs.Modes.{endpointCount, modeRow}
 use Rattle.format.specs.Partitions.{among}
 use Rattle.format.specs.Places.{Place, head, index, inside, pbit, placeAt, value, width}
-use Rattle.format.proofs.Places.{inside-placeAt}
+use Rattle.format.proofs.Places.{inside-placeAt, width-le}
 use Rattle.record_rules.specs.Records.{fits}
-
--- an anchor's width is no more than the full one
-pub width-le : (m : ℕ) (an : List ℕ) (x : Place) → width m an x ≤ width m [] x
-unfolding width
-width-le m an (head k) = le-refl _
-width-le m an (value c e) = le-refl _
-width-le m an (pbit k) = le-refl _
-width-le m an (index a q) = pick-less (among q an) (indexBits m a)
 
 all-8 : T (below 8 (λ m. below 66 (λ i. leb (width m [] (placeAt i)) 8)))
 unfolding placeAt width modeRow endpointCount

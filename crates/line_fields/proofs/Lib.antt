@@ -1,0 +1,9 @@
+pub mod Halves
+pub mod Runs
+pub mod Groups
+pub mod Putting
+pub mod Room
+pub mod Sets
+pub mod Starting
+pub mod Indexes
+pub mod Whole
