@@ -6,7 +6,7 @@ use mathlib.Core.List.{List, [], _∷_}
 use Prim.Native.Nat.{ℕ, zero, suc, _+_, _-_, _*_, _/_, _%_, _^_, _≤_, _<_}
 use native.Mathlib.Omega.{arith}
 use borrow.Author.Tests.{eq-eqb, eqb-true, le-ltb, lt-ltb, ltb-true}
-use lib.Dec.{T, eqb, ltb, ltb→lt, lt→ltb}
+use lib.Dec.{T, eqb, ltb, ltb→lt}
 use lib.ListN.{getD, replicate}
 use lib.Pow.{pow-lt}
 use Rattle.record_rules.specs.declared.Record.{Record}
@@ -15,10 +15,11 @@ use Rattle.record_widths.specs.declared.ModeRow.{ModeRow}
 use Rattle.laws.specs.Digits.{join, split}
 use Rattle.laws.specs.Tables.{below, both, pick, table, tableFrom}
 use Rattle.laws.proofs.Digits.{split-join}
+use Rattle.laws.proofs.Fitting.{fits-all, fits-each}
 use Rattle.laws.proofs.Part.{getD-table}
 use Rattle.laws.proofs.Rows.{fit-table}
 use Rattle.laws.proofs.Scan.{scan-same}
-use Rattle.laws.proofs.Tests.{T-true, at, below-intro, both-left, both-right, both-true, no-both, not-so, true-T}
+use Rattle.laws.proofs.Tests.{at, both-left, both-right, both-true, no-both, not-so, true-T}
 use Rattle.format.specs.Modes.{indexBits, secondBits}
 use Rattle.format.specs.Partitions.{among, or}
 use Rattle.format.specs.Places.{head, index, pbit, value, width}
@@ -67,12 +68,6 @@ module _ (row : ModeRow) (e : List ℕ) (o : ℕ) (bytes : (i : ℕ) → getD e 
 abbrev allFit : ℕ → (ℕ → ℕ) → (ℕ → ℕ) → Bool
 allFit n v w = below n (λ k. ltb (v k) (2 ^ w k))
 
-all-fit : (n : ℕ) (v w : ℕ → ℕ) → ((k : ℕ) → k < n → v k < 2 ^ w k) → allFit n v w ≡ true
-all-fit n v w h = T-true _ (below-intro n (λ k. ltb (v k) (2 ^ w k)) (λ k l. lt→ltb _ _ (h k l)))
-
-each-fits : (n : ℕ) (v w : ℕ → ℕ) → allFit n v w ≡ true → (k : ℕ) → k < n → v k < 2 ^ w k
-each-fits n v w e k h = ltb→lt _ _ (at n (λ k. ltb (v k) (2 ^ w k)) (true-T _ e) k h)
-
 -- ALL OF A RECORD at its full widths
 module _ (r : Record) {row : ModeRow} (hm : r .mode < 8) (er : row ≡ rowOf (r .mode)) where
   -- what fits everywhere fits in each group
@@ -83,21 +78,21 @@ module _ (r : Record) {row : ModeRow} (hm : r .mode < 8) (er : row ≡ rowOf (r 
   pub values-from : Within r → allFit 24 (λ i. getD (r .endpoints) i 0) (valueBits row) ≡ true
   unfolding says width
   values-from w =
-      rw er (all-fit 24 (λ i. getD (r .endpoints) i 0) (valueBits (rowOf (r .mode))) (λ i l.
+      rw er (fits-all 24 (λ i. getD (r .endpoints) i 0) (valueBits (rowOf (r .mode))) (λ i l.
       subst (λ (j : ℕ). getD (r .endpoints) j 0 < 2 ^ valueBits (rowOf (r .mode)) i) (let z : 4 * (i / 4) + i % 4 ≡ i = omega arith in z)
       (w (value (i % 4) (i / 4)) (inside-value {c = i % 4} {e = i / 4} (omega arith) (omega arith)))))
 
   pub ps-from : Within r → allFit 6 (λ k. getD (r .p) k 0) (λ k. pick (ltb k (row .p)) 1 0) ≡ true
   unfolding says width
-  ps-from w = rw er (all-fit 6 (λ k. getD (r .p) k 0) (λ k. pick (ltb k (rowOf (r .mode) .p)) 1 0) (λ k l. w (pbit k) (inside-pbit l)))
+  ps-from w = rw er (fits-all 6 (λ k. getD (r .p) k 0) (λ k. pick (ltb k (rowOf (r .mode) .p)) 1 0) (λ k l. w (pbit k) (inside-pbit l)))
 
   pub first-from : Within r → allFit 16 (λ q. getD (r .first) q 0) (λ q. row .first) ≡ true
   unfolding says width
-  first-from w = rw er (all-fit 16 (λ q. getD (r .first) q 0) (λ q. rowOf (r .mode) .first) (λ q l. w (index 0 q) (inside-index {a = 0} (omega arith) l)))
+  first-from w = rw er (fits-all 16 (λ q. getD (r .first) q 0) (λ q. rowOf (r .mode) .first) (λ q l. w (index 0 q) (inside-index {a = 0} (omega arith) l)))
 
   pub second-from : Within r → allFit 16 (λ q. getD (r .second) q 0) (λ q. row .second) ≡ true
   unfolding says width
-  second-from w = rw er (all-fit 16 (λ q. getD (r .second) q 0) (λ q. rowOf (r .mode) .second) (λ q l. w (index 1 q) (inside-index {a = 1} (omega arith) l)))
+  second-from w = rw er (fits-all 16 (λ q. getD (r .second) q 0) (λ q. rowOf (r .mode) .second) (λ q l. w (index 1 q) (inside-index {a = 1} (omega arith) l)))
 
   -- and back
   module _ (s : splitFits (r .split) row ≡ true) (v : allFit 24 (λ i. getD (r .endpoints) i 0) (valueBits row) ≡ true)
@@ -120,10 +115,10 @@ module _ (r : Record) {row : ModeRow} (hm : r .mode < 8) (er : row ≡ rowOf (r 
         let he : e < 6 = ltb→lt e 6 (both-right (ltb c 4) (ltb e 6) h) in
         let d : (4 * e + c) / 4 ≡ e = omega arith in
         let q : (4 * e + c) % 4 ≡ c = omega arith in
-        rw (er, d, q) at (each-fits 24 (λ i. getD (r .endpoints) i 0) (valueBits row) v (4 * e + c) (omega arith))
-    within g (pbit k) h = rw er at (each-fits 6 (λ k. getD (r .p) k 0) (λ k. pick (ltb k (row .p)) 1 0) p k (ltb→lt k 6 h))
-    within g (index zero q) h = rw er at (each-fits 16 (λ q. getD (r .first) q 0) (λ q. row .first) f q (ltb→lt q 16 (both-right (ltb 0 2) (ltb q 16) h)))
-    within g (index (suc zero) q) h = rw er at (each-fits 16 (λ q. getD (r .second) q 0) (λ q. row .second) g q (ltb→lt q 16 (both-right (ltb 1 2) (ltb q 16) h)))
+        rw (er, d, q) at (fits-each 24 (λ i. getD (r .endpoints) i 0) (valueBits row) v (4 * e + c) (omega arith))
+    within g (pbit k) h = rw er at (fits-each 6 (λ k. getD (r .p) k 0) (λ k. pick (ltb k (row .p)) 1 0) p k (ltb→lt k 6 h))
+    within g (index zero q) h = rw er at (fits-each 16 (λ q. getD (r .first) q 0) (λ q. row .first) f q (ltb→lt q 16 (both-right (ltb 0 2) (ltb q 16) h)))
+    within g (index (suc zero) q) h = rw er at (fits-each 16 (λ q. getD (r .second) q 0) (λ q. row .second) g q (ltb→lt q 16 (both-right (ltb 1 2) (ltb q 16) h)))
     within g (index (suc (suc a)) q) h = absurd (let l = ltb→lt (suc (suc a)) 2 (both-left (ltb (suc (suc a)) 2) (ltb q 16) h) in let z : ⊥ = omega arith in z)
 
   -- so where a group fails all fails, and where the others hold the last one decides

@@ -41,4 +41,3 @@ pub record Full (r : Record) (row : ModeRow) : Type 0 where
   pub is : row ≡ rowOf (r .mode)
   pub kind : kindOf (r .split) ≡ kindOfMode (r .mode)
   pub within : Within r
-

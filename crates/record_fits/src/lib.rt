@@ -13,10 +13,10 @@ ghost use Rattle.record_fits.specs.Fitting.{Full, splitFits, storedFit, 
 use bcn_util::stream::BitStream;
 use bcn_util::stream::word;
 use format::Split;
-use record_places::splits::index_mode_of;
-use record_places::splits::partition_of;
-use record_places::splits::rotation_of;
 use record_rules::Record;
+use record_splits::index_mode_of;
+use record_splits::partition_of;
+use record_splits::rotation_of;
 use record_widths::Anchors;
 use record_widths::ModeRow;
 

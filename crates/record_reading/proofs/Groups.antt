@@ -12,17 +12,11 @@ use Rattle.record_widths.specs.declared.ModeRow.{ModeRow}
 use Rattle.bcn_util.specs.declared.stream.BitStream.{BitStream}
 use Rattle.bcn_util.specs.declared.stream.Bits64.{Bits64}
 use Rattle.laws.specs.Tables.{pick, table, tableFrom}
-use Rattle.laws.proofs.Part.{Part, part-all, part-set}
+use Rattle.laws.proofs.Filled.{Upto, upto-next}
+use Rattle.laws.proofs.Part.{part-all}
 use Rattle.bcn_indexes.specs.Indexes.{part}
 use Rattle.bcn_util.specs.Stream.{consumed64, held}
 use Rattle.record_reading.specs.Reading.{channelOf, endpointsOf, endpointsRead, pRead}
-
--- a list filled from its start, whose places from m on stand already
-abbrev Upto : ℕ → (ℕ → ℕ) → ℕ → ℕ → List ℕ → Type 0
-Upto n f m j out = Part n 0 f (λ k. j ≤ k → m ≤ k) out
-
-upto-next : {n m : ℕ} {f : ℕ → ℕ} {out : List ℕ} (j v : ℕ) → Upto n f m j out → j < n → v ≡ f j → Upto n f m (j + 1) (set out j v)
-upto-next {m = m} j v h l e = part-set j v h l e (λ k lk q ne above. q (omega arith))
 
 -- the endpoints of four words
 module _ (row : ModeRow) (red green blue alpha : ℕ) where
@@ -37,7 +31,7 @@ module _ (row : ModeRow) (red green blue alpha : ℕ) where
 
   -- the values of the first e endpoints are there
   abbrev pub Values : ℕ → List ℕ → Type 0
-  Values e out = Upto 24 endpoint (4 * row .endpoints) (4 * e) out
+  Values e out = Upto 24 0 endpoint (4 * row .endpoints) (4 * e) out
 
   stands : (e c : ℕ) → e < row .endpoints → c < 4 → endpoint (4 * e + c) ≡ part (channel c) (bits c) e
   stands e c he hc =
@@ -55,7 +49,7 @@ module _ (row : ModeRow) (red green blue alpha : ℕ) where
       → r ≡ part red (row .colour) e → g ≡ part green (row .colour) e → b ≡ part blue (row .colour) e → a ≡ part alpha (row .alpha) e
       → Values (e + 1) (set (set (set (set out (4 * e) r) (4 * e + 1) g) (4 * e + 2) b) (4 * e + 3) a)
   values-next e {out} {r} {g} {b} {a} he six h er eg eb ea =
-      let s0 : Upto 24 endpoint (4 * row .endpoints) (4 * e + 1) (set out (4 * e) r) =
+      let s0 : Upto 24 0 endpoint (4 * row .endpoints) (4 * e + 1) (set out (4 * e) r) =
       upto-next (4 * e) r h (omega arith) (er ∙ sym (rw add-zero at (stands e 0 he (omega arith)))) in
       let s1 = upto-next (4 * e + 1) g s0 (omega arith) (eg ∙ sym (stands e 1 he (omega arith))) in
       let s2 = upto-next (4 * e + 2) b (rw (add-assoc (4 * e) 1 1) at s1) (omega arith) (eb ∙ sym (stands e 2 he (omega arith))) in

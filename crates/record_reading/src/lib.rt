@@ -5,15 +5,18 @@ ghost use Prim.Native.Nat.{_+_, _-_, _*_, _<_, _≤_};
 ghost use Rattle.laws.specs.Tables.{table};
 ghost use Rattle.format.specs.Block.{modeOf};
 ghost use Rattle.bcn_indexes.specs.Indexes.{Rising, anchorCount, anchorsOfKind, newIndexes, part};
-ghost use Rattle.record_widths.specs.Rows.{OfMode};
+ghost use Rattle.record_rules.specs.Records.{recordOf};
+ghost use Rattle.record_widths.specs.Rows.{OfMode, rowOf};
 ghost use Rattle.record_reading.specs.Reading.{endpointsOf, endpointsRead, pRead, secondRead, splitRead};
 use bcn_indexes::Indexes;
 use bcn_indexes::NewIndexes;
 use bcn_util::stream::BitStream;
 use format::Split;
-use record_places::splits::split_of_kind;
+use record_rules::Record;
+use record_splits::split_of_kind;
 use record_widths::Anchors;
 use record_widths::ModeRow;
+use record_widths::anchors_of;
 
 // The mode is the count of zero bits that byte 0 ends in, and 8 is reserved.
 pub fn mode_of(block: [u8; 16]) -> u8
@@ -160,4 +163,30 @@ pub fn read_second(row: ModeRow, anchors: Anchors, stream: BitStream) -> [u8; 16
     let set = read_indexes(row.kind, anchors, row.second, stream);
     let indexes = set.indexes;
     parts_of(indexes.uncompressed, row.second)
+}
+
+// The record of a block that is not reserved, by its mode and the row of that mode.
+pub fn read_record(block: [u8; 16], mode: u8, row: ModeRow) -> Record
+    requires { ⌜ (mode ≡ modeOf block) × (mode < 8) × (row ≡ rowOf mode) ⌝ }
+    ensures { λ r. ⌜ r ≡ recordOf block ⌝ }
+{
+    let head = read_split(row, BitStream::new(block).skip(mode as u32 + 1));
+    let split = head.split;
+    let values = read_endpoints(row, head.stream);
+    let endpoints = values.endpoints;
+    let bits = read_p(row, values.stream);
+    let p = bits.p;
+    let anchors = anchors_of(split);
+    let set = read_indexes(row.kind, anchors, row.first, bits.stream);
+    let indexes = set.indexes;
+    let first = parts_of(indexes.uncompressed, row.first);
+    let second = read_second(row, anchors, set.stream);
+    Record {
+        mode: mode,
+        split: split,
+        endpoints: endpoints,
+        p: p,
+        first: first,
+        second: second,
+    }
 }

@@ -2,24 +2,26 @@
 -- Assumes nothing.
 use mathlib.Core.Path.{_≡_, refl, sym, ap, ap₂, _∙_, subst}
 use mathlib.Core.List.{List}
-use Prim.Native.Nat.{ℕ, zero, suc, _+_, _-_, _*_, _%_, _^_, _≤_, _<_}
-use native.Mathlib.Nat.{add-assoc, add-suc, add-zero, le-of-eq, le-of-suc-le-suc, mul-one, zero-add, zero-mul}
+use Prim.Native.Nat.{ℕ, _+_, _-_, _*_, _%_, _^_, _≤_, _<_}
+use native.Mathlib.Nat.{add-assoc, le-of-eq, le-of-suc-le-suc, mul-one}
 use native.Mathlib.Numerals.{add-one}
 use native.Mathlib.Omega.{arith}
 use borrow.Author.Tests.{le-ltb, lt-ltb}
-use lib.Arith.{le-zero, lt-one}
+use lib.Arith.{le-zero}
 use lib.Dec.{eqb, ltb}
 use lib.ListN.{getD, length}
 use Rattle.record_rules.specs.declared.Record.{Record}
 use Rattle.record_widths.specs.declared.Anchors.{Anchors}
 use Rattle.record_widths.specs.declared.ModeRow.{ModeRow}
 use Rattle.bcn_util.specs.declared.writer.BitWriter.{BitWriter}
-use Rattle.laws.specs.Digits.{Fit, join, total}
+use Rattle.laws.specs.Digits.{Fit, join, row as evenly, total}
 use Rattle.laws.specs.Tables.{pick, table}
 use Rattle.laws.proofs.Cases.{pick-less, pick-lt}
-use Rattle.laws.proofs.Digits.{join-append, join-lt, total-append}
-use Rattle.laws.proofs.Joining.{table-append, table-same}
-use Rattle.laws.proofs.Rows.{fit-table, join-more, total-more, total-same}
+use Rattle.laws.proofs.Digits.{join-lt}
+use Rattle.laws.proofs.Joining.{table-same}
+use Rattle.laws.proofs.Part.{table-is}
+use Rattle.laws.proofs.RowParts.{rows-join, rows-total, tail-join, tail-total}
+use Rattle.laws.proofs.Rows.{fit-table, total-same}
 use Rattle.format.specs.Modes.{channelBits, endpointCount, indexBits, pCount, partitionBits, secondBits}
 use Rattle.format.specs.Partitions.{among}
 use Rattle.format.specs.Places.{blockOf, head, index, listOf, pbit, placeAt, pos, value, width, widths}
@@ -33,36 +35,11 @@ use Rattle.bcn_util.specs.Writer.{pushed, writerOf, written}
 use Rattle.bcn_util.proofs.Puts.{row-asks, row-more, row-none, row-written, written-of}
 use Rattle.bcn_util.proofs.Words.{one-shl}
 use Rattle.record_rules.specs.Records.{says}
-use Rattle.record_rules.proofs.Packing.{table-is}
 use Rattle.record_widths.specs.Rows.{OfMode, anchorsOf}
 use Rattle.record_widths.proofs.Bounds.{low-partition, small}
 use Rattle.record_widths.specs.Rows.{Pixels}
-use Rattle.record_writing.specs.Writing.{Packs, said, sideBySide, upto, wide}
+use Rattle.record_writing.specs.Writing.{Packs, said, upto, wide}
 use Rattle.record_widths.proofs.Pixels.{anchors-kind, anchors-low, anchors-rise}
-
--- rows in two parts
-module _ (i k : ℕ) (f v : ℕ → ℕ) where
-  rows-join : ((j : ℕ) → j < i → v j < 2 ^ f j)
-      → join (table (i + k) f) (table (i + k) v) ≡ join (table k (λ j. f (i + j))) (table k (λ j. v (i + j))) * 2 ^ total (table i f) + join (table i f) (table i v)
-  rows-join h = ap₂ join (sym (table-append 0 i k f)) (sym (table-append 0 i k v)) ∙ join-append (fit-table i f v h) (table k (λ j. f (i + j))) (table k (λ j. v (i + j)))
-
-  rows-total : total (table (i + k) f) ≡ total (table i f) + total (table k (λ j. f (i + j)))
-  rows-total = ap total (sym (table-append 0 i k f)) ∙ total-append (table i f) (table k (λ j. f (i + j)))
-
--- places of no width at the end of a row
-module _ (c : ℕ) (f v : ℕ → ℕ) where
-  tail-total : (d : ℕ) → ((k : ℕ) → c ≤ k → k < c + d → f k ≡ 0) → total (table (c + d) f) ≡ total (table c f)
-  tail-total zero h = rw add-zero
-  tail-total (suc d) h =
-      rw (add-suc c d)
-      (total-more (c + d) f ∙ ap₂ (λ (x y : ℕ). x + y) (tail-total d (λ k a l. h k a (omega arith))) (h (c + d) (omega arith) (omega arith)) ∙ add-zero (total (table c f)))
-
-  tail-join : (d : ℕ) → ((k : ℕ) → k < c + d → v k < 2 ^ f k) → ((k : ℕ) → c ≤ k → k < c + d → f k ≡ 0) → join (table (c + d) f) (table (c + d) v) ≡ join (table c f) (table c v)
-  tail-join zero g h = rw add-zero
-  tail-join (suc d) g h =
-      let none : v (c + d) ≡ 0 = lt-one (rw (h (c + d) (omega arith) (omega arith)) at (g (c + d) (omega arith))) in
-      rw (add-suc c d)
-      (join-more (c + d) f v (λ k l. g k (omega arith)) ∙ rw (none, zero-mul, zero-add) (tail-join d (λ k l. g k (omega arith)) (λ k a l. h k a (omega arith))))
 
 module _ {r : Record} {row : ModeRow} (p : Packs r row) where
   each : (k : ℕ) → k < 66 → said r k < 2 ^ wide r k
@@ -152,8 +129,8 @@ module _ {r : Record} {row : ModeRow} (p : Packs r row) where
     past : (k : ℕ) → count ≤ k → k < count + (6 - count) → some k ≡ 0
     past k a l = rw (le-ltb k count a)
 
-    pub run-join : sideBySide w count v ≡ join (table 6 (λ j. wide r (i + j))) (table 6 (λ j. said r (i + j)))
-    unfolding sideBySide
+    pub run-join : evenly count w v ≡ join (table 6 (λ j. wide r (i + j))) (table 6 (λ j. said r (i + j)))
+    unfolding evenly
     run-join =
         ap (λ (l : List ℕ). join l (table count v)) (table-same 0 count _ some (λ k l. sym (rw (lt-ltb k count l))))
         ∙ sym (tail-join count some v (6 - count) (λ k l. some-fits k (omega arith)) past)
@@ -197,7 +174,7 @@ module _ {r : Record} {row : ModeRow} (p : Packs r row) where
       pub channel-fits : (k : ℕ) → k < row .endpoints → values k < 2 ^ w
       channel-fits = run-fits (4 + 6 * c) (omega arith) (row .endpoints) w values (small of-mode .endpoints) wides value-said
 
-      module _ {b : BitWriter} (eb : b ≡ upto r (4 + 6 * c)) {x : ℕ} (ex : x ≡ sideBySide w (row .endpoints) values) where
+      module _ {b : BitWriter} (eb : b ≡ upto r (4 + 6 * c)) {x : ℕ} (ex : x ≡ evenly (row .endpoints) w values) where
         joined : x ≡ join (table 6 (λ j. wide r (4 + 6 * c + j))) (table 6 (λ j. said r (4 + 6 * c + j)))
         joined = ex ∙ run-join (4 + 6 * c) (omega arith) (row .endpoints) w values (small of-mode .endpoints) wides value-said
 
@@ -229,7 +206,7 @@ module _ {r : Record} {row : ModeRow} (p : Packs r row) where
   pub bits-fit : (k : ℕ) → k < row .p → getD (r .p) k 0 < 2 ^ 1
   bits-fit = run-fits 28 (omega arith) (row .p) 1 (λ k. getD (r .p) k 0) (small of-mode .p) bits-wide p-said
 
-  module _ {b : BitWriter} (eb : b ≡ upto r 28) {x : ℕ} (ex : x ≡ sideBySide 1 (row .p) (λ k. getD (r .p) k 0)) where
+  module _ {b : BitWriter} (eb : b ≡ upto r 28) {x : ℕ} (ex : x ≡ evenly (row .p) 1 (λ k. getD (r .p) k 0)) where
     bits-joined : x ≡ join (table 6 (λ j. wide r (28 + j))) (table 6 (λ j. said r (28 + j)))
     bits-joined = ex ∙ run-join 28 (omega arith) (row .p) 1 (λ k. getD (r .p) k 0) (small of-mode .p) bits-wide p-said
 

@@ -15,10 +15,6 @@ use Rattle.bcn_util.specs.Writer.{writerOf}
 use Rattle.record_rules.specs.Records.{fits, says}
 use Rattle.record_widths.specs.Rows.{rowOf}
 
--- n values of w bits each, one beside the other, the first lowest
-unfoldable pub sideBySide : ℕ → ℕ → (ℕ → ℕ) → ℕ
-sideBySide w n v = join (table n (λ k. w)) (table n v)
-
 -- a record that packs, with the row of its mode: everything fits as it is stored
 pub record Packs (r : Record) (row : ModeRow) : Type 0 where
   pub low : r .mode < 8

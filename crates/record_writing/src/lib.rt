@@ -4,7 +4,7 @@ ghost use mathlib.Core.Path.{_≡_};
 ghost use mathlib.Core.List.{[]};
 ghost use Prim.Native.Nat.{ℕ, _+_, _-_, _*_, _^_, _<_, _≤_};
 ghost use lib.ListN.{getD};
-ghost use Rattle.laws.specs.Digits.{Fit, join};
+ghost use Rattle.laws.specs.Digits.{Fit, join, row};
 ghost use Rattle.format.specs.Block.{field};
 ghost use Rattle.format.specs.Modes.{channelBits};
 ghost use Rattle.format.specs.Places.{blockOf};
@@ -12,14 +12,14 @@ ghost use Rattle.bcn_indexes.specs.Indexes.{Rising, anchorCount, anchorsOfKind,
 ghost use Rattle.bcn_util.specs.Writer.{pushed, written};
 ghost use Rattle.record_rules.specs.Records.{says};
 ghost use Rattle.record_widths.specs.Rows.{Pixels, anchorsOf};
-ghost use Rattle.record_writing.specs.Writing.{Packs, sideBySide, upto};
+ghost use Rattle.record_writing.specs.Writing.{Packs, upto};
 use bcn_indexes::storing::compressed;
 use bcn_indexes::storing::stored_bits;
 use bcn_util::writer::BitWriter;
-use record_places::splits::index_mode_of;
-use record_places::splits::partition_of;
-use record_places::splits::rotation_of;
 use record_rules::Record;
+use record_splits::index_mode_of;
+use record_splits::partition_of;
+use record_splits::rotation_of;
 use record_widths::Anchors;
 use record_widths::ModeRow;
 
@@ -48,7 +48,7 @@ pub fn top_of(word: u64, width: u32, index: usize) -> u64
 // The values of a channel as one word, endpoint 0 lowest.
 fn channel_word(e: [u8; 24], count: usize, channel: usize, width: u32) -> u64
     requires { ⌜ (count ≤ 6) × (channel < 4) × (width ≤ 8) × ((k : ℕ) → k < count → getD e (4 * k + channel) 0 < 2 ^ width) ⌝ }
-    ensures { λ r. ⌜ r ≡ sideBySide width count (λ k. getD e (4 * k + channel) 0) ⌝ }
+    ensures { λ r. ⌜ r ≡ row count width (λ k. getD e (4 * k + channel) 0) ⌝ }
 {
     let mut word: u64 = 0;
     let mut k = count;
@@ -62,7 +62,7 @@ fn channel_word(e: [u8; 24], count: usize, channel: usize, width: u32) -> u64
 // The p bits as one word.
 fn p_word(p: [u8; 6], count: usize) -> u64
     requires { ⌜ (count ≤ 6) × ((k : ℕ) → k < count → getD p k 0 < 2 ^ 1) ⌝ }
-    ensures { λ r. ⌜ r ≡ sideBySide 1 count (λ k. getD p k 0) ⌝ }
+    ensures { λ r. ⌜ r ≡ row count 1 (λ k. getD p k 0) ⌝ }
 {
     let mut word: u64 = 0;
     let mut k = count;

@@ -8,7 +8,8 @@ use lib.Dec.{ltb}
 use lib.ListN.{getD}
 use Rattle.laws.specs.Tables.{below, both}
 use Rattle.record_fits.specs.Fitting.{valueBits}
-use Rattle.record_fits.proofs.Bytes.{below-add, first-fails, first-holds}
+use Rattle.laws.proofs.Scan.{below-add}
+use Rattle.laws.proofs.Tests.{first-fails, first-holds}
 use borrow.Author.Needs.{needs}
 use Rattle.record_fits.proofs.endpoints_fit.Statement.{statement}
 use Rattle.record_fits.proofs.endpoints_fit.Tie as tie

@@ -11,7 +11,8 @@ use Rattle.laws.specs.Digits.{Fit}
 use Rattle.laws.specs.Tables.{below, both}
 use Rattle.format.specs.Block.{eights}
 use Rattle.format.proofs.Subsets.{sixteen-bytes}
-use Rattle.record_fits.proofs.Bytes.{first-fails, first-holds, halves-test, octetTest}
+use Rattle.laws.proofs.Tests.{first-fails, first-holds}
+use Rattle.record_fits.proofs.Bytes.{halves-test, octetTest}
 use borrow.Author.Needs.{needs}
 use Rattle.record_fits.proofs.indexes_fit.Statement.{statement}
 use Rattle.record_fits.proofs.indexes_fit.Tie as tie

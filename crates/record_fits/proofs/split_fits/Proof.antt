@@ -7,7 +7,7 @@ use Prim.Native.Nat.{_^_}
 use lib.Dec.{ltb}
 use Rattle.format.specs.Splits.{partition, rotation}
 use Rattle.record_widths.proofs.Bounds.{small}
-use Rattle.record_fits.proofs.Bytes.{first-fails, first-holds}
+use Rattle.laws.proofs.Tests.{first-fails, first-holds}
 use borrow.Author.Needs.{needs}
 use Rattle.record_fits.proofs.split_fits.Statement.{statement}
 use Rattle.record_fits.proofs.split_fits.Tie as tie

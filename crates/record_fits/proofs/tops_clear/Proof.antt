@@ -3,7 +3,7 @@
 use mathlib.Core.Path.{refl, _∙_, sym}
 use native.Mathlib.Omega.{arith}
 use borrow.Author.Tests.{not-false, not-true}
-use Rattle.record_fits.proofs.Bytes.{first-fails, first-holds}
+use Rattle.laws.proofs.Tests.{first-fails, first-holds}
 use borrow.Author.Needs.{needs}
 use Rattle.record_fits.proofs.tops_clear.Statement.{statement}
 use Rattle.record_fits.proofs.tops_clear.Tie as tie

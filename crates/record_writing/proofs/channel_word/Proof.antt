@@ -5,7 +5,7 @@ use Prim.Native.Nat.{_+_, _*_, _≤_}
 use native.Mathlib.Omega.{arith}
 use lib.ListN.{getD}
 use Rattle.bcn_indexes.proofs.Anchors.{times-width}
-use Rattle.record_writing.proofs.Sets.{Down, Step, down-all, down-next, down-none}
+use Rattle.laws.proofs.Downwards.{Down, Step, down-all, down-next, down-none}
 use borrow.Author.Needs.{needs}
 use Rattle.record_writing.proofs.channel_word.Statement.{statement}
 use Rattle.record_writing.proofs.channel_word.Tie as tie

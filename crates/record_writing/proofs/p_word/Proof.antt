@@ -4,7 +4,7 @@ use mathlib.Core.Path.{_≡_}
 use Prim.Native.Nat.{_≤_}
 use native.Mathlib.Omega.{arith}
 use lib.ListN.{getD}
-use Rattle.record_writing.proofs.Sets.{Down, Step, down-all, down-next, down-none}
+use Rattle.laws.proofs.Downwards.{Down, Step, down-all, down-next, down-none}
 use borrow.Author.Needs.{needs}
 use Rattle.record_writing.proofs.p_word.Statement.{statement}
 use Rattle.record_writing.proofs.p_word.Tie as tie

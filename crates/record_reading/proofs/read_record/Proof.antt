@@ -13,11 +13,11 @@ use Rattle.format.proofs.Subsets.{sixteen-bytes}
 use Rattle.bcn_util.proofs.On.{On}
 use Rattle.record_widths.specs.Rows.{OfMode}
 use Rattle.record_widths.proofs.Bounds.{small}
 use Rattle.record_reading.proofs.Heads.{marker-on}
 use Rattle.record_reading.proofs.Standing.{first-room, p-room, partition-64, record-read, rise, second-room, the-split, values-room}
 use borrow.Author.Needs.{needs}
-use Rattle.record.proofs.read_record.Statement.{statement}
-use Rattle.record.proofs.read_record.Tie as tie
+use Rattle.record_reading.proofs.read_record.Statement.{statement}
+use Rattle.record_reading.proofs.read_record.Tie as tie
 
 size : (s : tie.Start) → length (s .args .block) ≡ 16
 size s = search needs

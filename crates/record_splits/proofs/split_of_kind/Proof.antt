@@ -1,4 +1,4 @@
--- `splits::split_of_kind` meets its contract.
+-- `split_of_kind` meets its contract.
 -- Assumes nothing.
 use mathlib.Core.Logic.{_≢_}
 use mathlib.Core.Path.{_≡_, refl}
@@ -6,8 +6,8 @@ use Prim.Native.Nat.{ℕ, zero, suc}
 use borrow.Author.Needs.{needs}
 use Rattle.format.specs.Splits.{ofKind}
 use Rattle.format.specs.declared.Split.the-variants.{Vector}
-use Rattle.record_places.proofs.splits.split_of_kind.Statement.{statement}
-use Rattle.record_places.proofs.splits.split_of_kind.Tie as tie
+use Rattle.record_splits.proofs.split_of_kind.Statement.{statement}
+use Rattle.record_splits.proofs.split_of_kind.Tie as tie
 
 vector : (k a r i : ℕ) → k ≢ 0 → k ≢ 1 → k ≢ 2 → Vector r i ≡ ofKind k a r i
 vector zero a r i x y z = absurd (x refl)
