@@ -10,7 +10,7 @@ use lib.ListN.{getD}
 use lib.Pow.{mod-mod-pow, ones-lt, pow-mono, pow-pos, shr-shr, split as split-at}
 use Rattle.laws.specs.Digits.{Fit, join, row}
 use Rattle.laws.specs.Tables.{table}
-use Rattle.laws.proofs.Digits.{split-join}
+use Rattle.laws.proofs.Digits.{join-lt, split-join}
 use Rattle.laws.proofs.Joining.{table-same}
 use Rattle.laws.proofs.Part.{getD-table}
 use Rattle.laws.proofs.Rows.{digit, fit-table, table-cons, table-none, total-same}
@@ -28,7 +28,7 @@ row-cons : (n k : ℕ) (f : ℕ → ℕ) → row (suc n) k f ≡ row n k (λ i. 
 unfolding row
 row-cons n k f = ap₂ join (table-cons n (λ i. k)) (table-cons n f)
 
--- values within their width are read back
+-- values within their width are read back, and reach no further
 module _ (n k : ℕ) (f : ℕ → ℕ) (small : (i : ℕ) → i < n → f i < 2 ^ k) where
   fits : Fit (table n (λ i. k)) (table n f)
   fits = fit-table n (λ i. k) f small
@@ -40,6 +40,10 @@ module _ (n k : ℕ) (f : ℕ → ℕ) (small : (i : ℕ) → i < n → f i < 2 
       ∙ sym (digit n (λ i. k) (row n k f) i h)
       ∙ ap (λ (l : List ℕ). getD l i 0) (split-join fits)
       ∙ getD-table n f 0 i h
+
+  pub row-lt : row n k f < 2 ^ (n * k)
+  unfolding row
+  row-lt = rw (sym (total-same (λ i. k) k n (λ j l. refl))) (join-lt fits)
 
 -- a factor and a sum go to each value
 pub row-linear : (n k c : ℕ) (f g : ℕ → ℕ) → row n k f * c + row n k g ≡ row n k (λ i. f i * c + g i)

@@ -11,9 +11,12 @@ pub mod Refusals
 pub mod Digits
 pub mod Rows
 pub mod EqualRows
+pub mod RowParts
+pub mod Downwards
 pub mod Padding
 pub mod Fitting
 pub mod Putting
 pub mod Replacing
 pub mod Masks
+pub mod Barred
 pub mod Lanes

@@ -19,7 +19,7 @@ use listing_rules::HeadReader;
 use listing_rules::Machine;
 use listing_rules::Phase;
 use listing_rules::Taken;
-use record::reading::mode_of;
+use record_reading::mode_of;
 use sheet_blocks::load;
 
 // A reader that has taken nothing.
