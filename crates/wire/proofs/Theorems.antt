@@ -30,7 +30,7 @@ use Rattle.record_rules.specs.Records.{Shaped, made, packRefusal, packed, packe
 use Rattle.record_rules.proofs.Answering.{packing}
 use Rattle.record_rules.proofs.Packing.{taken-open}
 use Rattle.record_rules.proofs.Theorems.{pack-unpack, unpack-pack}
-use Rattle.wire.specs.Wire.{bytesFrom, bytesRules, packedBytes, recordByte, recordBytes, recordOfBytes, replacementOf, spelt, splitByte}
+use Rattle.wire.specs.Wire.{bytesFrom, bytesRules, packedBytes, recordByte, recordBytes, recordOfBytes, replacementBytes, replacementOf, spelt, splitByte}
 use Rattle.wire.proofs.Laying.{first-at, p-bit-at, second-at, value-at}
 use Rattle.wire.proofs.Packing.{as-record, bytes-packing}
 
@@ -176,3 +176,6 @@ determined-pack-bytes bs a b p q = p ∙ sym q
 
 pub determined-replacement-of : (bs : List ℕ) (a b : Replacement) → a ≡ replacementOf bs → b ≡ replacementOf bs → a ≡ b
 determined-replacement-of bs a b p q = p ∙ sym q
+
+pub determined-replacement-bytes : (g : Replacement) (a b : List ℕ) → a ≡ replacementBytes g → b ≡ replacementBytes g → a ≡ b
+determined-replacement-bytes g a b p q = p ∙ sym q
