@@ -67,6 +67,14 @@ int main(void) {
     record[1] = 4;
     printf("kind 4: refused %u\n", bc7_pack(record, block));
 
+    /* The line as it stands, for the pair was stored turned; one index of it changed. */
+    uint8_t line[26] = {0}, widths[26] = {0};
+    refusal = bc7_read_line(alone, 0, line, widths);
+    printf("line 0: refused %u, pixel 0 has index %u of %u bits\n", refusal, line[10], widths[10]);
+    line[10] = 3;
+    printf("index 3: refused %u\n", bc7_replace_line(alone, 0, line));
+    show_pixel(alone);
+
     uint8_t head[7] = {0};
     uint32_t count = 0;
     printf("head: refused %u\n", sheet_write_head(4096, 5, head, &count));

@@ -27,6 +27,10 @@ Pixels decode_block(const Block &block) {
 uint32_t unpack(const Block &block, Record &record) { return bc7_unpack(block.data(), record.data()); }
 uint32_t pack(const Record &record, Block &block) { return bc7_pack(record.data(), block.data()); }
 
+uint32_t read_line(const Block &block, uint32_t line, Replacement &replacement, Replacement &widths) {
+    return bc7_read_line(block.data(), line, replacement.data(), widths.data());
+}
+
 uint32_t replace_line(Block &block, uint32_t line, const Replacement &replacement) {
     return bc7_replace_line(block.data(), line, replacement.data());
 }
@@ -111,6 +115,13 @@ int main() {
     show_bytes("block", block.data(), block.size());
     record[1] = 4;
     std::printf("kind 4: refused %u\n", pack(record, block));
+
+    Replacement line = {}, widths = {};
+    refusal = read_line(alone, 0, line, widths);
+    std::printf("line 0: refused %u, pixel 0 has index %u of %u bits\n", refusal, line[10], widths[10]);
+    line[10] = 3;
+    std::printf("index 3: refused %u\n", replace_line(alone, 0, line));
+    show_pixel(alone);
 
     std::vector<uint8_t> head;
     std::printf("head: refused %u\n", write_head(4096, 5, head));

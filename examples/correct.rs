@@ -8,6 +8,7 @@ mod rinchovek {
         fn bc7_decode_block(block: *const u8, pixels: *mut u8);
         fn bc7_unpack(block: *const u8, record: *mut u8) -> u32;
         fn bc7_pack(record: *const u8, block: *mut u8) -> u32;
+        fn bc7_read_line(block: *const u8, line: u32, replacement: *mut u8, widths: *mut u8) -> u32;
         fn bc7_replace_line(block: *mut u8, line: u32, replacement: *const u8) -> u32;
         fn sheet_read_head(sheet: *const u8, length: usize, head: *mut u32) -> u32;
         fn sheet_write_head(width: u32, height: u32, head: *mut u8, count: *mut u32) -> u32;
@@ -31,6 +32,7 @@ mod rinchovek {
         NonZeroU32::new(refusal).map_or(Ok(value), |number| Err(Refused(number)))
     }
 
+    #[derive(Default)]
     pub struct Replacement {
         pub endpoints: [[u8; 4]; 2],
         pub p: [u8; 2],
@@ -45,6 +47,15 @@ mod rinchovek {
             bytes[8..10].copy_from_slice(&self.p);
             bytes[10..].copy_from_slice(&self.indexes);
             bytes
+        }
+
+        fn of(bytes: &[u8; 26]) -> Replacement {
+            let mut new = Replacement::default();
+            new.endpoints[0].copy_from_slice(&bytes[..4]);
+            new.endpoints[1].copy_from_slice(&bytes[4..8]);
+            new.p.copy_from_slice(&bytes[8..10]);
+            new.indexes.copy_from_slice(&bytes[10..]);
+            new
         }
     }
 
@@ -64,6 +75,13 @@ mod rinchovek {
     pub fn pack(record: &[u8; 66]) -> Result<[u8; 16], Refused> {
         let mut block = [0; 16];
         answer(unsafe { bc7_pack(record.as_ptr(), block.as_mut_ptr()) }, block)
+    }
+
+    /// The line as it stands, and how many bits each of its values has.
+    pub fn read_line(block: &[u8; 16], line: u32) -> Result<(Replacement, Replacement), Refused> {
+        let (mut held, mut widths) = ([0; 26], [0; 26]);
+        let refusal = unsafe { bc7_read_line(block.as_ptr(), line, held.as_mut_ptr(), widths.as_mut_ptr()) };
+        answer(refusal, (Replacement::of(&held), Replacement::of(&widths)))
     }
 
     pub fn replace_line(block: &mut [u8; 16], line: u32, new: &Replacement) -> Result<(), Refused> {
@@ -158,6 +176,14 @@ fn main() {
     show_bytes("block", &packed.unwrap_or_default());
     record[1] = 4;
     println!("kind 4: refused {}", number(&pack(&record)));
+
+    let read = read_line(&alone, 0);
+    let refused = number(&read);
+    let (mut line, widths) = read.unwrap_or_default();
+    println!("line 0: refused {refused}, pixel 0 has index {} of {} bits", line.indexes[0], widths.indexes[0]);
+    line.indexes[0] = 3;
+    println!("index 3: refused {}", number(&replace_line(&mut alone, 0, &line)));
+    show_pixel(&alone);
 
     let head = write_head(4096, 5);
     println!("head: refused {}", number(&head));

@@ -18,7 +18,7 @@ use Rattle.format.proofs.Examples.{block4, block7}
 use Rattle.record_rules.specs.Records.{fits, made, packRefusal, packed, recordOf, says, taken}
 use Rattle.line_rules.specs.Replace.{after, indexFits, lineFits, lineGiven, oriented, ownWidth, pFits, put, refusal, refusalIn, replaced, valueFits}
 use Rattle.line_rules.proofs.Attested.{after7}
-use Rattle.wire.specs.Wire.{packedBytes, recordByte, recordBytes, recordOfBytes, replacementOf}
+use Rattle.wire.specs.Wire.{bytesRefusal, packedBytes, recordByte, recordBytes, recordOfBytes, replacementOf, spelt}
 use Rattle.wire.proofs.Attested.{bytes4, bytes7, bytesGiven}
 use Rattle.head.specs.Heads.{formIn, headBytes, headRefusal, heightIn, readHead, sizeRefusal, widthIn, writeHead}
 use Rattle.head.specs.Numbers.{groups, raised, readGroups, readNumber}
@@ -66,7 +66,7 @@ pub record Calls : Type 0 where
   pub replaces-in-not : ReplacesIn small 0 2 bytesGiven6 2 small
 
 pub calls-hold : Calls
-unfolding padded first over table tableFrom weights weightOf drawn promoted eight modeRow kindOfMode endpointCount placeAt pos width widths trailing number modeOf splitAt splitOf atPlace opened has valuePlace pPlace arrayOf indexPlace own lineOf lineBits means rotated lineAt shown pixel pixels digits marks strings2 strings3 subset2 subset3 anchors2 anchors3 taken recordOf made packed packRefusal fits says blockOf listOf bytesOf replaced after refusal refusalIn lineFits valueFits pFits indexFits ownWidth lineGiven put oriented withLine laid turned anchorOf recordByte recordBytes recordOfBytes replacementOf packedBytes readHead headRefusal formIn widthIn heightIn readNumber readGroups raised sizeRefusal writeHead headBytes groups blockAt channel rowByte rowBytes rowOut rowRefusal blockIn blocksOf findRefusal placeOf putBlock replacedIn sheetAfter sheetRefusal
+unfolding padded first over table tableFrom weights weightOf drawn promoted eight modeRow kindOfMode endpointCount placeAt pos width widths trailing number modeOf splitAt splitOf atPlace opened has valuePlace pPlace arrayOf indexPlace own lineOf lineBits means rotated lineAt shown pixel pixels digits marks strings2 strings3 subset2 subset3 anchors2 anchors3 taken recordOf made packed packRefusal fits says blockOf listOf bytesOf replaced after refusal refusalIn lineFits valueFits pFits indexFits ownWidth lineGiven put oriented withLine laid turned anchorOf recordByte recordBytes recordOfBytes replacementOf packedBytes bytesRefusal spelt readHead headRefusal formIn widthIn heightIn readNumber readGroups raised sizeRefusal writeHead headBytes groups blockAt channel rowByte rowBytes rowOut rowRefusal blockIn blocksOf findRefusal placeOf putBlock replacedIn sheetAfter sheetRefusal
 calls-hold = record {
   decodes = refl;
   decodes-reserved = refl;

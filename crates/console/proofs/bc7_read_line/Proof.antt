@@ -1,6 +1,8 @@
 -- `bc7_read_line`: what `read_line` answers, in bytes.
 -- Assumes nothing.
-use mathlib.Core.Path.{sym, ap, _∙_}
+use mathlib.Core.Path.{sym, ap, ap₂, _∙_}
+use mathlib.Core.List.{List}
+use Prim.Native.Nat.{ℕ}
 use borrow.Author.Tests.{eq-eqb, ne-eqb}
 use borrow.Author.Needs.{needs}
 use Rattle.line_rules.specs.declared.LineRead.{LineRead}
@@ -25,7 +27,12 @@ replacement-bytes-requires-2 : tie.Need-replacement-bytes-requires-2
 replacement-bytes-requires-2 c κs = search needs
 
 returns-2 : tie.Need-returns-2
-returns-2 c = ?
+returns-2 c =
+    let e = c .before .before .before .before .before .before .read-line .ensures in
+    let zero = c .before .before .before .before .if1 .left in (
+      sym zero ∙ ap (λ (h : LineRead). h .refusal) e,
+      rw (← e, eq-eqb _ 0 zero) (ap₂ {C = List ℕ × List ℕ} (λ x y. (x, y)) (c .before .replacement-bytes .ensures) (c .replacement-bytes2 .ensures)),
+    )
 
 pub bc7-read-line-spec : {M : Type 1} → statement M
 bc7-read-line-spec =
