@@ -21,3 +21,10 @@ module _ {A : Type 0} {n : ℕ} {d : A} {f : ℕ → A} where
 
   pub filled-all : {out : List A} {i : ℕ} → Filled n d f i out → n ≤ i → out ≡ table n f
   filled-all h l = part-all h (λ k lk. lt-of-lt-of-le lk l)
+
+-- the same where the places from m on stand already
+abbrev pub Upto : {A : Type 0} → ℕ → A → (ℕ → A) → ℕ → ℕ → List A → Type 0
+Upto n d f m j out = Part n d f (λ k. j ≤ k → m ≤ k) out
+
+pub upto-next : {A : Type 0} {n m : ℕ} {d : A} {f : ℕ → A} {out : List A} (j : ℕ) (v : A) → Upto n d f m j out → j < n → v ≡ f j → Upto n d f m (j + 1) (set out j v)
+upto-next j v h l e = part-set j v h l e (λ k lk q ne above. q (omega arith))

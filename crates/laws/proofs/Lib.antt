@@ -9,9 +9,13 @@ pub mod First
 pub mod Refusals
 pub mod Digits
 pub mod Rows
+pub mod EqualRows
+pub mod RowParts
+pub mod Downwards
 pub mod Padding
 pub mod Fitting
 pub mod Putting
 pub mod Replacing
 pub mod Masks
+pub mod Barred
 pub mod Lanes

@@ -4,7 +4,7 @@ use mathlib.Core.Path.{_≡_, refl, ap, ap₂, _∙_, sym}
 use mathlib.Core.Logic.{⊎-elim}
 use mathlib.Core.Bool.{Bool, true, false}
 use Prim.Native.Nat.{ℕ, zero, suc, _+_, _<_}
-use native.Mathlib.Nat.{eq-or-lt-of-le, le-of-suc-le-suc, le-refl, lt-trans, not-suc-le-zero}
+use native.Mathlib.Nat.{add-suc, add-zero, eq-or-lt-of-le, le-of-suc-le-suc, le-refl, lt-trans, not-suc-le-zero}
 use native.Mathlib.Numerals.{add-one}
 use Rattle.laws.specs.Tables.{below, both}
 use Rattle.laws.proofs.Tests.{no-both}
@@ -35,3 +35,17 @@ scan-found (suc n) f e = go (f n) refl e (scan-found n f)
 pub scan-same : (n : ℕ) (f g : ℕ → Bool) → ((k : ℕ) → k < n → f k ≡ g k) → below n f ≡ below n g
 scan-same zero f g h = refl
 scan-same (suc n) f g h = ap₂ both (h n (le-refl (suc n))) (scan-same n f g (λ k l. h k (lt-trans l (le-refl (suc n)))))
+
+-- n numbers, and m more
+all-of : (a : Bool) → a ≡ both a true
+all-of true = refl
+all-of false = refl
+
+first-of : (a b c : Bool) → both a (both b c) ≡ both b (both a c)
+first-of true b c = refl
+first-of false true c = refl
+first-of false false c = refl
+
+pub below-add : (n m : ℕ) (f : ℕ → Bool) → below (n + m) f ≡ both (below n f) (below m (λ k. f (n + k)))
+below-add n zero f = rw (add-zero n) (all-of (below n f))
+below-add n (suc m) f = rw (add-suc n m) (ap (both (f (n + m))) (below-add n m f) ∙ first-of (f (n + m)) (below n f) (below m (λ k. f (n + k))))

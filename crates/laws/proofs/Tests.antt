@@ -1,6 +1,6 @@
 -- Tests that antt computes, and what they say.
 -- Assumes nothing.
-use mathlib.Core.Path.{_≡_, refl, sym, subst}
+use mathlib.Core.Path.{_≡_, refl, sym, ap, _∙_, subst}
 use mathlib.Core.Logic.{⊎-elim}
 use mathlib.Core.Bool.{Bool, true, false, not}
 use Prim.Native.Nat.{ℕ, zero, suc, _<_}
@@ -40,6 +40,20 @@ both-intro false b x y = x
 pub both-true : (a b : Bool) → both a b ≡ true → (a ≡ true) × (b ≡ true)
 both-true true b e = (refl, e)
 both-true false b e = absurd (subst (λ (c : Bool). T (not c)) e tt)
+
+-- two tests that hold together
+pub same-test : (a b : Bool) → (T a → T b) → (T b → T a) → a ≡ b
+same-test true true f g = refl
+same-test true false f g = absurd (f tt)
+same-test false true f g = absurd (g tt)
+same-test false false f g = refl
+
+-- two tests one after the other
+pub first-fails : (a b : Bool) {t : Bool} → t ≡ both a b → a ≡ false → t ≡ false
+first-fails a b e f = e ∙ ap (λ (x : Bool). both x b) f
+
+pub first-holds : (a b : Bool) {t : Bool} → t ≡ both a b → a ≡ true → t ≡ b
+first-holds a b e f = e ∙ ap (λ (x : Bool). both x b) f
 
 pub implied : (a b : Bool) → T (implies a b) → T a → T b
 unfolding implies

@@ -2,6 +2,7 @@
 -- Assumes nothing.
 use mathlib.Core.List.{List, [], _∷_}
 use Prim.Native.Nat.{ℕ, _+_, _*_, _/_, _%_, _^_, _<_}
+use Rattle.laws.specs.Tables.{table}
 
 -- how many bits the widths have together
 abbrev pub total : List ℕ → ℕ
@@ -18,6 +19,10 @@ abbrev pub join : List ℕ → List ℕ → ℕ
 join [] vs = 0
 join (w ∷ ws) [] = 0
 join (w ∷ ws) (v ∷ vs) = join ws vs * 2 ^ w + v
+
+-- the number whose digits are f 0, f 1, .., f (n - 1), in k bits each
+unfoldable pub row : ℕ → ℕ → (ℕ → ℕ) → ℕ
+row n k f = join (table n (λ i. k)) (table n f)
 
 -- as many values as widths, each within its width
 pub data Fit : List ℕ → List ℕ → Type 0 where

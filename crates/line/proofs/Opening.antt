@@ -11,7 +11,7 @@ use Rattle.line.specs.declared.Opened.{Opened}
 use Rattle.line_rules.specs.declared.Replacement.{Replacement}
 use Rattle.laws.specs.Refusals.{first}
 use Rattle.bcn_util.specs.declared.stream.BitStream.{BitStream}
-use Rattle.record.specs.declared.reading.ReadSplit.{ReadSplit}
+use Rattle.record_reading.specs.declared.ReadSplit.{ReadSplit}
 use Rattle.record_widths.specs.declared.ModeRow.{ModeRow}
 use Rattle.line_parts.specs.declared.LinePart.{LinePart}
 use Rattle.laws.specs.Digits.{Fit}
@@ -25,8 +25,8 @@ use Rattle.bcn_util.specs.Stream.{held, skipped}
 use Rattle.bcn_util.proofs.On.{On}
 use Rattle.bc7_fields.specs.Fields.{headEnd}
 use Rattle.record_widths.specs.Rows.{rowOf}
-use Rattle.record.specs.Reading.{splitRead}
-use Rattle.record.proofs.Heads.{marker-on, split-is, split-on}
+use Rattle.record_reading.specs.Reading.{splitRead}
+use Rattle.record_reading.proofs.Heads.{marker-on, split-is, split-on}
 use Rattle.line_parts.specs.Parts.{OfLine, partOf}
 use Rattle.line_parts.proofs.Parts.{IsPart, is-part, of-line}
 use Rattle.line_rules.specs.Read.{lineRead, noLine, readAs, readRefusal}

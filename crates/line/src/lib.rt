@@ -28,11 +28,11 @@ use line_parts::parts_fit;
 use line_rules::LineRead;
 use line_rules::Replaced;
 use line_rules::Replacement;
-use record::reading::mode_of;
-use record::reading::read_split;
-use record::writing::word_of;
+use record_reading::mode_of;
+use record_reading::read_split;
 use record_widths::ModeRow;
 use record_widths::mode_row;
+use record_writing::word_of;
 
 pub mod reading;
 

@@ -13,8 +13,8 @@ use line_parts::Pixels;
 use line_parts::at_own;
 use line_parts::mask_of;
 use line_rules::Replacement;
-use record::reading::parts_of;
-use record::reading::read_indexes;
+use record_reading::parts_of;
+use record_reading::read_indexes;
 use record_widths::ModeRow;
 
 // What the first and the second endpoint have.

@@ -33,7 +33,7 @@ use Rattle.bcn_indexes.proofs.Anchors.{part-expanded}
 use Rattle.bcn_indexes.proofs.Remove.{size-kind}
 use Rattle.bc7_fields.proofs.Places.{index-at}
 use Rattle.record_widths.specs.Rows.{anchorsOf}
-use Rattle.record.proofs.Heads.{anchors-kind, anchors-rise}
+use Rattle.record_widths.proofs.Pixels.{anchors-kind, anchors-rise}
 use Rattle.line_rules.specs.Replace.{ownWidth}
 use Rattle.line_rules.proofs.Own.{own-none, own-some}
 use Rattle.line_parts.specs.Parts.{ownPixel}

@@ -13,7 +13,7 @@ use bcn_indexes::storing::stored_bits;
 use bcn_util::stream::BitStream;
 use line_parts::LinePart;
 use line_parts::Stored;
-use record::reading::read_indexes;
+use record_reading::read_indexes;
 use record_widths::ModeRow;
 
 // The stream at another position.

@@ -12,13 +12,13 @@ use bcn_data::subset_indexes_3;
 use bcn_util::stream::word;
 use format::Split;
 use line_rules::Replacement;
-use record::writing::above;
-use record::writing::indexes_fit;
-use record::writing::pair_fits;
-use record::writing::top_of;
+use record_fits::above;
+use record_fits::indexes_fit;
+use record_fits::pair_fits;
 use record_widths::Anchors;
 use record_widths::ModeRow;
 use record_widths::anchors_of;
+use record_writing::top_of;
 
 // The pixels of a line: those whose part of `map`, of `bits` bits, is `subset`.
 pub struct Pixels {

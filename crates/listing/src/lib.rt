@@ -11,7 +11,7 @@ ghost use Rattle.listing.specs.Listing.{blockText, listed};
 ghost use Rattle.listing.specs.Taking.{fresh, goesOn, headTaken, withByte};
 use bc7::decode_bc7_block;
 use head::Head;
-use record::reading::mode_of;
+use record_reading::mode_of;
 use sheet_blocks::load;
 
 // The bytes of a head that were taken so far, with zeros behind, their count, and how many numbers have still to end.

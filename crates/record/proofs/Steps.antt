@@ -1,36 +1,25 @@
 -- What the steps of taking apart and of packing make together.
 -- Assumes nothing.
-use mathlib.Core.Bool.{true, false}
 use mathlib.Core.Path.{_≡_, sym, ap, _∙_, subst}
 use mathlib.Core.Logic.{_≢_}
-use mathlib.Core.List.{List, []}
-use Prim.Native.Nat.{ℕ, _+_, _^_, _≤_, _<_}
-use native.Mathlib.Nat.{le-of-eq, lt-of-lt-of-le}
+use mathlib.Core.List.{List}
+use Prim.Native.Nat.{ℕ, _<_}
+use Prim.Native.Nat.{_≤_}
 use native.Mathlib.Omega.{arith}
-use lib.ListN.{getD}
-use lib.Pow.{pow-mono}
+use mathlib.Core.Bool.{true, false}
 use Rattle.record_rules.specs.declared.Record.{Record}
-use Rattle.record_widths.specs.declared.Anchors.{Anchors}
-use Rattle.format.specs.declared.Split.{Split}
-use Rattle.bcn_util.specs.declared.writer.BitWriter.{BitWriter}
-use Rattle.laws.specs.Digits.{Fit, join, split, total}
+use Rattle.record_widths.specs.declared.ModeRow.{ModeRow}
 use Rattle.laws.proofs.Tests.{no-both}
-use Rattle.format.specs.Block.{bytesOf, eights, modeOf, number}
-use Rattle.format.specs.Modes.{kindOfMode, partitionBits}
-use Rattle.format.specs.Places.{atPlace, blockOf, head, listOf, opened, placeAt, pos, width, widths}
-use Rattle.format.specs.Splits.{anchors, kindOf, partition, splitAt, splitOf}
-use Rattle.format.proofs.Modes.{good-64, six-bits}
-use Rattle.format.proofs.Opening.{opened-good}
-use Rattle.format.proofs.Places.{inside-placeAt, total-128}
-use Rattle.format.proofs.Trailing.{mode-le-8}
-use Rattle.record_rules.specs.Answers.{TopsClear, Within}
-use Rattle.record_rules.specs.Records.{fits, made, packed, packedAs, recordOf, says, taken, unpackedAs, zeroRecord}
-use Rattle.record_widths.specs.Rows.{anchorsOf, pixelsOf, widthsWith}
+use Rattle.format.specs.Places.{blockOf}
+use Rattle.format.specs.Splits.{anchors}
+use Rattle.record_rules.specs.Answers.{TopsClear}
 use Rattle.record_rules.proofs.Answering.{clear-stored, fits-at, fits-of, packed-as, stored-clear}
+use Rattle.record_fits.specs.Fitting.{Full, storedFit}
+use Rattle.record_writing.specs.Writing.{Packs}
+use Rattle.format.specs.Block.{modeOf}
+use Rattle.format.proofs.Trailing.{mode-le-8}
+use Rattle.record_rules.specs.Records.{packed, packedAs, recordOf, says, taken, unpackedAs, zeroRecord}
 use Rattle.record_rules.proofs.Packing.{taken-open, taken-reserved}
-use Rattle.record_widths.proofs.Pixels.{fits-split, widths-split}
-use Rattle.bcn_util.specs.Writer.{pushed, written}
-use Rattle.bcn_util.proofs.Puts.{row-asks, row-more, row-written, rowWriter}
 
 -- TAKING APART
 pub reserved : (bs : List ℕ) {m : ℕ} → m ≡ modeOf bs → m ≡ 8 → unpackedAs 1 zeroRecord ≡ taken bs
@@ -45,3 +34,18 @@ module _ (bs : List ℕ) {m : ℕ} (em : m ≡ modeOf bs) (not-8 : m ≢ 8) wher
 
   pub accepted : unpackedAs 0 (recordOf bs) ≡ taken bs
   accepted = sym (taken-open bs low)
+
+-- PACKING: a record in which everything fits its full width
+module _ {r : Record} {row : ModeRow} (full : Full r row) where
+  -- and then it packs
+  pub packs : storedFit r ≡ true → Packs r row
+  packs e = record { low = full .low; is = full .is; kind = full .kind; fits = fits-at (r .mode) (anchors (r .split)) (says r) e }
+
+  -- what packing answers
+  pub tops-set : storedFit r ≡ false → TopsClear r → ⊥
+  tops-set f t = no-both (fits-of _ _ _ (clear-stored r (full .within) t)) f
+
+  pub written : storedFit r ≡ true → {bs : List ℕ} → bs ≡ blockOf (r .mode) (r .split) (says r) → packedAs 0 bs ≡ packed r
+  written f e =
+      ap (packedAs 0) e
+      ∙ packed-as r (let low : r .mode ≤ 7 = omega (arith, full .low) in (low, (full .kind, (full .within, (stored-clear r (fits-at _ _ _ f), tt)))))

@@ -1,33 +1,20 @@
 // A block taken apart into a record, and a record packed into a block. The record is what the lines of a block are read from
 // and replaced in.
 ghost use mathlib.Core.Path.{_≡_};
-ghost use Prim.Native.Nat.{_<_};
 ghost use lib.ListN.{replicate};
-ghost use Rattle.format.specs.Block.{modeOf};
-ghost use Rattle.record_rules.specs.Records.{packed, packedAs, recordOf, taken, zeroRecord};
-ghost use Rattle.record_widths.specs.Rows.{rowOf};
-use crate::reading::mode_of;
-use crate::reading::parts_of;
-use crate::reading::read_endpoints;
-use crate::reading::read_indexes;
-use crate::reading::read_p;
-use crate::reading::read_second;
-use crate::reading::read_split;
-use crate::writing::anchors_fit;
-use crate::writing::record_fits;
-use crate::writing::write_record;
-use bcn_util::stream::BitStream;
+ghost use Rattle.record_rules.specs.Records.{packed, packedAs, taken, zeroRecord};
 use format::Split;
-use record_places::splits::kind_of;
+use record_fits::anchors_fit;
+use record_fits::record_fits;
+use record_reading::mode_of;
+use record_reading::read_record;
 use record_rules::Packed;
 use record_rules::Record;
 use record_rules::Unpacked;
-use record_widths::ModeRow;
+use record_splits::kind_of;
 use record_widths::anchors_of;
 use record_widths::mode_row;
-
-pub mod reading;
-pub mod writing;
+use record_writing::write_record;
 
 // What a refused block answers.
 fn zero_record() -> Record
@@ -40,32 +27,6 @@ fn zero_record() -> Record
         p: [0; 6],
         first: [0; 16],
         second: [0; 16],
-    }
-}
-
-// The record of a block that is not reserved, by its mode and the row of that mode.
-fn read_record(block: [u8; 16], mode: u8, row: ModeRow) -> Record
-    requires { ⌜ (mode ≡ modeOf block) × (mode < 8) × (row ≡ rowOf mode) ⌝ }
-    ensures { λ r. ⌜ r ≡ recordOf block ⌝ }
-{
-    let head = read_split(row, BitStream::new(block).skip(mode as u32 + 1));
-    let split = head.split;
-    let values = read_endpoints(row, head.stream);
-    let endpoints = values.endpoints;
-    let bits = read_p(row, values.stream);
-    let p = bits.p;
-    let anchors = anchors_of(split);
-    let set = read_indexes(row.kind, anchors, row.first, bits.stream);
-    let indexes = set.indexes;
-    let first = parts_of(indexes.uncompressed, row.first);
-    let second = read_second(row, anchors, set.stream);
-    Record {
-        mode: mode,
-        split: split,
-        endpoints: endpoints,
-        p: p,
-        first: first,
-        second: second,
     }
 }
 

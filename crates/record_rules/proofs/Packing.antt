@@ -1,14 +1,14 @@
 -- The record and the places say the same of each other; what packing accepts is what a block holds.
 -- Assumes nothing.
 use mathlib.Core.Path.{_≡_, refl, sym, ap, ap₂, _∙_, subst}
-use mathlib.Core.Bool.{Bool, true}
-use mathlib.Core.List.{List, []}
+use mathlib.Core.Bool.{Bool}
+use mathlib.Core.List.{List}
 use Prim.Native.Nat.{ℕ, zero, suc, _+_, _*_, _/_, _%_, _^_, _<_}
 use native.Mathlib.Nat.{lt-of-lt-of-le}
 use native.Mathlib.Omega.{arith}
-use borrow.Author.Tests.{eq-eqb, ltb-false, ne-eqb, not-false, eqb-true}
+use borrow.Author.Tests.{eq-eqb, ne-eqb}
 use lib.Dec.{T, ltb, ltb→lt, lt→ltb}
-use lib.ListN.{length, getD}
+use lib.ListN.{getD}
 use lib.Pow.{pow-mono}
 use Rattle.record_rules.specs.declared.Record.{Record}
 use Rattle.record_rules.specs.declared.Unpacked.{Unpacked}
@@ -18,16 +18,15 @@ use Rattle.laws.specs.Refusals.{first}
 use Rattle.laws.specs.Tables.{pick, table}
 use Rattle.laws.proofs.Refusals.{Met, accepted-when}
 use Rattle.laws.proofs.Joining.{table-same}
-use Rattle.laws.proofs.Part.{getD-table, part-all}
-use Rattle.laws.proofs.Tests.{T-true, at, below-intro, both-left, both-right, true-T}
+use Rattle.laws.proofs.Part.{getD-table, table-is}
+use Rattle.laws.proofs.Tests.{at, both-left, both-right}
 use Rattle.format.specs.Block.{eights, modeOf}
-use Rattle.format.specs.Modes.{kindOfMode}
-use Rattle.format.specs.Places.{Place, blockOf, head, index, inside, opened, pbit, placeAt, pos, value, width}
-use Rattle.format.specs.Splits.{anchors, indexMode, kindOf, ofKind, partition, rotation}
+use Rattle.format.specs.Places.{Place, blockOf, head, index, inside, opened, pbit, value, width}
+use Rattle.format.specs.Splits.{anchors, indexMode, ofKind, partition, rotation}
 use Rattle.format.specs.WellFormed.{WellFormed}
 use Rattle.format.proofs.Modes.{good-parts}
 use Rattle.format.proofs.Opening.{block-ext, good-kind, opened-good}
-use Rattle.format.proofs.Places.{inside-placeAt, inside-value, placeAt-pos, pos-lt, split-of-kind, width-le}
+use Rattle.format.proofs.Places.{inside-value, split-of-kind, width-le}
 use Rattle.record_rules.specs.Answers.{packRules}
 use Rattle.record_rules.specs.Records.{Shaped, made, packRefusal, packed, packedAs, recordOf, says, taken, unpackedAs, zeroRecord}
 use Rattle.record_rules.proofs.Answering.{clear-stored, packed-as, packing, stored-clear}
@@ -50,9 +49,6 @@ module _ {m : ℕ} {s : Split} {f : Place → ℕ} (g : WellFormed m s f) where
   says-made (index zero q) h = getD-table 16 (λ q. f (index 0 q)) 0 q (ltb→lt q 16 (both-right (ltb 0 2) (ltb q 16) h))
   says-made (index (suc zero) q) h = getD-table 16 (λ q. f (index 1 q)) 0 q (ltb→lt q 16 (both-right (ltb 1 2) (ltb q 16) h))
   says-made (index (suc (suc a)) q) h = absurd (let l = ltb→lt (suc (suc a)) 2 (both-left (ltb (suc (suc a)) 2) (ltb q 16) h) in let z : ⊥ = omega arith in z)
-
-pub table-is : (n : ℕ) (f : ℕ → ℕ) (vs : List ℕ) → length vs ≡ n → ((i : ℕ) → i < n → f i ≡ getD vs i 0) → table n f ≡ vs
-table-is n f vs e h = sym (part-all {d = 0} {P = λ k. Unit {0}} (record { long = e; done = λ k l t. sym (h k l) }) (λ k l. tt))
 
 -- a record goes by the places there are
 pub made-ext : (m : ℕ) (s : Split) (f g : Place → ℕ) → ((x : Place) → T (inside x) → f x ≡ g x) → made m s f ≡ made m s g

@@ -1,11 +1,13 @@
 -- How large the numbers of a row are.
 -- Assumes nothing.
 use mathlib.Core.Path.{_≡_, sym, ap, _∙_, subst}
-use Prim.Native.Nat.{ℕ, zero, suc, _+_, _*_, _%_, _≤_, _<_}
+use Prim.Native.Nat.{ℕ, zero, suc, _+_, _*_, _%_, _^_, _≤_, _<_}
+use native.Mathlib.Nat.{lt-of-lt-of-le}
 use native.Mathlib.Omega.{arith}
+use lib.Pow.{pow-mono}
 use Rattle.record_widths.specs.declared.ModeRow.{ModeRow}
-use Rattle.format.specs.Modes.{endpointCount, kindOfMode, modeRow}
-use Rattle.format.proofs.Modes.{by-vector}
+use Rattle.format.specs.Modes.{endpointCount, kindOfMode, modeRow, partitionBits}
+use Rattle.format.proofs.Modes.{by-vector, six-bits}
 use Rattle.record_widths.specs.Rows.{OfMode, rowOf}
 
 pub record Small (row : ModeRow) : Type 0 where
@@ -40,3 +42,7 @@ small o = subst Small (sym (o .is)) (small-row (o .mode) (o .low))
 -- a vector and its scalar have two sets
 pub second-bits : {row : ModeRow} → OfMode row → row .kind ≡ 3 → 0 < row .second
 second-bits o k = rw (o .is) (let v = by-vector (o .mode) (sym (ap (λ (r : ModeRow). r .kind) (o .is)) ∙ k) in omega (arith, v .least2))
+
+-- a partition that fits its bits
+pub low-partition : (m p : ℕ) → m < 8 → p < 2 ^ partitionBits m → p < 64
+low-partition m p hm h = lt-of-lt-of-le h (pow-mono (six-bits m hm))

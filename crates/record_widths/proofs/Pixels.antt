@@ -1,32 +1,20 @@
--- Anchors as three pixels: those of a split give its widths, and those that are none the full widths.
+-- Anchors as three pixels: those of a split are its anchors, as many as its kind has, in rising order.
 -- Assumes nothing.
-use mathlib.Core.Path.{_≡_, refl, sym, _∙_}
+use mathlib.Core.Path.{_≡_, refl}
 use mathlib.Core.Bool.{Bool, true, false}
-use mathlib.Core.List.{[]}
 use Prim.Native.Nat.{ℕ, _<_}
+use native.Mathlib.Nat.{lt-trans}
 use native.Mathlib.Omega.{arith}
-use borrow.Author.Tests.{ne-eqb}
-use lib.Dec.{eqb}
+use lib.Dec.{eqb, lit<}
 use Rattle.record_widths.specs.declared.Anchors.{Anchors}
 use Rattle.format.specs.declared.Split.{Split}
 use Rattle.format.specs.declared.Split.the-variants.{Whole, Two, Three, Vector}
-use Rattle.laws.proofs.Joining.{table-same}
 use Rattle.format.specs.Partitions.{among, or}
-use Rattle.format.specs.Places.{Place, placeAt, widths}
-use Rattle.format.specs.Splits.{anchors, partition}
-use Rattle.format.proofs.Places.{inside-placeAt}
-use Rattle.record_rules.specs.Records.{fits}
-use Rattle.record_widths.specs.Rows.{anchorsOf, noAnchors, pixelsOf, widthsWith}
-use Rattle.record_rules.proofs.Widths.{fits-same, width-same}
+use Rattle.format.specs.Splits.{anchors, kindOf, partition}
+use Rattle.bcn_indexes.specs.Indexes.{Rising, anchorsOfKind}
+use Rattle.record_widths.specs.Rows.{Pixels, anchorsOf, pixelsOf}
 use Rattle.bcn_data.specs.Maps.{map2, map3}
 use Rattle.bcn_data.proofs.Maps.{anchors-in2, anchors-in3}
-
--- no pixel is the sixteenth
-none-are : (q : ℕ) → q < 16 → among q (pixelsOf noAnchors) ≡ among q []
-none-are q h = rw (ne-eqb q 16 (λ z. let y : ⊥ = omega arith in y))
-
-pub fits-none : (m : ℕ) (f : Place → ℕ) {a : Anchors} {b : Bool} → a ≡ noAnchors → b ≡ fits m (pixelsOf a) f → fits m [] f ≡ b
-fits-none m f ea eb = sym (eb ∙ rw ea (fits-same m (pixelsOf noAnchors) [] none-are f))
 
 -- the anchors of a split, listed as three
 again : (a b : Bool) → or a (or b (or a false)) ≡ or a (or b false)
@@ -44,17 +32,32 @@ three-are (Two a) h q = rw (anchors-in2 a h .are) (again (eqb q 0) (eqb q (map2 
 three-are (Three a) h q = rw (anchors-in3 a h .are)
 three-are (Vector r i) h q = thrice (eqb q 0)
 
-module _ (m : ℕ) (s : Split) (h : partition s < 64) where
-  pub widths-split : widthsWith m (pixelsOf (anchorsOf s)) ≡ widths m s
-  unfolding widthsWith widths
-  widths-split = table-same 0 66 _ _ (λ i l. width-same m _ (anchors s) (λ q _. three-are s h q) (placeAt i) (inside-placeAt i l))
-
-  pub fits-split : (f : Place → ℕ) → fits m (pixelsOf (anchorsOf s)) f ≡ fits m (anchors s) f
-  fits-split = fits-same m _ (anchors s) (λ q l. three-are s h q)
-
 -- what the partition tables have
 pub anchors-two : (a : ℕ) → a < 64 → _≡_ {A = Anchors} (record { a = 0; b = map2 a .«fixup_index_2»; c = 0 }) (anchorsOf (Two a))
 anchors-two a h = rw (anchors-in2 a h .are)
 
 pub anchors-three : (a : ℕ) → a < 64 → _≡_ {A = Anchors} (record { a = 0; b = map3 a .«fixup_index_2»; c = map3 a .«fixup_index_3» }) (anchorsOf (Three a))
 anchors-three a h = rw (anchors-in3 a h .are)
+
+-- the anchors of a split by its kind
+pub anchors-kind : (s : Split) → partition s < 64 → anchorsOfKind (kindOf s) (anchorsOf s .b) (anchorsOf s .c) ≡ anchors s
+anchors-kind Whole h = refl
+anchors-kind (Two a) h = rw (anchors-in2 a h .are)
+anchors-kind (Three a) h = rw (anchors-in3 a h .are)
+anchors-kind (Vector r i) h = refl
+
+pub anchors-rise : (s : Split) → partition s < 64 → Rising (kindOf s) (anchorsOf s .b) (anchorsOf s .c)
+anchors-rise Whole h = record { two = λ e. absurd (let z : ⊥ = omega arith in z); three = λ e. absurd (let z : ⊥ = omega arith in z) }
+anchors-rise (Two a) h =
+    let x = anchors-in2 a h in
+    record { two = λ e. rw (x .are) (x .above, x .last); three = λ e. absurd (let z : ⊥ = omega arith in z) }
+anchors-rise (Three a) h =
+    let x = anchors-in3 a h in
+    record { two = λ e. absurd (let z : ⊥ = omega arith in z); three = λ e. rw (x .are) (x .above, x .next, x .last) }
+anchors-rise (Vector r i) h = record { two = λ e. absurd (let z : ⊥ = omega arith in z); three = λ e. absurd (let z : ⊥ = omega arith in z) }
+
+pub anchors-low : (s : Split) → partition s < 64 → Pixels (anchorsOf s)
+anchors-low Whole h = record { first = lit< tt; second = lit< tt; third = lit< tt }
+anchors-low (Two a) h = let x = anchors-in2 a h in rw (x .are) (record { first = lit< tt; second = x .last; third = lit< tt })
+anchors-low (Three a) h = let x = anchors-in3 a h in rw (x .are) (record { first = lit< tt; second = lt-trans (x .next) (x .last); third = x .last })
+anchors-low (Vector r i) h = record { first = lit< tt; second = lit< tt; third = lit< tt }

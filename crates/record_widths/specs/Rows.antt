@@ -7,9 +7,7 @@ use lib.ListN.{getD}
 use Rattle.record_widths.specs.declared.ModeRow.{ModeRow}
 use Rattle.record_widths.specs.declared.Anchors.{Anchors}
 use Rattle.format.specs.declared.Split.{Split}
-use Rattle.laws.specs.Tables.{table}
 use Rattle.format.specs.Modes.{alphaBits, colourBits, endpointCount, firstBits, indexModeBits, kindOfMode, lines, pCount, partitionBits, rotationBits, secondBits}
-use Rattle.format.specs.Places.{placeAt, width}
 use Rattle.format.specs.Splits.{anchors}
 
 -- a row, its columns in the order of the struct
@@ -38,16 +36,15 @@ pub record OfMode (row : ModeRow) : Type 0 where
   pub low : mode < 8
   pub is : row ≡ rowOf mode
 
--- the anchors as three pixels: pixel 0 again where a split has fewer, and 16, which is no pixel, for none
+-- the anchors as three pixels: pixel 0 again where a split has fewer
 abbrev pub pixelsOf : Anchors → List ℕ
 pixelsOf x = x .a ∷ x .b ∷ x .c ∷ []
 
 abbrev pub anchorsOf : Split → Anchors
 anchorsOf s = record { a = getD (anchors s) 0 0; b = getD (anchors s) 1 0; c = getD (anchors s) 2 0 }
 
-abbrev pub noAnchors : Anchors
-noAnchors = record { a = 16; b = 16; c = 16 }
-
--- the widths of all places, where these pixels are anchors
-unfoldable pub widthsWith : ℕ → List ℕ → List ℕ
-widthsWith m an = table 66 (λ i. width m an (placeAt i))
+-- the anchors are pixels
+pub record Pixels (a : Anchors) : Type 0 where
+  pub first : a .a < 16
+  pub second : a .b < 16
+  pub third : a .c < 16

@@ -8,11 +8,11 @@ ghost use Rattle.wire.specs.Wire.{bytesFrom, packedBytes, recordByte, re
 use format::Split;
 use line_rules::Replacement;
 use record::pack;
-use record_places::splits::index_mode_of;
-use record_places::splits::kind_of;
-use record_places::splits::split_of_kind;
 use record_rules::Packed;
 use record_rules::Record;
+use record_splits::index_mode_of;
+use record_splits::kind_of;
+use record_splits::split_of_kind;
 
 // The partition or the rotation, whichever the split has.
 fn split_byte(split: Split) -> u8

@@ -1,7 +1,7 @@
 -- `mask_of` meets its contract: the word of its parts, as `word_of` makes one.
 -- Assumes nothing.
 use mathlib.Core.Path.{_≡_, sym, ap, _∙_}
-use Prim.Native.Nat.{ℕ, _-_, _^_, _≤_, _<_}
+use Prim.Native.Nat.{ℕ, _-_, _^_, _≤_}
 use native.Mathlib.Omega.{arith}
 use borrow.Author.Needs.{needs}
 use mathlib.Core.List.{List}
@@ -10,7 +10,7 @@ use Rattle.laws.specs.Tables.{pick, table}
 use Rattle.laws.proofs.Part.{getD-table}
 use Rattle.line_parts.specs.declared.Pixels.{Pixels}
 use Rattle.line_parts.specs.Parts.{ownPixel}
-use Rattle.record.proofs.Sets.{Next, Upper, upper-all, upper-next, upper-none}
+use Rattle.record_writing.proofs.Sets.{Next, Upper, upper-all, upper-next, upper-none}
 use Rattle.line_parts.proofs.Asks.{mask-fits, one-less}
 use Rattle.line_parts.proofs.mask_of.Statement.{statement}
 use Rattle.line_parts.proofs.mask_of.Tie as tie

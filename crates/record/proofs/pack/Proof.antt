@@ -7,11 +7,11 @@ use Rattle.laws.specs.Refusals.{here, then}
 use Rattle.laws.proofs.Tests.{no-both}
 use Rattle.format.specs.Modes.{kindOfMode}
 use Rattle.format.specs.Splits.{kindOf}
-use Rattle.record_rules.specs.Answers.{Within}
 use Rattle.record_rules.proofs.Answering.{fits-at, fits-of, refused-as}
 use Rattle.record_widths.specs.declared.ModeRow.{ModeRow}
-use Rattle.record.specs.Writing.{Full, Packs}
-use Rattle.record.proofs.Fits.{packs, part-64, tops-set, written}
+use Rattle.record_fits.specs.Fitting.{Full}
+use Rattle.record_fits.proofs.Fits.{part-64}
+use Rattle.record.proofs.Steps.{packs, tops-set, written}
 use borrow.Author.Needs.{needs}
 use Rattle.record.proofs.pack.Statement.{statement}
 use Rattle.record.proofs.pack.Tie as tie

@@ -1,13 +1,6 @@
 -- `unpack` meets its contract.
 -- Assumes nothing.
-use mathlib.Core.Path.{_≡_, _∙_, ap, sym}
-use Prim.Native.Nat.{ℕ, _<_}
-use mir.Syntax.{w8}
-use mir.Val.{Fits}
-use lib.ListN.{getD, length}
-use Rattle.laws.specs.Digits.{Fit}
-use Rattle.format.proofs.Subsets.{sixteen-bytes}
-use Rattle.format.specs.Block.{eights}
+use mathlib.Core.Path.{_∙_, ap}
 use Rattle.record_rules.specs.Records.{unpackedAs}
 use Rattle.record.proofs.Steps.{accepted, mode-low, reserved}
 use borrow.Author.Needs.{needs}
