@@ -14,7 +14,7 @@ use Rattle.head.specs.declared.Number.{Number}
 use Rattle.laws.proofs.Cases.{lt-or}
 use Rattle.head.specs.Numbers.{found, noNumber, raised, readGroups, readNumber}
 
-raised-none : (b : ℕ) (r : Number) → r .value ≡ 0 → raised b r ≡ noNumber
+pub raised-none : (b : ℕ) (r : Number) → r .value ≡ 0 → raised b r ≡ noNumber
 unfolding raised
 raised-none b r e = rw (eq-eqb (r .value) 0 e)
 
@@ -67,34 +67,24 @@ pub near : (s : List ℕ) (at : ℕ) {r : Number} → r ≡ readNumber s at → 
 unfolding readNumber
 near s at e = rw e (next-near 3 at (drop at s))
 
--- the ways of `read_groups`
+-- the ways of reading a number in at most k groups
 module _ (s : List ℕ) (at : ℕ) where
   abbrev read : ℕ → ℕ → Number
   read k at = readGroups k at (drop at s)
-
-  pub no-groups : {k : ℕ} → k ≡ 0 → noNumber ≡ read k at
-  unfolding readGroups
-  no-groups e = rw e
 
   pub cut-off : (k : ℕ) → length s ≤ at → noNumber ≡ read k at
   unfolding readGroups
   cut-off zero h = refl
   cut-off (suc k) h = rw (drop-of-length-le s {i = at} h)
 
-  pub last-group : (k v : ℕ) → (k ≡ 0 → ⊥) → at < length s → getD s at 0 < 128 → v ≡ getD s at 0 → found v (at + 1) ≡ read k at
-  last-group zero v ne h l e = absurd (ne refl)
-  last-group (suc k) v ne h l e = rw (drop-cons s at 0 h, e) (sym (read-last k at (getD s at 0) _ l))
+  pub last-group : (k : ℕ) {v : ℕ} → at < length s → getD s at 0 < 128 → v ≡ getD s at 0 → found v (at + 1) ≡ read (suc k) at
+  last-group k h l e = rw (drop-cons s at 0 h, e) (sym (read-last k at (getD s at 0) _ l))
 
-  module _ (k : ℕ) (ne : k ≡ 0 → ⊥) (h : at < length s) (l : 128 ≤ getD s at 0) {above : Number} (e : above ≡ read (k - 1) (at + 1)) where
-    raised-is : read k at ≡ raised (getD s at 0) above
-    raised-is = go k ne e
-      where
-        go : (k : ℕ) → (k ≡ 0 → ⊥) → above ≡ read (k - 1) (at + 1) → read k at ≡ raised (getD s at 0) above
-        go zero n e = absurd (n refl)
-        go (suc k) n e = rw (drop-cons s at 0 h) (read-more k at (getD s at 0) _ l ∙ ap (raised (getD s at 0)) (ap (λ (j : ℕ). readGroups k (at + 1) (drop j s)) (sym (add-one at)) ∙ ap (λ (j : ℕ). read j (at + 1)) (omega arith) ∙ sym e))
+  pub more-groups : (k : ℕ) → at < length s → 128 ≤ getD s at 0 → {above : Number} → above ≡ read k (at + 1) → raised (getD s at 0) above ≡ read (suc k) at
+  more-groups k h l e =
+      sym (rw (drop-cons s at 0 h) (read-more k at (getD s at 0) _ l ∙ ap (raised (getD s at 0)) (ap (λ (j : ℕ). readGroups k (at + 1) (drop j s)) (sym (add-one at)) ∙ sym e)))
 
-    pub not-raised : above .value ≡ 0 → noNumber ≡ read k at
-    not-raised z = sym (raised-is ∙ raised-none _ _ z)
-
-    pub was-raised : (above .value ≡ 0 → ⊥) → {v : ℕ} → v ≡ above .value * 128 + getD s at 0 % 128 → found v (above .next) ≡ read k at
-    was-raised n ev = rw ev (sym (raised-is ∙ raised-some _ _ n))
+  -- one group is not enough
+  pub no-group : at < length s → 128 ≤ getD s at 0 → noNumber ≡ read 1 at
+  unfolding readGroups
+  no-group h l = sym (raised-none (getD s at 0) noNumber refl) ∙ more-groups 0 h l refl

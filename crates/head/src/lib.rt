@@ -4,7 +4,7 @@ ghost use mathlib.Core.Path.{_≡_};
 ghost use mathlib.Core.List.{[], _∷_};
 ghost use Prim.Native.Nat.{_+_, _≤_, _<_};
 ghost use lib.ListN.{drop};
-ghost use Rattle.head.specs.Numbers.{numberBytes, numbersEnd, readGroups, readNumber};
+ghost use Rattle.head.specs.Numbers.{found, noNumber, numberBytes, numbersEnd, raised, readGroups, readNumber};
 ghost use Rattle.head.specs.Heads.{headOf, noBytes, readHead, sizeRefusal, withBytes, writeHead};
 
 // The form of a sheet whose blocks stand row by row.
@@ -41,47 +41,77 @@ fn wide(x: u8) -> u32
     x as u32
 }
 
-// The number at a place, in at most `most` groups. Above the low group stands the number that the next bytes spell. That
-// reads as 0 where it is refused, and where its only group is empty, so that the form is not the shortest.
-fn read_groups(most: u32, s: &[u8], at: usize) -> Number
-    requires { ⌜ most ≤ 3 ⌝ }
-    ensures { λ r. ⌜ r ≡ readGroups most at (drop at (now (s .entry))) ⌝ }
+fn number_of(value: u32, next: usize) -> Number
+    ensures { λ r. ⌜ r ≡ found value next ⌝ }
 {
-    let refused = Number {
-        refusal: 7,
-        value: 0,
-        next: 0,
-    };
-    if most == 0 {
-        return refused;
-    }
-    if at >= s.len() {
-        return refused;
-    }
-    let byte = s[at];
-    if byte < 128 {
-        return Number {
-            refusal: 0,
-            value: wide(byte),
-            next: at + 1,
-        };
-    }
-    let above = read_groups(most - 1, s, at + 1);
-    if above.value == 0 {
-        return refused;
-    }
     Number {
         refusal: 0,
-        value: above.value * 128 + wide(byte % 128),
-        next: above.next,
+        value: value,
+        next: next,
     }
 }
 
-// The number at a place.
+fn no_number() -> Number
+    ensures { λ r. ⌜ r ≡ noNumber ⌝ }
+{
+    Number {
+        refusal: 7,
+        value: 0,
+        next: 0,
+    }
+}
+
+// A byte's seven bits below the number that the next bytes spell. That reads as 0 where it is refused, and where its only group
+// is empty, so that the form is not the shortest.
+fn raise(byte: u8, above: Number) -> Number
+    requires { ⌜ above .value < 16384 ⌝ }
+    ensures { λ r. ⌜ r ≡ raised byte above ⌝ }
+{
+    if above.value == 0 {
+        return no_number();
+    }
+    number_of(above.value * 128 + wide(byte % 128), above.next)
+}
+
+// The number at a place, in one group, in at most two, in at most three. Written out, for a function that calls itself is not
+// inlined.
+fn one_group(s: &[u8], at: usize) -> Number
+    ensures { λ r. ⌜ r ≡ readGroups 1 at (drop at (now (s .entry))) ⌝ }
+{
+    if at >= s.len() {
+        return no_number();
+    }
+    let byte = s[at];
+    if byte < 128 {
+        return number_of(wide(byte), at + 1);
+    }
+    no_number()
+}
+
+fn two_groups(s: &[u8], at: usize) -> Number
+    ensures { λ r. ⌜ r ≡ readGroups 2 at (drop at (now (s .entry))) ⌝ }
+{
+    if at >= s.len() {
+        return no_number();
+    }
+    let byte = s[at];
+    if byte < 128 {
+        return number_of(wide(byte), at + 1);
+    }
+    raise(byte, one_group(s, at + 1))
+}
+
 fn read_number(s: &[u8], at: usize) -> Number
     ensures { λ r. ⌜ r ≡ readNumber (now (s .entry)) at ⌝ }
 {
-    read_groups(3, s, at)
+    if at >= s.len() {
+        return no_number();
+    }
+    let byte = s[at];
+    if byte < 128 {
+        return number_of(wide(byte), at + 1);
+    }
+    raise(byte, two_groups(s, at + 1))
 }
 
 // 9, where the width or the height is none.
