@@ -217,12 +217,8 @@ def replacing(dice, shared):
 
 
 # ---------------------------------------------------------------------------------------------------------------------
-WIDE_SIDES = (0, *range(1, 10), 127, 128, 129, 4095, 4096, 4097, 16383, 16384, (1 << 21) - 1)
-# Not numbers: a needless last group, a cut-off group, too many groups.
-NOT_NUMBERS = ("8000", "8100", "808000", "818000", "80", "8080", "ff", "80808000", "80808001", "ffffff7f", "81808000")
-
-
 def reading_lines(dice, shared):
+    del shared
     # Every mode and split, each line and the first that there isn't; line numbers that only look small.
     calls = []
     for mode, split in all_splits():
@@ -231,6 +227,12 @@ def reading_lines(dice, shared):
         calls += [("r", block, line) for line in (*range(lines + 1), dice.one_of((256, 65536, 1 << 31, (1 << 32) - 1)))]
     reserved = bytes(16), bytes(1) + b"\xff" * 15
     return calls + [("r", block, line) for block in reserved for line in (0, 1, 2, 3, 255, 256)]
+
+
+# ---------------------------------------------------------------------------------------------------------------------
+WIDE_SIDES = (0, *range(1, 10), 127, 128, 129, 4095, 4096, 4097, 16383, 16384, (1 << 21) - 1)
+# Not numbers: a needless last group, a cut-off group, too many groups.
+NOT_NUMBERS = ("8000", "8100", "808000", "818000", "80", "8080", "ff", "80808000", "80808001", "ffffff7f", "81808000")
 
 
 def reading_heads(dice, shared):
