@@ -14,11 +14,7 @@ use Rattle.laws.proofs.Lanes.{scale}
 use Rattle.format.specs.Block.{field}
 use Rattle.format.proofs.Drawing.{mean}
 use Rattle.bc7_color.specs.Words.{blend, blends, laned, Lanes, lanesOf, wordBytes, woven}
-use Rattle.bc7_color.proofs.Words.{fit-map, fit-zip, laned-lanes, laned-lt, lanes-16}
-
-bytes-le : {vs : List ℕ} → Fit (replicate 4 8) vs → laned vs ≤ 0x00FF_00FF_00FF_00FF
-unfolding laned
-bytes-le (more h0 (more h1 (more h2 (more h3 none)))) = omega arith
+use Rattle.bc7_color.proofs.Words.{fit-map, fit-zip, laned-lanes, laned-lt, lanes-16, lanes-le}
 
 -- that nothing is too large on the way, where m is the largest weight
 pub record Steps (m w e0 e1 : ℕ) : Type 0 where
@@ -51,8 +47,8 @@ module _ (w : ℕ) (h : w ≤ 256) where
 
     pub steps : Steps 256 w e0 e1
     steps =
-        let le0 : e0 ≤ 0x00FF_00FF_00FF_00FF = rw (laned-lanes h0) at (bytes-le small0) in
-        let le1 : e1 ≤ 0x00FF_00FF_00FF_00FF = rw (laned-lanes h1) at (bytes-le small1) in
+        let le0 : e0 ≤ 0x00FF_00FF_00FF_00FF = lanes-le 8 (omega arith) h0 small0 in
+        let le1 : e1 ≤ 0x00FF_00FF_00FF_00FF = lanes-le 8 (omega arith) h1 small1 in
         let times1 : w * e1 ≤ 256 * e1 = mul-le-mul-right e1 h in
         record {
           halves = omega arith;

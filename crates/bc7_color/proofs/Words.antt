@@ -54,6 +54,14 @@ lane-sums : (n w : ℕ) {vs : List ℕ} (f g h : ℕ → ℕ) → ((v : ℕ) →
 lane-sums zero w f g h e none = refl
 lane-sums (suc n) w f g h e (more {v = v} l r) = omega (arith, e v l, lane-sums n w f g h e r)
 
+-- lanes of bytes leave room in their word
+bytes-le : {vs : List ℕ} → Fit (replicate 4 8) vs → laned vs ≤ 0x00FF_00FF_00FF_00FF
+unfolding laned
+bytes-le (more h0 (more h1 (more h2 (more h3 none)))) = omega arith
+
+pub lanes-le : (n : ℕ) {x : ℕ} → n ≤ 8 → x < 2 ^ 64 → Lanes n x → x ≤ 0x00FF_00FF_00FF_00FF
+lanes-le n h hx small = rw (laned-lanes hx) at (bytes-le (wider 4 n 8 h small))
+
 -- part of each lane: a shift and a mask
 module _ (x at bits : ℕ) (room : at + bits ≤ 16) (hx : x < 2 ^ 64) where
   pub and-parts : bitAnd (x / 2 ^ at) (0x0001_0001_0001_0001 * (2 ^ bits - 1)) ≡ laned (map (λ v. field v at bits) (lanesOf x))
@@ -154,9 +162,6 @@ module _ (n x p : ℕ) (most : n ≤ 7) (hx : x < 2 ^ 64) (hp : p < 2 ^ 64) (val
 
   with-p-16 : Fit (replicate 4 16) joined
   with-p-16 = wider 4 (n + 1) 16 (omega arith) (with-p-fits n values ps)
-
-  pub with-p-lt : x * 2 + p < 2 ^ 64
-  with-p-lt = rw with-p (laned-lt with-p-16)
 
   with-p-lanes : lanesOf (x * 2 + p) ≡ joined
   with-p-lanes = ap lanesOf with-p ∙ lanes-laned with-p-16
