@@ -61,6 +61,10 @@ fn write_record(record: &[u8; 66]) -> bool {
     io::write_all(STDOUT_FILENO, record)
 }
 
+fn write_line(line: &[u8; 26]) -> bool {
+    io::write_all(STDOUT_FILENO, line)
+}
+
 fn write_head_bytes(head: &[u8; 7]) -> bool {
     io::write_all(STDOUT_FILENO, head)
 }
@@ -124,8 +128,8 @@ fn read_line_call() -> bool {
     let mut held = [0u8; 26];
     let mut widths = [0u8; 26];
     write_refusal(bc7_read_line(&block, number(&line, 0), &mut held, &mut widths));
-    io::write_all(STDOUT_FILENO, &held);
-    io::write_all(STDOUT_FILENO, &widths)
+    write_line(&held);
+    write_line(&widths)
 }
 
 fn replace_call() -> bool {
