@@ -347,11 +347,15 @@ typedef u32 two_buffers(const u8 *from, u8 *to);
 typedef u32 read_one(const u8 *block, u32 line, u8 *replacement, u8 *widths);
 typedef u32 replace_one(u8 *block, u32 line, const u8 *replacement);
 typedef u32 replace_in(u8 *sheet, u64 length, u32 block, u32 line, const u8 *replacement);
+typedef u32 read_head(const u8 *sheet, u64 length, u32 *head);
+typedef u32 write_head(u32 width, u32 height, u8 *head, u32 *count);
 
 two_buffers bc7_unpack, bc7_pack;
 read_one bc7_read_line;
 replace_one bc7_replace_line;
 replace_in sheet_replace_line;
+read_head sheet_read_head;
+write_head sheet_write_head;
 
 enum { RECORD = 66, LINE = 26, VALUES = 8, FIRST_INDEX = 10, HEAD = 4 };
 
@@ -366,6 +370,8 @@ static two_buffers *volatile two_buffers_call;
 static read_one *volatile read_call;
 static replace_one *volatile replace_call;
 static replace_in *volatile replace_in_call;
+static read_head *volatile read_head_call;
+static write_head *volatile write_head_call;
 
 static u32 no_two_buffers(const u8 *from, u8 *to) {
     __asm__ volatile("" ::"r"(from), "r"(to) : "memory");
@@ -387,6 +393,16 @@ static u32 no_replace_in(u8 *all, u64 length, u32 block, u32 line, const u8 *rep
     return 0;
 }
 
+static u32 no_read_head(const u8 *all, u64 length, u32 *numbers) {
+    __asm__ volatile("" ::"r"(all), "r"(length), "r"(numbers) : "memory");
+    return 0;
+}
+
+static u32 no_write_head(u32 width, u32 height, u8 *bytes, u32 *count) {
+    __asm__ volatile("" ::"r"(width), "r"(height), "r"(bytes), "r"(count) : "memory");
+    return 0;
+}
+
 typedef u32 one_call(u32 i);
 
 static u32 unpack_one(u32 i) { return two_buffers_call(sheet_blocks + 16 * i, records + RECORD * i); }
@@ -397,7 +413,13 @@ static u32 replace_in_sheet(u32 i) {
     return replace_in_call(sheet, sizeof sheet, i, line_numbers[i], lines + LINE * i);
 }
 
+static u32 head_numbers[3];
+static u32 read_a_head(u32 i) { return read_head_call(sheet, sizeof sheet - i % 2, head_numbers); }
+static u32 write_a_head(u32 i) { return write_head_call(128 + i, 4, out, head_numbers); }
+
 static void point_at_calls(int at_none) {
+    read_head_call = at_none ? no_read_head : sheet_read_head;
+    write_head_call = at_none ? no_write_head : sheet_write_head;
     read_call = at_none ? no_read : bc7_read_line;
     replace_call = at_none ? no_replace : bc7_replace_line;
     replace_in_call = at_none ? no_replace_in : sheet_replace_line;
@@ -491,6 +513,8 @@ static void count_writing(void) {
     set_in_each(records, RECORD, MODE, 9);
     say_call("bc7_pack, refused with 5: mode 9", pack_one, 5);
 
+    say_call("sheet_read_head, 256 by 4", read_a_head, 0);
+    say_call("sheet_write_head, 128 to 191 by 4", write_a_head, 0);
     say_call("bc7_read_line", read_a_line, 0);
     say_call("bc7_replace_line, kept", replace_a_line, 0);
     say_call("sheet_replace_line, kept", replace_in_sheet, 0);
