@@ -150,6 +150,20 @@ mod writing {
             }
         }
         nanoseconds("bc7_replace_line, turned", SMALL, || replaced(&lines, &mut out));
+        // no mode has a line 3; an index of 16 is above every width
+        let all_refused = |number: u32, line: u32, lines: &[Line], out: &mut [Block]| {
+            let mut right = 0;
+            every(&mut |i| {
+                right += u32::from(unsafe { bc7_replace_line(&mut out[i], line, &lines[i]) } == number);
+                0
+            });
+            SMALL as u32 - right
+        };
+        nanoseconds("bc7_replace_line, refused 2", SMALL, || all_refused(2, 3, &lines, &mut out));
+        for line in &mut lines {
+            line[25] = 16;
+        }
+        nanoseconds("bc7_replace_line, refused 3", SMALL, || all_refused(3, 0, &lines, &mut out));
     }
 }
 
