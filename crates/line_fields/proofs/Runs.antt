@@ -34,7 +34,7 @@ module _ (m : ℕ) (s : Split) where
     ends : start m s i + (start m s j - start m s i) ≡ start m s j
     ends = omega (arith, start-le m s i j ij hj)
 
-    pub out-of-run : (x : Place) → T (inside x) → (pos x < i) ⊎ (j ≤ pos x) → atPlace m s run x ≡ atPlace m s n x
+    out-of-run : (x : Place) → T (inside x) → (pos x < i) ⊎ (j ≤ pos x) → atPlace m s run x ≡ atPlace m s n x
     out-of-run x h w = at-field m s run x h ∙ ⊎-elim lower upper w ∙ sym (at-field m s n x h)
       where
         lower : pos x < i → run / 2 ^ start m s (pos x) % 2 ^ wide x ≡ n / 2 ^ start m s (pos x) % 2 ^ wide x
@@ -45,7 +45,7 @@ module _ (m : ℕ) (s : Split) where
             stays-above n (start m s i) (start m s j - start m s i) v hv (start m s (pos x)) (wide x)
             (rw ends (start-le m s j (pos x) l (omega (arith, pos-lt x h))))
 
-    pub in-run : (x : Place) → T (inside x) → i ≤ pos x → pos x < j → atPlace m s run x ≡ v / 2 ^ (start m s (pos x) - start m s i) % 2 ^ wide x
+    in-run : (x : Place) → T (inside x) → i ≤ pos x → pos x < j → atPlace m s run x ≡ v / 2 ^ (start m s (pos x) - start m s i) % 2 ^ wide x
     in-run x h l k =
         let d : ℕ = start m s (pos x) - start m s i in
         let e : start m s i + d ≡ start m s (pos x) = omega (arith, start-le m s i (pos x) l (omega arith)) in

@@ -109,7 +109,7 @@ module _ {m : ℕ} {s : Split} {f : Place → ℕ} (g : WellFormed m s f) (l : �
   p-low = leb→le _ 100 (both-left (leb (at-line m l .p) 100) _ rest)
 
   -- the first set, and the second behind it
-  pub first-starts : at-line m l .indexes ≡ start m s 34
+  first-starts : at-line m l .indexes ≡ start m s 34
   first-starts = eqb→eq _ _ (both-right (leb (at-line m l .p) 100) _ rest)
 
   pub set-starts : fieldsOf (rowOf m) (headEnd m) l (arrayOf s l) .indexes ≡ start m s (34 + (16 * arrayOf s l + 0))

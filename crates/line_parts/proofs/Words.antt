@@ -53,7 +53,7 @@ module _ (w : ℕ) where
     pub word-plus : word w (λ q. a q + b q) ≡ word w a + word w b
     word-plus = ap (join (indexWidths w [])) (sym (plus-table 16 a b)) ∙ join-plus (word-fits a ha) (word-fits b hb)
 
-    pub word-and : bitAnd (word w a) (word w b) ≡ word w (λ q. bitAnd (a q) (b q))
+    word-and : bitAnd (word w a) (word w b) ≡ word w (λ q. bitAnd (a q) (b q))
     word-and = and-join (word-fits a ha) (word-fits b hb) ∙ ap (join (indexWidths w [])) (ands-table 16 a b)
 
     pub word-one : word w a ≡ word w b → (q : ℕ) → q < 16 → a q ≡ b q

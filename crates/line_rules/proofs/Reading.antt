@@ -51,7 +51,7 @@ pub record Agree (a b : Line) : Type 0 where
   pub p : (k : ℕ) → k < 2 → a .p k ≡ b .p k
   pub index : (q : ℕ) → q < 16 → a .index q ≡ b .index q
 
-pub given-ext : (a b : Line) → Agree a b → givenAs a ≡ givenAs b
+given-ext : (a b : Line) → Agree a b → givenAs a ≡ givenAs b
 unfolding givenAs
 given-ext a b h =
     let e : table 8 (λ i. a .value (i / 4) (i % 4)) ≡ table 8 (λ i. b .value (i / 4) (i % 4)) = table-same 0 8 _ _ (λ i l. h .value (i / 4) (i % 4) (omega arith) (mod-lt i (lit< tt))) in
@@ -82,7 +82,7 @@ given-back g he hp hi =
     by-elements : (n : ℕ) (vs : List ℕ) (f : ℕ → ℕ) → length vs ≡ n → ((i : ℕ) → i < n → getD vs i 0 ≡ f i) → vs ≡ table n f
     by-elements n vs f e h = part-all {d = 0} {P = λ k. Unit {0}} (record { long = e; done = λ k l t. h k l }) (λ k l. tt)
 
-pub laid-same : (m : ℕ) (a b : Line) → Agree a b → (x : Place) → T (inside x) → laid m a x ≡ laid m b x
+laid-same : (m : ℕ) (a b : Line) → Agree a b → (x : Place) → T (inside x) → laid m a x ≡ laid m b x
 unfolding laid
 laid-same m a b h (head k) i = refl
 laid-same m a b h (value c e) i = h .value (e % 2) c (mod-lt e (lit< tt)) (ltb→lt c 4 (both-left (ltb c 4) (ltb e 6) i))
@@ -128,7 +128,7 @@ module _ {m : ℕ} {s : Split} {f : Place → ℕ} (g : WellFormed m s f) (l : �
   agrees : Agree read (lineOf m s l f)
   agrees = given-line (lineOf m s l f)
 
-  pub read-acceptable : Acceptable m s l read
+  read-acceptable : Acceptable m s l read
   unfolding lineOf pPlace
   read-acceptable = record {
     line = hl;
@@ -140,13 +140,13 @@ module _ {m : ℕ} {s : Split} {f : Place → ℕ} (g : WellFormed m s f) (l : �
     same-p = λ e. agrees .p 0 (lit< tt) ∙ ap (λ (b : Bool). own m s l f (pbit (pick b l (2 * l + 0)))) (eq-eqb m 1 e) ∙ sym (ap (λ (b : Bool). own m s l f (pbit (pick b l (2 * l + 1)))) (eq-eqb m 1 e)) ∙ sym (agrees .p 1 (lit< tt));
   }
 
-  pub read-unturned : topSet m s l read ≡ false
+  read-unturned : topSet m s l read ≡ false
   unfolding lineOf
   read-unturned =
       lt-leb (2 ^ (lineBits m s l - 1)) (read .index (anchorOf s l))
       (rw (agrees .index (anchorOf s l) (anchor-lt s l (good-64 g) (omega (arith, lines-le m (g .mode))))) own-anchor)
 
-  pub put-read : (x : Place) → T (inside x) → put m s l read f x ≡ f x
+  put-read : (x : Place) → T (inside x) → put m s l read f x ≡ f x
   unfolding put withLine oriented
   put-read x i = rw read-unturned (go (has m s l x) refl)
     where
@@ -257,7 +257,7 @@ module _ (bs : List ℕ) (sixteen : Fit eights bs) where
         go true h = places-stored bs sixteen c x e (has-parts m s l x h .0) h ∙ put h
         go false h = sym (none h)
 
-    pub read-back : Agree (lineOf m s l (opened (after bs c))) (pick (topSet m s l (c .given)) (turnedIn m s l (c .given)) (c .given))
+    read-back : Agree (lineOf m s l (opened (after bs c))) (pick (topSet m s l (c .given)) (turnedIn m s l (c .given)) (c .given))
     unfolding lineOf oriented turnedIn turned
     read-back = go (topSet m s l (c .given)) refl
       where
