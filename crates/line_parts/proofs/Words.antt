@@ -71,7 +71,8 @@ module _ (x : LinePart) where
       go true = ones-lt (x .index)
       go false = pow-pos (x .index)
 
-  pub masked : (f : ℕ → ℕ) → Small (x .index) f → bitAnd (word (x .index) f) (word (x .index) maskPart) ≡ word (x .index) (λ q. pick (ownPixel (x .pixels) q) (f q) 0)
+  pub masked : (f : ℕ → ℕ) → Small (x .index) f
+      → bitAnd (word (x .index) f) (word (x .index) maskPart) ≡ word (x .index) (λ q. pick (ownPixel (x .pixels) q) (f q) 0)
   masked f hf = word-and (x .index) f maskPart hf mask-small ∙ word-same (x .index) _ _ (λ q h. go (ownPixel (x .pixels) q) (hf q h))
     where
       go : (b : Bool) {z : ℕ} → z < 2 ^ x .index → bitAnd z (pick b (2 ^ x .index - 1) 0) ≡ pick b z 0

@@ -16,13 +16,17 @@ p-fits-requires : tie.Need-p-fits-requires
 p-fits-requires c κs = search needs
 
 returns-2 : tie.Need-returns-2
-returns-2 c = no-p _ _ (c .before .before .before .endpoints-fit .ensures) (not-false _ (c .before .before .if1 .left)) (c .before .p-fits .ensures) (not-true _ (c .if2 .taken))
+returns-2 c =
+    no-p _ _ (c .before .before .before .endpoints-fit .ensures) (not-false _ (c .before .before .if1 .left)) (c .before .p-fits .ensures)
+    (not-true _ (c .if2 .taken))
 
 indexes-fit-requires : tie.Need-indexes-fit-requires
 indexes-fit-requires c κs = search needs
 
 returns-3 : tie.Need-returns-3
-returns-3 c = by-indexes _ _ (c .before .before .before .before .endpoints-fit .ensures) (not-false _ (c .before .before .before .if1 .left)) (c .before .before .p-fits .ensures) (not-false _ (c .before .if2 .left)) (c .indexes-fit .ensures)
+returns-3 c =
+    by-indexes _ _ (c .before .before .before .before .endpoints-fit .ensures) (not-false _ (c .before .before .before .if1 .left))
+    (c .before .before .p-fits .ensures) (not-false _ (c .before .if2 .left)) (c .indexes-fit .ensures)
 
 pub parts-fit-spec : {M : Type 1} → statement M
 parts-fit-spec =
