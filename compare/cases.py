@@ -66,7 +66,8 @@ def some_record(dice):
     if sort >= 6:
         for _ in range(dice.within(1, 2)):
             record = spoiled_record(dice, record)
-    return protocol.record_bytes(record, tuple(dice.bytes(2)))
+    # Now and then something where the kind has nothing.
+    return protocol.record_bytes(record, tuple(dice.bytes(2)) if dice.chance(10) else (0, 0))
 
 
 def spoiled_record(dice, record):
@@ -199,6 +200,18 @@ def some_sheet(dice, largest=20):
     count = model.in_blocks(width) * model.in_blocks(height)
     head = model.write_head(width, height)[1]
     return head, b"".join(some_block(dice) for _ in range(count))
+
+
+def some_listed(dice, largest=20):
+    """A sheet to list: whole, cut off, with bytes too many, or with some other head."""
+    head, blocks = some_sheet(dice, largest)
+    sort = dice.below(8)
+    if sort == 0:
+        return some_head(dice) + blocks
+    sheet = head + blocks
+    if sort < 3:
+        return sheet[: dice.below(len(sheet) + 1)]
+    return sheet + dice.bytes(dice.below(20)) if sort == 3 else sheet
 
 
 def some_sheet_call(dice, largest=20):

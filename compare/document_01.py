@@ -50,7 +50,8 @@ def drawn_as_printed(decode):
 
 
 def calls():
-    """Calls of the document's list whose refusal or answer it prints: (call, refusal, the answer's rest or None)."""
+    """Calls of the document's list whose refusal or answer it prints: (call, the answer's first byte, its rest or None).
+    The first byte is the refusal, or of a listing the low byte of its length."""
     found = [(("D", block), None, None) for block, _, _ in DRAWN]
     found.append((("U", bytes(16)), 1, bytes(66)))
     found.append((("R", C, 0, C_NEW), 0, C_REPLACED))
@@ -69,4 +70,5 @@ def calls():
     found.append((("H", b"\x01" + model.write_number(4097) + b"\x01"), 9, bytes(12)))
     found.append((("H", b""), 7, bytes(12)))
     found.append((("S", b"", 0, 0, bytes(26)), 7, b""))
+    found.append((("l", SHEET), len(LISTING), bytes(3) + LISTING.encode()))
     return found

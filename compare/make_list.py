@@ -1,6 +1,6 @@
 #!/usr/bin/env python3
 """make_list.py LETTERS.. OUT [--shared DIR]: writes OUT/stdin and OUT/stdout, the fixed list of calls of the program
-`replay` and its answers. LETTERS are the calls to include, as `D` or `D UP R HWOS`.
+`replay` and its answers. LETTERS are the calls to include, as `D` or `D UP R HWOSl`.
 
 The list is the same each time (dice.py with a fixed seed for each letter). Its answers are the model's; those of D are
 the Rust's, and the model must agree with each. Every call is there for a reason: the functions below say which."""
@@ -23,6 +23,7 @@ from cases import (
     fitting_replacement,
     some_block,
     some_head,
+    some_listed,
     some_record,
     some_replacement,
     some_row,
@@ -142,10 +143,13 @@ def packing(dice, shared):
             split = (kind, *(0,) * {"whole": 0, "vector": 2}.get(kind, 1))
             records += [model.Record(mode, split, (value,) * model.VALUES) for value in (0, 255)]
     calls = [("P", protocol.record_bytes(record)) for record in records]
-    # Bytes that a kind hasn't got are ignored.
+    # Bytes that a kind hasn't got: 3, after 5 and before 6.
     for mode in (0, 1, 2, 3, 6, 7):
         record = model.take_apart(block_of(mode, dice.one_of(model.splits(mode)), bits_of_style(dice, "random")))
-        calls += [("P", protocol.record_bytes(record, spare)) for spare in ((1, 1), (255, 255), (64, 2))]
+        top = sorted(model.anchor_places(mode, record.split))[-1]
+        turned = with_value(record, top, 1 << model.full_widths(mode)[top] - 1)
+        for given in (record, turned, record._replace(mode=5)):
+            calls += [("P", protocol.record_bytes(given, spare)) for spare in ((1, 1), (255, 255), (64, 2), (0, 1), (0, 0))]
     return calls + [("P", some_record(dice)) for _ in range(150)]
 
 
@@ -210,6 +214,19 @@ def replacing(dice, shared):
     for block in outside(shared, 240):
         calls.append(("R", block, *some_replacement(dice, block, wrong_percent=0)))
     return calls
+
+
+# ---------------------------------------------------------------------------------------------------------------------
+def reading_lines(dice, shared):
+    del shared
+    # Every mode and split, each line and the first that there isn't; line numbers that only look small.
+    calls = []
+    for mode, split in all_splits():
+        block = block_of(mode, split, bits_of_style(dice, dice.one_of(("random", "sparse", "dense"))))
+        lines = model.MODES[mode].lines
+        calls += [("r", block, line) for line in (*range(lines + 1), dice.one_of((256, 65536, 1 << 31, (1 << 32) - 1)))]
+    reserved = bytes(16), bytes(1) + b"\xff" * 15
+    return calls + [("r", block, line) for block in reserved for line in (0, 1, 2, 3, 255, 256)]
 
 
 # ---------------------------------------------------------------------------------------------------------------------
@@ -375,6 +392,35 @@ def replacing_in_sheets(dice, shared):
     return calls + [("S", *some_sheet_call(dice, 9)) for _ in range(80)]
 
 
+def listing_sheets(dice, shared):
+    del shared
+    sheets = [document_01.SHEET]
+
+    def whole(width, height):
+        count = model.in_blocks(width) * model.in_blocks(height)
+        return model.write_head(width, height)[1] + b"".join(some_block(dice) for _ in range(count))
+
+    # Every width to 9 with one to four rows of blocks, and numbers of two, three and four digits.
+    for width in range(1, 10):
+        sheets += [whole(width, height) for height in (1, 4, 5, 9, 13)]
+    sheets += [whole(44, 5), whole(404, 3), whole(3, 404)]
+    # A sheet of three rows cut at every place, and with bytes too many.
+    sheet = whole(5, 9)
+    sheets += [sheet[:length] for length in range(len(sheet))]
+    sheets += [sheet + dice.bytes(more) for more in (1, 2, 15, 16, 17, 31, 32, 33, 1000)]
+    # The widest rows, which fill the buffer: whole, and cut within, at and after a row.
+    wide = whole(4093, 7)
+    row = len(wide) - 2 * 16384
+    sheets += [wide] + [wide[: row + end] for end in (16384 - 1, 16384, 16384 + 1)]
+    # Heads refused, with nothing behind them, a block, and several.
+    heads = ["", "01", "0105", "010580", "018000", "80", "8000", "81000504", "0180808001", "ffffff7f", "02", "020504"]
+    heads += ["000504", "8001", "8101", "0280", "010004", "010400", "01812004", "01048120", "01ffff7f04", "010080"]
+    heads += ["018020", "01802004", "0104", "01048020", "01808080", "0101808001"]
+    for head in heads:
+        sheets += [bytes.fromhex(head) + rest for rest in (b"", document_01.C, document_01.C + document_01.D)]
+    return [("l", sheet) for sheet in sheets] + [("l", some_listed(dice)) for _ in range(80)]
+
+
 MAKERS = {
     "D": decoding,
     "U": taking_apart,
@@ -384,6 +430,8 @@ MAKERS = {
     "W": writing_heads,
     "O": decoding_rows,
     "S": replacing_in_sheets,
+    "l": listing_sheets,
+    "r": reading_lines,
 }
 
 
@@ -408,7 +456,7 @@ def main():
     words.add_argument("out", help="the folder that gets stdin and stdout, as crates/replay")
     words.add_argument("--shared", help="folder with docs/ and outside/ (default: $SHARED, or ../shared)")
     given = words.parse_args()
-    asked = set("".join(given.letters).upper())
+    asked = set("".join(given.letters))
     if not asked <= set(protocol.LETTERS):
         sys.exit("letters are of %s; the last argument is the folder" % protocol.LETTERS)
     shared = tools.shared_folder(given.shared)
@@ -420,7 +468,7 @@ def main():
             replies = answers(letter, calls, oracle)
             stdin += map(protocol.call_bytes, calls)
             stdout += replies
-            counts = Counter(0 if letter == "D" else reply[0] for reply in replies)
+            counts = Counter(protocol.refusal_in(letter, reply) for reply in replies)
             tally = ["%s %d" % ("refusal %d:" % n if n else "accepted:", counts[n]) for n in sorted(counts)]
             print("%s: %d calls; %s" % (letter, len(calls), "; ".join(tally)))
     out = Path(given.out)

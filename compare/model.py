@@ -175,9 +175,12 @@ def unpack(block):
     return 0, take_apart(block)
 
 
-def pack(record):
+def pack(record, spare=()):
+    """`spare` are bytes that the split's kind hasn't got: their width is 0."""
     if record.mode > 7 or record.split[0] != MODES[record.mode].kind:
         return 5, ZERO_BLOCK
+    if any(spare):
+        return 3, ZERO_BLOCK
     widths = MODES[record.mode].split_bits + full_widths(record.mode)
     if any(value >> width for value, width in zip(record.split[1:] + tuple(record.values), widths)):
         return 3, ZERO_BLOCK
@@ -250,6 +253,17 @@ def replacement_widths(mode, split, number):
     widths = [channel_width(mode, channel) if channel in line.channels else 0 for channel in range(4)] * 2
     widths += [1 if line.p else 0] * 2
     return tuple(widths + [line.index_width if pixel in line.pixels else 0 for pixel in range(16)])
+
+
+def read_line(block, number):
+    """The refusal, what the line holds as a replacement, and the widths of its 26 values."""
+    if mode_of(block) == RESERVED:
+        return 1, (0,) * 26, (0,) * 26
+    record = take_apart(block)
+    if number >= MODES[record.mode].lines:
+        return 2, (0,) * 26, (0,) * 26
+    line = lines(record.mode, record.split)[number]
+    return 0, line_of(record, line), replacement_widths(record.mode, record.split, number)
 
 
 def replacement_refusal(block, number, new):

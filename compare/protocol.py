@@ -6,14 +6,16 @@ A call is (letter, arguments..):
   U block            take a block apart
   P record           pack a record; 66 bytes, as record_bytes makes them
   R block line new   replace a line; new is 26 bytes
+  r block line       read a line
   H data             read a head
   W width height     write a head
   O width height row blocks out      decode a row
   S sheet block line new             replace a line in a sheet
+  l sheet            list a sheet
 """
 import model
 
-LETTERS = "DUPRHWOS"
+LETTERS = "DUPRHWOSlr"
 KINDS = ("whole", "two", "three", "vector")
 RECORD, REPLACEMENT = 66, 26
 LARGEST_LENGTH = 65536  # a longer slice ends the run
@@ -25,15 +27,16 @@ def number(value):
 
 
 def record_bytes(record, spare=(0, 0)):
-    """`spare` stands where the split's kind has no value: a call's bytes there are ignored."""
+    """`spare` stands where the split's kind has no value: anything but 0 there is refused."""
     split = (tuple(record.split[1:]) + spare[len(record.split) - 1 :])[:2]
     return bytes((record.mode, KINDS.index(record.split[0]), *split, *record.values))
 
 
 def record_from(data):
+    """The record, and the bytes that its kind hasn't got."""
     kind = KINDS[data[1]]
-    split = (kind, *data[2 : 2 + {"whole": 0, "two": 1, "three": 1, "vector": 2}[kind]])
-    return model.Record(data[0], split, tuple(data[4:RECORD]))
+    own = 2 + {"whole": 0, "two": 1, "three": 1, "vector": 2}[kind]
+    return model.Record(data[0], (kind, *data[2:own]), tuple(data[4:RECORD])), data[own:4]
 
 
 def call_bytes(call):
@@ -41,6 +44,8 @@ def call_bytes(call):
     if letter == "R":
         block, line, new = given
         body = block + number(line) + bytes(new)
+    elif letter == "r":
+        body = given[0] + number(given[1])
     elif letter == "H":
         body = bytes([len(given[0])]) + given[0]
     elif letter == "W":
@@ -53,6 +58,9 @@ def call_bytes(call):
         sheet, block, line, new = given
         assert len(sheet) <= LARGEST_LENGTH
         body = number(len(sheet)) + sheet + number(block) + number(line) + bytes(new)
+    elif letter == "l":
+        assert len(given[0]) <= LARGEST_LENGTH
+        body = number(len(given[0])) + given[0]
     else:  # D, U, P
         body = bytes(given[0])
     return letter.encode() + body
@@ -67,10 +75,16 @@ def model_answer(call):
     if letter == "U":
         refusal, record = model.unpack(given[0])
         return bytes([refusal]) + record_bytes(record)
+    if letter == "l":
+        text = model.listing(given[0]).encode()
+        return number(len(text)) + text
     if letter == "P":
-        refusal, rest = model.pack(record_from(given[0]))
+        refusal, rest = model.pack(*record_from(given[0]))
     elif letter == "R":
         refusal, rest = model.replace(*given)
+    elif letter == "r":
+        refusal, held, widths = model.read_line(*given)
+        rest = bytes(held) + bytes(widths)
     elif letter == "H":
         refusal, *found = model.read_head(given[0])
         rest = b"".join(map(number, found))
@@ -83,6 +97,16 @@ def model_answer(call):
         refusal, rest = model.replace_in_sheet(*given)
     return bytes([refusal]) + rest
 
+
+
+def refusal_in(letter, reply):
+    """The refusal number that an answer gives: 0 where there is none. A listing's stands in its last line."""
+    if letter == "D":
+        return 0
+    if letter == "l":
+        last = reply.splitlines()[-1].split()
+        return int(last[-1]) if b"refused" in last[0] else 0
+    return reply[0]
 
 
 def words(call, most=400):

@@ -22,6 +22,11 @@ void bc7_decode_block(const uint8_t block[16], uint8_t pixels[64]);
 uint32_t bc7_unpack(const uint8_t block[16], uint8_t record[66]);
 uint32_t bc7_pack(const uint8_t record[66], uint8_t block[16]);
 
+/* One line of a block as it stands, in the bytes of a replacement, and how many bits each of the 26 values has: 0 where the line
+ * hasn't got it, so that the widths of the indexes tell the line's pixels. To change one index, read the line, set
+ * replacement[10 + pixel], and replace it. */
+uint32_t bc7_read_line(const uint8_t block[16], uint32_t line, uint8_t replacement[26], uint8_t widths[26]);
+
 /* One line of a block replaced: two endpoints, two p bits, sixteen full indexes. */
 uint32_t bc7_replace_line(uint8_t block[16], uint32_t line, const uint8_t replacement[26]);
 

@@ -5,11 +5,11 @@ ghost use Rattle.format.specs.Block.{field, trailing};
 ghost use Rattle.format.specs.Lines.{pixels};
 ghost use Rattle.bcn_util.specs.Stream.{held};
 ghost use Rattle.bc7_fields.specs.Fields.{directPixels};
-use bc7_color::clear_p;
-use bc7_palette::paint_1;
-use bc7_palette::palette_4;
+use bc7_color::Stored;
+use bc7_color::alone_p;
+use bc7_palette::mix_16;
 use bc7_parts::indexes_1;
-use bc7_parts::values_2;
+use bc7_parts::values_1;
 use bc7_subset_2::mode_1;
 use bc7_subset_2::mode_3;
 use bc7_subset_2::mode_7;
@@ -44,18 +44,23 @@ fn extract_mode(stream: BitStream) -> u32
     u8::trailing_zeros(stream.low_u8())
 }
 
-// One subset, four channels, a p bit for each endpoint, sixteen colours.
+// One subset, four channels, a p bit for each endpoint, sixteen weights.
 fn mode_6(stream: BitStream) -> [[u8; 4]; 16]
     requires { ⌜ stream .at ≡ 7 ⌝ }
     ensures { λ r. ⌜ r ≡ directPixels 6 (held stream) ⌝ }
 {
-    let r = values_2(stream, 7);
-    let g = values_2(r.stream, 7);
-    let b = values_2(g.stream, 7);
-    let a = values_2(b.stream, 7);
-    let p = values_2(a.stream, 1);
-    let e0 = clear_p(r.a, g.a, b.a, a.a, p.a, 7);
-    let e1 = clear_p(r.b, g.b, b.b, a.b, p.b, 7);
+    let r = values_1(stream, 14);
+    let g = values_1(r.stream, 14);
+    let b = values_1(g.stream, 14);
+    let a = values_1(b.stream, 14);
+    let p = values_1(a.stream, 2);
+    let stored = Stored {
+        r: r.value,
+        g: g.value,
+        b: b.value,
+        a: a.value,
+        p: p.value,
+    };
     let x = indexes_1(4, p.stream);
-    paint_1(4, palette_4(e0, e1), x)
+    mix_16(alone_p(stored, 7), x)
 }

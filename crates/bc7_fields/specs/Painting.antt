@@ -1,23 +1,19 @@
 -- The colours between two endpoints, and sixteen pixels: looked up in a palette, joined of two, and with two channels exchanged.
 -- Assumes nothing.
 use mathlib.Core.List.{List, []}
-use Prim.Native.Nat.{ℕ, _+_, _*_, _^_}
+use Prim.Native.Nat.{ℕ}
 use lib.Dec.{eqb}
 use lib.ListN.{getD}
 use Rattle.laws.specs.Tables.{pick, table}
 use Rattle.format.specs.Drawing.{drawn, weightOf}
 use Rattle.format.specs.Lines.{rotated}
-use Rattle.bcn_indexes.specs.Indexes.{part}
 use Rattle.bc7_fields.specs.Fields.{four}
 
 -- the colour between two endpoints at the index k of b bits
 unfoldable pub between : ℕ → List ℕ → List ℕ → ℕ → List ℕ
 between b e0 e1 k = four (λ c. drawn (getD e0 c 0) (getD e1 c 0) (weightOf b k))
 
--- the place of a pixel's colour in the palettes of all subsets: the subset is k bits of the map, the index b bits of x
-unfoldable pub key : ℕ → ℕ → ℕ → ℕ → ℕ → ℕ
-key k b map x q = part map k q * 2 ^ b + part x b q
-
+-- sixteen pixels, each looked up at its place in a palette
 unfoldable pub painted : (ℕ → ℕ) → List (List ℕ) → List (List ℕ)
 painted place p = table 16 (λ q. getD p (place q) [])
 

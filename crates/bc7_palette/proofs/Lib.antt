@@ -1,3 +1,4 @@
-pub mod Mixing
 pub mod Weights
-pub mod Keys
+pub mod Keyed
+pub mod Reading
+pub mod Weighing

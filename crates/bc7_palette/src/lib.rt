@@ -1,187 +1,170 @@
-// Weights, palettes and painting. A subset's colours are all computed once, and each pixel is a lookup. The lookups have literal
-// widths, a function for each: a width that is known only at run time costs a multiple.
+// Weights and palettes. All colours of a block's subsets are computed once, two in a word, and stand in the palette where the keys
+// of the pixels look them up; a subset with as many weights as pixels has no palette.
 ghost use mathlib.Core.Path.{_≡_};
-ghost use Prim.Native.Nat.{_+_, _*_, _^_, _≤_, _<_};
-ghost use lib.ListN.{getD, replicate};
-ghost use Rattle.laws.specs.Tables.{over};
+ghost use mathlib.Core.List.{_++_};
+ghost use Prim.Native.Nat.{_+_, _*_, _/_, _%_, _^_, _≤_, _<_};
+ghost use Rattle.laws.specs.Digits.{row};
+ghost use Rattle.laws.specs.Tables.{table};
 ghost use Rattle.format.specs.Drawing.{weightOf};
 ghost use Rattle.bcn_indexes.specs.Indexes.{part};
-ghost use Rattle.bc7_fields.specs.Fields.{four};
-ghost use Rattle.bc7_fields.specs.Painting.{between, key, painted};
-ghost use Rattle.bc7_color.specs.Colors.{laned};
-ghost use Rattle.bc7_palette.specs.Colors.{lerped};
-use bc7_color::bytes_at;
-use bc7_color::lanes;
+ghost use Rattle.bc7_fields.specs.Painting.{between};
+ghost use Rattle.bc7_color.specs.Words.{Alone, Bytes, endpoint, wordBytes};
+ghost use Rattle.bc7_palette.specs.Colors.{endpoints, keyed, shade};
+use bc7_color::Ends;
+use bc7_color::high_color;
+use bc7_color::low_color;
+use bc7_color::mixed;
+use bc7_color::mixed_2;
+use bc7_color::two_colors;
 
-// Weights are all multiplied by 4 compared to the original ones.
-const WEIGHTS_2: [u64; 4] = [0, 84, 172, 256];
-
-const WEIGHTS_3: [u64; 8] = [0, 36, 72, 108, 148, 184, 220, 256];
-
-const WEIGHTS_4: [u64; 16] = [
-    0,
-    16,
-    36,
-    52,
-    68,
-    84,
-    104,
-    120,
-    136,
-    152,
-    172,
-    188,
-    204,
-    220,
-    240,
-    256,
-];
-
-fn get_weight_2(index: usize) -> u64
+// Weights are all multiplied by 4 compared to the original ones. A `match` and no constant array: the compiler makes a read-only
+// table of it or folds it away, where an array would be laid on the stack at each call.
+pub fn get_weight_2(index: usize) -> u64
     requires { ⌜ index < 4 ⌝ }
     ensures { λ r. ⌜ r ≡ 4 * weightOf 2 index ⌝ }
 {
-    WEIGHTS_2[index]
+    match index {
+        0 => 0,
+        1 => 84,
+        2 => 172,
+        _ => 256,
+    }
 }
 
-fn get_weight_3(index: usize) -> u64
+pub fn get_weight_3(index: usize) -> u64
     requires { ⌜ index < 8 ⌝ }
     ensures { λ r. ⌜ r ≡ 4 * weightOf 3 index ⌝ }
 {
-    WEIGHTS_3[index]
-}
-
-fn get_weight(bits: u32, index: usize) -> u64
-    requires { ⌜ (2 ≤ bits) × (bits ≤ 3) × (index < 2 ^ bits) ⌝ }
-    ensures { λ r. ⌜ r ≡ 4 * weightOf bits index ⌝ }
-{
-    if bits == 2 {
-        return get_weight_2(index);
+    match index {
+        0 => 0,
+        1 => 36,
+        2 => 72,
+        3 => 108,
+        4 => 148,
+        5 => 184,
+        6 => 220,
+        _ => 256,
     }
-    get_weight_3(index)
 }
 
-fn wide(x: u8) -> u64
-    ensures { λ r. ⌜ (r ≡ x) × (r < 2 ^ 16) ⌝ }
+// The colours of two subsets at a weight, that of the first in the low half.
+fn mixed_colors(e: Ends, weight: u64) -> u64
+    requires { ⌜ (weight ≤ 256) × Bytes e ⌝ }
+    ensures { λ r. ⌜ wordBytes r ≡ shade e 0 weight ++ shade e 1 weight ⌝ }
 {
-    x as u64
+    two_colors(mixed(weight, e.rb0, e.rb1), mixed(weight, e.ga0, e.ga1))
 }
 
-fn joined(color: [u8; 4]) -> u64
-    ensures { λ x. ⌜ x ≡ laned (getD color 0 0) (getD color 1 0) (getD color 2 0) (getD color 3 0) ⌝ }
+// The colours of one subset at two weights, the second 32 bits above the first: that of the first in the low half.
+pub fn two_shades(e: Ends, weights: u64) -> u64
+    requires { ⌜ (weights % 2 ^ 32 ≤ 256) × (weights / 2 ^ 32 ≤ 256) × Alone e ⌝ }
+    ensures { λ r. ⌜ wordBytes r ≡ shade e 0 (weights % 2 ^ 32) ++ shade e 0 (weights / 2 ^ 32) ⌝ }
 {
-    lanes(
-        wide(color[0]),
-        wide(color[1]),
-        wide(color[2]),
-        wide(color[3]),
+    two_colors(
+        mixed_2(weights, e.rb0, e.rb1),
+        mixed_2(weights, e.ga0, e.ga1),
     )
 }
 
-pub fn interpolate_colors(color0: [u8; 4], color1: [u8; 4], weight: u64) -> [u8; 4]
-    requires { ⌜ weight ≤ 256 ⌝ }
-    ensures { λ p. ⌜ p ≡ four (λ c. lerped (getD color0 c 0) (getD color1 c 0) weight) ⌝ }
+// The colours of two subsets: that of index k and subset s is at 2 * k + s.
+pub fn palette_2_2(e: Ends) -> [[u8; 4]; 8]
+    requires { ⌜ Bytes e ⌝ }
+    ensures { λ q. ⌜ q ≡ table 8 (keyed 2 2 (endpoint e)) ⌝ }
 {
-    let sum = (256 - weight) * joined(color0) + weight * joined(color1) + 0x0080_0080_0080_0080;
-    bytes_at(sum, 8)
-}
-
-// The colours between two endpoints, one for each index, from place `at` on.
-pub fn palette(
-    bits: u32,
-    p: [[u8; 4]; 32],
-    at: usize,
-    color0: [u8; 4],
-    color1: [u8; 4],
-) -> [[u8; 4]; 32]
-    requires { ⌜ (2 ≤ bits) × (bits ≤ 3) × (at + 2 ^ bits ≤ 32) ⌝ }
-    ensures { λ q. ⌜ q ≡ over p at (2 ^ bits) (between bits color0 color1) ⌝ }
-{
-    let mut q = p;
-    let n = 1usize << bits;
-    for k in 0..n {
-        q[at + k] = interpolate_colors(color0, color1, get_weight(bits, k));
+    let mut q = [[0u8; 4]; 8];
+    for k in 0..4usize {
+        let x = mixed_colors(e, get_weight_2(k));
+        q[2 * k] = low_color(x);
+        q[2 * k + 1] = high_color(x);
     }
     q
 }
 
-pub fn palette_4(color0: [u8; 4], color1: [u8; 4]) -> [[u8; 4]; 32]
-    ensures { λ q. ⌜ q ≡ over (replicate 32 (replicate 4 0)) 0 16 (between 4 color0 color1) ⌝ }
+pub fn palette_2_3(e: Ends) -> [[u8; 4]; 16]
+    requires { ⌜ Bytes e ⌝ }
+    ensures { λ q. ⌜ q ≡ table 16 (keyed 3 2 (endpoint e)) ⌝ }
 {
-    let weights = WEIGHTS_4;
+    let mut q = [[0u8; 4]; 16];
+    for k in 0..8usize {
+        let x = mixed_colors(e, get_weight_3(k));
+        q[2 * k] = low_color(x);
+        q[2 * k + 1] = high_color(x);
+    }
+    q
+}
+
+// The colours of three subsets, the third in words of its own: that of index k and subset s is at 4 * k + s. No key is
+// 4 * k + 3: what stands there, the other half of the third's words, is stored since a palette with gaps would be cleared first.
+pub fn palette_3_2(e: Ends, f: Ends) -> [[u8; 4]; 16]
+    requires { ⌜ Bytes e × Bytes f ⌝ }
+    ensures { λ q. ⌜ q ≡ table 16 (keyed 2 4 (endpoints e f)) ⌝ }
+{
+    let mut q = [[0u8; 4]; 16];
+    for k in 0..4usize {
+        let x = mixed_colors(e, get_weight_2(k));
+        let y = mixed_colors(f, get_weight_2(k));
+        q[4 * k] = low_color(x);
+        q[4 * k + 1] = high_color(x);
+        q[4 * k + 2] = low_color(y);
+        q[4 * k + 3] = high_color(y);
+    }
+    q
+}
+
+pub fn palette_3_3(e: Ends, f: Ends) -> [[u8; 4]; 32]
+    requires { ⌜ Bytes e × Bytes f ⌝ }
+    ensures { λ q. ⌜ q ≡ table 32 (keyed 3 4 (endpoints e f)) ⌝ }
+{
     let mut q = [[0u8; 4]; 32];
-    for k in 0..16usize {
-        q[k] = interpolate_colors(color0, color1, weights[k]);
+    for k in 0..8usize {
+        let x = mixed_colors(e, get_weight_3(k));
+        let y = mixed_colors(f, get_weight_3(k));
+        q[4 * k] = low_color(x);
+        q[4 * k + 1] = high_color(x);
+        q[4 * k + 2] = low_color(y);
+        q[4 * k + 3] = high_color(y);
     }
     q
 }
 
-// The number of pixel i in a word of `bits` bits for each pixel.
-fn part_of(x: u64, bits: u32, i: usize) -> usize
-    requires { ⌜ (bits ≤ 4) × (i < 16) ⌝ }
-    ensures { λ r. ⌜ (r ≡ part x bits i) × (r < 2 ^ bits) ⌝ }
+// The weights of eight indexes of four bits, those of the even pixels, a byte each: four times an index, and one more for each
+// four, rounded. A sum is at most 17 and a weight 64, so no byte reaches the next.
+//
+//     i     0  1  2  3  4  5  6  7  8  9 10 11 12 13 14 15
+//     4 i   0  4  8 12 16 20 24 28 32 36 40 44 48 52 56 60
+//     (i + 2) / 4
+//           0  0  1  1  1  1  2  2  2  2  3  3  3  3  4  4
+fn weights_of(x: u64) -> u64
+    ensures { λ r. ⌜ r ≡ row 8 8 (λ j. weightOf 4 (part x 4 (2 * j))) ⌝ }
 {
-    ((x >> ((i as u32) * bits)) % (1u64 << bits)) as usize
+    let indexes = x & 0x0F0F_0F0F_0F0F_0F0F;
+    4 * indexes + (((indexes + 0x0202_0202_0202_0202) >> 2) & 0x0707_0707_0707_0707)
 }
 
-fn key_of(map: u64, k: u32, x: u64, bits: u32, i: usize) -> usize
-    requires { ⌜ (k ≤ 2) × (bits ≤ 3) × (i < 16) ⌝ }
-    ensures { λ r. ⌜ (r ≡ key k bits map x i) × (r < 32) ⌝ }
+// Of eight weights those at place i and i + 4, 32 bits apart, and times 4.
+fn weights_at(weights: u64, i: usize) -> u64
+    requires { ⌜ i < 4 ⌝ }
+    ensures { λ r. ⌜ r ≡ row 2 32 (λ h. 4 * part weights 8 (i + 4 * h)) ⌝ }
 {
-    (part_of(map, k, i) << bits) + part_of(x, bits, i)
+    4 * ((weights >> (8 * (i as u32))) & 0x00FF_0000_00FF)
 }
 
-// Two subsets, indexes of 2 bits.
-pub fn paint_2_2(p: [[u8; 4]; 32], map: u64, x: u64) -> [[u8; 4]; 16]
-    ensures { λ r. ⌜ r ≡ painted (key 1 2 map x) p ⌝ }
+// Sixteen pixels by indexes of four bits. There are as many weights as pixels, so a palette would spare nothing: each pixel is
+// mixed at its own weight, two at a time.
+pub fn mix_16(e: Ends, x: u64) -> [[u8; 4]; 16]
+    requires { ⌜ Alone e ⌝ }
+    ensures { λ r. ⌜ r ≡ table 16 (λ q. between 4 (endpoint e 0 0) (endpoint e 0 1) (part x 4 q)) ⌝ }
 {
+    let even = weights_of(x);
+    let odd = weights_of(x >> 4);
     let mut output = [[0u8; 4]; 16];
-    for i in 0..16usize {
-        output[i] = p[key_of(map, 1, x, 2, i)];
-    }
-    output
-}
-
-// Two subsets, indexes of 3 bits.
-pub fn paint_2_3(p: [[u8; 4]; 32], map: u64, x: u64) -> [[u8; 4]; 16]
-    ensures { λ r. ⌜ r ≡ painted (key 1 3 map x) p ⌝ }
-{
-    let mut output = [[0u8; 4]; 16];
-    for i in 0..16usize {
-        output[i] = p[key_of(map, 1, x, 3, i)];
-    }
-    output
-}
-
-// Three subsets, indexes of 2 bits.
-pub fn paint_3_2(p: [[u8; 4]; 32], map: u64, x: u64) -> [[u8; 4]; 16]
-    ensures { λ r. ⌜ r ≡ painted (key 2 2 map x) p ⌝ }
-{
-    let mut output = [[0u8; 4]; 16];
-    for i in 0..16usize {
-        output[i] = p[key_of(map, 2, x, 2, i)];
-    }
-    output
-}
-
-// Three subsets, indexes of 3 bits.
-pub fn paint_3_3(p: [[u8; 4]; 32], map: u64, x: u64) -> [[u8; 4]; 16]
-    ensures { λ r. ⌜ r ≡ painted (key 2 3 map x) p ⌝ }
-{
-    let mut output = [[0u8; 4]; 16];
-    for i in 0..16usize {
-        output[i] = p[key_of(map, 2, x, 3, i)];
-    }
-    output
-}
-
-pub fn paint_1(bits: u32, p: [[u8; 4]; 32], x: u64) -> [[u8; 4]; 16]
-    requires { ⌜ (2 ≤ bits) × (bits ≤ 4) ⌝ }
-    ensures { λ r. ⌜ r ≡ painted (part x bits) p ⌝ }
-{
-    let mut output = [[0u8; 4]; 16];
-    for i in 0..16usize {
-        output[i] = p[part_of(x, bits, i)];
+    for i in 0..4usize {
+        let two = two_shades(e, weights_at(even, i));
+        output[2 * i] = low_color(two);
+        output[2 * i + 8] = high_color(two);
+        let next = two_shades(e, weights_at(odd, i));
+        output[2 * i + 1] = low_color(next);
+        output[2 * i + 9] = high_color(next);
     }
     output
 }

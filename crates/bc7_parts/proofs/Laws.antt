@@ -1,62 +1,115 @@
 -- One law for each kind of split with subsets: from what a mode reads and paints to what its number shows.
 -- Assumes nothing.
-use mathlib.Core.Path.{_≡_, refl, sym, ap}
+use mathlib.Core.Path.{_≡_, refl, sym, ap, _∙_}
 use mathlib.Core.Bool.{false}
 use mathlib.Core.List.{List, [], _∷_}
-use Prim.Native.Nat.{ℕ, _+_, _-_, _*_, _^_, _≤_, _<_}
+use Prim.Native.Nat.{ℕ, _+_, _-_, _*_, _/_, _%_, _^_, _≤_, _<_}
+use native.Mathlib.Nat.{lt-of-lt-of-le}
 use native.Mathlib.Omega.{arith}
 use lib.ListN.{getD}
-use lib.Pow.{pow-mono}
 use Rattle.format.specs.declared.Split.{Split}
 use Rattle.format.specs.declared.Split.the-variants.{Three, Two, Whole}
 use Rattle.laws.specs.Digits.{total}
 use Rattle.format.specs.Block.{field}
 use Rattle.format.specs.Modes.{firstBits}
-use Rattle.format.specs.Partitions.{subset2, subset3}
+use Rattle.format.specs.Partitions.{anchors2, anchors3, subset2, subset3}
 use Rattle.format.specs.Splits.{anchors, isVector, splitAt, subset}
-use Rattle.format.proofs.Starts.{index-start}
+use Rattle.format.proofs.Starts.{index-start, start}
 use Rattle.format.proofs.Subsets.{subset-below}
+use Rattle.bcn_util.specs.declared.stream.BitStream.{BitStream}
+use Rattle.bcn_util.specs.Stream.{nextBits}
+use Rattle.bcn_util.proofs.On.{On, next-is}
 use Rattle.bcn_indexes.specs.Indexes.{expanded, indexWidths, part}
 use Rattle.bcn_indexes.proofs.Anchors.{size-1, size-2, size-3}
 use Rattle.bc7_fields.specs.Fields.{directPixels}
-use Rattle.bc7_fields.specs.Painting.{key, painted}
-use Rattle.bc7_fields.proofs.Pictures.{indexes-at, stack, subset-law}
-use Rattle.bc7_parts.specs.Taken.{Fixes2, Fixes3, Maps}
+use Rattle.bc7_fields.specs.Painting.{painted}
+use Rattle.bc7_fields.proofs.Pictures.{Palette, indexes-at, keyed-law}
+use Rattle.bcn_data.specs.Sets.{set2, set3}
+use Rattle.bcn_data.proofs.Maps.{anchors-in2, anchors-in3}
+use Rattle.bcn_data.proofs.SetWords.{anchor-of2, second-of3, subset-of2, subset-of3, third-of3}
+use Rattle.bc7_keys.specs.declared.Keys.{Keys}
+use Rattle.bc7_keys.specs.Keys.{keyAt, keysOf}
+use Rattle.bc7_keys.proofs.KeyWords.{key-at}
 
 -- where the first indexes of a mode start
 abbrev indexStart : ℕ → ℕ
 indexStart m = getD (83 ∷ 82 ∷ 99 ∷ 98 ∷ 50 ∷ 66 ∷ 65 ∷ 98 ∷ []) m 0
 
--- a mode with subsets: the palettes of all, looked up by a map and a word of indexes without the top bit of each anchor
+-- the word of a mode's indexes, stored without the top bit of each anchor, and a mode with one subset
 module _ (m n b : ℕ) (hm : m < 8) (eb : firstBits m ≡ b) where
   abbrev word : List ℕ → ℕ → ℕ
   word an t = expanded b an (field n (indexStart m) t)
 
-  by-places : (s : Split) (k t : ℕ) (an : List ℕ) → splitAt m n ≡ s → isVector s ≡ false → ((q : ℕ) → q < 16 → subset s q < k) → k * 2 ^ b ≤ 32 → anchors s ≡ an → total (indexWidths b an) ≡ t
-      → (place : ℕ → ℕ) → ((q : ℕ) → q < 16 → place q ≡ subset s q * 2 ^ b + part (word an t) b q) → painted place (stack m n b k) ≡ directPixels m n
-  by-places s k t an es flat subsets room ea et place places =
-      subset-law m n b k s eb es flat subsets room (word an t) place places
-      (indexes-at m s 0 n b t an (omega arith) eb ea et (ap (λ (a : ℕ). expanded b an (field n a t)) (sym (index-start m s hm))))
+  pub whole-keys : 0 < b → splitAt m n ≡ Whole → {p : List (List ℕ)} → Palette m n b 1 0 p → painted (part (word (0 ∷ []) (16 * b - 1)) b) p ≡ directPixels m n
+  whole-keys some es palette =
+      keyed-law m n b 1 0 Whole eb es refl (λ q hq. omega arith) palette (word (0 ∷ []) (16 * b - 1)) _ (λ q hq. omega arith)
+      (indexes-at m Whole 0 n b (16 * b - 1) (0 ∷ []) (omega arith) eb refl (size-1 b some) (ap (λ (a : ℕ). expanded b (0 ∷ []) (field n a (16 * b - 1))) (sym (index-start m Whole hm))))
 
-  pub whole-law : 2 ≤ b → b ≤ 4 → splitAt m n ≡ Whole → painted (part (word (0 ∷ []) (16 * b - 1)) b) (stack m n b 1) ≡ directPixels m n
-  whole-law least most es =
-      by-places Whole 1 (16 * b - 1) (0 ∷ []) es refl (λ q hq. omega arith) (omega (arith, pow-mono {i = b} {j = 4} most)) refl (size-1 b (omega arith)) _ (λ q hq. omega arith)
+-- a word that has w bits for the subset of each pixel
+pub record Maps (w : ℕ) (of : ℕ → ℕ) (word : ℕ) : Type 0 where
+  pub at : (q : ℕ) → q < 16 → part word w q ≡ of q
 
-  -- the subsets in a word of k bits for each
-  by-map : (s : Split) (k c t : ℕ) (an : List ℕ) → splitAt m n ≡ s → isVector s ≡ false → ((q : ℕ) → q < 16 → subset s q < c) → c * 2 ^ b ≤ 32 → anchors s ≡ an → total (indexWidths b an) ≡ t
-      → {map : ℕ} → Maps k (subset s) map → painted (key k b map (word an t)) (stack m n b c) ≡ directPixels m n
-  unfolding key
-  by-map s k c t an es flat subsets room ea et maps =
-      by-places s c t an es flat subsets room ea et _ (λ q hq. ap (λ (l : ℕ). l * 2 ^ b + part (word an t) b q) (maps .at q hq))
+-- the anchors after pixel 0, in pixel order
+pub record Fixes2 (id a : ℕ) : Type 0 where
+  pub are : anchors2 id ≡ 0 ∷ a ∷ []
+  pub above : 0 < a
+  pub last : a < 16
 
-  module _ (least : 2 ≤ b) (most : b ≤ 3) {id : ℕ} (hid : id < 64) where
-    small : 2 ^ b ≤ 8
-    small = pow-mono {i = b} {j = 3} most
+pub record Fixes3 (id a b : ℕ) : Type 0 where
+  pub are : anchors3 id ≡ 0 ∷ a ∷ b ∷ []
+  pub above : 0 < a
+  pub next : a < b
+  pub last : b < 16
 
-    pub two-law : splitAt m n ≡ Two id → {map a : ℕ} → Maps 1 (subset2 id) map → Fixes2 id a → painted (key 1 b map (word (0 ∷ a ∷ []) (16 * b - 2))) (stack m n b 2) ≡ directPixels m n
-    two-law es {a = a} maps fixes =
-        by-map (Two id) 1 2 (16 * b - 2) (0 ∷ a ∷ []) es refl (λ q. subset-below (Two id) q hid) (omega (arith, small)) (fixes .are) (size-2 b a (omega arith) (fixes .above) (fixes .last)) maps
+-- the word of a partition: its map, and its anchors behind pixel 0
+module _ {w id set : ℕ} (hid : id < 64) (most : w ≤ 3) where
+  module _ (least : 1 ≤ w) (e : set ≡ set2 w id) where
+    pub maps-2 : Maps w (subset2 id) set
+    unfolding part
+    maps-2 = record { at = λ q hq. rw e (subset-of2 w id hid most least q hq) }
 
-    pub three-law : splitAt m n ≡ Three id → {map a c : ℕ} → Maps 2 (subset3 id) map → Fixes3 id a c → painted (key 2 b map (word (0 ∷ a ∷ c ∷ []) (16 * b - 3))) (stack m n b 3) ≡ directPixels m n
-    three-law es {a = a} {c = c} maps fixes =
-        by-map (Three id) 2 3 (16 * b - 3) (0 ∷ a ∷ c ∷ []) es refl (λ q. subset-below (Three id) q hid) (omega (arith, small)) (fixes .are) (size-3 b a c (omega arith) (fixes .above) (fixes .next) (fixes .last)) maps
+    pub fixes-2 : Fixes2 id (set / 2 ^ 48)
+    fixes-2 =
+        let a = anchors-in2 id hid in
+        rw (e, anchor-of2 w id hid most least) (record { are = a .are; above = a .above; last = a .last })
+
+  module _ (least : 2 ≤ w) (e : set ≡ set3 w id) where
+    pub maps-3 : Maps w (subset3 id) set
+    unfolding part
+    maps-3 = record { at = λ q hq. rw e (subset-of3 w id hid most least q hq) }
+
+    pub fixes-3 : Fixes3 id (set / 2 ^ 48 % 16) (set / 2 ^ 52)
+    fixes-3 =
+        let a = anchors-in3 id hid in
+        rw (e, second-of3 w id hid most least, third-of3 w id hid most least)
+        (record { are = a .are; above = a .above; next = a .next; last = a .last })
+
+-- a mode with subsets: the indexes are read where they start, and pixels looked up by their keys
+module _ (m n b : ℕ) (hm : m < 8) (eb : firstBits m ≡ b) (least : 2 ≤ b) (most : b ≤ 3) {id set : ℕ} (hid : id < 64)
+    {stream : BitStream} (on : On n (indexStart m) stream) {x : ℕ} {keys : Keys} {p picture : List (List ℕ)} where
+  by-keys : (s : Split) (k t c : ℕ) (an : List ℕ) → splitAt m n ≡ s → isVector s ≡ false → ((q : ℕ) → q < 16 → subset s q < k) → k ≤ 2 ^ t → t ≤ b
+      → anchors s ≡ an → total (indexWidths b an) ≡ c → Maps b (subset s) set → x ≡ expanded b an (nextBits stream c) → keys ≡ keysOf b t x set
+      → Palette m n b k t p → picture ≡ painted (keyAt b t keys) p → picture ≡ directPixels m n
+  by-keys s k t c an es flat subsets room narrow ea et maps ex ek palette drawn =
+      let small : (q : ℕ) → q < 16 → part set b q < 2 ^ t = λ q hq. rw (maps .at q hq) (lt-of-lt-of-le (subsets q hq) room) in
+      let first : expanded b an (nextBits stream c) ≡ expanded b an (field n (start m s (34 + (16 * 0 + 0))) c) =
+      ap (expanded b an) (next-is on c ∙ ap (λ (a : ℕ). field n a c) (sym (index-start m s hm))) in
+      drawn
+      ∙ keyed-law m n b k t s eb es flat subsets palette x _
+      (λ q hq. ap (λ (keys : Keys). keyAt b t keys q) ek ∙ key-at b t x set narrow small q hq ∙ ap (λ (l : ℕ). part x b q * 2 ^ t + l) (maps .at q hq))
+      (indexes-at m s 0 n b c an (omega arith) eb ea et (ex ∙ first))
+
+  pub two-keys : splitAt m n ≡ Two id → set ≡ set2 b id → x ≡ expanded b (0 ∷ set / 2 ^ 48 ∷ []) (nextBits stream (16 * b - 2))
+      → keys ≡ keysOf b 1 x set → Palette m n b 2 1 p → picture ≡ painted (keyAt b 1 keys) p → picture ≡ directPixels m n
+  two-keys es e =
+      let fixes : Fixes2 id (set / 2 ^ 48) = fixes-2 hid most (omega arith) e in
+      by-keys (Two id) 2 1 (16 * b - 2) (0 ∷ set / 2 ^ 48 ∷ []) es refl (λ q. subset-below (Two id) q hid) (omega arith) (omega arith)
+      (fixes .are) (size-2 b (set / 2 ^ 48) (omega arith) (fixes .above) (fixes .last)) (maps-2 hid most (omega arith) e)
+
+  pub three-keys : splitAt m n ≡ Three id → set ≡ set3 b id
+      → x ≡ expanded b (0 ∷ set / 2 ^ 48 % 16 ∷ set / 2 ^ 52 ∷ []) (nextBits stream (16 * b - 3))
+      → keys ≡ keysOf b 2 x set → Palette m n b 3 2 p → picture ≡ painted (keyAt b 2 keys) p → picture ≡ directPixels m n
+  three-keys es e =
+      let fixes : Fixes3 id (set / 2 ^ 48 % 16) (set / 2 ^ 52) = fixes-3 hid most least e in
+      by-keys (Three id) 3 2 (16 * b - 3) (0 ∷ set / 2 ^ 48 % 16 ∷ set / 2 ^ 52 ∷ []) es refl (λ q. subset-below (Three id) q hid) (omega arith) least
+      (fixes .are) (size-3 b (set / 2 ^ 48 % 16) (set / 2 ^ 52) (omega arith) (fixes .above) (fixes .next) (fixes .last)) (maps-3 hid most least e)

@@ -1,48 +1,51 @@
-// The modes with a vector and its scalar, 4 and 5. Colour and alpha are painted apart and merged, and the rotation comes last.
+// The modes with a vector and its scalar, 4 and 5. Each pixel takes red, green and blue by one index and alpha by the other, and
+// the rotation comes last.
 ghost use mathlib.Core.Path.{_≡_};
-ghost use Prim.Native.Nat.{_<_};
-ghost use lib.Dec.{eqb};
-ghost use lib.ListN.{getD};
-ghost use Rattle.laws.specs.Tables.{pick};
+ghost use mathlib.Core.List.{[], _∷_, _++_};
+ghost use Prim.Native.Nat.{_+_, _*_, _/_, _%_, _^_, _≤_, _<_};
+ghost use lib.ListN.{drop, getD, replicate, take};
+ghost use Rattle.laws.specs.Digits.{Fit, join};
+ghost use Rattle.laws.specs.Tables.{pick, table};
 ghost use Rattle.format.specs.Lines.{rotated};
 ghost use Rattle.bcn_util.specs.Stream.{held};
+ghost use Rattle.bcn_indexes.specs.Indexes.{part};
 ghost use Rattle.bc7_fields.specs.Fields.{directPixels, four};
-ghost use Rattle.bc7_fields.specs.Painting.{merged, swapped};
-use bc7_color::clear;
-use bc7_color::with_alpha;
-use bc7_palette::paint_1;
-use bc7_palette::palette;
+ghost use Rattle.bc7_fields.specs.Painting.{between, swapped};
+ghost use Rattle.bc7_color.specs.Words.{Alone, endpoint, wordBytes};
+ghost use Rattle.bc7_vector.specs.Crossing.{Apart, crossed, kept, keptWord};
+use bc7_color::Ends;
+use bc7_color::Stored;
+use bc7_color::alone;
+use bc7_color::high_color;
+use bc7_color::low_color;
+use bc7_keys::keys_2;
+use bc7_keys::paint_4;
+use bc7_palette::get_weight_2;
+use bc7_palette::get_weight_3;
+use bc7_palette::two_shades;
 use bc7_parts::indexes_1;
 use bc7_parts::value;
-use bc7_parts::values_2;
+use bc7_parts::values_1;
 use bcn_util::stream::BitStream;
 
-// The colours of one picture with the alphas of another.
-fn merge(colors: [[u8; 4]; 16], alphas: [[u8; 4]; 16]) -> [[u8; 4]; 16]
-    ensures { λ r. ⌜ r ≡ merged colors alphas ⌝ }
+fn chosen(yes: bool, x: u8, y: u8) -> u8
+    ensures { λ r. ⌜ r ≡ pick yes x y ⌝ }
 {
-    let mut output = [[0u8; 4]; 16];
-    for i in 0..16usize {
-        output[i] = with_alpha(colors[i], alphas[i]);
-    }
-    output
+    if yes { x } else { y }
 }
 
-// One pixel's alpha exchanged with red, green or blue.
+// One pixel's alpha exchanged with red, green or blue. Each channel is chosen by itself, so that no jump depends on the rotation.
 fn swap_channel(p: [u8; 4], rotation: u8) -> [u8; 4]
     requires { ⌜ rotation < 4 ⌝ }
     ensures { λ r. ⌜ r ≡ four (λ c. getD p (rotated rotation c) 0) ⌝ }
 {
-    if rotation == 1 {
-        return [p[3], p[1], p[2], p[0]];
-    }
-    if rotation == 2 {
-        return [p[0], p[3], p[2], p[1]];
-    }
-    if rotation == 3 {
-        return [p[0], p[1], p[3], p[2]];
-    }
-    p
+    let r = chosen(rotation == 1, p[3], p[0]);
+    let g = chosen(rotation == 2, p[3], p[1]);
+    let b = chosen(rotation == 3, p[3], p[2]);
+    let red_or_alpha = chosen(rotation == 1, p[0], p[3]);
+    let or_green = chosen(rotation == 2, p[1], red_or_alpha);
+    let a = chosen(rotation == 3, p[2], or_green);
+    [r, g, b, a]
 }
 
 // Rotation, from pixels to pixels.
@@ -57,14 +60,123 @@ fn swap_channels(pixels: [[u8; 4]; 16], rotation: u8) -> [[u8; 4]; 16]
     output
 }
 
-// The first index set serves colour and the second alpha, or the other way round.
-fn merge_by(index_mode: u8, first: [[u8; 4]; 16], second: [[u8; 4]; 16]) -> [[u8; 4]; 16]
-    ensures { λ r. ⌜ r ≡ pick (eqb «index_mode» 0) (merged first second) (merged second first) ⌝ }
+// Two colours side by side, of which only red, green and blue stay, or only alpha.
+fn keep(x: u64, color: bool) -> u64
+    ensures { λ r. ⌜ wordBytes r ≡ kept color (take 4 (wordBytes x)) ++ kept color (drop 4 (wordBytes x)) ⌝ }
 {
-    if index_mode == 0 {
-        return merge(first, second);
+    if color {
+        return x & 0x00FF_FFFF_00FF_FFFF;
     }
-    merge(second, first)
+    x & 0xFF00_0000_FF00_0000
+}
+
+// The colours of the indexes 2 * k and 2 * k + 1.
+fn shades_2(e: Ends, k: usize) -> u64
+    requires { ⌜ (k < 2) × Alone e ⌝ }
+    ensures { λ r. ⌜ wordBytes r ≡ between 2 (endpoint e 0 0) (endpoint e 0 1) (2 * k) ++ between 2 (endpoint e 0 0) (endpoint e 0 1) (2 * k + 1) ⌝ }
+{
+    two_shades(e, get_weight_2(2 * k) + (get_weight_2(2 * k + 1) << 32))
+}
+
+fn shades_3(e: Ends, k: usize) -> u64
+    requires { ⌜ (k < 4) × Alone e ⌝ }
+    ensures { λ r. ⌜ wordBytes r ≡ between 3 (endpoint e 0 0) (endpoint e 0 1) (2 * k) ++ between 3 (endpoint e 0 0) (endpoint e 0 1) (2 * k + 1) ⌝ }
+{
+    two_shades(e, get_weight_3(2 * k) + (get_weight_3(2 * k + 1) << 32))
+}
+
+fn low_word(x: u64) -> u32
+    ensures { λ r. ⌜ r ≡ join (replicate 4 8) (take 4 (wordBytes x)) ⌝ }
+{
+    (x % 0x0001_0000_0000) as u32
+}
+
+fn high_word(x: u64) -> u32
+    ensures { λ r. ⌜ r ≡ join (replicate 4 8) (drop 4 (wordBytes x)) ⌝ }
+{
+    (x >> 32) as u32
+}
+
+// All colours by an index of two bits, and by one of three, as words, in which red, green and blue stay or only alpha. One of
+// each kind makes a whole colour, by a sum.
+fn words_2(e: Ends, color: bool) -> [u32; 4]
+    requires { ⌜ Alone e ⌝ }
+    ensures { λ r. ⌜ r ≡ table 4 (λ k. keptWord color (between 2 (endpoint e 0 0) (endpoint e 0 1) k)) ⌝ }
+{
+    let mut q = [0u32; 4];
+    for k in 0..2usize {
+        let x = keep(shades_2(e, k), color);
+        q[2 * k] = low_word(x);
+        q[2 * k + 1] = high_word(x);
+    }
+    q
+}
+
+fn words_3(e: Ends, color: bool) -> [u32; 8]
+    requires { ⌜ Alone e ⌝ }
+    ensures { λ r. ⌜ r ≡ table 8 (λ k. keptWord color (between 3 (endpoint e 0 0) (endpoint e 0 1) k)) ⌝ }
+{
+    let mut q = [0u32; 8];
+    for k in 0..4usize {
+        let x = keep(shades_3(e, k), color);
+        q[2 * k] = low_word(x);
+        q[2 * k + 1] = high_word(x);
+    }
+    q
+}
+
+// The number of pixel i in a word of `bits` bits for each pixel.
+fn part_of(x: u64, bits: u32, i: usize) -> usize
+    requires { ⌜ (bits ≤ 4) × (i < 16) ⌝ }
+    ensures { λ r. ⌜ (r ≡ part x bits i) × (r < 2 ^ bits) ⌝ }
+{
+    ((x >> ((i as u32) * bits)) % (1u64 << bits)) as usize
+}
+
+// Each pixel is the sum of one word of either kind.
+fn paint_2_and_3(p: [u32; 4], q: [u32; 8], x: u64, y: u64) -> [[u8; 4]; 16]
+    requires { ⌜ Apart p q ⌝ }
+    ensures { λ r. ⌜ r ≡ table 16 (λ i. take 4 (wordBytes (getD p (part x 2 i) 0 + getD q (part y 3 i) 0))) ⌝ }
+{
+    let mut output = [[0u8; 4]; 16];
+    for i in 0..16usize {
+        let word = p[part_of(x, 2, i)] + q[part_of(y, 3, i)];
+        output[i] = low_color(word as u64);
+    }
+    output
+}
+
+// The alpha of a word in both of two colours that have none. Times 2^32 + 1 it stands in both halves, and where one of two bytes
+// is 0 their sum carries nothing.
+//
+//     colors                   | 00 B1 G1 R1 | 00 B0 G0 R0 |
+//     alpha                    |             | A  00 00 00 |
+//     alpha * (2^32 + 1)       | A  00 00 00 | A  00 00 00 |
+fn with_alphas(colors: u64, alpha: u32) -> u64
+    requires { ⌜ Fit (8 ∷ 8 ∷ 8 ∷ 0 ∷ 8 ∷ 8 ∷ 8 ∷ 0 ∷ []) (wordBytes colors) × Fit (0 ∷ 0 ∷ 0 ∷ 8 ∷ []) (take 4 (wordBytes alpha)) ⌝ }
+    ensures { λ r. ⌜ wordBytes r ≡ crossed (take 4 (wordBytes colors)) (take 4 (wordBytes alpha)) ++ crossed (drop 4 (wordBytes colors)) (take 4 (wordBytes alpha)) ⌝ }
+{
+    colors + (alpha as u64) * 0x0001_0000_0001
+}
+
+// All sixteen pairs of a colour and an alpha, by two bits each: that of colour k and alpha j is at 4 * j + k.
+fn palette_2_and_2(e: Ends) -> [[u8; 4]; 16]
+    requires { ⌜ Alone e ⌝ }
+    ensures { λ r. ⌜ r ≡ table 16 (λ i. crossed (between 2 (endpoint e 0 0) (endpoint e 0 1) (i % 4)) (between 2 (endpoint e 0 0) (endpoint e 0 1) (i / 4))) ⌝ }
+{
+    let alphas = words_2(e, false);
+    let low = keep(shades_2(e, 0), true);
+    let high = keep(shades_2(e, 1), true);
+    let mut q = [[0u8; 4]; 16];
+    for j in 0..4usize {
+        let x = with_alphas(low, alphas[j]);
+        let y = with_alphas(high, alphas[j]);
+        q[4 * j] = low_color(x);
+        q[4 * j + 1] = high_color(x);
+        q[4 * j + 2] = low_color(y);
+        q[4 * j + 3] = high_color(y);
+    }
+    q
 }
 
 // Two widths of index: the two-bit set is stored first, and the index mode says which of the two serves colour.
@@ -74,20 +186,23 @@ pub fn mode_4(stream: BitStream) -> [[u8; 4]; 16]
 {
     let rotation = value(stream, 2);
     let index_mode = value(rotation.stream, 1);
-    let r = values_2(index_mode.stream, 5);
-    let g = values_2(r.stream, 5);
-    let b = values_2(g.stream, 5);
-    let a = values_2(b.stream, 6);
-    let e0 = clear(r.a, g.a, b.a, a.a, 5, 6);
-    let e1 = clear(r.b, g.b, b.b, a.b, 5, 6);
+    let r = values_1(index_mode.stream, 10);
+    let g = values_1(r.stream, 10);
+    let b = values_1(g.stream, 10);
+    let a = values_1(b.stream, 12);
+    let stored = Stored {
+        r: r.value,
+        g: g.value,
+        b: b.value,
+        a: a.value,
+        p: 0,
+    };
+    let e = alone(stored, 5, 6);
     let x = indexes_1(2, a.stream);
     let y = indexes_1(3, a.stream.skip(31));
-    let by_first = paint_1(2, palette(2, [[0u8; 4]; 32], 0, e0, e1), x);
-    let by_second = paint_1(3, palette(3, [[0u8; 4]; 32], 0, e0, e1), y);
-    swap_channels(
-        merge_by(index_mode.value, by_first, by_second),
-        rotation.value,
-    )
+    let first = words_2(e, index_mode.value == 0);
+    let second = words_3(e, index_mode.value != 0);
+    swap_channels(paint_2_and_3(first, second, x, y), rotation.value)
 }
 
 // Both sets have two bits, the first serves colour.
@@ -96,15 +211,19 @@ pub fn mode_5(stream: BitStream) -> [[u8; 4]; 16]
     ensures { λ r. ⌜ r ≡ directPixels 5 (held stream) ⌝ }
 {
     let rotation = value(stream, 2);
-    let r = values_2(rotation.stream, 7);
-    let g = values_2(r.stream, 7);
-    let b = values_2(g.stream, 7);
-    let a = values_2(b.stream, 8);
-    let e0 = clear(r.a, g.a, b.a, a.a, 7, 8);
-    let e1 = clear(r.b, g.b, b.b, a.b, 7, 8);
+    let r = values_1(rotation.stream, 14);
+    let g = values_1(r.stream, 14);
+    let b = values_1(g.stream, 14);
+    let a = values_1(b.stream, 16);
+    let stored = Stored {
+        r: r.value,
+        g: g.value,
+        b: b.value,
+        a: a.value,
+        p: 0,
+    };
+    let e = alone(stored, 7, 8);
     let x = indexes_1(2, a.stream);
     let y = indexes_1(2, a.stream.skip(31));
-    let colors = paint_1(2, palette(2, [[0u8; 4]; 32], 0, e0, e1), x);
-    let alphas = paint_1(2, palette(2, [[0u8; 4]; 32], 0, e0, e1), y);
-    swap_channels(merge(colors, alphas), rotation.value)
+    swap_channels(paint_4(palette_2_and_2(e), keys_2(y, 2, x)), rotation.value)
 }

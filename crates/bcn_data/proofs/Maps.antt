@@ -76,21 +76,27 @@ module _ (a : ℕ) (h : a < 64) where
   is3 : T (sound 2 2 (getD strings3 a ""))
   is3 = at 64 (λ a. sound 2 2 (getD strings3 a "")) sound3 a h
 
+  pub fit2 : Fit (replicate 16 1) (digits (getD strings2 a ""))
+  fit2 = fit 1 1 (getD strings2 a "") is2
+
+  pub fit3 : Fit (replicate 16 2) (digits (getD strings3 a ""))
+  fit3 = fit 2 2 (getD strings3 a "") is3
+
   -- a map's word holds the digits of its string, which are the subsets of the pixels
   pub digits2 : subsets 1 (map2 a .«subset_indexes») ≡ digits (getD strings2 a "")
   unfolding subsets map2
-  digits2 = split-join (fit 1 1 (getD strings2 a "") is2)
+  digits2 = split-join fit2
 
   pub digits3 : subsets 2 (map3 a .«subset_indexes») ≡ digits (getD strings3 a "")
   unfolding subsets map3
-  digits3 = split-join (fit 2 2 (getD strings3 a "") is3)
+  digits3 = split-join fit3
 
   -- no pixel has the number 3, as the counts of three subsets ask
   pub none-3 : howMany 3 (subsets 2 (map3 a .«subset_indexes»)) ≡ 0
   none-3 = ap (howMany 3) digits3 ∙ no-3 2 2 (getD strings3 a "") is3
 
 -- the share of a pixel in a word
-shareOf : (b n w q : ℕ) → q < n → w / 2 ^ (b * q) % 2 ^ b ≡ getD (split (replicate n b) w) q 0
+pub shareOf : (b n w q : ℕ) → q < n → w / 2 ^ (b * q) % 2 ^ b ≡ getD (split (replicate n b) w) q 0
 shareOf b zero w q h = absurd (not-suc-le-zero h)
 shareOf b (suc n) w zero h = ap (λ (x : ℕ). w / 2 ^ x % 2 ^ b) (mul-zero b) ∙ ap (λ (x : ℕ). x % 2 ^ b) (div-one w)
 shareOf b (suc n) w (suc q) h =
@@ -122,6 +128,14 @@ two (x ∷ []) e = absurd (let z : ⊥ = omega arith in z)
 two (x ∷ (y ∷ [])) e = refl
 two (x ∷ (y ∷ (z ∷ l))) e = absurd (let z : ⊥ = omega arith in z)
 
+pub marks2 : (a : ℕ) → a < 64 → marks 0 (getD strings2 a "") ≡ map2 a .«fixup_index_2» ∷ []
+unfolding map2
+marks2 a h = one (marks 0 (getD strings2 a "")) (many 1 1 (getD strings2 a "") (is2 a h))
+
+pub marks3 : (a : ℕ) → a < 64 → marks 0 (getD strings3 a "") ≡ map3 a .«fixup_index_2» ∷ map3 a .«fixup_index_3» ∷ []
+unfolding map3
+marks3 a h = two (marks 0 (getD strings3 a "")) (many 2 2 (getD strings3 a "") (is3 a h))
+
 pub record Anchors2 (a : ℕ) : Type 0 where
   pub are : anchors2 a ≡ 0 ∷ map2 a .«fixup_index_2» ∷ []
   pub above : 0 < map2 a .«fixup_index_2»
@@ -138,7 +152,7 @@ unfolding anchors2 map2 rising
 anchors-in2 a h =
     let s : String = getD strings2 a "" in
     let f : ℕ = getD (marks 0 s) 0 0 in
-    let e : marks 0 s ≡ f ∷ [] = one (marks 0 s) (many 1 1 s (is2 a h)) in
+    let e : marks 0 s ≡ f ∷ [] = marks2 a h in
     let t : T (both (ltb 0 f) (ltb f 16)) = subst (λ (l : List ℕ). T (rising 0 l)) e (rise 1 1 s (is2 a h)) in
     record {
       are = ap {B = List ℕ} (λ l. 0 ∷ l) e;
@@ -152,7 +166,7 @@ anchors-in3 a h =
     let s : String = getD strings3 a "" in
     let f : ℕ = getD (marks 0 s) 0 0 in
     let g : ℕ = getD (marks 0 s) 1 0 in
-    let e : marks 0 s ≡ f ∷ g ∷ [] = two (marks 0 s) (many 2 2 s (is3 a h)) in
+    let e : marks 0 s ≡ f ∷ g ∷ [] = marks3 a h in
     let t : T (both (ltb 0 f) (both (ltb f g) (ltb g 16))) = subst (λ (l : List ℕ). T (rising 0 l)) e (rise 2 2 s (is3 a h)) in
     let u : T (both (ltb f g) (ltb g 16)) = both-right (ltb 0 f) (both (ltb f g) (ltb g 16)) t in
     record {

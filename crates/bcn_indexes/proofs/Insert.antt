@@ -6,9 +6,9 @@ use Prim.Native.Nat.{ℕ, _+_, _-_, _*_, _/_, _%_, _^_, _≤_, _<_}
 use native.Mathlib.Nat.{add-comm, add-zero, mul-assoc, mod-lt, mod-eq-of-lt, lt-of-lt-of-le, lt-of-le-of-lt, div-mul-le-self}
 use native.Mathlib.Omega.{arith}
 use lib.Arith.{digits-lt}
-use lib.Pow.{pow-pos, pow-add, pow-mono, mod-mod-pow, high, low, field, shr-lt, shr-shr, shl-exact}
+use lib.Pow.{pow-pos, pow-add, pow-mono, mod-mod-pow, high, low, field, shr-lt, shr-shr, split as split-at}
 use Rattle.laws.specs.Digits.{inserted, split, total}
-use Rattle.bcn_util.proofs.Words.{one-shl, pair-div, pair-mod}
+use Rattle.bcn_util.proofs.Words.{pair-div, pair-mod}
 
 -- below the place nothing changes, and above it all stands one bit higher
 pub inserted-low : (n u p : ℕ) → inserted n (p + u) % 2 ^ u ≡ n % 2 ^ u
@@ -50,13 +50,12 @@ inserted-lt n p k h l =
     let top : n / 2 ^ p < 2 ^ (k - p) = shr-lt (k - p) p (rw e h) in
     rw (← (pow-add 2 (k - p) (p + 1)), f) at (digits-lt top (lt-of-lt-of-le (mod-lt n (pow-pos p)) (pow-mono {i = p} {j = p + 1} (omega arith))))
 
--- the machine's form
-pub insert-machine : (n p : ℕ) → p < 64 → n < 2 ^ 63 → n % ((1 * 2 ^ p) % 2 ^ 64) + ((n / 2 ^ p * 2 ^ p) % 2 ^ 64 * 2 ^ 1) % 2 ^ 64 ≡ inserted n p
+-- the machine's form: what is above the place, added once more
+pub insert-machine : (n p : ℕ) → n < 2 ^ 63 → n + (n / 2 ^ p * 2 ^ p) % 2 ^ 64 ≡ inserted n p
 unfolding inserted
-insert-machine n p hp hn =
-    let whole : n / 2 ^ p * 2 ^ p < 2 ^ 63 = lt-of-le-of-lt (div-mul-le-self n (2 ^ p)) hn in
-    let e : (n / 2 ^ p * 2 ^ p) % 2 ^ 64 ≡ n / 2 ^ p * 2 ^ p = mod-eq-of-lt (lt-of-lt-of-le whole (pow-mono {i = 63} {j = 64} (omega arith))) in
-    let f : (n / 2 ^ p * 2 ^ p * 2 ^ 1) % 2 ^ 64 ≡ n / 2 ^ p * 2 ^ (p + 1) =
-    shl-exact 63 1 64 whole (omega arith) ∙ mul-assoc (n / 2 ^ p) (2 ^ p) (2 ^ 1) ∙ ap (λ (x : ℕ). n / 2 ^ p * x) (sym (pow-add 2 p 1)) in
-    ap₂ (λ (x y : ℕ). x + y) (ap (λ (x : ℕ). n % x) (one-shl p (omega arith))) (ap (λ (x : ℕ). (x * 2 ^ 1) % 2 ^ 64) e ∙ f)
-    ∙ add-comm (n % 2 ^ p) (n / 2 ^ p * 2 ^ (p + 1))
+insert-machine n p hn =
+    let above : ℕ = n / 2 ^ p * 2 ^ p in
+    let fits : above % 2 ^ 64 ≡ above =
+    mod-eq-of-lt (lt-of-le-of-lt (div-mul-le-self n (2 ^ p)) (lt-of-lt-of-le hn (pow-mono {i = 63} {j = 64} (omega arith)))) in
+    let double : n / 2 ^ p * 2 ^ (p + 1) ≡ above * 2 = ap (λ (x : ℕ). n / 2 ^ p * x) (pow-add 2 p 1) ∙ sym (mul-assoc (n / 2 ^ p) (2 ^ p) 2) in
+    omega (arith, split-at n p)

@@ -22,13 +22,14 @@ pub struct NewIndexes {
     pub stream: BitStream,
 }
 
-// A zero put in at the top of an index, where every anchor below has its own already. What is above moves up a bit.
+// A zero put in at the top of an index, where every anchor below has its own already. What is above moves up a bit, and that
+// is to add it once more: high * 2^top + low becomes 2 * high * 2^top + low.
 fn decompress_single_index(bits: u32, compressed: u64, index: u32) -> u64
     requires { ⌜ (0 < bits) × (bits ≤ 4) × (index < 16) × (compressed < 2 ^ 63) ⌝ }
     ensures { λ r. ⌜ r ≡ inserted compressed (index * bits + (bits - 1)) ⌝ }
 {
     let top = index * bits + (bits - 1);
-    (compressed % (1u64 << top)) + (((compressed >> top) << top) << 1)
+    compressed + ((compressed >> top) << top)
 }
 
 impl Indexes {

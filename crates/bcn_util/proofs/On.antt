@@ -14,7 +14,7 @@ use Rattle.laws.specs.Digits.{split, total}
 use Rattle.laws.specs.Tables.{table}
 use Rattle.laws.proofs.Rows.{split-table, table-none, total-more}
 use Rattle.format.specs.Block.{field}
-use Rattle.bcn_util.specs.Stream.{consumed2, consumed4, consumed64, consumed8, held, skipped}
+use Rattle.bcn_util.specs.Stream.{consumed2, consumed64, consumed8, held, skipped}
 
 pub field-lt : (n s w : ℕ) → field n s w < 2 ^ w
 unfolding field
@@ -23,21 +23,13 @@ field-lt n s w = mod-lt _ (pow-pos w)
 pub field-below : (n s w k : ℕ) → w ≤ k → field n s w < 2 ^ k
 field-below n s w k h = lt-of-lt-of-le (field-lt n s w) (pow-mono {i = w} {j = k} h)
 
--- two reads of one width, and two of those
+-- two reads of one width
 pub two-reads : (s : BitStream) (w : ℕ) {x y : Bits64} → x ≡ consumed64 s w → y ≡ consumed64 (x .stream) w
     → record { a = x .value; b = y .value; stream = y .stream } ≡ consumed2 s w
 unfolding held
 two-reads s w p q =
     let e : s .at + w + w ≡ s .at + 2 * w = omega arith in
     rw (q, p, e)
-
-pub four-reads : (s : BitStream) (w : ℕ) {x y : Values2} → x ≡ consumed2 s w → y ≡ consumed2 (x .stream) w
-    → record { a = x .a; b = x .b; c = y .a; d = y .b; stream = y .stream } ≡ consumed4 s w
-unfolding held
-four-reads s w p q =
-    let e : s .at + 2 * w + w ≡ s .at + 3 * w = omega arith in
-    let f : s .at + 2 * w + 2 * w ≡ s .at + 4 * w = omega arith in
-    rw (q, p, e, f)
 
 -- the stream s stands at bit a of n
 pub record On (n a : ℕ) (s : BitStream) : Type 0 where
@@ -65,6 +57,15 @@ module _ {n a : ℕ} {s : BitStream} (o : On n a s) (w : ℕ) where
 
   pub got-on : {r : Bits64} → r ≡ consumed64 s w → On n (a + w) (r .stream)
   got-on e = rw e (on-skipped o w)
+
+  pub got-a : {r : Values2} → r ≡ consumed2 s w → r .a ≡ field n a w
+  got-a e = rw e (next-is o w)
+
+  pub got-b : {r : Values2} → r ≡ consumed2 s w → r .b ≡ field n (a + w) w
+  got-b e = rw e (next-is (on-skipped o w) w)
+
+  pub on-2 : {r : Values2} → r ≡ consumed2 s w → On n (a + 2 * w) (r .stream)
+  on-2 e = rw e (on-skipped o (2 * w))
 
 -- a loop that reads values of the widths f 0, f 1, .., from the start of n: after i turns it stands at the total of the first i
 module _ (f : ℕ → ℕ) {n : ℕ} {s : BitStream} where

@@ -8,7 +8,6 @@ use Rattle.bcn_util.specs.declared.stream.Bit.{Bit}
 use Rattle.bcn_util.specs.declared.stream.Bits8.{Bits8}
 use Rattle.bcn_util.specs.declared.stream.Bits64.{Bits64}
 use Rattle.bcn_util.specs.declared.stream.Values2.{Values2}
-use Rattle.bcn_util.specs.declared.stream.Values4.{Values4}
 use Rattle.format.specs.Block.{field}
 
 -- the block's number
@@ -31,15 +30,6 @@ consumed8 s n = record { value = nextBits s n; stream = skipped s n }
 abbrev pub consumed64 : BitStream → ℕ → Bits64
 consumed64 s n = record { value = nextBits s n; stream = skipped s n }
 
--- two and four values of n bits each, one after the other
+-- two values of n bits each, one after the other
 abbrev pub consumed2 : BitStream → ℕ → Values2
 consumed2 s n = record { a = nextBits s n; b = nextBits (skipped s n) n; stream = skipped s (2 * n) }
-
-abbrev pub consumed4 : BitStream → ℕ → Values4
-consumed4 s n = record {
-  a = nextBits s n;
-  b = nextBits (skipped s n) n;
-  c = nextBits (skipped s (2 * n)) n;
-  d = nextBits (skipped s (3 * n)) n;
-  stream = skipped s (4 * n);
-}

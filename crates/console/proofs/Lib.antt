@@ -1,1 +1,2 @@
+pub mod Attested
 pub mod Theorems

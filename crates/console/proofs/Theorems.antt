@@ -1,9 +1,15 @@
--- Each promise to C admits one answer and one state of the bytes that were lent.
+-- Each promise to C admits one answer and one state of the bytes that were lent; and a refused call leaves them as they were.
 -- Assumes nothing.
 use Prim.Native.Nat.{ℕ}
 use mathlib.Core.Path.{_≡_, _∙_, sym}
+use mathlib.Core.Logic.{_≢_}
 use mathlib.Core.List.{List}
-use Rattle.console.specs.Promises.{Decodes, DecodesRow, Determined, Gives, Packs, ReadsHead, Replaces, ReplacesIn, Unpacks, WritesHead}
+use borrow.Author.Tests.{ne-eqb}
+use Rattle.line_rules.specs.Replace.{callOf, replaced}
+use Rattle.line_rules.proofs.Theorems.{refused-same}
+use Rattle.wire.specs.Wire.{replacementOf}
+use Rattle.sheet_rules.proofs.Theorems.{refused-row-leaves, refused-sheet-leaves}
+use Rattle.console.specs.Promises.{Decodes, DecodesRow, Determined, Gives, Packs, ReadsHead, ReadsLine, Replaces, ReplacesIn, Unpacks, Writes, WritesHead}
 
 one-given : {A : Type 0} (refusal : ℕ) (left : A) → Determined (Gives refusal left)
 one-given refusal left a b x y p q = (p .0 ∙ sym (q .0), p .1 ∙ sym (q .1))
@@ -16,6 +22,9 @@ determined-bc7-unpack block before = one-given _ _
 
 pub determined-bc7-pack : (bytes before : List ℕ) → Determined (Packs bytes before)
 determined-bc7-pack bytes before = one-given _ _
+
+pub determined-bc7-read-line : (block : List ℕ) (line : ℕ) (before : List ℕ × List ℕ) → Determined (ReadsLine block line before)
+determined-bc7-read-line block line before = one-given _ _
 
 pub determined-bc7-replace-line : (block : List ℕ) (line : ℕ) (bytes : List ℕ) → Determined (Replaces block line bytes)
 determined-bc7-replace-line block line bytes = one-given _ _
@@ -31,3 +40,37 @@ determined-sheet-decode-row width height row blocks before = one-given _ _
 
 pub determined-sheet-replace-line : (sheet : List ℕ) (block line : ℕ) (bytes : List ℕ) → Determined (ReplacesIn sheet block line bytes)
 determined-sheet-replace-line sheet block line bytes = one-given _ _
+
+-- where the answer is not 0, what is left is what was
+abbrev pub Leaves : {A : Type 0} → A → (ℕ → A → Type 0) → Type 0
+Leaves {A} before promise = (answer : ℕ) (after : A) → promise answer after → answer ≢ 0 → after ≡ before
+
+refused-leaves : {A : Type 0} (refusal : ℕ) (value before : A) → Leaves before (Writes refusal value before)
+refused-leaves refusal value before answer after p ne = p .1 ∙ rw (ne-eqb refusal 0 (λ e. ne (p .0 ∙ e)))
+
+pub refused-bc7-unpack-leaves : (block before : List ℕ) → Leaves before (Unpacks block before)
+refused-bc7-unpack-leaves block before = refused-leaves _ _ before
+
+pub refused-bc7-pack-leaves : (bytes before : List ℕ) → Leaves before (Packs bytes before)
+refused-bc7-pack-leaves bytes before = refused-leaves _ _ before
+
+pub refused-bc7-read-line-leaves : (block : List ℕ) (line : ℕ) (before : List ℕ × List ℕ) → Leaves before (ReadsLine block line before)
+refused-bc7-read-line-leaves block line before = refused-leaves _ _ before
+
+pub refused-bc7-replace-line-leaves : (block : List ℕ) (line : ℕ) (bytes : List ℕ) → Leaves block (Replaces block line bytes)
+unfolding replaced
+refused-bc7-replace-line-leaves block line bytes answer after p ne =
+    p .1 ∙ refused-same block (callOf line (replacementOf bytes)) (λ e. ne (p .0 ∙ e))
+
+pub refused-sheet-read-head-leaves : (sheet before : List ℕ) → Leaves before (ReadsHead sheet before)
+refused-sheet-read-head-leaves sheet before = refused-leaves _ _ before
+
+pub refused-sheet-write-head-leaves : (width height : ℕ) (before : List ℕ × ℕ) → Leaves before (WritesHead width height before)
+refused-sheet-write-head-leaves width height before = refused-leaves _ _ before
+
+pub refused-sheet-decode-row-leaves : (width height row : ℕ) (blocks before : List ℕ) → Leaves before (DecodesRow width height row blocks before)
+refused-sheet-decode-row-leaves width height row blocks before answer after p ne = refused-row-leaves width height row blocks before answer after p ne
+
+pub refused-sheet-replace-line-leaves : (sheet : List ℕ) (block line : ℕ) (bytes : List ℕ) → Leaves sheet (ReplacesIn sheet block line bytes)
+refused-sheet-replace-line-leaves sheet block line bytes answer after p ne =
+    refused-sheet-leaves sheet (record { block = block; line = line; given = replacementOf bytes }) answer after p ne

@@ -9,11 +9,12 @@ use lib.ListN.{length}
 use Rattle.laws.specs.Tables.{pick}
 use Rattle.format.specs.Lines.{pixels}
 use Rattle.head.specs.Heads.{readHead, writeHead}
+use Rattle.line_rules.specs.Read.{lineRead}
 use Rattle.line_rules.specs.Replace.{replaced}
 use Rattle.record_rules.specs.Records.{taken}
 use Rattle.sheet_rules.specs.Rows.{rowOut, rowRefusal}
 use Rattle.sheet_rules.specs.Sheets.{sheetAfter, sheetRefusal}
-use Rattle.wire.specs.Wire.{packedBytes, recordBytes, replacementOf}
+use Rattle.wire.specs.Wire.{packedBytes, recordBytes, replacementBytes, replacementOf}
 
 -- this number is answered, and this is left
 abbrev pub Gives : {A : Type 0} → ℕ → A → ℕ → A → Type 0
@@ -31,6 +32,10 @@ Unpacks block before = Writes (taken block .refusal) (recordBytes (taken block .
 
 abbrev pub Packs : List ℕ → List ℕ → ℕ → List ℕ → Type 0
 Packs bytes before = Writes (packedBytes bytes .refusal) (packedBytes bytes .block) before
+
+-- the line's 26 bytes and their widths
+abbrev pub ReadsLine : List ℕ → ℕ → List ℕ × List ℕ → ℕ → List ℕ × List ℕ → Type 0
+ReadsLine block line before = Writes (lineRead block line .refusal) (replacementBytes (lineRead block line .line), replacementBytes (lineRead block line .widths)) before
 
 abbrev pub Replaces : List ℕ → ℕ → List ℕ → ℕ → List ℕ → Type 0
 Replaces block line bytes = Gives (replaced block line (replacementOf bytes) .refusal) (replaced block line (replacementOf bytes) .block)

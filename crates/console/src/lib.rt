@@ -1,16 +1,18 @@
 // The C face: the public calls of blocks and sheets, for the consoles' display code. A refused call changes nothing that it
 // was lent. What a call promises has one name, in specs/Promises. include/rinchovek.h declares these functions; `rt staticlib
 // console` writes the archive.
-ghost use Rattle.console.specs.Promises.{Decodes, DecodesRow, Packs, ReadsHead, Replaces, ReplacesIn, Unpacks, WritesHead};
+ghost use Rattle.console.specs.Promises.{Decodes, DecodesRow, Packs, ReadsHead, ReadsLine, Replaces, ReplacesIn, Unpacks, WritesHead};
 use bc7::decode_bc7_block;
 use head::read_head;
 use head::write_head;
+use line::read_line;
 use line::replace_line;
 use record::unpack;
 use sheet::decode_row;
 use sheet::replace_in_sheet;
 use wire::pack_bytes;
 use wire::record_bytes;
+use wire::replacement_bytes;
 use wire::replacement_of;
 
 // The sixteen pixels of a block, red green blue alpha each.
@@ -49,15 +51,39 @@ pub extern "C" fn bc7_pack(bytes: &[u8; 66], block: &mut [u8; 16]) -> u32
     0
 }
 
+// A line of a block as it stands, in the 26 bytes of a replacement, and how many bits each of them has.
+#[no_mangle]
+pub extern "C" fn bc7_read_line(
+    block: &[u8; 16],
+    line: u32,
+    replacement: &mut [u8; 26],
+    widths: &mut [u8; 26],
+) -> u32
+    ensures { λ r. ⌜ ReadsLine (now (block .entry)) line (now (replacement .entry), now (widths .entry)) r (now (replacement .exit), now (widths .exit)) ⌝ }
+{
+    let read = read_line(*block, line);
+    if read.refusal != 0 {
+        return read.refusal as u32;
+    }
+    let held = read.line;
+    let bits = read.widths;
+    *replacement = replacement_bytes(held);
+    *widths = replacement_bytes(bits);
+    0
+}
+
 // A line of a block replaced in its place, by a replacement of 26 bytes.
 #[no_mangle]
 pub extern "C" fn bc7_replace_line(block: &mut [u8; 16], line: u32, replacement: &[u8; 26]) -> u32
     ensures { λ r. ⌜ Replaces (now (block .entry)) line (now (replacement .entry)) r (now (block .exit)) ⌝ }
 {
     let answer = replace_line(*block, line, replacement_of(*replacement));
+    if answer.refusal != 0 {
+        return answer.refusal as u32;
+    }
     let bytes = answer.block;
     *block = bytes;
-    answer.refusal as u32
+    0
 }
 
 // Width, height and the place of the first block, from the bytes of a sheet.

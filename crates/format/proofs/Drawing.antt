@@ -18,6 +18,14 @@ mean a b x y e hx hy =
     let q : b * y ≤ b * 255 = mul-le-mul-left b (le-of-suc-le-suc hy) in
     omega arith
 
+-- and divided it is a byte
+pub drawn-lt : (x y w : ℕ) → x < 2 ^ 8 → y < 2 ^ 8 → w ≤ 64 → drawn x y w < 2 ^ 8
+unfolding drawn
+drawn-lt x y w hx hy h =
+    let p : (64 - w) * x ≤ (64 - w) * 255 = mul-le-mul-left (64 - w) (le-of-suc-le-suc hx) in
+    let q : w * y ≤ w * 255 = mul-le-mul-left w (le-of-suc-le-suc hy) in
+    omega arith
+
 -- the Rust's numbers, four times the format's, give the format's channel
 pub scaled : (v e0 e1 : ℕ) → v ≤ 64 → ((256 - 4 * v) * e0 + 4 * v * e1 + 128) / 256 ≡ drawn e0 e1 v
 unfolding drawn

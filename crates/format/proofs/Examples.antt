@@ -1,35 +1,26 @@
--- What is easy to get wrong, by example. (Document 01's blocks are in the crate `document_01`.)
+-- The blocks that claims speak of, here and in the crates above.
 -- Assumes nothing.
-use mathlib.Core.Path.{_≡_, refl}
-use mathlib.Core.List.{[], _∷_, map}
-use Rattle.format.specs.declared.Split.the-variants.{Whole, Two}
-use Rattle.laws.specs.Tables.{table, tableFrom}
-use Rattle.format.specs.Drawing.{eight, promoted}
-use Rattle.format.specs.Modes.{endpointCount, modeRow}
-use Rattle.format.specs.Partitions.{anchors2, anchors3, digits, marks, strings2, strings3, subset3}
-use Rattle.format.specs.Places.{Place, index, pbit, placeAt, pos, value, width, widths}
-use Rattle.format.proofs.Starts.{start}
+use Prim.Native.Nat.{ℕ}
+use mathlib.Core.List.{List, [], _∷_}
 
--- p is appended before promotion: red 1000 of mode 0 is 10000 or 10001 with its p bit, and 10000100 or 10001100 as eight bits
-pub p-before-promotion : eight 0 0 8 0 ∷ eight 0 0 8 1 ∷ [] ≡ 132 ∷ 140 ∷ []
-unfolding eight promoted modeRow
-p-before-promotion = refl
+-- mode 0, partition 0: the first endpoint of subset 0 is red 1, green 2, blue 3 with p 1; all else is 0
+abbrev pub block0 : List ℕ
+block0 = 0x21 ∷ 0x00 ∷ 0x00 ∷ 0x40 ∷ 0x00 ∷ 0x00 ∷ 0x60 ∷ 0x00 ∷ 0x00 ∷ 0x20 ∷ 0x00 ∷ 0x00 ∷ 0x00 ∷ 0x00 ∷ 0x00 ∷ 0x00 ∷ []
 
--- anchors stand in the order of the pixels: of three-subset partition 2 the second lies in subset 2, the third in subset 1
-pub partition-2-of-three : anchors3 2 ∷ map (subset3 2) (anchors3 2) ∷ [] ≡ (0 ∷ 8 ∷ 15 ∷ []) ∷ (0 ∷ 2 ∷ 1 ∷ []) ∷ []
-unfolding anchors3 subset3 strings3 digits marks
-partition-2-of-three = refl
+-- mode 3, partition 0: the same
+abbrev pub block3 : List ℕ
+block3 = 0x08 ∷ 0x04 ∷ 0x00 ∷ 0x00 ∷ 0x80 ∷ 0x00 ∷ 0x00 ∷ 0x00 ∷ 0x0C ∷ 0x00 ∷ 0x00 ∷ 0x40 ∷ 0x00 ∷ 0x00 ∷ 0x00 ∷ 0x00 ∷ []
 
--- the stored order, by the bit at which each place starts. Mode 6: red of the endpoints 0 and 1, green, blue, alpha; the two p bits;
--- the indexes of pixels 0, 1 and 2, of which the anchor's has one bit less
-pub order-of-mode-6 : map (λ (x : Place). start 6 Whole (pos x))
-    (value 0 0 ∷ value 0 1 ∷ value 1 0 ∷ value 1 1 ∷ value 2 0 ∷ value 2 1 ∷ value 3 0 ∷ value 3 1 ∷ pbit 0 ∷ pbit 1 ∷ index 0 0 ∷ index 0 1 ∷ index 0 2 ∷ [])
-    ≡ 7 ∷ 14 ∷ 21 ∷ 28 ∷ 35 ∷ 42 ∷ 49 ∷ 56 ∷ 63 ∷ 64 ∷ 65 ∷ 68 ∷ 72 ∷ []
-unfolding start widths table tableFrom placeAt pos width modeRow endpointCount
-order-of-mode-6 = refl
+-- mode 4, rotation 2, index mode 1: red 1 and 2, green 3 and 4, blue 5 and 6, alpha 7 and 8; the first indexes go 1 2 3 0 and so on,
+-- the second 3 4 5 6 7 0 1 2 and so on
+abbrev pub block4 : List ℕ
+block4 = 0xD0 ∷ 0x41 ∷ 0x0C ∷ 0x52 ∷ 0xCC ∷ 0x81 ∷ 0x74 ∷ 0x72 ∷ 0x72 ∷ 0x72 ∷ 0x66 ∷ 0x7D ∷ 0x44 ∷ 0x63 ∷ 0x7D ∷ 0x44 ∷ []
 
--- mode 1 with partition 0: red of the endpoints 0 and 3, green of 0, blue of 3, the two p bits, the indexes of pixels 0, 1 and 15
-pub order-of-mode-1 : map (λ (x : Place). start 1 (Two 0) (pos x)) (value 0 0 ∷ value 0 3 ∷ value 1 0 ∷ value 2 3 ∷ pbit 0 ∷ pbit 1 ∷ index 0 0 ∷ index 0 1 ∷ index 0 15 ∷ [])
-    ≡ 8 ∷ 26 ∷ 32 ∷ 74 ∷ 80 ∷ 81 ∷ 82 ∷ 84 ∷ 126 ∷ []
-unfolding start widths table tableFrom placeAt pos width modeRow endpointCount anchors2 strings2 digits marks
-order-of-mode-1 = refl
+-- mode 5, rotation 0: endpoint 0 is 1 2 3 4, endpoint 1 is 5 6 7 8; the first indexes go 1 2 3 0 and so on, the second 0 1 2 3 and so on
+abbrev pub block5 : List ℕ
+block5 = 0x20 ∷ 0x81 ∷ 0x82 ∷ 0xC0 ∷ 0x30 ∷ 0x38 ∷ 0x10 ∷ 0x20 ∷ 0x74 ∷ 0x72 ∷ 0x72 ∷ 0x72 ∷ 0xE4 ∷ 0xE4 ∷ 0xE4 ∷ 0xE4 ∷ []
+
+-- mode 7, partition 13, the upper half and the lower: endpoint 0 is 1 2 3 4, endpoint 1 is 5 6 7 8 and so on to 16; p 1 0 1 1; the
+-- indexes go 1 2 3 0 twice, then 0 3 2 1 twice
+abbrev pub block7 : List ℕ
+block7 = 0x80 ∷ 0x4D ∷ 0x28 ∷ 0xA9 ∷ 0x09 ∷ 0xA3 ∷ 0xDC ∷ 0x38 ∷ 0xEB ∷ 0x11 ∷ 0xC4 ∷ 0x60 ∷ 0x77 ∷ 0x72 ∷ 0xD8 ∷ 0xD8 ∷ []

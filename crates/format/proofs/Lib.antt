@@ -1,3 +1,7 @@
+pub mod Examples
+pub mod Attested
+pub mod Chart
+pub mod Printed
 pub mod Drawing
 pub mod Anchors
 pub mod Places
@@ -11,4 +15,3 @@ pub mod Meaning
 pub mod Direct
 pub mod Trailing
 pub mod Theorems
-pub mod Examples

@@ -7,7 +7,7 @@ use Prim.Native.Nat.{ℕ, suc, _+_, _/_, _%_, _^_, _<_, _≤_}
 use native.Mathlib.Nat.{eq-or-lt-of-le, le-of-lt, le-refl}
 use native.Mathlib.Omega.{arith}
 use lib.Dec.{T, eqb, eqb→eq}
-use lib.ListN.{getD, take}
+use lib.ListN.{getD}
 use Rattle.format.specs.declared.Split.{Split}
 use Rattle.laws.specs.Digits.{total}
 use Rattle.laws.specs.Tables.{table, tableFrom}
@@ -17,12 +17,9 @@ use Rattle.format.specs.Modes.{endpointCount, modeRow}
 use Rattle.format.specs.Places.{Place, atPlace, inside, placeAt, pos, width, widths}
 use Rattle.format.specs.Splits.{anchors}
 use Rattle.format.proofs.Places.{placeAt-pos, pos-lt}
+unfoldable pub use Rattle.format.proofs.Chart.{start}
 
--- the bit at which the i-th place starts
-unfoldable pub start : ℕ → Split → ℕ → ℕ
-start m s i = total (take i (widths m s))
-
--- it is the total of the widths before
+-- where a place starts: behind the total of the widths before
 start-is : (m : ℕ) (s : Split) (i : ℕ) → i ≤ 66 → start m s i ≡ total (table i (λ k. width m (anchors s) (placeAt k)))
 unfolding start widths
 start-is m s i h = ap total (take-table i 66 _ h)

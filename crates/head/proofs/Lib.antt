@@ -1,3 +1,4 @@
+pub mod Attested
 pub mod Reading
 pub mod Writing
 pub mod Heading

@@ -2,7 +2,7 @@
 -- Assumes nothing.
 use mathlib.Core.Path.{_≡_}
 use mathlib.Core.List.{List}
-use Prim.Native.Nat.{ℕ, _+_, _<_, _≤_}
+use Prim.Native.Nat.{ℕ, _+_, _*_, _<_, _≤_}
 use native.Mathlib.Nat.{not-suc-le-zero, lt-of-lt-of-le}
 use native.Mathlib.Omega.{arith}
 use lib.ListN.{length, set}
@@ -18,6 +18,24 @@ module _ {A : Type 0} {n : ℕ} {d : A} {f : ℕ → A} where
 
   pub filled-next : {out : List A} (i : ℕ) (v : A) → Filled n d f i out → i < n → v ≡ f i → Filled n d f (i + 1) (set out i v)
   filled-next i v h l e = part-set i v h l e (λ k lk q ne. omega arith)
+
+  -- two and four at a time
+  pub filled-two : {out : List A} {a b : A} (i : ℕ) → Filled n d f (2 * i) out → 2 * i + 1 < n → a ≡ f (2 * i) → b ≡ f (2 * i + 1)
+      → Filled n d f (2 * (i + 1)) (set (set out (2 * i) a) (2 * i + 1) b)
+  filled-two i h l ea eb =
+      let next : 2 * i + 1 + 1 ≡ 2 * (i + 1) = omega arith in
+      rw next at (filled-next (2 * i + 1) _ (filled-next (2 * i) _ h (omega arith) ea) l eb)
+
+  pub filled-four : {out : List A} {a b c e : A} (i : ℕ) → Filled n d f (4 * i) out → 4 * i + 3 < n
+      → a ≡ f (4 * i) → b ≡ f (4 * i + 1) → c ≡ f (4 * i + 2) → e ≡ f (4 * i + 3)
+      → Filled n d f (4 * (i + 1)) (set (set (set (set out (4 * i) a) (4 * i + 1) b) (4 * i + 2) c) (4 * i + 3) e)
+  filled-four i h l ea eb ec ee =
+      let at2 : 4 * i + 1 + 1 ≡ 4 * i + 2 = omega arith in
+      let at3 : 4 * i + 2 + 1 ≡ 4 * i + 3 = omega arith in
+      let next : 4 * i + 3 + 1 ≡ 4 * (i + 1) = omega arith in
+      let two = rw at2 at (filled-next (4 * i + 1) _ (filled-next (4 * i) _ h (omega arith) ea) (omega arith) eb) in
+      let three = rw at3 at (filled-next (4 * i + 2) _ two (omega arith) ec) in
+      rw next at (filled-next (4 * i + 3) _ three l ee)
 
   pub filled-all : {out : List A} {i : ℕ} → Filled n d f i out → n ≤ i → out ≡ table n f
   filled-all h l = part-all h (λ k lk. lt-of-lt-of-le lk l)

@@ -1,6 +1,7 @@
 pub mod Tests
 pub mod Scan
 pub mod Cases
+pub mod Arms
 pub mod Part
 pub mod Filled
 pub mod Over

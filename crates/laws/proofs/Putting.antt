@@ -2,10 +2,10 @@
 -- Assumes nothing.
 use mathlib.Core.Path.{_≡_, refl, sym, ap, ap₂, _∙_}
 use mathlib.Core.List.{List, [], _∷_, _++_}
-use Prim.Native.Nat.{ℕ, _+_, _-_, _*_, _/_, _%_, _^_}
+use Prim.Native.Nat.{ℕ, _+_, _*_, _/_, _%_, _^_}
 use native.Mathlib.Nat.{mod-one, div-one, add-zero, zero-add, add-comm, add-assoc, mul-one, add-mul, mul-assoc}
-use lib.Pow.{pow-add, mod-pow-add, low, shr-shr}
-use lib.Bits.{bitAnd, and-block}
+use lib.Pow.{pow-add, mod-pow-add, shr-shr}
+use lib.Bits.{bitAnd, and-block, and-mod, and-shr}
 use Rattle.laws.specs.Digits.{Fit, join, more, none, replacedAt, split, total}
 
 -- the digits of both, one by one
@@ -19,6 +19,10 @@ pub and-join : {ws xs ys : List ℕ} → Fit ws xs → Fit ws ys → bitAnd (joi
 and-join none none = refl
 and-join (more {w = w} {v = x} {ws = ws} {vs = xs} h f) (more {v = y} {vs = ys} k g) =
     and-block w (join ws xs) (join ws ys) x y h k ∙ ap (λ (z : ℕ). z * 2 ^ w + bitAnd x y) (and-join f g)
+
+pub split-and : (ws : List ℕ) (x m : ℕ) → split ws (bitAnd x m) ≡ ands (split ws x) (split ws m)
+split-and [] x m = refl
+split-and (w ∷ ws) x m = ap₂ {C = List ℕ} (λ v l. v ∷ l) (and-mod x m w) (ap (split ws) (and-shr x m w) ∙ split-and ws (x / 2 ^ w) (m / 2 ^ w))
 
 -- at position 0
 pub at-zero : (n c v : ℕ) → replacedAt n 0 c v ≡ n / 2 ^ c * 2 ^ c + v

@@ -74,20 +74,19 @@ eight-bytes es f h e =
     ap (λ (vs : List ℕ). below 8 (λ i. ltb (getD vs i 0) (2 ^ f i))) (ap (split (replicate 8 8)) e ∙ split-join fits)
 
 -- a replacement part by part
-module _ (x : LinePart) (g : Replacement) {a : Bool}
-    (ea : a ≡ below 8 (λ i. ltb (getD (g .endpoints) i 0) (2 ^ pick (eqb (i % 4) 3) (x .alpha) (x .colour)))) where
-  pub no-value : a ≡ false → false ≡ partsFit x g
+module _ (x : LinePart) (g : Replacement) {a : Bool} (ea : a ≡ below 16 (λ q. ltb (getD (g .indexes) q 0) (2 ^ x .index))) where
+  abbrev values : Bool
+  values = below 8 (λ i. ltb (getD (g .endpoints) i 0) (2 ^ pick (eqb (i % 4) 3) (x .alpha) (x .colour)))
+
+  pub no-index : a ≡ false → false ≡ partsFit x g
   unfolding partsFit
-  no-value f =
-      sym
-      (ap (λ (t : Bool). both t (both (below 2 (λ k. ltb (getD (g .p) k 0) (2 ^ x .p))) (below 16 (λ q. ltb (getD (g .indexes) q 0) (2 ^ x .index))))) (sym ea ∙ f))
+  no-index f = sym (ap (λ (t : Bool). both t (both (below 2 (λ k. ltb (getD (g .p) k 0) (2 ^ x .p))) values)) (sym ea ∙ f))
 
   module _ (ta : a ≡ true) {b : Bool} (eb : b ≡ below 2 (λ k. ltb (getD (g .p) k 0) (2 ^ x .p))) where
     pub no-p : b ≡ false → false ≡ partsFit x g
     unfolding partsFit
-    no-p f = sym (ap₂ (λ (t u : Bool). both t (both u (below 16 (λ q. ltb (getD (g .indexes) q 0) (2 ^ x .index))))) (sym ea ∙ ta) (sym eb ∙ f))
+    no-p f = sym (ap₂ (λ (t u : Bool). both t (both u values)) (sym ea ∙ ta) (sym eb ∙ f))
 
-    pub by-indexes : {c : Bool} → b ≡ true → c ≡ below 16 (λ q. ltb (getD (g .indexes) q 0) (2 ^ x .index)) → c ≡ partsFit x g
+    pub by-values : {c : Bool} → b ≡ true → c ≡ values → c ≡ partsFit x g
     unfolding partsFit
-    by-indexes f ec =
-        ec ∙ sym (ap₂ (λ (t u : Bool). both t (both u (below 16 (λ q. ltb (getD (g .indexes) q 0) (2 ^ x .index))))) (sym ea ∙ ta) (sym eb ∙ f))
+    by-values f ec = ec ∙ sym (ap₂ (λ (t u : Bool). both t (both u values)) (sym ea ∙ ta) (sym eb ∙ f))

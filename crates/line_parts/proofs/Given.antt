@@ -43,9 +43,9 @@ module _ {m : ℕ} {s : Split} {l : ℕ} {x : LinePart} (is : IsPart m s l x) (g
   pub within-parts : Within m s l (lineGiven g) → partsFit x g ≡ true
   unfolding partsFit lineGiven
   within-parts h =
-      T-true _ (both-intro (below 8 value-test) _ (below-intro 8 value-test (λ i hi. lt→ltb _ _ (value i hi)))
+      T-true _ (both-intro (below 16 index-test) _ (below-intro 16 index-test (λ q hq. lt→ltb _ _ (index q hq)))
       (both-intro (below 2 p-test) _ (below-intro 2 p-test (λ k hk. lt→ltb _ _ (rw (is .p k hk) at (h .p k hk))))
-      (below-intro 16 index-test (λ q hq. lt→ltb _ _ (index q hq)))))
+      (below-intro 8 value-test (λ i hi. lt→ltb _ _ (value i hi)))))
     where
       value : (i : ℕ) → i < 8 → getD (g .endpoints) i 0 < 2 ^ pick (eqb (i % 4) 3) (x .alpha) (x .colour)
       value i hi =
@@ -85,20 +85,17 @@ module _ {m : ℕ} {s : Split} {l : ℕ} {x : LinePart} (is : IsPart m s l x) (g
   pub small-indexes : partsFit x g ≡ true → Small w v
   unfolding partsFit
   small-indexes e q hq =
-      let a = both-true (below 8 value-test) _ e in
-      let b = both-true (below 2 p-test) _ (a .1) in
-      ltb→lt _ _ (at 16 index-test (true-T _ (b .1)) q hq)
+      ltb→lt _ _ (at 16 index-test (true-T _ (both-true (below 16 index-test) _ e .0)) q hq)
 
   pub parts-within : partsFit x g ≡ true → ((q : ℕ) → q < 16 → pick (own q) (v q) 0 ≡ v q) → Within m s l (lineGiven g)
   unfolding partsFit lineGiven
   parts-within e kept =
-      let a = both-true (below 8 value-test) _ e in
-      let b = both-true (below 2 p-test) _ (a .1) in
+      let b = both-true (below 2 p-test) _ (both-true (below 16 index-test) _ e .1) in
       record {
         value = λ k c hk hc.
             let z : (4 * k + c) % 4 ≡ c = omega arith in
             rw (is .value k c hk hc)
-            (rw z at (ltb→lt (getD (g .endpoints) (4 * k + c) 0) (2 ^ pick (eqb ((4 * k + c) % 4) 3) (x .alpha) (x .colour)) (at 8 value-test (true-T _ (a .0)) (4 * k + c) (omega arith))));
+            (rw z at (ltb→lt (getD (g .endpoints) (4 * k + c) 0) (2 ^ pick (eqb ((4 * k + c) % 4) 3) (x .alpha) (x .colour)) (at 8 value-test (true-T _ (b .1)) (4 * k + c) (omega arith))));
         p = λ k hk. rw (is .p k hk) (ltb→lt _ _ (at 2 p-test (true-T _ (b .0)) k hk));
         index = λ q hq. rw (is .index q hq) (go (own q) (kept q hq) (small-indexes e q hq));
       }

@@ -67,9 +67,9 @@ partOf row s l = record {
 -- each part of a replacement is within the width of the part, at whichever pixel
 unfoldable pub partsFit : LinePart → Replacement → Bool
 partsFit x g =
-    both (below 8 (λ i. ltb (getD (g .endpoints) i 0) (2 ^ pick (eqb (i % 4) 3) (x .alpha) (x .colour))))
+    both (below 16 (λ q. ltb (getD (g .indexes) q 0) (2 ^ x .index)))
     (both (below 2 (λ k. ltb (getD (g .p) k 0) (2 ^ x .p)))
-    (below 16 (λ q. ltb (getD (g .indexes) q 0) (2 ^ x .index))))
+    (below 8 (λ i. ltb (getD (g .endpoints) i 0) (2 ^ pick (eqb (i % 4) 3) (x .alpha) (x .colour)))))
 
 -- a line of a block whose mode has this row
 pub record OfLine (row : ModeRow) (s : Split) (l : ℕ) : Type 0 where

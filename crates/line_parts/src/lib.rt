@@ -226,13 +226,13 @@ pub fn parts_fit(part: LinePart, new: Replacement) -> bool
     let endpoints = new.endpoints;
     let p = new.p;
     let indexes = new.indexes;
-    if !endpoints_fit(endpoints, part.colour, part.alpha) {
+    if !indexes_fit(indexes, part.index) {
         return false;
     }
     if !p_fits(p, part.p) {
         return false;
     }
-    indexes_fit(indexes, part.index)
+    endpoints_fit(endpoints, part.colour, part.alpha)
 }
 
 // Has the word of a line's indexes zeros at the other pixels?

@@ -1,3 +1,4 @@
+pub mod Attested
 pub mod Accepting
 pub mod Put
 pub mod Draws

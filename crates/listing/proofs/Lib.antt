@@ -1,6 +1,2 @@
--- The laws that the proofs cite, and the theorems.
-pub mod Taking
-pub mod Reader
 pub mod Lines
-pub mod Rows
-pub mod Theorems
+pub mod Whole

@@ -1,28 +1,29 @@
-// The listing of a sheet that comes in pieces: its head, byte by byte, so that no byte of a block is taken with it, and the
-// lines of its blocks, a row at a time. All that decides what is printed stands here and below; a program only reads and writes.
+// The listing of a sheet that comes in pieces, as a machine: it says how many bytes it wants next, takes what came (fewer than
+// it wanted where the input ended), and answers its next state and the text to write. All that decides what is printed stands
+// here and below; a program only reads and writes.
 ghost use mathlib.Core.Bool.{true};
 ghost use mathlib.Core.Path.{_≡_};
-ghost use Prim.Native.Nat.{_+_, _*_, _/_, _^_, _≤_, _<_};
+ghost use Prim.Native.Nat.{_+_, _-_, _*_, _/_, _^_, _≤_, _<_};
+ghost use lib.Dec.{eqb};
 ghost use lib.ListN.{length, take};
+ghost use Rattle.laws.specs.Tables.{pick};
 ghost use Rattle.head.specs.Heads.{Sized, limit, readHead};
-ghost use Rattle.laws.specs.Padding.{stored};
+ghost use Rattle.laws.specs.Padding.{Written};
 ghost use Rattle.sheet_rules.specs.Rows.{across};
-ghost use Rattle.listing.specs.Listing.{blockText, listed};
-ghost use Rattle.listing.specs.Taking.{fresh, goesOn, headTaken, withByte};
+ghost use Rattle.listing_rules.specs.Listing.{blockText, listed, listing, unlessExact};
+ghost use Rattle.listing_rules.specs.Machine.{InRows, NextEnd, Ready, atHead, atStart, begun, ended, headText, inRows, nextAtHead, nextInRows, nextOf, spareOf, takenOf, textAtHead, textInRows, textOf, turnsOf, wantedOf};
+ghost use Rattle.listing_rules.specs.Taking.{fresh, goesOn, headTaken, withByte};
 use bc7::decode_bc7_block;
 use head::Head;
+use listing_rules::HeadReader;
+use listing_rules::Machine;
+use listing_rules::Phase;
+use listing_rules::Taken;
 use record_reading::mode_of;
 use sheet_blocks::load;
 
-// The bytes of a head that were taken so far, with zeros behind, their count, and how many numbers have still to end.
-pub struct HeadReader {
-    pub bytes: [u8; 9],
-    pub count: u8,
-    pub numbers: u8,
-}
-
 // A reader that has taken nothing.
-pub fn start() -> HeadReader
+fn fresh_reader() -> HeadReader
     ensures { λ r. ⌜ r ≡ fresh ⌝ }
     ensures { λ r. ⌜ r .count ≡ 0 ⌝ }
 {
@@ -34,7 +35,7 @@ pub fn start() -> HeadReader
 }
 
 // Whether the next byte is the head's too.
-pub fn goes_on(reader: HeadReader) -> bool
+fn goes_on(reader: HeadReader) -> bool
     ensures { λ r. ⌜ r ≡ goesOn reader ⌝ }
 {
     if reader.count >= 9 {
@@ -44,7 +45,7 @@ pub fn goes_on(reader: HeadReader) -> bool
 }
 
 // One byte more. The last byte of a number is below 128.
-pub fn with_byte(reader: HeadReader, byte: u8) -> HeadReader
+fn with_byte(reader: HeadReader, byte: u8) -> HeadReader
     requires { ⌜ goesOn reader ≡ true ⌝ }
     ensures { λ r. ⌜ r ≡ withByte reader byte ⌝ }
     ensures { λ r. ⌜ (r .count ≡ reader .count + 1) × (r .count ≤ 9) ⌝ }
@@ -72,8 +73,8 @@ fn head_in(bytes: [u8; 9], count: usize) -> Head
     head::read_head(&bytes[..count])
 }
 
-// The head that was taken. What no program has to test is said besides: an accepted head has a width and a height.
-pub fn head_of(reader: HeadReader) -> Head
+// The head that was taken. An accepted one has a width and a height.
+fn head_of(reader: HeadReader) -> Head
     requires { ⌜ reader .count ≤ 9 ⌝ }
     ensures { λ r. ⌜ r ≡ headTaken reader ⌝ }
     ensures { λ r. ⌜ (r .refusal ≡ 0 → Sized (r .width) (r .height)) ⌝ }
@@ -82,50 +83,275 @@ pub fn head_of(reader: HeadReader) -> Head
     head_in(bytes, reader.count as usize)
 }
 
+// What comes of the head's next byte.
+fn take_byte(reader: HeadReader, came: &[u8]) -> Taken
+    requires { ⌜ goesOn reader ≡ true ⌝ }
+    ensures { λ r. ⌜ r ≡ takenOf reader (now (came .entry)) ⌝ }
+    ensures { λ r. ⌜ r .reader .count ≤ 9 ⌝ }
+{
+    if came.len() == 0 {
+        return Taken {
+            reader: reader,
+            ends: true,
+        };
+    }
+    let longer = with_byte(reader, came[0]);
+    Taken {
+        reader: longer,
+        ends: !goes_on(longer),
+    }
+}
+
 // Columns of blocks in a width, rows of blocks in a height.
-pub fn blocks_across(side: u32) -> u32
+fn blocks_across(side: u32) -> u32
     requires { ⌜ side ≤ limit ⌝ }
     ensures { λ r. ⌜ r ≡ across side ⌝ }
 {
     (side + 3) / 4
 }
 
-// The first bytes of an array to a place of the output; the place behind them.
-fn put_bytes(bytes: [u8; 40], count: usize, at: usize, out: &mut [u8]) -> usize
-    requires { ⌜ (count ≤ 40) × (at + 40 ≤ length (now out)) ⌝ }
-    ensures { λ r. ⌜ (now (out .exit), r) ≡ stored (now (out .entry), at) (take count bytes) ⌝ }
-    ensures { λ r. ⌜ r ≤ at + 40 ⌝ }
-{
-    for i in 0..count {
-        out[at + i] = bytes[i];
-    }
-    at + count
-}
-
-// A block's line to a place of the output.
+// A block's line to a place of the output; the place behind it.
 fn list_block(block: [u8; 16], number: u32, at: usize, out: &mut [u8]) -> usize
     requires { ⌜ at + 40 ≤ length (now out) ⌝ }
-    ensures { λ r. ⌜ (now (out .exit), r) ≡ stored (now (out .entry), at) (blockText number block) ⌝ }
+    ensures { λ r. ⌜ Written (now (out .entry)) at (blockText number block) (now (out .exit)) r ⌝ }
     ensures { λ r. ⌜ r ≤ at + 40 ⌝ }
 {
     let pixels = decode_bc7_block(block);
     let first = pixels[0];
-    let line = text::block_line(number, mode_of(block), first);
-    let bytes = line.bytes;
-    put_bytes(bytes, line.length as usize, at, out)
+    text::block_line(number, mode_of(block), first, at, out)
 }
 
-// The lines of the whole blocks among these bytes, numbered from `from` on, to the start of the output; how many bytes they have.
-// No line has more than 40.
-pub fn list_blocks(blocks: &[u8], from: u32, out: &mut [u8]) -> usize
-    requires { ⌜ (from + length (now blocks) < 2 ^ 32) × (40 * (length (now blocks) / 16) ≤ length (now out)) ⌝ }
-    ensures { λ r. ⌜ (now (out .exit), r) ≡ stored (now (out .entry), 0) (listed from (now (blocks .entry))) ⌝ }
-    ensures { λ r. ⌜ r ≤ length (now (out .exit)) ⌝ }
+// The lines of the whole blocks among these bytes, numbered from `from` on, to a place of the output; the place behind them.
+// No line has more than 40 bytes.
+fn list_blocks(blocks: &[u8], from: u32, at: usize, out: &mut [u8]) -> usize
+    requires { ⌜ (from + length (now blocks) < 2 ^ 32) × (at + 40 * (length (now blocks) / 16) ≤ length (now out)) ⌝ }
+    ensures { λ r. ⌜ Written (now (out .entry)) at (listed from (now (blocks .entry))) (now (out .exit)) r ⌝ }
+    ensures { λ r. ⌜ r ≤ at + 40 * (length (now (blocks .entry)) / 16) ⌝ }
 {
     let count = blocks.len() / 16;
-    let mut at: usize = 0;
+    let mut next = at;
     for k in 0..count {
-        at = list_block(load(blocks, 16 * k), from + k as u32, at, out);
+        next = list_block(load(blocks, 16 * k), from + k as u32, next, out);
+    }
+    next
+}
+
+fn at_head(reader: HeadReader) -> Machine
+    ensures { λ r. ⌜ r ≡ atHead reader ⌝ }
+{
+    Machine {
+        phase: Phase::Head,
+        reader: reader,
+        columns: 0,
+        rows: 0,
+        from: 0,
+    }
+}
+
+// The machine before it has taken anything.
+pub fn start() -> Machine
+    ensures { λ r. ⌜ r ≡ atStart ⌝ }
+    ensures { λ r. ⌜ Ready r ⌝ }
+{
+    at_head(fresh_reader())
+}
+
+// Before so many rows.
+fn in_rows(columns: u32, rows: u32, from: u32) -> Machine
+    ensures { λ r. ⌜ r ≡ inRows columns rows from ⌝ }
+{
+    let reader = fresh_reader();
+    if rows == 0 {
+        return Machine {
+            phase: Phase::End,
+            reader: reader,
+            columns: columns,
+            rows: rows,
+            from: from,
+        };
+    }
+    Machine {
+        phase: Phase::Row,
+        reader: reader,
+        columns: columns,
+        rows: rows,
+        from: from,
+    }
+}
+
+// At its end: the sheet was listed, or refused.
+fn stopped(exact: bool) -> Machine
+    ensures { λ r. ⌜ r ≡ ended exact ⌝ }
+{
+    let reader = fresh_reader();
+    if exact {
+        return Machine {
+            phase: Phase::Listed,
+            reader: reader,
+            columns: 0,
+            rows: 0,
+            from: 0,
+        };
+    }
+    Machine {
+        phase: Phase::Refused,
+        reader: reader,
+        columns: 0,
+        rows: 0,
+        from: 0,
+    }
+}
+
+// Behind a head.
+fn behind_head(head: Head) -> Machine
+    requires { ⌜ (head .refusal ≡ 0 → Sized (head .width) (head .height)) ⌝ }
+    ensures { λ r. ⌜ r ≡ begun head ⌝ }
+{
+    if head.refusal != 0 {
+        return stopped(false);
+    }
+    in_rows(blocks_across(head.width), blocks_across(head.height), 0)
+}
+
+fn next_at_head(reader: HeadReader, came: &[u8]) -> Machine
+    requires { ⌜ goesOn reader ≡ true ⌝ }
+    ensures { λ r. ⌜ r ≡ nextAtHead (takenOf reader (now (came .entry))) ⌝ }
+{
+    let taken = take_byte(reader, came);
+    let longer = taken.reader;
+    if taken.ends {
+        return behind_head(head_of(longer));
+    }
+    at_head(longer)
+}
+
+fn next_in_rows(columns: u32, rows: u32, from: u32, got: usize) -> Machine
+    requires { ⌜ InRows columns rows from ⌝ }
+    ensures { λ r. ⌜ r ≡ nextInRows columns rows from got ⌝ }
+{
+    if got != 16 * columns as usize {
+        return stopped(false);
+    }
+    in_rows(columns, rows - 1, from + columns)
+}
+
+// The next state, after what came.
+pub fn next(machine: Machine, came: &[u8]) -> Machine
+    requires { ⌜ Ready machine ⌝ }
+    ensures { λ r. ⌜ r ≡ nextOf machine (now (came .entry)) ⌝ }
+    ensures { λ r. ⌜ Ready r × (turnsOf r ≤ turnsOf machine - 1) ⌝ }
+{
+    let phase = machine.phase;
+    match phase {
+        Phase::Head => next_at_head(machine.reader, came),
+        Phase::Row => next_in_rows(machine.columns, machine.rows, machine.from, came.len()),
+        Phase::End => stopped(came.len() == 0),
+        Phase::Listed => stopped(true),
+        Phase::Refused => stopped(false),
+    }
+}
+
+// How many bytes the machine wants next: never more than 16,384, and none at its end.
+pub fn wanted(machine: Machine) -> usize
+    requires { ⌜ Ready machine ⌝ }
+    ensures { λ r. ⌜ r ≡ wantedOf machine ⌝ }
+    ensures { λ r. ⌜ (r ≤ 16384) × (r ≤ 16384 * turnsOf machine) ⌝ }
+{
+    let phase = machine.phase;
+    match phase {
+        Phase::Head => 1,
+        Phase::Row => 16 * machine.columns as usize,
+        Phase::End => 1,
+        Phase::Listed => 0,
+        Phase::Refused => 0,
+    }
+}
+
+// `refused 10` to a place of the output, unless the block bytes are as many as needed.
+fn refuse_unless(exact: bool, at: usize, out: &mut [u8]) -> usize
+    requires { ⌜ at + 40 ≤ length (now out) ⌝ }
+    ensures { λ r. ⌜ Written (now (out .entry)) at (unlessExact exact) (now (out .exit)) r ⌝ }
+    ensures { λ r. ⌜ r + pick exact 40 0 ≤ at + 40 ⌝ }
+{
+    if exact {
+        return at;
+    }
+    text::refused_line(10, at, out)
+}
+
+// What is said of a head.
+fn list_head(head: Head, at: usize, out: &mut [u8]) -> usize
+    requires { ⌜ at + 40 ≤ length (now out) ⌝ }
+    ensures { λ r. ⌜ Written (now (out .entry)) at (headText head) (now (out .exit)) r ⌝ }
+    ensures { λ r. ⌜ r ≤ at + 40 ⌝ }
+{
+    if head.refusal != 0 {
+        return text::refused_line(head.refusal, at, out);
+    }
+    text::sheet_line(head.width, head.height, at, out)
+}
+
+fn list_at_head(reader: HeadReader, came: &[u8], at: usize, out: &mut [u8]) -> usize
+    requires { ⌜ (goesOn reader ≡ true) × (at + 80 ≤ length (now out)) ⌝ }
+    ensures { λ r. ⌜ Written (now (out .entry)) at (textAtHead (takenOf reader (now (came .entry)))) (now (out .exit)) r ⌝ }
+    ensures { λ r. ⌜ r + spareOf (nextAtHead (takenOf reader (now (came .entry)))) ≤ at + 80 ⌝ }
+{
+    let taken = take_byte(reader, came);
+    if taken.ends {
+        let whole = taken.reader;
+        return list_head(head_of(whole), at, out);
     }
     at
+}
+
+// What is said of the bytes of a row that came.
+fn list_row(columns: u32, from: u32, came: &[u8], at: usize, out: &mut [u8]) -> usize
+    requires { ⌜ (from ≤ 1048576) × (length (now came) ≤ 16384) × (at + 40 * (length (now came) / 16) + 40 ≤ length (now out)) ⌝ }
+    ensures { λ r. ⌜ Written (now (out .entry)) at (textInRows columns from (now (came .entry))) (now (out .exit)) r ⌝ }
+    ensures { λ r. ⌜ r + pick (eqb (length (now (came .entry))) (16 * columns)) 40 0 ≤ at + 40 * (length (now (came .entry)) / 16) + 40 ⌝ }
+{
+    let lines = list_blocks(came, from, at, out);
+    refuse_unless(came.len() == 16 * columns as usize, lines, out)
+}
+
+// What is said of what came, to a place of the output; the place behind it.
+pub fn list(machine: Machine, came: &[u8], at: usize, out: &mut [u8]) -> usize
+    requires { ⌜ Ready machine × (length (now came) ≤ wantedOf machine) × (at + 40 * (length (now came) / 16) + spareOf machine ≤ length (now out)) ⌝ }
+    ensures { λ r. ⌜ Written (now (out .entry)) at (textOf machine (now (came .entry))) (now (out .exit)) r ⌝ }
+    ensures { λ r. ⌜ r + spareOf (nextOf machine (now (came .entry))) ≤ at + 40 * (length (now (came .entry)) / 16) + spareOf machine ⌝ }
+{
+    let phase = machine.phase;
+    match phase {
+        Phase::Head => list_at_head(machine.reader, came, at, out),
+        Phase::Row => list_row(machine.columns, machine.from, came, at, out),
+        Phase::End => refuse_unless(came.len() == 0, at, out),
+        Phase::Listed => at,
+        Phase::Refused => at,
+    }
+}
+
+// Where the next n bytes of a slice end that has so many, from a place on: fewer where it ends before.
+fn end_of(at: usize, n: usize, many: usize) -> usize
+    requires { ⌜ at ≤ many ⌝ }
+    ensures { λ r. ⌜ NextEnd at n many r ⌝ }
+{
+    if n < many - at { at + n } else { many }
+}
+
+// The listing of a sheet that is there whole, to the start of the output: the machine fed with it as it asks. How long it is.
+pub fn list_sheet(sheet: &[u8], out: &mut [u8]) -> usize
+    requires { ⌜ 40 * (length (now sheet) / 16) + 80 ≤ length (now out) ⌝ }
+    ensures { λ r. ⌜ Written (now (out .entry)) 0 (listing (now (sheet .entry))) (now (out .exit)) r ⌝ }
+    ensures { λ r. ⌜ r ≤ length (now (out .exit)) ⌝ }
+{
+    let mut machine = start();
+    let mut at: usize = 0;
+    let mut said: usize = 0;
+    while 0 < wanted(machine) {
+        let end = end_of(at, wanted(machine), sheet.len());
+        said = list(machine, &sheet[at..end], said, out);
+        machine = next(machine, &sheet[at..end]);
+        at = end;
+    }
+    said
 }

@@ -1,3 +1,4 @@
+pub mod Attested
 pub mod Widths
 pub mod Answering
 pub mod Packing

@@ -1,20 +1,20 @@
 // The test program: calls in on standard input, their answers out on standard output, until the input ends. A letter names
-// the call; docs/REPLAY.md has the bytes of each. What is answered comes from the libraries alone; here only
-// lengths and kinds that end the run are looked at.
+// the call; docs/REPLAY.md has the bytes of each. A call that C has is made through the function for C, so that what is replayed
+// is what is shipped; the listing goes through its machine. Here only lengths and kinds that end the run are looked at.
 ghost use Prim.Native.Nat.{_+_, _≤_, _<_};
 ghost use lib.ListN.{length};
-use bc7::decode_bc7_block;
-use head::read_head;
-use head::write_head;
+use console::bc7_decode_block;
+use console::bc7_pack;
+use console::bc7_read_line;
+use console::bc7_replace_line;
+use console::bc7_unpack;
+use console::sheet_decode_row;
+use console::sheet_read_head;
+use console::sheet_replace_line;
+use console::sheet_write_head;
 use libc::STDIN_FILENO;
 use libc::STDOUT_FILENO;
-use line::replace_line;
-use record::unpack;
-use sheet::decode_row;
-use sheet::replace_in_sheet;
-use wire::pack_bytes;
-use wire::record_bytes;
-use wire::replacement_of;
+use listing::list_sheet;
 
 // The longest input or output that a call may name.
 const MOST: u32 = 65536;
@@ -53,6 +53,27 @@ fn write_u8(n: u8) {
     io::write_all(STDOUT_FILENO, &byte);
 }
 
+fn write_block(block: &[u8; 16]) -> bool {
+    io::write_all(STDOUT_FILENO, block)
+}
+
+fn write_record(record: &[u8; 66]) -> bool {
+    io::write_all(STDOUT_FILENO, record)
+}
+
+fn write_line(line: &[u8; 26]) -> bool {
+    io::write_all(STDOUT_FILENO, line)
+}
+
+fn write_head_bytes(head: &[u8; 7]) -> bool {
+    io::write_all(STDOUT_FILENO, head)
+}
+
+// A refusal is a byte; a number that is none, which no call gives, is told from all that are.
+fn write_refusal(n: u32) {
+    write_u8(if n < 255 { n as u8 } else { 255 });
+}
+
 fn flat(pixels: [[u8; 4]; 16]) -> [u8; 64] {
     let mut bytes = [0u8; 64];
     for i in 0..64usize {
@@ -66,7 +87,9 @@ fn decode_call() -> bool {
     if !filled(&mut block) {
         return false;
     }
-    let bytes = flat(decode_bc7_block(block));
+    let mut pixels = [[0u8; 4]; 16];
+    bc7_decode_block(&block, &mut pixels);
+    let bytes = flat(pixels);
     io::write_all(STDOUT_FILENO, &bytes)
 }
 
@@ -75,10 +98,9 @@ fn unpack_call() -> bool {
     if !filled(&mut block) {
         return false;
     }
-    let unpacked = unpack(block);
-    write_u8(unpacked.refusal);
-    let bytes = record_bytes(unpacked.record);
-    io::write_all(STDOUT_FILENO, &bytes)
+    let mut record = [0u8; 66];
+    write_refusal(bc7_unpack(&block, &mut record));
+    write_record(&record)
 }
 
 fn pack_call() -> bool {
@@ -89,10 +111,25 @@ fn pack_call() -> bool {
     if 3 < record[1] {
         return false;
     }
-    let packed = pack_bytes(record);
-    write_u8(packed.refusal);
-    let block = packed.block;
-    io::write_all(STDOUT_FILENO, &block)
+    let mut block = [0u8; 16];
+    write_refusal(bc7_pack(&record, &mut block));
+    write_block(&block)
+}
+
+fn read_line_call() -> bool {
+    let mut block = [0u8; 16];
+    if !filled(&mut block) {
+        return false;
+    }
+    let mut line = [0u8; 4];
+    if !filled(&mut line) {
+        return false;
+    }
+    let mut held = [0u8; 26];
+    let mut widths = [0u8; 26];
+    write_refusal(bc7_read_line(&block, number(&line, 0), &mut held, &mut widths));
+    write_line(&held);
+    write_line(&widths)
 }
 
 fn replace_call() -> bool {
@@ -108,21 +145,19 @@ fn replace_call() -> bool {
     if !filled(&mut given) {
         return false;
     }
-    let replaced = replace_line(block, number(&line, 0), replacement_of(given));
-    write_u8(replaced.refusal);
-    let after = replaced.block;
-    io::write_all(STDOUT_FILENO, &after)
+    write_refusal(bc7_replace_line(&mut block, number(&line, 0), &given));
+    write_block(&block)
 }
 
 fn read_head_of(sheet: &mut [u8]) -> bool {
     if !filled(sheet) {
         return false;
     }
-    let head = read_head(sheet);
-    write_u8(head.refusal);
-    write_u32(head.width);
-    write_u32(head.height);
-    write_u32(head.start);
+    let mut head = [0u32; 3];
+    write_refusal(sheet_read_head(sheet, &mut head));
+    write_u32(head[0]);
+    write_u32(head[1]);
+    write_u32(head[2]);
     true
 }
 
@@ -141,11 +176,11 @@ fn write_head_call() -> bool {
     if !filled(&mut size) {
         return false;
     }
-    let head = write_head(number(&size, 0), number(&size, 4));
-    write_u8(head.refusal);
-    write_u8(head.count);
-    let bytes = head.bytes;
-    io::write_all(STDOUT_FILENO, &bytes)
+    let mut head = [0u8; 7];
+    let mut count: u32 = 0;
+    write_refusal(sheet_write_head(number(&size, 0), number(&size, 4), &mut head, &mut count));
+    write_u8(if count < 255 { count as u8 } else { 255 });
+    write_head_bytes(&head)
 }
 
 // A row with room for its blocks and its output; what stands in the output before is read too.
@@ -156,7 +191,7 @@ fn row_call_of(width: u32, height: u32, row: u32, blocks: &mut [u8], out: &mut [
     if !filled(out) {
         return false;
     }
-    write_u8(decode_row(width, height, row, blocks, out));
+    write_refusal(sheet_decode_row(width, height, row, blocks, out));
     io::write_all(STDOUT_FILENO, out)
 }
 
@@ -203,9 +238,7 @@ fn sheet_call_of(sheet: &mut [u8]) -> bool {
     if !filled(&mut given) {
         return false;
     }
-    let block = number(&place, 0);
-    let line = number(&place, 4);
-    write_u8(replace_in_sheet(sheet, block, line, replacement_of(given)));
+    write_refusal(sheet_replace_line(sheet, number(&place, 0), number(&place, 4), &given));
     io::write_all(STDOUT_FILENO, sheet)
 }
 
@@ -223,6 +256,33 @@ fn sheet_call() -> bool {
     sheet_call_of(&mut sheet[..end])
 }
 
+// The listing has 40 bytes for each block at the most, and two lines more.
+fn list_call_of(sheet: &mut [u8]) -> bool
+    requires { ⌜ length (now sheet) ≤ 65536 ⌝ }
+{
+    if !filled(sheet) {
+        return false;
+    }
+    let mut text = [0u8; 163920];
+    let count = list_sheet(sheet, &mut text);
+    write_u32(count as u32);
+    io::write_all(STDOUT_FILENO, &text[..count])
+}
+
+fn list_call() -> bool {
+    let mut length = [0u8; 4];
+    if !filled(&mut length) {
+        return false;
+    }
+    let n = number(&length, 0);
+    if MOST < n {
+        return false;
+    }
+    let end = n as usize;
+    let mut sheet = [0u8; 65536];
+    list_call_of(&mut sheet[..end])
+}
+
 // One call: whether another may follow.
 fn call(letter: u8) -> bool {
     match letter {
@@ -234,6 +294,8 @@ fn call(letter: u8) -> bool {
         b'W' => write_head_call(),
         b'O' => row_call(),
         b'S' => sheet_call(),
+        b'l' => list_call(),
+        b'r' => read_line_call(),
         _ => false,
     }
 }

@@ -1,3 +1,4 @@
+pub mod Attested
 pub mod Refusing
 pub mod Finding
 pub mod Replacing

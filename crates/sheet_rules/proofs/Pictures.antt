@@ -7,15 +7,16 @@ use native.Mathlib.Nat.{div-add-mod', div-lt-iff-lt-mul, mod-lt, add-assoc, mul-
 use native.Mathlib.Omega.{arith}
 use lib.Arith.{digits-lt, digits-div, digits-mod}
 use lib.ListN.{length, getD, take, drop, length-take, length-drop}
-use lib.Seq.{getD-take, getD-drop, ext-getD}
+use lib.Seq.{drop-drop, getD-take, getD-drop, ext-getD}
 use Rattle.laws.specs.Tables.{table, tableFrom}
 use Rattle.laws.proofs.Joining.{table-append, table-same}
 use Rattle.laws.proofs.Part.{getD-table, length-table}
 use Rattle.format.specs.Lines.{pixel, pixels}
-use Rattle.head.specs.Heads.{Sized}
+use Rattle.head.specs.Heads.{Sized, readHead}
 use Rattle.laws.proofs.Refusals.{accepted-when}
 use Rattle.sheet_rules.specs.Pictures.{blockShowing, decodedRows, picture, pictureByte, pixelIn, rowOf}
 use Rattle.sheet_rules.specs.Rows.{across, blockAt, channel, rowByte, rowBytes, rowOut, rowRefusal, shown}
+use Rattle.sheet_rules.specs.Sheets.{blockIn, placeOf}
 use Rattle.sheet_rules.proofs.Refusing.{drawn, row-rules}
 
 -- a part of a part is a part of the whole
@@ -119,6 +120,22 @@ picture-shows w h all x y c lx ly lc =
     let px : (4 * x + c) / 4 ≡ x = omega arith in
     getD-table (h * (4 * w)) (pictureByte w all) 0 (y * (4 * w) + (4 * x + c)) (digits-lt ly l)
     ∙ rw (digits-mod y l, digits-div y l, low, px) (channel-is (blockShowing w all x y) (pixelIn x y) c (omega arith) lc)
+
+-- block b of a sheet is the one that the picture shows in its column and its row: at x, y is block y / 4 · columns + x / 4
+module _ (s : List ℕ) (b x y : ℕ) (column : x / 4 ≡ b % across (readHead s .width)) (row : y / 4 ≡ b / across (readHead s .width)) where
+  pub block-shown-there : blockShowing (readHead s .width) (drop (readHead s .start) s) x y ≡ blockIn s b
+  unfolding blockAt blockIn placeOf
+  block-shown-there =
+      let n = across (readHead s .width) in
+      let e : y / 4 * n + x / 4 ≡ b = rw (row, column) (div-add-mod' b n) in
+      rw e (ap (take 16) (drop-drop (16 * b) (readHead s .start) s))
+
+  pub picture-shows-block : (h c : ℕ) → x < readHead s .width → y < h → c < 4
+      → getD (picture (readHead s .width) h (drop (readHead s .start) s)) (y * (4 * readHead s .width) + (4 * x + c)) 0
+      ≡ pixel (blockIn s b) (pixelIn x y) c
+  picture-shows-block h c lx ly lc =
+      picture-shows (readHead s .width) h (drop (readHead s .start) s) x y c lx ly lc
+      ∙ ap (λ (bs : List ℕ). pixel bs (pixelIn x y) c) block-shown-there
 
 -- each byte is a channel of exactly one shown pixel
 pub record Shown (w h : ℕ) (all : List ℕ) (k : ℕ) : Type 0 where

@@ -3,6 +3,7 @@
 use mathlib.Core.Path.{_≡_}
 use mathlib.Core.List.{List}
 use Prim.Native.Nat.{ℕ, _*_, _<_}
+use borrow.Author.Tests.{ne-eqb}
 use lib.ListN.{length}
 use Rattle.laws.proofs.Refusals.{Answers, answer-0, answers, by-leb, by-not-eqb, none, rule}
 use Rattle.head.specs.Heads.{Sized}
@@ -28,3 +29,7 @@ module _ (w h row given room : ℕ) where
 pub drawn : (w h row : ℕ) (blocks out : List ℕ) → rowRefusal w h row (length blocks) (length out) ≡ 0 → rowOut w h row blocks out ≡ rowBytes w (shown h row) blocks
 unfolding rowOut
 drawn w h row blocks out e = answer-0 _ _ e
+
+pub undrawn : (w h row : ℕ) (blocks out : List ℕ) → (rowRefusal w h row (length blocks) (length out) ≡ 0 → ⊥) → rowOut w h row blocks out ≡ out
+unfolding rowOut
+undrawn w h row blocks out ne = rw (ne-eqb (rowRefusal w h row (length blocks) (length out)) 0 ne)

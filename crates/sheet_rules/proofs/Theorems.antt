@@ -32,7 +32,7 @@ use Rattle.sheet_rules.specs.Calls.{SheetCall, WholeSheet, callsOn, onBl
 use Rattle.sheet_rules.specs.Rows.{rowOut, rowRefusal, rowRules}
 use Rattle.sheet_rules.specs.Sheets.{blockIn, blocksOf, placeOf, sheetRules}
 use Rattle.sheet_rules.proofs.Calling.{Same, all-block, all-kept, answered-as-block, beyond, in-words, none-changes, parts, same-here, same-on, sixteen, unchanged, whole-or, with-kept, with-named, with-other}
-use Rattle.sheet_rules.proofs.Refusing.{row-rules}
+use Rattle.sheet_rules.proofs.Refusing.{row-rules, undrawn}
 use Rattle.sheet_rules.proofs.Replacing.{accepted-is}
 use Rattle.sheet_rules.proofs.Storing.{put-long, put-outside}
 
@@ -254,3 +254,12 @@ determined-decode-row w h row blocks out r s a b p q = (p .0 ∙ sym (q .0), p .
 pub determined-replace-in-sheet : (sheet : List ℕ) (c : SheetCall) (r s : ℕ) (a b : List ℕ)
     → (r ≡ refusalOn sheet c) × (a ≡ sheetWith sheet c) → (s ≡ refusalOn sheet c) × (b ≡ sheetWith sheet c) → (r ≡ s) × (a ≡ b)
 determined-replace-in-sheet sheet c r s a b p q = (p .0 ∙ sym (q .0), p .1 ∙ sym (q .1))
+
+-- and where the answer that it admits is not 0, what is left is what was
+pub refused-row-leaves : (w h row : ℕ) (blocks out : List ℕ) (r : ℕ) (a : List ℕ)
+    → (r ≡ rowRefusal w h row (length blocks) (length out)) × (a ≡ rowOut w h row blocks out) → r ≢ 0 → a ≡ out
+refused-row-leaves w h row blocks out r a p ne = p .1 ∙ undrawn w h row blocks out (λ e. ne (p .0 ∙ e))
+
+pub refused-sheet-leaves : (sheet : List ℕ) (c : SheetCall) (r : ℕ) (a : List ℕ)
+    → (r ≡ refusalOn sheet c) × (a ≡ sheetWith sheet c) → r ≢ 0 → a ≡ sheet
+refused-sheet-leaves sheet c r a p ne = p .1 ∙ refused-stays sheet c (λ e. ne (p .0 ∙ e))

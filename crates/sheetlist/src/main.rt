@@ -1,108 +1,165 @@
-// The program `sheetlist`: the listing of a sheet that comes on standard input. It reads and writes; which bytes are the
-// head's and what is printed is decided in the library `listing`.
+// The program `sheetlist`: the listing of a sheet that comes on standard input. It reads what the machine of the library
+// `listing` wants, hands it over, and writes what the machine says; what is wanted and what is printed is decided there.
+//
+// A program has no exit status. Started with an argument, whatever it is, it says `refused` on standard error where the sheet was
+// refused, so that the one who started it can tell.
 ghost use mathlib.Core.Path.{_≡_};
 ghost use Prim.Native.Nat.{_≤_};
 ghost use lib.ListN.{length};
-ghost use Rattle.head.specs.Heads.{Sized};
-use head::Head;
+use libc::STDERR_FILENO;
 use libc::STDIN_FILENO;
 use libc::STDOUT_FILENO;
-use text::Line;
+use listing_rules::Phase;
 
-// A byte of the input, or its end.
-enum Byte {
-    Got(u8),
-    End,
+// How often a call is tried again that a signal interrupts: a loop has to end.
+const TRIES: u32 = 4294967295;
+
+// What a read or a write moved, or that it failed. A read that moves nothing is at the end of the input.
+struct Moved {
+    failed: bool,
+    count: usize,
 }
 
-fn read_byte() -> Byte {
-    let mut one = [0u8; 1];
-    let got = io::read_full(STDIN_FILENO, &mut one);
-    if got == 0 {
-        return Byte::End;
-    }
-    Byte::Got(one[0])
-}
-
-// The head, and no byte behind it.
-fn read_head() -> Head
-    ensures { λ r. ⌜ (r .refusal ≡ 0 → Sized (r .width) (r .height)) ⌝ }
+fn failed() -> Moved
+    ensures { λ r. ⌜ r .count ≤ 0 ⌝ }
 {
-    let mut reader = listing::start();
-    while listing::goes_on(reader) {
-        let Byte::Got(byte) = read_byte() else {
-            return listing::head_of(reader);
-        };
-        reader = listing::with_byte(reader, byte);
-    }
-    listing::head_of(reader)
-}
-
-fn print_bytes(bytes: [u8; 40], count: usize)
-    requires { ⌜ count ≤ 40 ⌝ }
-{
-    io::write_all(STDOUT_FILENO, &bytes[..count]);
-}
-
-fn print(line: Line)
-    requires { ⌜ line .length ≤ 40 ⌝ }
-{
-    let bytes = line.bytes;
-    print_bytes(bytes, line.length as usize);
-}
-
-// Reads a row of blocks and prints the lines of the whole blocks that came, all by one write. Whether the row came whole.
-fn list_row(blocks: &mut [u8], from: u32) -> bool
-    requires { ⌜ (length (now blocks) ≤ 16384) × (from ≤ 1048576) ⌝ }
-{
-    let got = io::read_full(STDIN_FILENO, blocks);
-    let mut lines = [0u8; 40960];
-    let count = listing::list_blocks(&blocks[..got], from, &mut lines);
-    io::write_all(STDOUT_FILENO, &lines[..count]);
-    got == blocks.len()
-}
-
-fn list_next_row(columns: usize, from: u32) -> bool
-    requires { ⌜ (columns ≤ 1024) × (from ≤ 1048576) ⌝ }
-{
-    let mut blocks = [0u8; 16384];
-    let needed = 16 * columns;
-    list_row(&mut blocks[..needed], from)
-}
-
-fn input_ends() -> bool {
-    match read_byte() {
-        Byte::Got(_) => false,
-        Byte::End => true,
+    Moved {
+        failed: true,
+        count: 0,
     }
 }
 
-// Whether the block bytes were exactly as many as needed.
-fn list_rows(columns: u32, rows: u32) -> bool
-    requires { ⌜ (columns ≤ 1024) × (rows ≤ 1024) ⌝ }
+fn read_some(buffer: &mut [u8]) -> Moved
+    ensures { λ r. ⌜ r .count ≤ length (now (buffer .exit)) ⌝ }
 {
-    let mut from: u32 = 0;
-    for _ in 0..rows {
-        let whole = list_next_row(columns as usize, from);
-        if !whole {
+    let mut tries = TRIES;
+    while 0 < tries {
+        let got = libc::read(STDIN_FILENO, buffer);
+        if got >= 0 {
+            return Moved {
+                failed: false,
+                count: io::count(got, buffer),
+            };
+        }
+        if os::errno() != libc::EINTR {
+            return failed();
+        }
+        tries -= 1;
+    }
+    failed()
+}
+
+// The next n bytes of the input to the start of the buffer, in as many reads as it takes; fewer where the input ends.
+fn read_wanted(n: usize, buffer: &mut [u8]) -> Moved
+    requires { ⌜ n ≤ length (now buffer) ⌝ }
+    ensures { λ r. ⌜ (r .count ≤ n) × (length (now (buffer .exit)) ≡ length (now (buffer .entry))) ⌝ }
+{
+    let mut done: usize = 0;
+    while done < n {
+        let got = read_some(&mut buffer[done..n]);
+        if got.failed {
+            return failed();
+        }
+        if got.count == 0 {
+            break;
+        }
+        done += got.count;
+    }
+    Moved {
+        failed: false,
+        count: done,
+    }
+}
+
+fn write_some(text: &[u8]) -> Moved
+    ensures { λ r. ⌜ r .count ≤ length (now (text .entry)) ⌝ }
+{
+    let mut tries = TRIES;
+    while 0 < tries {
+        let put = libc::write(STDOUT_FILENO, text);
+        if put >= 0 {
+            return Moved {
+                failed: false,
+                count: io::count(put, text),
+            };
+        }
+        if os::errno() != libc::EINTR {
+            return failed();
+        }
+        tries -= 1;
+    }
+    failed()
+}
+
+// The first n bytes of a text, in as many writes as it takes. Whether they took them.
+fn write_whole(n: usize, text: &[u8]) -> bool
+    requires { ⌜ n ≤ length (now text) ⌝ }
+{
+    let mut done: usize = 0;
+    while done < n {
+        let put = write_some(&text[done..n]);
+        if put.count == 0 {
             return false;
         }
-        from += columns;
+        done += put.count;
     }
-    input_ends()
+    true
+}
+
+// How a run ends.
+enum Outcome {
+    Listed,
+    Refused,
+    CannotRead,
+    CannotWrite,
+}
+
+fn list_with(buffer: &mut [u8], text: &mut [u8]) -> Outcome
+    requires { ⌜ (16384 ≤ length (now buffer)) × (41040 ≤ length (now text)) ⌝ }
+{
+    let mut machine = listing::start();
+    while 0 < listing::wanted(machine) {
+        let got = read_wanted(listing::wanted(machine), buffer);
+        if got.failed {
+            return Outcome::CannotRead;
+        }
+        let start: usize = 0;
+        let end = got.count;
+        let said = listing::list(machine, &buffer[start..end], 0, text);
+        if !write_whole(said, text) {
+            return Outcome::CannotWrite;
+        }
+        machine = listing::next(machine, &buffer[start..end]);
+    }
+    let phase = machine.phase;
+    match phase {
+        Phase::Listed => Outcome::Listed,
+        _ => Outcome::Refused,
+    }
+}
+
+// A buffer of 16,384 zero bytes, which is as much as the machine ever wants, and room for what it says of that: 1,024 lines of
+// 40 bytes, the first line and a refusal.
+fn list_input() -> Outcome {
+    let mut buffer = [0u8; 16384];
+    let mut text = [0u8; 41040];
+    list_with(&mut buffer, &mut text)
 }
 
 fn main() {
-    let head = read_head();
-    if head.refusal != 0 {
-        print(text::refused_line(head.refusal));
-        return;
-    }
-    print(text::sheet_line(head.width, head.height));
-    let columns = listing::blocks_across(head.width);
-    let rows = listing::blocks_across(head.height);
-    let exact = list_rows(columns, rows);
-    if !exact {
-        print(text::refused_line(10));
+    let outcome = list_input();
+    match outcome {
+        Outcome::Listed => (),
+        Outcome::Refused => {
+            if os::arg_count() > 1 {
+                io::write_all(STDERR_FILENO, b"refused\n");
+            }
+        }
+        Outcome::CannotRead => {
+            io::write_all(STDERR_FILENO, b"sheetlist: cannot read\n");
+        }
+        Outcome::CannotWrite => {
+            io::write_all(STDERR_FILENO, b"sheetlist: cannot write\n");
+        }
     }
 }

@@ -1,15 +1,14 @@
 -- The decimal digits of a number.
 -- Assumes nothing.
-use mathlib.Core.Path.{_≡_, refl, _∙_, ap, sym, subst}
+use mathlib.Core.Path.{_≡_, refl, _∙_, ap, ap₂, sym, subst}
 use mathlib.Core.Logic.{⊎-elim}
-use mathlib.Core.List.{List, [], _∷_, _++_}
+use mathlib.Core.List.{List, [], _∷_, _++_, append-assoc}
 use Prim.Native.Nat.{ℕ, zero, suc, _+_, _-_, _*_, _/_, _%_, _^_, _<_, _≤_}
-use native.Mathlib.Nat.{div-lt-iff-lt-mul, le-of-suc-le-suc, not-suc-le-zero, pow-suc}
+use native.Mathlib.Nat.{div-lt-iff-lt-mul, pow-suc}
 use native.Mathlib.Omega.{arith}
-use lib.ListN.{length, length-append}
 use borrow.Author.Tests.{lt-ltb, le-ltb}
 use Rattle.laws.proofs.Cases.{lt-or}
-use Rattle.text.specs.Lines.{decimal, digitsIn}
+use Rattle.text.specs.Lines.{decimal, digitsIn, lastFour}
 
 digits-last : (k n : ℕ) → n < 10 → digitsIn (suc k) n ≡ (48 + n % 10) ∷ []
 unfolding digitsIn
@@ -30,33 +29,38 @@ enough (suc k) n h =
     (λ l. digits-more (suc (suc k)) n l ∙ ap (λ (ds : List ℕ). ds ++ ((48 + n % 10) ∷ [])) (enough k (n / 10) (tenth (suc k) n h)) ∙ sym (digits-more (suc k) n l))
     (lt-or n 10)
 
-few : (j k n : ℕ) → n < 10 ^ suc k → k ≤ j → length (digitsIn (suc j) n) ≤ suc k
-few j zero n h l = rw (digits-last j n h) (omega arith)
-few zero (suc k) n h l = absurd (not-suc-le-zero l)
-few (suc j) (suc k) n h l =
-    ⊎-elim (λ s. rw (digits-last (suc j) n s) (omega arith))
-    (λ s. rw (digits-more (suc j) n s, length-append) (omega (arith, few j k (n / 10) (tenth (suc k) n h) (le-of-suc-le-suc l)))) (lt-or n 10)
+pub one-digit : (n : ℕ) → n < 10 → decimal n ≡ (48 + n % 10) ∷ []
+unfolding decimal
+one-digit n h = digits-last 9 n h
 
-module _ (n : ℕ) where
-  pub one-digit : n < 10 → decimal n ≡ (48 + n % 10) ∷ []
-  unfolding decimal
-  one-digit h = digits-last 9 n h
+-- the digits of the tenth part, and the last one
+more-digits : (n : ℕ) → 10 ≤ n → n < 10000000000 → {ds : List ℕ} → decimal (n / 10) ≡ ds → decimal n ≡ ds ++ ((48 + n % 10) ∷ [])
+unfolding decimal
+more-digits n h l e = digits-more 9 n h ∙ ap (λ (ds : List ℕ). ds ++ ((48 + n % 10) ∷ [])) (sym (enough 8 (n / 10) (tenth 9 n l)) ∙ e)
 
-  pub more-digits : 10 ≤ n → n < 10000000000 → decimal n ≡ decimal (n / 10) ++ ((48 + n % 10) ∷ [])
-  unfolding decimal
-  more-digits h l = digits-more 9 n h ∙ ap (λ (ds : List ℕ). ds ++ ((48 + n % 10) ∷ [])) (sym (enough 8 (n / 10) (tenth 9 n l)))
+pub two-digits : (n : ℕ) → 10 ≤ n → n < 100 → decimal n ≡ (48 + n / 10 % 10) ∷ (48 + n % 10) ∷ []
+two-digits n h l = more-digits n h (omega arith) (one-digit (n / 10) (omega arith))
 
-  pub ten-digits : n < 10000000000 → length (decimal n) ≤ 10
-  unfolding decimal
-  ten-digits h = few 9 9 n h (omega arith)
+pub three-digits : (n : ℕ) → 100 ≤ n → n < 1000 → decimal n ≡ (48 + n / 100 % 10) ∷ (48 + n / 10 % 10) ∷ (48 + n % 10) ∷ []
+three-digits n h l =
+    let hundreds : n / 10 / 10 ≡ n / 100 = omega arith in
+    rw (← hundreds) (more-digits n (omega arith) (omega arith) (two-digits (n / 10) (omega arith) (omega arith)))
 
-  pub nine-digits : n < 1000000000 → length (decimal n) ≤ 9
-  unfolding decimal
-  nine-digits h = few 9 8 n h (omega arith)
+pub four-digits : (n : ℕ) → 1000 ≤ n → n < 10000 → decimal n ≡ lastFour n
+four-digits n h l =
+    let hundreds : n / 10 / 10 ≡ n / 100 = omega arith in
+    let thousands : n / 10 / 100 ≡ n / 1000 = omega arith in
+    rw (← hundreds, ← thousands) (more-digits n (omega arith) (omega arith) (three-digits (n / 10) (omega arith) (omega arith)))
 
-  pub three-digits : n < 1000 → length (decimal n) ≤ 3
-  unfolding decimal
-  three-digits h = few 9 2 n h (omega arith)
+-- the last four digits, and those of what stands above them
+pub four-more : (n : ℕ) → 10000 ≤ n → n < 10000000000 → decimal n ≡ decimal (n / 10000) ++ lastFour n
+four-more n h l =
+    let hundreds : n / 10 / 10 ≡ n / 100 = omega arith in
+    let thousands : n / 100 / 10 ≡ n / 1000 = omega arith in
+    let above : n / 1000 / 10 ≡ n / 10000 = omega arith in
+    let tens = more-digits (n / 1000) (omega arith) (omega arith) (ap decimal above) in
+    let one = more-digits (n / 100) (omega arith) (omega arith) (ap decimal thousands ∙ tens) in
+    more-digits n (omega arith) (omega arith) (more-digits (n / 10) (omega arith) (omega arith) (ap decimal hundreds ∙ one)) ∙ simp append-assoc
 
 -- read as a decimal number, the digits are the number again
 abbrev pub valueOf : ℕ → List ℕ → ℕ

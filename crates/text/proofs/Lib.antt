@@ -1,3 +1,3 @@
+pub mod Attested
 pub mod Decimal
-pub mod Building
 pub mod Theorems

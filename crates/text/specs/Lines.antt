@@ -5,9 +5,7 @@ use Prim.Native.Char.{code}
 use Prim.Native.String.{String, [] as empty, _∷_ as _then_}
 use mathlib.Core.List.{List, [], _∷_, _++_}
 use lib.Dec.{ltb}
-use lib.ListN.{length, getD}
-use Rattle.text.specs.declared.Line.{Line}
-use Rattle.laws.specs.Padding.{padded, stored}
+use lib.ListN.{getD}
 use Rattle.laws.specs.Tables.{pick}
 
 unfoldable pub ascii : String → List ℕ
@@ -28,6 +26,10 @@ digitsIn (suc k) n = pick (ltb n 10) [] (digitsIn k (n / 10)) ++ ((48 + n % 10) 
 -- a number of 32 bits has at most ten
 unfoldable pub decimal : ℕ → List ℕ
 decimal n = digitsIn 10 n
+
+-- its last four, zeros in front too
+abbrev pub lastFour : ℕ → List ℕ
+lastFour n = (48 + n / 1000 % 10) ∷ (48 + n / 100 % 10) ∷ (48 + n / 10 % 10) ∷ (48 + n % 10) ∷ []
 
 abbrev pub spaced : ℕ → List ℕ
 spaced n = space ∷ decimal n
@@ -50,11 +52,3 @@ blockLine number m px = decimal number ++ spaced m ++ channels px ++ (space ∷ 
 -- `refused` and the number
 unfoldable pub refusedLine : ℕ → List ℕ
 refusedLine n = ascii "refused" ++ spaced n ++ (newline ∷ [])
-
--- a line's bytes with zeros behind
-unfoldable pub lineOf : List ℕ → Line
-lineOf bs = record { bytes = padded 40 bs; length = length bs }
-
--- bytes behind those of a line
-unfoldable pub withBytes : Line → List ℕ → Line
-withBytes line bs = let p = stored (line .bytes, line .length) bs in record { bytes = p .0; length = p .1 }

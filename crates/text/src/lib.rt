@@ -1,94 +1,127 @@
-// The lines of a sheet's listing, as bytes by value: numbers in decimal, single spaces, and the end of the line. What a line
-// says about a block stands here; which blocks are listed is said in `listing`.
+// The lines of a sheet's listing, written straight to a place of the output: numbers in decimal, single spaces, and the end
+// of the line. Each function answers the place behind what it wrote, and no other byte changes. What a line says about a
+// block stands here; which blocks are listed is said in `listing`.
 ghost use mathlib.Core.Path.{_≡_};
 ghost use mathlib.Core.List.{[], _∷_};
-ghost use Prim.Native.Nat.{_+_, _≤_};
+ghost use Prim.Native.Nat.{_+_, _%_, _<_, _≤_};
 ghost use lib.ListN.{length};
-ghost use Rattle.text.specs.Lines.{blockLine, channels, decimal, lineOf, opacityMark, refusedLine, sheetLine, spaced, withBytes};
+ghost use Rattle.laws.specs.Padding.{Written};
+ghost use Rattle.text.specs.Lines.{blockLine, channels, decimal, lastFour, opacityMark, refusedLine, sheetLine, spaced};
 
-// The bytes of a line and their count, with zeros behind.
-pub struct Line {
-    pub bytes: [u8; 40],
-    pub length: u32,
+// One byte.
+fn put(byte: u8, at: usize, out: &mut [u8]) -> usize
+    requires { ⌜ at + 1 ≤ length (now out) ⌝ }
+    ensures { λ r. ⌜ Written (now (out .entry)) at (byte ∷ []) (now (out .exit)) r ⌝ }
+    ensures { λ r. ⌜ r ≡ at + 1 ⌝ }
+{
+    out[at] = byte;
+    at + 1
 }
 
-fn empty() -> Line
-    ensures { λ r. ⌜ r ≡ lineOf [] ⌝ }
-    ensures { λ r. ⌜ r .length ≡ 0 ⌝ }
+// A word.
+fn put_word(word: &[u8], at: usize, out: &mut [u8]) -> usize
+    requires { ⌜ at + length (now word) ≤ length (now out) ⌝ }
+    ensures { λ r. ⌜ Written (now (out .entry)) at (now (word .entry)) (now (out .exit)) r ⌝ }
+    ensures { λ r. ⌜ r ≡ at + length (now (word .entry)) ⌝ }
 {
-    Line {
-        bytes: [0u8; 40],
-        length: 0,
-    }
-}
-
-// One byte more.
-fn push(line: Line, byte: u8) -> Line
-    requires { ⌜ line .length + 1 ≤ 40 ⌝ }
-    ensures { λ r. ⌜ r ≡ withBytes line (byte ∷ []) ⌝ }
-    ensures { λ r. ⌜ r .length ≡ line .length + 1 ⌝ }
-{
-    let mut bytes = line.bytes;
-    let at = line.length as usize;
-    bytes[at] = byte;
-    Line {
-        bytes: bytes,
-        length: line.length + 1,
-    }
-}
-
-// A word more.
-fn push_word(line: Line, word: &[u8]) -> Line
-    requires { ⌜ line .length + length (now word) ≤ 40 ⌝ }
-    ensures { λ r. ⌜ r ≡ withBytes line (now (word .entry)) ⌝ }
-    ensures { λ r. ⌜ r .length ≡ line .length + length (now (word .entry)) ⌝ }
-{
-    let mut longer = line;
     for i in 0..word.len() {
-        longer = push(longer, word[i]);
+        out[at + i] = word[i];
     }
-    longer
+    at + word.len()
 }
 
-// A number's decimal digits more, the high ones first.
-fn push_number(line: Line, n: u32) -> Line
-    requires { ⌜ line .length + 10 ≤ 40 ⌝ }
-    ensures { λ r. ⌜ r ≡ withBytes line (decimal n) ⌝ }
-    ensures { λ r. ⌜ r .length ≤ line .length + 10 ⌝ }
+// The last decimal digit of a number.
+fn put_digit(n: u32, at: usize, out: &mut [u8]) -> usize
+    requires { ⌜ at + 1 ≤ length (now out) ⌝ }
+    ensures { λ r. ⌜ Written (now (out .entry)) at ((48 + n % 10) ∷ []) (now (out .exit)) r ⌝ }
+    ensures { λ r. ⌜ r ≡ at + 1 ⌝ }
 {
-    let digit = b'0' + (n % 10) as u8;
+    put(b'0' + (n % 10) as u8, at, out)
+}
+
+// The last four decimal digits of a number, zeros in front too.
+fn put_last_four(n: u32, at: usize, out: &mut [u8]) -> usize
+    requires { ⌜ at + 4 ≤ length (now out) ⌝ }
+    ensures { λ r. ⌜ Written (now (out .entry)) at (lastFour n) (now (out .exit)) r ⌝ }
+    ensures { λ r. ⌜ r ≡ at + 4 ⌝ }
+{
+    let hundreds = put_digit(n / 1000, at, out);
+    let tens = put_digit(n / 100, hundreds, out);
+    let ones = put_digit(n / 10, tens, out);
+    put_digit(n, ones, out)
+}
+
+// A number of at most four digits, with no zero in front.
+fn put_few(n: u32, at: usize, out: &mut [u8]) -> usize
+    requires { ⌜ (n < 10000) × (at + 4 ≤ length (now out)) ⌝ }
+    ensures { λ r. ⌜ Written (now (out .entry)) at (decimal n) (now (out .exit)) r ⌝ }
+    ensures { λ r. ⌜ r ≤ at + 4 ⌝ }
+{
     if n < 10 {
-        return push(line, digit);
+        return put_digit(n, at, out);
     }
-    push(push_number(line, n / 10), digit)
+    if n < 100 {
+        let ones = put_digit(n / 10, at, out);
+        return put_digit(n, ones, out);
+    }
+    if n < 1000 {
+        let tens = put_digit(n / 100, at, out);
+        let ones = put_digit(n / 10, tens, out);
+        return put_digit(n, ones, out);
+    }
+    put_last_four(n, at, out)
 }
 
-// A space and a byte's decimal digits more.
-fn push_byte(line: Line, n: u8) -> Line
-    requires { ⌜ line .length + 11 ≤ 40 ⌝ }
-    ensures { λ r. ⌜ r ≡ withBytes line (spaced n) ⌝ }
-    ensures { λ r. ⌜ r .length ≤ line .length + 4 ⌝ }
+// A number, four digits at a time: a number of 32 bits has at most ten.
+fn put_number(n: u32, at: usize, out: &mut [u8]) -> usize
+    requires { ⌜ at + 12 ≤ length (now out) ⌝ }
+    ensures { λ r. ⌜ Written (now (out .entry)) at (decimal n) (now (out .exit)) r ⌝ }
+    ensures { λ r. ⌜ r ≤ at + 12 ⌝ }
 {
-    push_number(push(line, b' '), n as u32)
+    if n < 10000 {
+        return put_few(n, at, out);
+    }
+    let above = n / 10000;
+    if above < 10000 {
+        let low = put_few(above, at, out);
+        return put_last_four(n, low, out);
+    }
+    let middle = put_few(above / 10000, at, out);
+    let low = put_last_four(above, middle, out);
+    put_last_four(n, low, out)
 }
 
-// A pixel's four channels more.
-fn push_pixel(line: Line, pixel: [u8; 4]) -> Line
-    requires { ⌜ line .length + 23 ≤ 40 ⌝ }
-    ensures { λ r. ⌜ r ≡ withBytes line (channels pixel) ⌝ }
-    ensures { λ r. ⌜ r .length ≤ line .length + 16 ⌝ }
+// A space and a byte in decimal.
+fn put_spaced(n: u8, at: usize, out: &mut [u8]) -> usize
+    requires { ⌜ at + 5 ≤ length (now out) ⌝ }
+    ensures { λ r. ⌜ Written (now (out .entry)) at (spaced n) (now (out .exit)) r ⌝ }
+    ensures { λ r. ⌜ r ≤ at + 5 ⌝ }
 {
-    let green = push_byte(push_byte(line, pixel[0]), pixel[1]);
-    push_byte(push_byte(green, pixel[2]), pixel[3])
+    let next = put(b' ', at, out);
+    put_few(n as u32, next, out)
+}
+
+// A pixel's four channels.
+fn put_pixel(pixel: [u8; 4], at: usize, out: &mut [u8]) -> usize
+    requires { ⌜ at + 20 ≤ length (now out) ⌝ }
+    ensures { λ r. ⌜ Written (now (out .entry)) at (channels pixel) (now (out .exit)) r ⌝ }
+    ensures { λ r. ⌜ r ≤ at + 20 ⌝ }
+{
+    let green = put_spaced(pixel[0], at, out);
+    let blue = put_spaced(pixel[1], green, out);
+    let alpha = put_spaced(pixel[2], blue, out);
+    put_spaced(pixel[3], alpha, out)
 }
 
 // The first line of a listing: `sheet`, width and height.
-pub fn sheet_line(width: u32, height: u32) -> Line
-    ensures { λ r. ⌜ r ≡ lineOf (sheetLine width height) ⌝ }
-    ensures { λ r. ⌜ r .length ≤ 40 ⌝ }
+pub fn sheet_line(width: u32, height: u32, at: usize, out: &mut [u8]) -> usize
+    requires { ⌜ at + 40 ≤ length (now out) ⌝ }
+    ensures { λ r. ⌜ Written (now (out .entry)) at (sheetLine width height) (now (out .exit)) r ⌝ }
+    ensures { λ r. ⌜ r ≤ at + 40 ⌝ }
 {
-    let wide = push_number(push_word(empty(), b"sheet "), width);
-    push(push_number(push(wide, b' '), height), b'\n')
+    let wide = put_number(width, put_word(b"sheet ", at, out), out);
+    let high = put_number(height, put(b' ', wide, out), out);
+    put(b'\n', high, out)
 }
 
 // `o` where the mode stores no alpha, so that the block is opaque.
@@ -99,18 +132,23 @@ fn opacity_mark(mode: u8) -> u8
 }
 
 // The line of a block: its number, its mode, the four channels of its pixel 0, and its opacity mark.
-pub fn block_line(number: u32, mode: u8, pixel: [u8; 4]) -> Line
-    ensures { λ r. ⌜ r ≡ lineOf (blockLine number mode pixel) ⌝ }
-    ensures { λ r. ⌜ r .length ≤ 40 ⌝ }
+pub fn block_line(number: u32, mode: u8, pixel: [u8; 4], at: usize, out: &mut [u8]) -> usize
+    requires { ⌜ at + 40 ≤ length (now out) ⌝ }
+    ensures { λ r. ⌜ Written (now (out .entry)) at (blockLine number mode pixel) (now (out .exit)) r ⌝ }
+    ensures { λ r. ⌜ r ≤ at + 40 ⌝ }
 {
-    let drawn = push_pixel(push_byte(push_number(empty(), number), mode), pixel);
-    push(push(push(drawn, b' '), opacity_mark(mode)), b'\n')
+    let numbered = put_number(number, at, out);
+    let drawn = put_pixel(pixel, put_spaced(mode, numbered, out), out);
+    let marked = put(opacity_mark(mode), put(b' ', drawn, out), out);
+    put(b'\n', marked, out)
 }
 
 // The line of a refusal.
-pub fn refused_line(refusal: u8) -> Line
-    ensures { λ r. ⌜ r ≡ lineOf (refusedLine refusal) ⌝ }
-    ensures { λ r. ⌜ r .length ≤ 40 ⌝ }
+pub fn refused_line(refusal: u8, at: usize, out: &mut [u8]) -> usize
+    requires { ⌜ at + 40 ≤ length (now out) ⌝ }
+    ensures { λ r. ⌜ Written (now (out .entry)) at (refusedLine refusal) (now (out .exit)) r ⌝ }
+    ensures { λ r. ⌜ r ≤ at + 40 ⌝ }
 {
-    push(push_byte(push_word(empty(), b"refused"), refusal), b'\n')
+    let said = put_spaced(refusal, put_word(b"refused", at, out), out);
+    put(b'\n', said, out)
 }

@@ -1,1 +1,4 @@
+pub mod Attested
+pub mod Laying
+pub mod Packing
 pub mod Theorems

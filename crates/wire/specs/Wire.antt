@@ -1,17 +1,23 @@
 -- A record and a replacement as rows of bytes.
 -- Assumes nothing.
-use Prim.Native.Nat.{ℕ, _+_, _-_}
+use mathlib.Core.Path.{_≡_}
+use mathlib.Core.Bool.{Bool, not, true}
+use Prim.Native.Nat.{ℕ, _+_, _-_, _≤_}
 use mathlib.Core.List.{List, [], _∷_}
-use lib.Dec.{ltb}
+use lib.Dec.{eqb, ltb}
 use lib.ListN.{getD, replicate}
 use Rattle.line_rules.specs.declared.Replacement.{Replacement}
 use Rattle.record_rules.specs.declared.Record.{Record}
 use Rattle.record_rules.specs.declared.Packed.{Packed}
 use Rattle.format.specs.declared.Split.{Split}
 use Rattle.format.specs.declared.Split.the-variants.{Whole, Two, Three, Vector}
-use Rattle.laws.specs.Tables.{pick, table}
+use Rattle.laws.specs.Refusals.{Rule, first, refuse, unless}
+use Rattle.laws.specs.Tables.{both, pick, table}
+use Rattle.format.specs.Modes.{kindOfMode}
 use Rattle.format.specs.Splits.{indexMode, kindOf, ofKind}
-use Rattle.record_rules.specs.Records.{packed, packedAs}
+use Rattle.line_rules.specs.Read.{valueAt}
+use Rattle.record_rules.specs.Answers.{TopsClear, Within}
+use Rattle.record_rules.specs.Records.{packRefusal, packed, packedAs}
 
 -- the partition or the rotation, whichever the split has
 abbrev pub splitByte : Split → ℕ
@@ -47,9 +53,35 @@ recordOfBytes bs = record {
   second = bytesFrom bs 50 16;
 }
 
--- packing those bytes: a byte that names no kind is refused as a wrong kind is
+-- are the third and the fourth byte those of the split that they say: what its kind hasn't got is 0
+unfoldable pub spelt : List ℕ → Bool
+spelt bs = both (eqb (getD bs 2 0) (splitByte (recordOfBytes bs .split))) (eqb (getD bs 3 0) (indexMode (recordOfBytes bs .split)))
+
+-- packing those bytes: 5 also where a byte names no kind, 3 also where one says what the kind hasn't got, for that has width 0
+unfoldable pub bytesRefusal : List ℕ → ℕ
+bytesRefusal bs =
+    let r = recordOfBytes bs in
+    first (refuse 5 (ltb 3 (getD bs 1 0)) ∷
+    refuse 5 (ltb 7 (r .mode)) ∷
+    refuse 5 (not (eqb (kindOf (r .split)) (kindOfMode (r .mode)))) ∷
+    refuse 3 (not (spelt bs)) ∷
+    packRefusal r ∷
+    [])
+
 unfoldable pub packedBytes : List ℕ → Packed
-packedBytes bs = pick (ltb 3 (getD bs 1 0)) (packedAs 5 (replicate 16 0)) (packed (recordOfBytes bs))
+packedBytes bs = packedAs (bytesRefusal bs) (pick (eqb (bytesRefusal bs) 0) (packed (recordOfBytes bs) .block) (replicate 16 0))
+
+-- the rules of packing bytes: they get the number of the first that they break
+abbrev pub bytesRules : List ℕ → List Rule
+bytesRules bs =
+    let r = recordOfBytes bs in
+    unless 5 (getD bs 1 0 ≤ 3) ∷
+    unless 5 (r .mode ≤ 7) ∷
+    unless 5 (kindOf (r .split) ≡ kindOfMode (r .mode)) ∷
+    unless 3 (spelt bs ≡ true) ∷
+    unless 3 (Within r) ∷
+    unless 6 (TopsClear r) ∷
+    []
 
 -- the replacement that 26 bytes say: 8 endpoint values, 2 p bits, 16 indexes
 unfoldable pub replacementOf : List ℕ → Replacement
@@ -58,3 +90,7 @@ replacementOf bs = record {
   p = getD bs 8 0 ∷ getD bs 9 0 ∷ [];
   indexes = bytesFrom bs 10 16;
 }
+
+-- the bytes of a replacement
+unfoldable pub replacementBytes : Replacement → List ℕ
+replacementBytes g = table 26 (valueAt g)

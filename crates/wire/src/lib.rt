@@ -2,9 +2,13 @@
 // mode, kind (0 whole, 1 two subsets, 2 three, 3 vector and scalar), partition or rotation, index mode, 24 endpoint values,
 // 6 p bits, 16 first and 16 second indexes.
 ghost use mathlib.Core.Path.{_≡_};
-ghost use Prim.Native.Nat.{_<_, _+_, _≤_};
-ghost use lib.ListN.{length};
-ghost use Rattle.wire.specs.Wire.{bytesFrom, packedBytes, recordByte, recordBytes, recordOfBytes, replacementOf, splitByte};
+ghost use Prim.Native.Nat.{_+_, _≤_};
+ghost use lib.Dec.{eqb};
+ghost use lib.ListN.{getD, length, replicate};
+ghost use Rattle.laws.specs.Tables.{both, over};
+ghost use Rattle.format.specs.Splits.{indexMode};
+ghost use Rattle.record_rules.specs.Records.{packedAs};
+ghost use Rattle.wire.specs.Wire.{bytesFrom, packedBytes, recordBytes, recordOfBytes, replacementBytes, replacementOf, splitByte};
 use format::Split;
 use line_rules::Replacement;
 use record::pack;
@@ -29,41 +33,34 @@ fn split_byte(split: Split) -> u8
     }
 }
 
-// One of the 66 bytes of a record.
-fn record_byte(from: Record, i: usize) -> u8
-    requires { ⌜ i < 66 ⌝ }
-    ensures { λ r. ⌜ r ≡ recordByte from i ⌝ }
+// Bytes laid over others from a place on.
+fn lay(values: &[u8], at: usize, bytes: &mut [u8])
+    requires { ⌜ at + length (now values) ≤ length (now bytes) ⌝ }
+    ensures { λ _. ⌜ now (bytes .exit) ≡ over (now (bytes .entry)) at (length (now (values .entry))) (λ i. getD (now (values .entry)) i 0) ⌝ }
 {
-    let split = from.split;
-    if i < 4 {
-        let head = [
-            from.mode,
-            kind_of(split),
-            split_byte(split),
-            index_mode_of(split),
-        ];
-        return head[i];
+    for i in 0..values.len() {
+        bytes[at + i] = values[i];
     }
-    if i < 28 {
-        return from.endpoints[i - 4];
-    }
-    if i < 34 {
-        return from.p[i - 28];
-    }
-    if i < 50 {
-        return from.first[i - 34];
-    }
-    from.second[i - 50]
 }
 
 // The bytes of a record.
 pub fn record_bytes(from: Record) -> [u8; 66]
     ensures { λ r. ⌜ r ≡ recordBytes from ⌝ }
 {
+    let split = from.split;
     let mut bytes = [0u8; 66];
-    for i in 0..66usize {
-        bytes[i] = record_byte(from, i);
-    }
+    bytes[0] = from.mode;
+    bytes[1] = kind_of(split);
+    bytes[2] = split_byte(split);
+    bytes[3] = index_mode_of(split);
+    let endpoints = from.endpoints;
+    lay(&endpoints, 4, &mut bytes);
+    let p = from.p;
+    lay(&p, 28, &mut bytes);
+    let first = from.first;
+    lay(&first, 34, &mut bytes);
+    let second = from.second;
+    lay(&second, 50, &mut bytes);
     bytes
 }
 
@@ -99,17 +96,43 @@ fn record_of_bytes(bytes: [u8; 66]) -> Record
     }
 }
 
-// Packing a record that is given in bytes. A byte that names no kind is a split of another kind than the mode's.
+// Do the third and the fourth byte say no more than the split has?
+fn spells(split: Split, third: u8, fourth: u8) -> bool
+    ensures { λ r. ⌜ r ≡ both (eqb third (splitByte split)) (eqb fourth (indexMode split)) ⌝ }
+{
+    if third != split_byte(split) {
+        return false;
+    }
+    fourth == index_mode_of(split)
+}
+
+fn refused(refusal: u8) -> Packed
+    ensures { λ r. ⌜ r ≡ packedAs refusal (replicate 16 0) ⌝ }
+{
+    Packed {
+        refusal: refusal,
+        block: [0; 16],
+    }
+}
+
+// Packing a record that is given in bytes. A byte that names no kind is a split of another kind than the mode's; one that says what
+// the kind hasn't got needs more than its width, which is 0.
 pub fn pack_bytes(bytes: [u8; 66]) -> Packed
     ensures { λ r. ⌜ r ≡ packedBytes bytes ⌝ }
 {
     if 3 < bytes[1] {
-        return Packed {
-            refusal: 5,
-            block: [0u8; 16],
-        };
+        return refused(5);
     }
-    pack(record_of_bytes(bytes))
+    let record = record_of_bytes(bytes);
+    let packed = pack(record);
+    if packed.refusal == 5 {
+        return packed;
+    }
+    let split = record.split;
+    if spells(split, bytes[2], bytes[3]) {
+        return packed;
+    }
+    refused(3)
 }
 
 // The replacement of 26 bytes: 8 endpoint values, 2 p bits, 16 indexes.
@@ -125,4 +148,18 @@ pub fn replacement_of(bytes: [u8; 26]) -> Replacement
         p: [bytes[8], bytes[9]],
         indexes: indexes,
     }
+}
+
+// The bytes of a replacement, in the same order.
+pub fn replacement_bytes(from: Replacement) -> [u8; 26]
+    ensures { λ r. ⌜ r ≡ replacementBytes from ⌝ }
+{
+    let mut bytes = [0u8; 26];
+    let endpoints = from.endpoints;
+    lay(&endpoints, 0, &mut bytes);
+    let p = from.p;
+    lay(&p, 8, &mut bytes);
+    let indexes = from.indexes;
+    lay(&indexes, 10, &mut bytes);
+    bytes
 }

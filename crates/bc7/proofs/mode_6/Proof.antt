@@ -1,69 +1,97 @@
 -- Mode 6: one subset.
 -- Assumes nothing.
-use mathlib.Core.Path.{refl, _∙_}
+use mathlib.Core.Path.{_≡_, refl, ap, _∙_}
+use mathlib.Core.List.{[], _∷_}
+use Prim.Native.Nat.{ℕ, _+_, _*_, _<_}
 use native.Mathlib.Omega.{arith}
 use borrow.Author.Needs.{needs}
+use Rattle.laws.specs.Tables.{table}
 use Rattle.format.specs.Block.{field}
-use Rattle.format.specs.Drawing.{eight}
 use Rattle.format.specs.Modes.{endpointCount, kindOfMode, modeRow}
 use Rattle.format.specs.Splits.{splitAt}
 use Rattle.bcn_util.specs.Stream.{held}
-use Rattle.bc7_fields.specs.Fields.{endByte, headEnd, pStart, valueStart}
-use Rattle.bc7_fields.proofs.Pictures.{stack}
-use Rattle.bc7_parts.proofs.Laws.{whole-law}
+use Rattle.bcn_util.proofs.On.{On, got-on, got-v, next-is}
+use Rattle.bcn_indexes.specs.Indexes.{expanded, part}
+use Rattle.bc7_fields.specs.Fields.{endByte, four, headEnd, pStart, valueStart}
+use Rattle.bc7_fields.specs.Painting.{between, painted}
+use Rattle.bc7_fields.proofs.Pictures.{drawn-each, four-ext, one-palette}
+use Rattle.bc7_color.specs.Words.{endpoint, withP}
+use Rattle.bc7_color.proofs.Words.{endpoint-one}
+use Rattle.bc7_palette.proofs.Reading.{clear-p-shown, two-ps}
+use Rattle.bc7_parts.proofs.Laws.{whole-keys}
 use Rattle.bc7.proofs.mode_6.Statement.{statement}
 use Rattle.bc7.proofs.mode_6.Tie as tie
 
-values-2-requires : tie.Need-values-2-requires
-values-2-requires c κs = search needs
+values-1-requires : tie.Need-values-1-requires
+values-1-requires c κs = search needs
 
-values-2-requires-2 : tie.Need-values-2-requires-2
-values-2-requires-2 c κs = search needs
+values-1-requires-2 : tie.Need-values-1-requires-2
+values-1-requires-2 c κs = search needs
 
-values-2-requires-3 : tie.Need-values-2-requires-3
-values-2-requires-3 c κs = search needs
+values-1-requires-3 : tie.Need-values-1-requires-3
+values-1-requires-3 c κs = search needs
 
-values-2-requires-4 : tie.Need-values-2-requires-4
-values-2-requires-4 c κs = search needs
+values-1-requires-4 : tie.Need-values-1-requires-4
+values-1-requires-4 c κs = search needs
 
-values-2-requires-5 : tie.Need-values-2-requires-5
-values-2-requires-5 c κs = search needs
-
-clear-p-requires : tie.Need-clear-p-requires
-clear-p-requires c κs = search needs
-
-clear-p-requires-2 : tie.Need-clear-p-requires-2
-clear-p-requires-2 c κs = search needs
+values-1-requires-5 : tie.Need-values-1-requires-5
+values-1-requires-5 c κs = search needs
 
 indexes-1-requires : tie.Need-indexes-1-requires
 indexes-1-requires c κs = search needs
 
-palette-4-requires : tie.Need-palette-4-requires
-palette-4-requires c κs = search needs
+alone-p-requires : tie.Need-alone-p-requires
+alone-p-requires c κs = search needs
 
-paint-1-requires : tie.Need-paint-1-requires
-paint-1-requires c κs = search needs
+mix-16-requires : tie.Need-mix-16-requires
+mix-16-requires c κs = c .alone-p .ensures .one
 
 returns : tie.Need-returns
-unfolding splitAt kindOfMode modeRow endpointCount field held stack endByte eight valueStart pStart headEnd
+unfolding splitAt kindOfMode modeRow endpointCount field valueStart pStart headEnd
 returns c =
+    let ends = c .before .alone-p .ensures in
     let x = c .before .before in
-    let p = x .before .before .before in
-    let s = p .before .before .before .before .before in
-    (simp (x .indexes-1 .ensures, c .before .palette-4 .ensures, x .before .clear-p2 .ensures, x .before .before .clear-p .ensures, p .values-25 .ensures .same, p .before .values-24 .ensures .same, p .before .before .values-23 .ensures .same, p .before .before .before .values-22 .ensures .same, p .before .before .before .before .values-2 .ensures .same, s .pre) at (c .paint-1 .ensures)) ∙ whole-law 6 (held (s .args .stream)) 4 (omega arith) refl (omega arith) (omega arith) refl
+    let p = x .before in
+    let a = p .before in
+    let b = a .before in
+    let g = b .before in
+    let r = g .before in
+    let s = r .before in
+    let n = held (s .args .stream) in
+    let on-r : On n 7 (s .args .stream) = record { of = refl; stands = s .pre } in
+    let on-g = got-on on-r 14 (r .values-1 .ensures .same) in
+    let on-b = got-on on-g 14 (g .values-12 .ensures .same) in
+    let on-a = got-on on-b 14 (b .values-13 .ensures .same) in
+    let on-p = got-on on-a 14 (a .values-14 .ensures .same) in
+    let on-x = got-on on-p 2 (p .values-15 .ensures .same) in
+    let shown =
+    clear-p-shown 6 n {l = 0} refl
+    (record {
+      red = got-v on-r 14 (r .values-1 .ensures .same);
+      green = got-v on-g 14 (g .values-12 .ensures .same);
+      blue = got-v on-b 14
+          (b .values-13 .ensures .same);
+    })
+    refl (two-ps 6 n 0 refl (got-v on-p 2 (p .values-15 .ensures .same))) refl (got-v on-a 14 (a .values-14 .ensures .same)) in
+    let end : (k : ℕ) → k < 2 → endpoint (c .before .alone-p .result) 0 k ≡ four (endByte 6 n (2 * 0 + k)) =
+    λ k hk. endpoint-one (withP 7 _) (ends .each) (ends .same) k hk ∙ four-ext _ _ (λ c hc. shown k c hk hc) in
+    c .mix-16 .ensures
+    ∙ drawn-each 4 _ _ _
+    ∙ ap (λ (y : ℕ). painted (part y 4)
+    (table 16 (between 4 (endpoint (c .before .alone-p .result) 0 0) (endpoint (c .before .alone-p .result) 0 1)))) (x .indexes-1 .ensures ∙ ap
+    (expanded 4 (0 ∷ [])) (next-is on-x 63))
+    ∙ whole-keys 6 n 4 (omega arith) refl (omega arith) refl (one-palette 6 n 4 (end 0 (omega arith)) (end 1 (omega arith)))
 
 pub mode-6-spec : {M : Type 1} → statement M
 mode-6-spec =
     tie.close
     (tie.spec
-    values-2-requires
-    values-2-requires-2
-    values-2-requires-3
-    values-2-requires-4
-    values-2-requires-5
-    clear-p-requires
-    clear-p-requires-2
+    values-1-requires
+    values-1-requires-2
+    values-1-requires-3
+    values-1-requires-4
+    values-1-requires-5
     indexes-1-requires
-    palette-4-requires
-    paint-1-requires
+    alone-p-requires
+    mix-16-requires
     returns)

@@ -1,20 +1,45 @@
--- The weights of three bits, from the table.
+-- The weights of three bits.
 -- Assumes nothing.
-use borrow.Author.Needs.{needs}
-use Rattle.format.specs.Drawing.{weights}
-use Rattle.bc7_palette.proofs.Weights.{weight-at}
+use Rattle.format.specs.Drawing.{weightOf, weights}
+use Rattle.bc7_palette.proofs.Weights.{seven}
 use Rattle.bc7_palette.proofs.get_weight_3.Statement.{statement}
 use Rattle.bc7_palette.proofs.get_weight_3.Tie as tie
 
-mul-result : tie.Need-mul-result
-mul-result c = search needs
-
-array-read-result : tie.Need-array-read-result
-array-read-result c = search needs
-
 returns : tie.Need-returns
-unfolding weights
-returns c = weight-at 3 (c .args .index)
+unfolding weightOf weights
+returns c = rw (c .match .keys1)
+
+returns-2 : tie.Need-returns-2
+unfolding weightOf weights
+returns-2 c = rw (c .match .keys2)
+
+returns-3 : tie.Need-returns-3
+unfolding weightOf weights
+returns-3 c = rw (c .match .keys3)
+
+returns-4 : tie.Need-returns-4
+unfolding weightOf weights
+returns-4 c = rw (c .match .keys4)
+
+returns-5 : tie.Need-returns-5
+unfolding weightOf weights
+returns-5 c = rw (c .match .keys5)
+
+returns-6 : tie.Need-returns-6
+unfolding weightOf weights
+returns-6 c = rw (c .match .keys6)
+
+returns-7 : tie.Need-returns-7
+unfolding weightOf weights
+returns-7 c = rw (c .match .keys7)
+
+returns-8 : tie.Need-returns-8
+unfolding weightOf weights
+returns-8 c =
+    let r = c .match .rest in
+    rw (seven _ (c .before .pre) (r .0 .0 .0 .0 .0 .0 .1) (r .0 .0 .0 .0 .0 .1) (r .0 .0 .0 .0 .1) (r .0 .0 .0 .1) (r .0 .0 .1) (r .0 .1) (r .1))
 
 pub get-weight-3-spec : {M : Type 1} → statement M
-get-weight-3-spec = tie.close (tie.spec mul-result array-read-result returns)
+get-weight-3-spec =
+    tie.close
+    (tie.spec returns returns-2 returns-3 returns-4 returns-5 returns-6 returns-7 returns-8)

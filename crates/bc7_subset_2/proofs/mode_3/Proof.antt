@@ -1,92 +1,106 @@
 -- Mode 3: two subsets, and a p bit for each endpoint.
 -- Assumes nothing.
-use mathlib.Core.Path.{refl, _∙_}
+use mathlib.Core.Path.{refl, sym, ap}
 use native.Mathlib.Omega.{arith}
 use borrow.Author.Needs.{needs}
+use Rattle.format.specs.declared.Split.the-variants.{Two}
 use Rattle.format.specs.Block.{field}
-use Rattle.format.specs.Drawing.{eight}
 use Rattle.format.specs.Modes.{endpointCount, kindOfMode, modeRow}
 use Rattle.format.specs.Splits.{splitAt}
 use Rattle.bcn_util.specs.Stream.{held}
-use Rattle.bc7_fields.specs.Fields.{endByte, headEnd, pStart, valueStart}
-use Rattle.bc7_fields.proofs.Pictures.{stack}
-use Rattle.bc7_parts.proofs.Laws.{two-law}
+use Rattle.bcn_util.proofs.On.{On, got-8, got-a, got-b, on-2, on-8}
+use Rattle.bc7_fields.specs.Fields.{headEnd, pStart, valueStart}
+use Rattle.bc7_color.specs.Words.{solid, withP}
+use Rattle.bc7_palette.proofs.Reading.{opaque-p-shown, two-palette, two-ps}
+use Rattle.bc7_parts.proofs.Laws.{fixes-2, two-keys}
 use Rattle.bc7_subset_2.proofs.mode_3.Statement.{statement}
 use Rattle.bc7_subset_2.proofs.mode_3.Tie as tie
 
 extract-partition-set-id-requires : tie.Need-extract-partition-set-id-requires
 extract-partition-set-id-requires c κs = search needs
 
-map-2-requires : tie.Need-map-2-requires
-map-2-requires c κs = search needs
+set-2-2-requires : tie.Need-set-2-2-requires
+set-2-2-requires c κs = search needs
 
-fixup-2-requires : tie.Need-fixup-2-requires
-fixup-2-requires c κs = search needs
+values-2-requires : tie.Need-values-2-requires
+values-2-requires c κs = search needs
 
-values-4-requires : tie.Need-values-4-requires
-values-4-requires c κs = search needs
+values-2-requires-2 : tie.Need-values-2-requires-2
+values-2-requires-2 c κs = search needs
 
-values-4-requires-2 : tie.Need-values-4-requires-2
-values-4-requires-2 c κs = search needs
+values-2-requires-3 : tie.Need-values-2-requires-3
+values-2-requires-3 c κs = search needs
 
-values-4-requires-3 : tie.Need-values-4-requires-3
-values-4-requires-3 c κs = search needs
-
-values-4-requires-4 : tie.Need-values-4-requires-4
-values-4-requires-4 c κs = search needs
+values-2-requires-4 : tie.Need-values-2-requires-4
+values-2-requires-4 c κs = search needs
 
 opaque-p-requires : tie.Need-opaque-p-requires
 opaque-p-requires c κs = search needs
 
-opaque-p-requires-2 : tie.Need-opaque-p-requires-2
-opaque-p-requires-2 c κs = search needs
-
-opaque-p-requires-3 : tie.Need-opaque-p-requires-3
-opaque-p-requires-3 c κs = search needs
-
-opaque-p-requires-4 : tie.Need-opaque-p-requires-4
-opaque-p-requires-4 c κs = search needs
+palette-2-2-requires : tie.Need-palette-2-2-requires
+palette-2-2-requires c κs = search needs
 
 indexes-2-requires : tie.Need-indexes-2-requires
-indexes-2-requires c κs = let p = c .before .before .before .before in omega (arith, p, p .before .before .before)
+indexes-2-requires c κs =
+    let p = c .before .before in
+    let set = p .before .before .before .before in
+    let id = set .before .extract-partition-set-id .ensures in
+    let fixes = fixes-2 {w = 2} (omega (arith, id .small)) (omega arith) (omega arith) (set .set-2-2 .ensures) in
+    (omega arith, omega arith, fixes .above, fixes .last, omega (arith, p, p .before .before))
 
-palette-requires : tie.Need-palette-requires
-palette-requires c κs = search needs
-
-palette-requires-2 : tie.Need-palette-requires-2
-palette-requires-2 c κs = search needs
+keys-2-requires : tie.Need-keys-2-requires
+keys-2-requires c κs = search needs
 
 paint-2-2-requires : tie.Need-paint-2-2-requires
 paint-2-2-requires c κs = search needs
 
 returns : tie.Need-returns
-unfolding splitAt kindOfMode modeRow endpointCount field held stack endByte eight valueStart pStart headEnd
+unfolding splitAt kindOfMode modeRow endpointCount field valueStart pStart headEnd
 returns c =
-    let x = c .before .before .before in
-    let p = x .before .before .before .before .before in
-    let fixed = p .before .before .before .before in
-    let id = fixed .before .before in
-    let s = id .before in
-    (simp (x .indexes-2 .ensures, c .before .palette2 .ensures, c .before .before .palette .ensures, x .before .opaque-p4 .ensures, x .before .before .opaque-p3 .ensures, x .before .before .before .opaque-p2 .ensures, x .before .before .before .before .opaque-p .ensures, p .values-44 .ensures .same, p .before .values-43 .ensures .same, p .before .before .values-42 .ensures .same, p .before .before .before .values-4 .ensures .same, id .extract-partition-set-id .ensures .same, s .pre) at (c .paint-2-2 .ensures))
-    ∙ two-law 3 (held (s .args .stream)) 2 (omega arith) refl (omega arith) (omega arith) (omega (arith, id .extract-partition-set-id .ensures .small)) (rw (id .extract-partition-set-id .ensures .same, s .pre) refl) (fixed .before .map-2 .ensures) (fixed .fixup-2 .ensures)
+    let colors = c .before .before .before in
+    let at-p = colors .before .before in
+    let at-b = at-p .before in
+    let at-g = at-b .before in
+    let at-r = at-g .before in
+    let set = at-r .before in
+    let id = set .before .extract-partition-set-id .ensures in
+    let s = set .before .before in
+    let n = held (s .args .stream) in
+    let start : On n 4 (s .args .stream) = record { of = refl; stands = s .pre } in
+    let on-r = on-8 start 6 (id .same) in
+    let r = at-r .values-2 .ensures .same in
+    let on-g = on-2 on-r 14 r in
+    let g = at-g .values-22 .ensures .same in
+    let on-b = on-2 on-g 14 g in
+    let b = at-b .values-23 .ensures .same in
+    let on-p = on-2 on-b 14 b in
+    let p = at-p .values-24 .ensures .same in
+    let on-x = on-2 on-p 2 p in
+    two-keys 3 n 2 (omega arith) refl (omega arith) (omega arith) (omega (arith, id .small)) on-x (ap Two (sym (got-8 start 6 (id .same))))
+    (set .set-2-2 .ensures) (c .before .before .indexes-2 .ensures) (c .before .keys-2 .ensures)
+    (two-palette 3 n 2 (λ x. solid (withP 7 x)) _ _ (colors .before .opaque-p .ensures)
+    (opaque-p-shown 3 n {l = 0} refl
+    (record { red = got-a on-r 14 r; green = got-a on-g 14 g; blue = got-a on-b 14 b })
+    refl (two-ps 3 n 0 refl (got-a on-p 2 p)) refl)
+    (opaque-p-shown 3 n {l = 1} refl
+    (record { red = got-b on-r 14 r; green = got-b on-g 14 g; blue = got-b on-b 14 b })
+    refl (two-ps 3 n 1 refl (got-b on-p 2 p)) refl)
+    (colors .palette-2-2 .ensures))
+    (c .paint-2-2 .ensures)
 
 pub mode-3-spec : {M : Type 1} → statement M
 mode-3-spec =
     tie.close
     (tie.spec
     extract-partition-set-id-requires
-    map-2-requires
-    fixup-2-requires
-    values-4-requires
-    values-4-requires-2
-    values-4-requires-3
-    values-4-requires-4
+    set-2-2-requires
+    values-2-requires
+    values-2-requires-2
+    values-2-requires-3
+    values-2-requires-4
     opaque-p-requires
-    opaque-p-requires-2
-    opaque-p-requires-3
-    opaque-p-requires-4
+    palette-2-2-requires
     indexes-2-requires
-    palette-requires
-    palette-requires-2
+    keys-2-requires
     paint-2-2-requires
     returns)

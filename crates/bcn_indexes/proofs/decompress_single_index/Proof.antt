@@ -2,11 +2,9 @@
 -- Assumes nothing.
 use Prim.Native.Nat.{_+_, _-_, _*_, _<_}
 use native.Mathlib.Omega.{arith}
-use lib.Pow.{pow-pos}
 use borrow.Author.Needs.{needs}
 use Rattle.bcn_indexes.proofs.Anchors.{times-width}
 use Rattle.bcn_indexes.proofs.Insert.{insert-machine, inserted-lt}
-use Rattle.bcn_util.proofs.Words.{one-shl}
 use Rattle.bcn_indexes.proofs.decompress_single_index.Statement.{statement}
 use Rattle.bcn_indexes.proofs.decompress_single_index.Tie as tie
 
@@ -26,31 +24,23 @@ add-top c = omega (arith, below-64 c)
 cast-result : tie.Need-cast-result
 cast-result c = omega (arith, below-64 c)
 
-shl-result : tie.Need-shl-result
-shl-result c = omega (arith, below-64 c)
-
-rem-result : tie.Need-rem-result
-rem-result c = rw (one-shl (c .args .index * c .args .bits + (c .args .bits - 1)) (below-64 c)) (pow-pos (c .args .index * c .args .bits + (c .args .bits - 1)))
+shr-result : tie.Need-shr-result
+shr-result c = omega (arith, below-64 c)
 
 cast-result-2 : tie.Need-cast-result-2
 cast-result-2 c = omega (arith, below-64 c)
 
-shr-result : tie.Need-shr-result
-shr-result c = omega (arith, below-64 c)
-
-cast-result-3 : tie.Need-cast-result-3
-cast-result-3 c = omega (arith, below-64 c)
-
-shl-result-2 : tie.Need-shl-result-2
-shl-result-2 c = omega (arith, below-64 c)
+shl-result : tie.Need-shl-result
+shl-result c = omega (arith, below-64 c)
 
 add-result : tie.Need-add-result
 add-result c =
     let top = c .args .index * c .args .bits + (c .args .bits - 1) in
-    record { fits = rw (insert-machine (c .args .compressed) top (below-64 c) (c .pre .3)) (inserted-lt (c .args .compressed) top 63 (c .pre .3) (omega (arith, below-64 c))) }
+    let n = c .args .compressed in
+    record { fits = rw (insert-machine n top (c .pre .3)) (inserted-lt n top 63 (c .pre .3) (omega (arith, below-64 c))) }
 
 returns : tie.Need-returns
-returns c = insert-machine (c .args .compressed) (c .args .index * c .args .bits + (c .args .bits - 1)) (below-64 c) (c .pre .3)
+returns c = insert-machine (c .args .compressed) (c .args .index * c .args .bits + (c .args .bits - 1)) (c .pre .3)
 
 pub decompress-single-index-spec : {M : Type 1} → statement M
 decompress-single-index-spec =
@@ -60,11 +50,8 @@ decompress-single-index-spec =
     sub-top
     add-top
     cast-result
-    shl-result
-    rem-result
-    cast-result-2
     shr-result
-    cast-result-3
-    shl-result-2
+    cast-result-2
+    shl-result
     add-result
     returns)

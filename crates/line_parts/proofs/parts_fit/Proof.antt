@@ -2,39 +2,40 @@
 -- Assumes nothing.
 use borrow.Author.Needs.{needs}
 use borrow.Author.Tests.{not-false, not-true}
-use Rattle.line_parts.proofs.Asks.{by-indexes, no-p, no-value}
+use Rattle.line_parts.proofs.Asks.{by-values, no-index, no-p}
 use Rattle.line_parts.proofs.parts_fit.Statement.{statement}
 use Rattle.line_parts.proofs.parts_fit.Tie as tie
 
-endpoints-fit-requires : tie.Need-endpoints-fit-requires
-endpoints-fit-requires c κs = search needs
+indexes-fit-requires : tie.Need-indexes-fit-requires
+indexes-fit-requires c κs = search needs
 
 returns : tie.Need-returns
-returns c = no-value _ _ (c .before .endpoints-fit .ensures) (not-true _ (c .if1 .taken))
+returns c = no-index _ _ (c .before .indexes-fit .ensures) (not-true _ (c .if1 .taken))
 
 p-fits-requires : tie.Need-p-fits-requires
 p-fits-requires c κs = search needs
 
 returns-2 : tie.Need-returns-2
 returns-2 c =
-    no-p _ _ (c .before .before .before .endpoints-fit .ensures) (not-false _ (c .before .before .if1 .left)) (c .before .p-fits .ensures)
+    no-p _ _ (c .before .before .before .indexes-fit .ensures) (not-false _ (c .before .before .if1 .left)) (c .before .p-fits .ensures)
     (not-true _ (c .if2 .taken))
 
-indexes-fit-requires : tie.Need-indexes-fit-requires
-indexes-fit-requires c κs = search needs
+endpoints-fit-requires : tie.Need-endpoints-fit-requires
+endpoints-fit-requires c κs = search needs
 
 returns-3 : tie.Need-returns-3
 returns-3 c =
-    by-indexes _ _ (c .before .before .before .before .endpoints-fit .ensures) (not-false _ (c .before .before .before .if1 .left))
-    (c .before .before .p-fits .ensures) (not-false _ (c .before .if2 .left)) (c .indexes-fit .ensures)
+    by-values _ _ (c .before .before .before .before .indexes-fit .ensures) (not-false _ (c .before .before .before .if1 .left))
+    (c .before .before .p-fits .ensures)
+    (not-false _ (c .before .if2 .left)) (c .endpoints-fit .ensures)
 
 pub parts-fit-spec : {M : Type 1} → statement M
 parts-fit-spec =
     tie.close
     (tie.spec
-    endpoints-fit-requires
+    indexes-fit-requires
     returns
     p-fits-requires
     returns-2
-    indexes-fit-requires
+    endpoints-fit-requires
     returns-3)

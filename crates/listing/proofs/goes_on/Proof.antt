@@ -1,7 +1,7 @@
 -- `listing::goes_on` meets its contract.
 -- Assumes nothing.
 use borrow.Author.Tests.{le-ltb, lt-ltb}
-use Rattle.listing.specs.Taking.{goesOn}
+use Rattle.listing_rules.specs.Taking.{goesOn}
 use Rattle.listing.proofs.goes_on.Statement.{statement}
 use Rattle.listing.proofs.goes_on.Tie as tie
 

@@ -5,7 +5,7 @@ use borrow.Author.Needs.{needs}
 use Rattle.head.specs.declared.Head.{Head}
 use Rattle.head.specs.Heads.{Sized}
 use Rattle.head.proofs.Theorems.{head-sized}
-use Rattle.listing.specs.Taking.{headTaken}
+use Rattle.listing_rules.specs.Taking.{headTaken}
 use Rattle.listing.proofs.head_of.Statement.{statement}
 use Rattle.listing.proofs.head_of.Tie as tie
 

@@ -1,23 +1,24 @@
 -- `listing::list_blocks` meets its contract.
 -- Assumes nothing.
-use mathlib.Core.Path.{_≡_, _∙_, ap}
-use Prim.Native.Nat.{ℕ, _-_, _*_, _/_, _≤_}
 use native.Mathlib.Omega.{arith}
+use mathlib.Core.Path.{_≡_, ap, subst}
+use Prim.Native.Nat.{ℕ, _+_, _-_, _*_, _/_, _≤_}
 use lib.ListN.{length}
-use Rattle.laws.specs.Padding.{stored}
-use Rattle.listing.specs.Listing.{blocksText, listed}
-use Rattle.listing.proofs.Lines.{Listed, listed-long, listed-more, listed-none}
+use Rattle.laws.specs.Padding.{Written}
+use Rattle.laws.proofs.Padding.{written-long}
+use Rattle.listing_rules.specs.Listing.{blocksText, listed}
+use Rattle.listing.proofs.Lines.{Lines, lines-more, lines-none}
 use Rattle.listing.proofs.list_blocks.Statement.{statement}
 use Rattle.listing.proofs.list_blocks.Tie as tie
 
 abbrev Inv-loop : tie.InvT-loop
-Inv-loop blocks from out₀ count at₀ k₀ out at k = (k ≤ count) × (at ≤ 40 * k) × Listed out₀ from blocks k out at
+Inv-loop blocks from at out₀ count next₀ k₀ out next k = (k ≤ count) × (next ≤ at + 40 * k) × Lines out₀ at from blocks k out next
 
 abbrev μ-loop : tie.MeasureT-loop
-μ-loop blocks from out₀ count at₀ k₀ out at k = count - k
+μ-loop blocks from at out₀ count next₀ k₀ out next k = count - k
 
 loop-holds : tie.Need-loop-holds Inv-loop μ-loop
-loop-holds c = (omega arith, omega arith, listed-none _ _ _)
+loop-holds c = (omega arith, omega arith, lines-none _ _ _ _)
 
 mul-load : tie.Need-mul-load Inv-loop μ-loop
 mul-load c = omega arith
@@ -32,7 +33,7 @@ add-list-block : tie.Need-add-list-block Inv-loop μ-loop
 add-list-block c = omega arith
 
 list-block-requires : tie.Need-list-block-requires Inv-loop μ-loop
-list-block-requires c κs = omega (arith, let b = c .before .before .before in listed-long _ _ _ (b .loop .k) (b .loop .inv .2))
+list-block-requires c κs = omega (arith, written-long (c .before .before .before .loop .inv .2))
 
 add-k : tie.Need-add-k Inv-loop μ-loop
 add-k c = omega arith
@@ -43,11 +44,15 @@ loop-less c = omega arith
 loop-again : tie.Need-loop-again Inv-loop μ-loop
 loop-again c =
     let b = c .before .before in
-    let l = b .before .before .before .before in
-    (omega arith, omega (arith, b .list-block .ensures .1), listed-more _ _ _ (l .loop .k) (l .loop .inv .2) (rw (b .before .before .load .ensures) at (b .list-block .ensures .0)))
+    let l = b .before .before .before .before in (
+      omega arith,
+      omega (arith, b .list-block .ensures .1),
+      lines-more _ _ _ _ (l .loop .k) (l .loop .inv .2)
+          (rw (b .before .before .load .ensures) at (b .list-block .ensures .0)),
+    )
 
 same-length : tie.Need-same-length Inv-loop μ-loop
-same-length c = listed-long _ _ _ (c .before .loop .k) (c .before .loop .inv .2)
+same-length c = written-long (c .before .loop .inv .2)
 
 returns : tie.Need-returns Inv-loop μ-loop
 unfolding listed
@@ -55,7 +60,7 @@ returns c =
     let e = c .before .loop .inv .2 in
     let a = c .before .before .before .before .args in
     let all : c .before .loop .k ≡ length (a .blocks .now) / 16 = omega arith in
-    (e ∙ ap (λ (n : ℕ). stored (a .out .now, 0) (blocksText (a .from) n (a .blocks .now))) all, omega (arith, listed-long (a .out .now) (a .from) (a .blocks .now) (c .before .loop .k) e))
+    (rw (← all) e, omega arith)
 
 pub list-blocks-spec : {M : Type 1} → statement M
 list-blocks-spec =

@@ -1,13 +1,22 @@
 -- `listing::start` meets its contract.
 -- Assumes nothing.
-use mathlib.Core.Path.{refl}
-use Rattle.listing.specs.Taking.{fresh}
+use mathlib.Core.Path.{_∙_, ap, sym, subst}
+use Rattle.listing_rules.specs.Machine.{Ready, atHead}
+use Rattle.listing_rules.proofs.Turns.{ready-start}
+use borrow.Author.Needs.{needs}
 use Rattle.listing.proofs.start.Statement.{statement}
 use Rattle.listing.proofs.start.Tie as tie
 
+fresh-reader-requires : tie.Need-fresh-reader-requires
+fresh-reader-requires c κs = search needs
+
+at-head-requires : tie.Need-at-head-requires
+at-head-requires c κs = search needs
+
 returns : tie.Need-returns
-unfolding fresh
-returns c = (refl, refl)
+returns c =
+    let e = c .at-head .ensures ∙ ap atHead (c .before .fresh-reader .ensures .0) in
+    (e, subst Ready (sym e) ready-start)
 
 pub start-spec : {M : Type 1} → statement M
-start-spec = tie.close (tie.spec returns)
+start-spec = tie.close (tie.spec fresh-reader-requires at-head-requires returns)

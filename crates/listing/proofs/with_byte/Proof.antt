@@ -4,7 +4,7 @@ use mathlib.Core.Path.{refl}
 use mathlib.Core.Logic.{⊎-elim}
 use native.Mathlib.Omega.{arith}
 use borrow.Author.Needs.{needs}
-use Rattle.listing.proofs.Reader.{goes-both, with-last, with-more}
+use Rattle.listing_rules.proofs.Reader.{goes-both, with-last, with-more}
 use Rattle.listing.proofs.with_byte.Statement.{statement}
 use Rattle.listing.proofs.with_byte.Tie as tie
 

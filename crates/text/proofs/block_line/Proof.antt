@@ -1,58 +1,60 @@
 -- `text::block_line` meets its contract.
 -- Assumes nothing.
 use native.Mathlib.Omega.{arith}
-use borrow.Author.Needs.{needs}
-use Rattle.laws.proofs.Tests.{at}
+use Rattle.laws.proofs.Padding.{written-then}
 use Rattle.text.specs.Lines.{blockLine}
-use Rattle.text.proofs.Building.{from-empty, with-length, with-then}
+use borrow.Author.Needs.{needs}
 use Rattle.text.proofs.block_line.Statement.{statement}
 use Rattle.text.proofs.block_line.Tie as tie
 
-empty-requires : tie.Need-empty-requires
-empty-requires c κs = search needs
+put-number-requires : tie.Need-put-number-requires
+put-number-requires c κs = search needs
 
-push-number-requires : tie.Need-push-number-requires
-push-number-requires c κs = search needs
+put-spaced-requires : tie.Need-put-spaced-requires
+put-spaced-requires c κs = search needs
 
-push-byte-requires : tie.Need-push-byte-requires
-push-byte-requires c κs = search needs
-
-push-pixel-requires : tie.Need-push-pixel-requires
-push-pixel-requires c κs = search needs
-
-push-requires : tie.Need-push-requires
-push-requires c κs = search needs
+put-pixel-requires : tie.Need-put-pixel-requires
+put-pixel-requires c κs = search needs
 
 opacity-mark-requires : tie.Need-opacity-mark-requires
 opacity-mark-requires c κs = search needs
 
-push-requires-2 : tie.Need-push-requires-2
-push-requires-2 c κs = search needs
+put-requires : tie.Need-put-requires
+put-requires c κs = search needs
 
-push-requires-3 : tie.Need-push-requires-3
-push-requires-3 c κs = search needs
+put-requires-2 : tie.Need-put-requires-2
+put-requires-2 c κs = search needs
+
+put-requires-3 : tie.Need-put-requires-3
+put-requires-3 c κs = search needs
+
+same-length : tie.Need-same-length
+same-length c = search needs
 
 returns : tie.Need-returns
 unfolding blockLine
 returns c =
-    let m = c .before .before in
-    let d = m .before .before in
-    let n = d .before .before in
-    let drawn = with-then _ _ _ (with-then _ _ _ (n .push-number .ensures .0) (d .before .push-byte .ensures .0)) (d .push-pixel .ensures .0) in
-    let marked = with-then _ _ _ (with-then _ _ _ drawn (m .before .push .ensures .0)) (rw (m .opacity-mark .ensures) at (c .before .push2 .ensures .0)) in
-    let ended = with-then _ _ _ marked (c .push3 .ensures .0) in
-    (from-empty _ (n .before .empty .ensures .0) ended (omega (arith, with-length _ _ ended)), omega arith)
+    let ended = c .before .before in
+    let mark = ended .before .before .before .before in
+    let space = mark .before .before .before .before in
+    let drawn = space .before .before .before .before .before in
+    let mode = drawn .before .before .before .before in
+    let number = mode .before .before .before .before in
+    let told = written-then (written-then (number .put-number .ensures .0) (mode .put-spaced .ensures .0)) (drawn .put-pixel .ensures .0) in
+    let marked = written-then (written-then told (space .put .ensures .0))
+    (rw (space .before .before .opacity-mark .ensures) at (mark .put2 .ensures .0)) in
+    (written-then marked (ended .put3 .ensures .0), omega arith)
 
 pub block-line-spec : {M : Type 1} → statement M
 block-line-spec =
     tie.close
     (tie.spec
-    empty-requires
-    push-number-requires
-    push-byte-requires
-    push-pixel-requires
-    push-requires
+    put-number-requires
+    put-spaced-requires
+    put-pixel-requires
     opacity-mark-requires
-    push-requires-2
-    push-requires-3
+    put-requires
+    put-requires-2
+    put-requires-3
+    same-length
     returns)

@@ -1,41 +1,44 @@
 -- `text::refused_line` meets its contract.
 -- Assumes nothing.
 use native.Mathlib.Omega.{arith}
-use borrow.Author.Needs.{needs}
+use Rattle.laws.proofs.Padding.{written-then}
 use Rattle.text.specs.Lines.{ascii, refusedLine}
-use Rattle.text.proofs.Building.{from-empty, with-length, with-then}
+use borrow.Author.Needs.{needs}
 use Rattle.text.proofs.refused_line.Statement.{statement}
 use Rattle.text.proofs.refused_line.Tie as tie
 
-empty-requires : tie.Need-empty-requires
-empty-requires c κs = search needs
+slice-aggregate-put-word : tie.Need-slice-aggregate-put-word
+slice-aggregate-put-word c = search needs
 
-slice-aggregate-push-word : tie.Need-slice-aggregate-push-word
-slice-aggregate-push-word c = search needs
+put-word-requires : tie.Need-put-word-requires
+put-word-requires c κs = search needs
 
-push-word-requires : tie.Need-push-word-requires
-push-word-requires c κs = omega arith
+put-spaced-requires : tie.Need-put-spaced-requires
+put-spaced-requires c κs = search needs
 
-push-byte-requires : tie.Need-push-byte-requires
-push-byte-requires c κs = omega arith
+put-requires : tie.Need-put-requires
+put-requires c κs = search needs
 
-push-requires : tie.Need-push-requires
-push-requires c κs = omega arith
+same-length : tie.Need-same-length
+same-length c = search needs
 
 returns : tie.Need-returns
 unfolding refusedLine ascii
 returns c =
-    let w = c .before .before in
-    let ended = with-then _ _ _ (with-then _ _ _ (w .push-word .ensures .0) (c .before .push-byte .ensures .0)) (c .push .ensures .0) in
-    (from-empty _ (w .before .before .empty .ensures .0) ended (omega (arith, with-length _ _ ended, w .push-word .ensures .1, w .before .before .empty .ensures .1)), omega (arith, w .push-word .ensures .1, w .before .before .empty .ensures .1))
+    let ended = c .before .before in
+    let number = ended .before .before .before .before in (
+      written-then (written-then (number .before .before .before .before .put-word .ensures .0) (number .put-spaced .ensures .0))
+          (ended .put .ensures .0),
+      omega arith,
+    )
 
 pub refused-line-spec : {M : Type 1} → statement M
 refused-line-spec =
     tie.close
     (tie.spec
-    empty-requires
-    slice-aggregate-push-word
-    push-word-requires
-    push-byte-requires
-    push-requires
+    slice-aggregate-put-word
+    put-word-requires
+    put-spaced-requires
+    put-requires
+    same-length
     returns)

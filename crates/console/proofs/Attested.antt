@@ -1,0 +1,87 @@
+-- WHAT HOLDS THE PROMISES TO C: of each call an accepted example and a refused one, through its promise. What stood before is nines.
+-- Assumes nothing.
+use mathlib.Core.Path.{_≡_, refl}
+use mathlib.Core.List.{List, [], _∷_, _++_}
+use Prim.Native.Nat.{ℕ}
+use lib.ListN.{replicate}
+use Rattle.laws.specs.Padding.{padded}
+use Rattle.laws.specs.Refusals.{first}
+use Rattle.laws.specs.Tables.{over, table, tableFrom}
+use Rattle.format.specs.Block.{bytesOf, modeOf, number, trailing}
+use Rattle.format.specs.Drawing.{drawn, eight, promoted, weightOf, weights}
+use Rattle.format.specs.Lines.{anchorOf, arrayOf, has, indexPlace, laid, lineAt, lineBits, lineOf, means, own, pPlace, pixel, pixels, rotated, shown, turned, valuePlace, withLine}
+use Rattle.format.specs.Modes.{endpointCount, kindOfMode, modeRow}
+use Rattle.format.specs.Partitions.{anchors2, anchors3, digits, marks, strings2, strings3, subset2, subset3}
+use Rattle.format.specs.Places.{atPlace, blockOf, listOf, opened, placeAt, pos, width, widths}
+use Rattle.format.specs.Splits.{splitAt, splitOf}
+use Rattle.format.proofs.Examples.{block4, block7}
+use Rattle.record_rules.specs.Records.{fits, made, packRefusal, packed, recordOf, says, taken}
+use Rattle.line_rules.specs.Replace.{after, indexFits, lineFits, lineGiven, oriented, ownWidth, pFits, put, refusal, refusalIn, replaced, valueFits}
+use Rattle.line_rules.proofs.Attested.{after7}
+use Rattle.wire.specs.Wire.{bytesRefusal, packedBytes, recordByte, recordBytes, recordOfBytes, replacementOf, spelt}
+use Rattle.wire.proofs.Attested.{bytes4, bytes7, bytesGiven}
+use Rattle.head.specs.Heads.{formIn, headBytes, headRefusal, heightIn, readHead, sizeRefusal, widthIn, writeHead}
+use Rattle.head.specs.Numbers.{groups, raised, readGroups, readNumber}
+use Rattle.sheet_rules.specs.Rows.{blockAt, channel, rowByte, rowBytes, rowOut, rowRefusal}
+use Rattle.sheet_rules.specs.Sheets.{blockIn, blocksOf, findRefusal, placeOf, putBlock, replacedIn, sheetAfter, sheetRefusal}
+use Rattle.sheet_rules.proofs.Attested.{lower, lowerLines, small, smallReplaced}
+use Rattle.console.specs.Promises.{Decodes, DecodesRow, Packs, ReadsHead, Replaces, ReplacesIn, Unpacks, WritesHead}
+
+abbrev zeros : ℕ → List ℕ
+zeros n = replicate n 0
+
+abbrev nines : ℕ → List ℕ
+nines n = replicate n 9
+
+abbrev rgba : ℕ → ℕ → ℕ → ℕ → List ℕ
+rgba r g b a = r ∷ g ∷ b ∷ a ∷ []
+
+-- the upper half of block4, and the lower, for its indexes come again after eight
+abbrev half4 : List (List ℕ)
+half4 =
+    rgba 11 29 44 28 ∷ rgba 13 31 46 29 ∷ rgba 14 32 47 30 ∷ rgba 15 28 48 32 ∷
+    rgba 16 29 49 33 ∷ rgba 8 31 41 24 ∷ rgba 9 32 42 25 ∷ rgba 10 28 43 27 ∷
+    []
+
+-- the line that block 2 of the small sheet is given, as bytes
+abbrev bytesGiven6 : List ℕ
+bytesGiven6 = 1 ∷ 2 ∷ 3 ∷ 4 ∷ 5 ∷ 6 ∷ 7 ∷ 8 ∷ 1 ∷ 0 ∷ 8 ∷ replicate 15 1
+
+pub record Calls : Type 0 where
+  pub decodes : Decodes block4 (half4 ++ half4)
+  pub decodes-reserved : Decodes (zeros 16) (replicate 16 (rgba 0 0 0 0))
+  pub unpacks : Unpacks block4 (nines 66) 0 (bytes4 3)
+  pub unpacks-not : Unpacks (zeros 16) (nines 66) 1 (nines 66)
+  pub packs : Packs bytes7 (nines 16) 0 block7
+  pub packs-not : Packs (bytes4 4) (nines 16) 5 (nines 16)
+  pub replaces : Replaces block7 1 bytesGiven 0 after7
+  pub replaces-not : Replaces block7 2 bytesGiven 2 block7
+  pub reads-head : ReadsHead small (nines 3) 0 (5 ∷ 6 ∷ 3 ∷ [])
+  pub reads-head-not : ReadsHead (0x02 ∷ []) (nines 3) 8 (nines 3)
+  pub writes-head : WritesHead 5 6 (nines 7, 9) 0 (0x01 ∷ 0x05 ∷ 0x06 ∷ zeros 4, 3)
+  pub writes-head-not : WritesHead 5 4097 (nines 7, 9) 9 (nines 7, 9)
+  pub decodes-row : DecodesRow 5 6 1 lower (nines 40) 0 lowerLines
+  pub decodes-row-not : DecodesRow 5 6 1 lower (nines 41) 11 (nines 41)
+  pub replaces-in : ReplacesIn small 2 0 bytesGiven6 0 smallReplaced
+  pub replaces-in-not : ReplacesIn small 0 2 bytesGiven6 2 small
+
+pub calls-hold : Calls
+unfolding padded first over table tableFrom weights weightOf drawn promoted eight modeRow kindOfMode endpointCount placeAt pos width widths trailing number modeOf splitAt splitOf atPlace opened has valuePlace pPlace arrayOf indexPlace own lineOf lineBits means rotated lineAt shown pixel pixels digits marks strings2 strings3 subset2 subset3 anchors2 anchors3 taken recordOf made packed packRefusal fits says blockOf listOf bytesOf replaced after refusal refusalIn lineFits valueFits pFits indexFits ownWidth lineGiven put oriented withLine laid turned anchorOf recordByte recordBytes recordOfBytes replacementOf packedBytes bytesRefusal spelt readHead headRefusal formIn widthIn heightIn readNumber readGroups raised sizeRefusal writeHead headBytes groups blockAt channel rowByte rowBytes rowOut rowRefusal blockIn blocksOf findRefusal placeOf putBlock replacedIn sheetAfter sheetRefusal
+calls-hold = record {
+  decodes = refl;
+  decodes-reserved = refl;
+  unpacks = (refl, refl);
+  unpacks-not = (refl, refl);
+  packs = (refl, refl);
+  packs-not = (refl, refl);
+  replaces = (refl, refl);
+  replaces-not = (refl, refl);
+  reads-head = (refl, refl);
+  reads-head-not = (refl, refl);
+  writes-head = (refl, refl);
+  writes-head-not = (refl, refl);
+  decodes-row = (refl, refl);
+  decodes-row-not = (refl, refl);
+  replaces-in = (refl, refl);
+  replaces-in-not = (refl, refl);
+}

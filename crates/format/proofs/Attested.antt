@@ -1,0 +1,74 @@
+-- WHAT HOLDS THE DEFINITIONS OF BITS AND OF DRAWING: numbers that a reader can check on paper. (Chart has the fields of the modes,
+-- Printed the partitions, the crate document_01 whole blocks.)
+-- Assumes nothing.
+use mathlib.Core.Path.{_≡_, refl}
+use mathlib.Core.List.{List, [], _∷_, _++_, map}
+use Prim.Native.Nat.{ℕ, _+_, _-_, _*_, _/_, _^_}
+use lib.Dec.{T, eqb}
+use lib.ListN.{replicate}
+use Rattle.laws.specs.Tables.{below, table, tableFrom}
+use Rattle.format.specs.Block.{bitsOf, bitsOfBytes, bytesOf, field, modeOf, number, trailing, valueOfBits}
+use Rattle.format.specs.Drawing.{drawn, eight, promoted, weightOf, weights}
+use Rattle.format.specs.Lines.{arrayOf, has, indexPlace, lineAt, lineBits, lineOf, means, own, pPlace, pixel, rotated, shown, valuePlace}
+use Rattle.format.specs.Modes.{endpointCount, kindOfMode, modeRow}
+use Rattle.format.specs.Partitions.{anchors2, anchors3, digits, marks, strings2, strings3, subset2, subset3}
+use Rattle.format.specs.Places.{atPlace, opened, placeAt, pos, width, widths}
+use Rattle.format.specs.Splits.{splitAt, splitOf}
+use Rattle.format.proofs.Examples.{block0, block3, block4, block7}
+
+-- byte 0 first, low bit first; the mode by the first byte, of which all but its lowest one may be anything
+pub record Bits : Type 0 where
+  pub of-number : bitsOf 8 0b01010011 ≡ 1 ∷ 1 ∷ 0 ∷ 0 ∷ 1 ∷ 0 ∷ 1 ∷ 0 ∷ []
+  pub to-number : valueOfBits (1 ∷ 1 ∷ 0 ∷ 0 ∷ 1 ∷ 0 ∷ 1 ∷ 0 ∷ []) ≡ 0b01010011
+  pub of-bytes : bitsOfBytes (0x53 ∷ 0x80 ∷ []) ≡ 1 ∷ 1 ∷ 0 ∷ 0 ∷ 1 ∷ 0 ∷ 1 ∷ 0 ∷ 0 ∷ 0 ∷ 0 ∷ 0 ∷ 0 ∷ 0 ∷ 0 ∷ 1 ∷ []
+  pub block-number : number (0x53 ∷ 0x80 ∷ (replicate 13 0 ++ (0x01 ∷ []))) ≡ 0x01000000000000000000000000008053
+  pub number-block : bytesOf 0x01000000000000000000000000008053 ≡ 0x53 ∷ 0x80 ∷ (replicate 13 0 ++ (0x01 ∷ []))
+  pub some-bits : field 0b11010110 2 3 ≡ 0b101
+  pub modes : map (λ (b : ℕ). modeOf (b ∷ replicate 15 0xFF)) (0x01 ∷ 0xFE ∷ 0x04 ∷ 0xF8 ∷ 0x10 ∷ 0xE0 ∷ 0x40 ∷ 0x80 ∷ 0x00 ∷ [])
+      ≡ 0 ∷ 1 ∷ 2 ∷ 3 ∷ 4 ∷ 5 ∷ 6 ∷ 7 ∷ 8 ∷ []
+
+pub bits-hold : Bits
+unfolding number bytesOf field trailing modeOf
+bits-hold = record { of-number = refl; to-number = refl; of-bytes = refl; block-number = refl; number-block = refl; some-bits = refl; modes = refl }
+
+-- a weight is 64 · i / last, rounded: all 28, at the widths 2, 3 and 4
+abbrev rounded : ℕ → ℕ → ℕ
+rounded i last = (2 * 64 * i + last) / (2 * last)
+
+pub weights-are-rounded : T (below 3 (λ b. below (2 ^ (b + 2)) (λ i. eqb (weightOf (b + 2) i) (rounded i (2 ^ (b + 2) - 1)))))
+unfolding weightOf weights
+weights-are-rounded = tt
+
+-- rotation 0, 1, 2, 3: red, green, blue and alpha as they are; alpha exchanged with red; with green; with blue
+pub rotations : map (λ (r : ℕ). map (rotated r) (0 ∷ 1 ∷ 2 ∷ 3 ∷ [])) (0 ∷ 1 ∷ 2 ∷ 3 ∷ [])
+    ≡ (0 ∷ 1 ∷ 2 ∷ 3 ∷ []) ∷ (3 ∷ 1 ∷ 2 ∷ 0 ∷ []) ∷ (0 ∷ 3 ∷ 2 ∷ 1 ∷ []) ∷ (0 ∷ 1 ∷ 3 ∷ 2 ∷ []) ∷ []
+unfolding rotated
+rotations = refl
+
+-- promotion at the widths 4 to 8: of 0, of 1, of the top bit alone, of all ones
+pub promotions : map (λ (b : ℕ). map (promoted b) (0 ∷ 1 ∷ (2 ^ (b - 1)) ∷ (2 ^ b - 1) ∷ [])) (4 ∷ 5 ∷ 6 ∷ 7 ∷ 8 ∷ [])
+    ≡ (0b00000000 ∷ 0b00010001 ∷ 0b10001000 ∷ 0b11111111 ∷ []) ∷
+    (0b00000000 ∷ 0b00001000 ∷ 0b10000100 ∷ 0b11111111 ∷ []) ∷
+    (0b00000000 ∷ 0b00000100 ∷ 0b10000010 ∷ 0b11111111 ∷ []) ∷
+    (0b00000000 ∷ 0b00000010 ∷ 0b10000001 ∷ 0b11111111 ∷ []) ∷
+    (0b00000000 ∷ 0b00000001 ∷ 0b10000000 ∷ 0b11111111 ∷ []) ∷
+    []
+unfolding promoted
+promotions = refl
+
+-- p is appended before promotion: red 1000 of mode 0 is 10000 or 10001 with its p bit, and 10000100 or 10001100 as eight bits
+pub p-before-promotion : eight 0 0 8 0 ∷ eight 0 0 8 1 ∷ [] ≡ 132 ∷ 140 ∷ []
+unfolding eight promoted modeRow
+p-before-promotion = refl
+
+-- the first and the last pixel of four blocks (Examples has what they store). Of block4, which rotates last: pixel 0 has index 1 of two
+-- bits for alpha, weight 21, and index 3 of three bits for colour, weight 27; green shows alpha's (43 · 28 + 21 · 32 + 32) / 64, and
+-- alpha shows green's (37 · 24 + 27 · 33 + 32) / 64
+pub blocks-show : map (λ (b : List ℕ). map (λ (q : ℕ). map (pixel b q) (0 ∷ 1 ∷ 2 ∷ 3 ∷ [])) (0 ∷ 15 ∷ [])) (block0 ∷ block3 ∷ block4 ∷ block7 ∷ [])
+    ≡ ((24 ∷ 41 ∷ 57 ∷ 255 ∷ []) ∷ (0 ∷ 0 ∷ 0 ∷ 255 ∷ []) ∷ []) ∷
+    ((3 ∷ 5 ∷ 7 ∷ 255 ∷ []) ∷ (0 ∷ 0 ∷ 0 ∷ 255 ∷ []) ∷ []) ∷
+    ((11 ∷ 29 ∷ 44 ∷ 28 ∷ []) ∷ (10 ∷ 28 ∷ 43 ∷ 27 ∷ []) ∷ []) ∷
+    ((21 ∷ 29 ∷ 37 ∷ 46 ∷ []) ∷ (88 ∷ 96 ∷ 104 ∷ 112 ∷ []) ∷ []) ∷
+    []
+unfolding table tableFrom weights weightOf drawn promoted eight modeRow kindOfMode endpointCount placeAt pos width widths trailing number modeOf splitAt splitOf atPlace opened has valuePlace pPlace arrayOf indexPlace own lineOf lineBits means rotated lineAt shown pixel subset2 subset3 anchors2 anchors3 digits marks strings2 strings3
+blocks-show = refl

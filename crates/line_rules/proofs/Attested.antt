@@ -1,0 +1,113 @@
+-- WHAT HOLDS THE DEFINITIONS OF REPLACING: calls with the block that each leaves, written out (format's Examples has what the blocks
+-- store, and where).
+-- Assumes nothing.
+use mathlib.Core.Path.{_≡_, refl}
+use mathlib.Core.List.{List, [], _∷_, _++_, map}
+use Prim.Native.Nat.{ℕ}
+use lib.ListN.{replicate}
+use Rattle.line_rules.specs.declared.Replacement.{Replacement}
+use Rattle.line_rules.specs.declared.Replaced.{Replaced}
+use Rattle.laws.specs.Refusals.{first}
+use Rattle.laws.specs.Tables.{table, tableFrom}
+use Rattle.calls.specs.Calls.{run}
+use Rattle.format.specs.Block.{bytesOf, modeOf, number, trailing}
+use Rattle.format.specs.Lines.{anchorOf, arrayOf, has, indexPlace, laid, lineBits, lineOf, pPlace, turned, valuePlace, withLine}
+use Rattle.format.specs.Modes.{endpointCount, kindOfMode, modeRow}
+use Rattle.format.specs.Partitions.{anchors2, anchors3, digits, marks, strings2, strings3, subset2, subset3}
+use Rattle.format.specs.Places.{atPlace, blockOf, listOf, opened, placeAt, pos, width, widths}
+use Rattle.format.specs.Splits.{splitAt, splitOf}
+use Rattle.format.proofs.Examples.{block5, block7}
+use Rattle.line_rules.specs.Calls.{afterAll}
+use Rattle.line_rules.specs.Replace.{after, callOf, indexFits, lineFits, lineGiven, oriented, ownWidth, pFits, put, refusal, refusalIn, replaced, valueFits}
+
+-- two endpoints, of which the first has this red and this p; indexes at the pixels 8 to 15, of which 15 is the anchor, and one at pixel
+-- 0, which is another line's
+abbrev line7 : ℕ → ℕ → ℕ → ℕ → Replacement
+line7 red p outside atAnchor = record {
+  endpoints = red ∷ 30 ∷ 29 ∷ 28 ∷ 27 ∷ 26 ∷ 25 ∷ 24 ∷ [];
+  p = p ∷ 0 ∷ [];
+  indexes = outside ∷ (replicate 7 0 ++ (0 ∷ 1 ∷ 2 ∷ 3 ∷ 0 ∷ 1 ∷ 2 ∷ atAnchor ∷ []));
+}
+
+abbrev pub given7 : ℕ → Replacement
+given7 atAnchor = line7 31 1 0 atAnchor
+
+-- block7 with 31 30 29 28, p 1 and 27 26 25 24, p 0 as its endpoints 2 and 3, and the indexes 0 1 2 3 0 1 2 1 from pixel 8 on
+abbrev pub after7 : List ℕ
+after7 = 0x80 ∷ 0x4D ∷ 0x28 ∷ 0x7F ∷ 0x0B ∷ 0xE3 ∷ 0xF5 ∷ 0x38 ∷ 0x3D ∷ 0x13 ∷ 0xC4 ∷ 0x71 ∷ 0x75 ∷ 0x72 ∷ 0xC8 ∷ 0xC9 ∷ []
+
+-- with 2 at the anchor: 27 26 25 24, p 0 and 31 30 29 28, p 1, and the indexes 3 2 1 0 3 2 1 1
+abbrev pub turned7 : List ℕ
+turned7 = 0x80 ∷ 0x4D ∷ 0x28 ∷ 0xFB ∷ 0x0B ∷ 0xA3 ∷ 0xFD ∷ 0x38 ∷ 0xB9 ∷ 0x13 ∷ 0x84 ∷ 0x79 ∷ 0x76 ∷ 0x72 ∷ 0x36 ∷ 0xB6 ∷ []
+
+-- a vector whose anchor has its top bit set, with this alpha and this p, which are none of a vector's
+abbrev line5 : ℕ → ℕ → Replacement
+line5 alpha p = record {
+  endpoints = 10 ∷ 20 ∷ 30 ∷ alpha ∷ 40 ∷ 50 ∷ 60 ∷ 0 ∷ [];
+  p = p ∷ 0 ∷ [];
+  indexes = 2 ∷ 3 ∷ 0 ∷ 1 ∷ 2 ∷ 3 ∷ 0 ∷ 1 ∷ 2 ∷ 3 ∷ 0 ∷ 1 ∷ 2 ∷ 3 ∷ 0 ∷ 1 ∷ [];
+}
+
+-- block5 with 40 50 60 and 10 20 30 as colours and the first indexes 1 0 3 2 and so on; alpha 4 and 8 and the second indexes stay
+abbrev turned5 : List ℕ
+turned5 = 0x20 ∷ 0x28 ∷ 0x85 ∷ 0x8C ∷ 0xC2 ∷ 0xF3 ∷ 0x10 ∷ 0x20 ∷ 0x64 ∷ 0x63 ∷ 0x63 ∷ 0x63 ∷ 0xE5 ∷ 0xE4 ∷ 0xE4 ∷ 0xE4 ∷ []
+
+-- a block of mode 2 and partition 2, all else 0, whose line 1 has the pixels 7, 10, 11, 14 and 15, of which 15 is the anchor: with 3 there
+-- 4 5 6 and 1 2 3 are stored, and the indexes 3 3 3 3 0
+abbrev block2 : List ℕ
+block2 = 0x14 ∷ replicate 15 0
+
+abbrev given2 : Replacement
+given2 = record { endpoints = 1 ∷ 2 ∷ 3 ∷ 0 ∷ 4 ∷ 5 ∷ 6 ∷ 0 ∷ []; p = 0 ∷ 0 ∷ []; indexes = replicate 15 0 ++ (3 ∷ []) }
+
+abbrev turned2 : List ℕ
+turned2 = 0x14 ∷ 0x00 ∷ 0x20 ∷ 0x01 ∷ 0x00 ∷ 0x00 ∷ 0x8A ∷ 0x00 ∷ 0x00 ∷ 0x00 ∷ 0x33 ∷ 0x00 ∷ 0x00 ∷ 0x00 ∷ 0xE3 ∷ 0x61 ∷ []
+
+-- a block of mode 6, all else 0, and a line with equal endpoints whose pixel q has index q: they are stored all the same
+abbrev block6 : List ℕ → List ℕ
+block6 indexes = 0x40 ∷ (replicate 7 0 ++ indexes)
+
+abbrev given6 : Replacement
+given6 = record { endpoints = replicate 8 0; p = 0 ∷ 0 ∷ []; indexes = 0 ∷ 1 ∷ 2 ∷ 3 ∷ 4 ∷ 5 ∷ 6 ∷ 7 ∷ 8 ∷ 9 ∷ 10 ∷ 11 ∷ 12 ∷ 13 ∷ 14 ∷ 15 ∷ [] }
+
+-- a block of mode 1, and a line of p 0 and 1 alone
+abbrev block1 : List ℕ
+block1 = 0x46 ∷ replicate 15 0
+
+abbrev p01 : Replacement
+p01 = record { endpoints = replicate 8 0; p = 0 ∷ 1 ∷ []; indexes = replicate 16 0 }
+
+-- a call, the number that it is answered, and the block that it leaves
+pub record Claim : Type 0 where
+  pub block : List ℕ
+  pub line : ℕ
+  pub given : Replacement
+  pub number : ℕ
+  pub left : List ℕ
+
+abbrev call : List ℕ → ℕ → Replacement → ℕ → List ℕ → Claim
+call b l g n a = record { block = b; line = l; given = g; number = n; left = a }
+
+abbrev pub claims : List Claim
+claims =
+    call block7 1 (given7 1) 0 after7 ∷
+    call block7 1 (given7 2) 0 turned7 ∷
+    call block5 0 (line5 0 0) 0 turned5 ∷
+    call block2 1 given2 0 turned2 ∷
+    call (block6 (replicate 8 0)) 0 given6 0 (block6 (0x10 ∷ 0x32 ∷ 0x54 ∷ 0x76 ∷ 0x98 ∷ 0xBA ∷ 0xDC ∷ 0xFE ∷ [])) ∷
+    call (replicate 16 0) 2 (line7 32 1 0 1) 1 (replicate 16 0) ∷
+    call block7 2 (line7 32 1 0 1) 2 block7 ∷
+    call block7 1 (line7 32 1 0 1) 3 block7 ∷
+    call block7 1 (line7 31 2 0 1) 3 block7 ∷
+    call block7 1 (line7 31 1 1 1) 3 block7 ∷
+    call block7 1 (line7 31 1 0 4) 3 block7 ∷
+    call block5 0 (line5 1 0) 3 block5 ∷
+    call block5 0 (line5 0 1) 3 block5 ∷
+    call block1 0 p01 4 block1 ∷
+    []
+
+-- each is answered so; and of two calls on a line the later decides
+pub lines-replaced : (map (λ c. replaced (c .block) (c .line) (c .given)) claims ≡ map (λ c. record { refusal = c .number; block = c .left }) claims)
+    × (afterAll block7 (callOf 1 (given7 1) ∷ callOf 1 (given7 2) ∷ []) ≡ turned7)
+unfolding run table tableFrom digits marks strings2 strings3 subset2 subset3 anchors2 anchors3 modeRow kindOfMode endpointCount placeAt pos width widths trailing number modeOf splitAt splitOf atPlace opened has valuePlace pPlace arrayOf indexPlace lineBits lineOf replaced after refusal refusalIn lineFits valueFits pFits indexFits ownWidth lineGiven put oriented withLine laid turned anchorOf blockOf listOf first bytesOf
+lines-replaced = (refl, refl)

@@ -1,0 +1,39 @@
+-- `listing::list_head` meets its contract.
+-- Assumes nothing.
+use native.Mathlib.Omega.{arith}
+use borrow.Author.Tests.{eq-eqb, ne-eqb}
+use Rattle.listing_rules.specs.Machine.{headText}
+use borrow.Author.Needs.{needs}
+use Rattle.listing.proofs.list_head.Statement.{statement}
+use Rattle.listing.proofs.list_head.Tie as tie
+
+refused-line-requires : tie.Need-refused-line-requires
+refused-line-requires c κs = search needs
+
+same-length : tie.Need-same-length
+same-length c = search needs
+
+returns : tie.Need-returns
+unfolding headText
+returns c = let told = c .before .before in (rw (ne-eqb _ 0 (told .before .before .if1 .taken)) (told .refused-line .ensures .0), omega arith)
+
+sheet-line-requires : tie.Need-sheet-line-requires
+sheet-line-requires c κs = search needs
+
+same-length-2 : tie.Need-same-length-2
+same-length-2 c = search needs
+
+returns-2 : tie.Need-returns-2
+unfolding headText
+returns-2 c = let told = c .before .before in (rw (eq-eqb _ 0 (told .before .before .if1 .left)) (told .sheet-line .ensures .0), omega arith)
+
+pub list-head-spec : {M : Type 1} → statement M
+list-head-spec =
+    tie.close
+    (tie.spec
+    refused-line-requires
+    same-length
+    returns
+    sheet-line-requires
+    same-length-2
+    returns-2)

@@ -1,0 +1,91 @@
+-- `listing::next` meets its contract.
+-- Assumes nothing.
+use mathlib.Core.Path.{_∙_, ap, sym, subst}
+use Rattle.listing_rules.specs.declared.Phase.{Phase}
+use Rattle.listing_rules.specs.Machine.{ReadyIn, nextIn}
+use Rattle.listing_rules.proofs.Turns.{nexts}
+use borrow.Author.Needs.{needs}
+use Rattle.listing.proofs.next.Statement.{statement}
+use Rattle.listing.proofs.next.Tie as tie
+
+enum-told : tie.Need-enum-told
+enum-told c = search needs
+
+next-at-head-requires : tie.Need-next-at-head-requires
+next-at-head-requires c κs =
+    let a = c .before .before .before in subst (λ (p : Phase). ReadyIn p (a .args .machine)) (c .enum-told .given .1) (a .pre)
+
+enum-told-2 : tie.Need-enum-told-2
+enum-told-2 c = search needs
+
+next-in-rows-requires : tie.Need-next-in-rows-requires
+next-in-rows-requires c κs =
+    let a = c .before .before .before in subst (λ (p : Phase). ReadyIn p (a .args .machine)) (c .enum-told2 .given .1) (a .pre)
+
+enum-told-3 : tie.Need-enum-told-3
+enum-told-3 c = search needs
+
+stopped-requires : tie.Need-stopped-requires
+stopped-requires c κs = search needs
+
+enum-told-4 : tie.Need-enum-told-4
+enum-told-4 c = search needs
+
+stopped-requires-2 : tie.Need-stopped-requires-2
+stopped-requires-2 c κs = search needs
+
+enum-told-5 : tie.Need-enum-told-5
+enum-told-5 c = search needs
+
+stopped-requires-3 : tie.Need-stopped-requires-3
+stopped-requires-3 c κs = search needs
+
+returns : tie.Need-returns
+returns c =
+    let a = c .before .before .before .before in
+    nexts (a .args .machine) (a .args .came .now) (a .pre)
+    (c .next-at-head .ensures ∙ sym (ap (λ (p : Phase). nextIn p (a .args .machine) (a .args .came .now)) (c .before .enum-told .given .1)))
+
+returns-2 : tie.Need-returns-2
+returns-2 c =
+    let a = c .before .before .before .before in
+    nexts (a .args .machine) (a .args .came .now) (a .pre)
+    (c .next-in-rows .ensures ∙ sym (ap (λ (p : Phase). nextIn p (a .args .machine) (a .args .came .now)) (c .before .enum-told2 .given .1)))
+
+returns-3 : tie.Need-returns-3
+returns-3 c =
+    let a = c .before .before .before .before in
+    nexts (a .args .machine) (a .args .came .now) (a .pre)
+    (c .stopped .ensures ∙ sym (ap (λ (p : Phase). nextIn p (a .args .machine) (a .args .came .now)) (c .before .enum-told3 .given .1)))
+
+returns-4 : tie.Need-returns-4
+returns-4 c =
+    let a = c .before .before .before .before in
+    nexts (a .args .machine) (a .args .came .now) (a .pre)
+    (c .stopped2 .ensures ∙ sym (ap (λ (p : Phase). nextIn p (a .args .machine) (a .args .came .now)) (c .before .enum-told4 .given .1)))
+
+returns-5 : tie.Need-returns-5
+returns-5 c =
+    let a = c .before .before .before .before in
+    nexts (a .args .machine) (a .args .came .now) (a .pre)
+    (c .stopped3 .ensures ∙ sym (ap (λ (p : Phase). nextIn p (a .args .machine) (a .args .came .now)) (c .before .enum-told5 .given .1)))
+
+pub next-spec : {M : Type 1} → statement M
+next-spec =
+    tie.close
+    (tie.spec
+    enum-told
+    next-at-head-requires
+    enum-told-2
+    next-in-rows-requires
+    enum-told-3
+    stopped-requires
+    enum-told-4
+    stopped-requires-2
+    enum-told-5
+    stopped-requires-3
+    returns
+    returns-2
+    returns-3
+    returns-4
+    returns-5)

@@ -1,0 +1,60 @@
+-- `listing::wanted` meets its contract.
+-- Assumes nothing.
+use mathlib.Core.Path.{refl}
+use Rattle.listing_rules.proofs.Turns.{wants}
+use borrow.Author.Needs.{needs}
+use Rattle.listing.proofs.wanted.Statement.{statement}
+use Rattle.listing.proofs.wanted.Tie as tie
+
+enum-told : tie.Need-enum-told
+enum-told c = search needs
+
+enum-told-2 : tie.Need-enum-told-2
+enum-told-2 c = search needs
+
+cast-result : tie.Need-cast-result
+cast-result c = search needs
+
+mul-result : tie.Need-mul-result
+mul-result c = search needs
+
+enum-told-3 : tie.Need-enum-told-3
+enum-told-3 c = search needs
+
+enum-told-4 : tie.Need-enum-told-4
+enum-told-4 c = search needs
+
+enum-told-5 : tie.Need-enum-told-5
+enum-told-5 c = search needs
+
+returns : tie.Need-returns
+returns c = let a = c .before .before in wants (a .args .machine) (a .pre) (c .enum-told .given .1) refl
+
+returns-2 : tie.Need-returns-2
+returns-2 c = let a = c .before .before .before in wants (a .args .machine) (a .pre) (c .before .enum-told2 .given .1) refl
+
+returns-3 : tie.Need-returns-3
+returns-3 c = let a = c .before .before in wants (a .args .machine) (a .pre) (c .enum-told3 .given .1) refl
+
+returns-4 : tie.Need-returns-4
+returns-4 c = search needs
+
+returns-5 : tie.Need-returns-5
+returns-5 c = search needs
+
+pub wanted-spec : {M : Type 1} → statement M
+wanted-spec =
+    tie.close
+    (tie.spec
+    enum-told
+    enum-told-2
+    cast-result
+    mul-result
+    enum-told-3
+    enum-told-4
+    enum-told-5
+    returns
+    returns-2
+    returns-3
+    returns-4
+    returns-5)

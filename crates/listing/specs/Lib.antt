@@ -1,3 +1,0 @@
--- The definitions that the contracts cite, and what is printed in all.
-pub mod Taking
-pub mod Listing

@@ -1,0 +1,44 @@
+-- WHAT HOLDS THE DEFINITION OF A LISTING: listings written out whole (format's Examples and Attested have what the blocks store and
+-- show).
+-- Assumes nothing.
+use mathlib.Core.Path.{_≡_, refl}
+use mathlib.Core.List.{List, [], _∷_, _++_, map}
+use Prim.Native.Nat.{ℕ}
+use Prim.Native.String.{String}
+use lib.ListN.{replicate}
+use Rattle.laws.specs.Refusals.{first}
+use Rattle.laws.specs.Tables.{table, tableFrom}
+use Rattle.format.specs.Block.{modeOf, number, trailing}
+use Rattle.format.specs.Drawing.{drawn, eight, promoted, weightOf, weights}
+use Rattle.format.specs.Lines.{arrayOf, has, indexPlace, lineAt, lineBits, lineOf, means, own, pPlace, pixel, pixels, rotated, shown, valuePlace}
+use Rattle.format.specs.Modes.{endpointCount, kindOfMode, modeRow}
+use Rattle.format.specs.Partitions.{anchors2, anchors3, digits, marks, strings2, strings3, subset2, subset3}
+use Rattle.format.specs.Places.{atPlace, opened, placeAt, pos, width, widths}
+use Rattle.format.specs.Splits.{splitAt, splitOf}
+use Rattle.format.proofs.Examples.{block0, block3, block4}
+use Rattle.head.specs.Heads.{formIn, headRefusal, heightIn, readHead, sizeRefusal, widthIn}
+use Rattle.head.specs.Numbers.{raised, readGroups, readNumber}
+use Rattle.text.specs.Lines.{ascii, blockLine, channels, decimal, digitsIn, opacityMark, refusedLine, sheetLine}
+use Rattle.sheet_rules.specs.Rows.{blockAt}
+use Rattle.sheet_rules.specs.Sheets.{blocksOf}
+use Rattle.listing_rules.specs.Listing.{blockText, blocksListing, blocksText, listed, listing}
+
+-- lines of text; 10 ends each
+pub text : List String → List ℕ
+text [] = []
+text (s ∷ more) = ascii s ++ (10 ∷ []) ++ text more
+
+-- a sheet of 5 by 6 pixels: two rows of two blocks, with what is given in the place of the last
+abbrev sheet : List ℕ → List ℕ
+sheet last = (0x01 ∷ 0x05 ∷ 0x06 ∷ []) ++ block0 ++ block3 ++ block4 ++ last
+
+-- a whole sheet, whose last block is reserved; a byte more; a byte less; a sheet of another form
+pub listings-hold : map listing (sheet (replicate 16 0) ∷ sheet (replicate 17 0) ∷ sheet (replicate 15 0) ∷ (0x02 ∷ []) ∷ [])
+    ≡ map text
+    (("sheet 5 6" ∷ "0 0 24 41 57 255 o" ∷ "1 3 3 5 7 255 o" ∷ "2 4 11 29 44 28 -" ∷ "3 8 0 0 0 0 -" ∷ []) ∷
+    ("sheet 5 6" ∷ "0 0 24 41 57 255 o" ∷ "1 3 3 5 7 255 o" ∷ "2 4 11 29 44 28 -" ∷ "3 8 0 0 0 0 -" ∷ "refused 10" ∷ []) ∷
+    ("sheet 5 6" ∷ "0 0 24 41 57 255 o" ∷ "1 3 3 5 7 255 o" ∷ "2 4 11 29 44 28 -" ∷ "refused 10" ∷ []) ∷
+    ("refused 8" ∷ []) ∷
+    [])
+unfolding text listing blocksListing listed blocksText blockText readHead headRefusal formIn widthIn heightIn readNumber readGroups raised first sizeRefusal blocksOf blockAt sheetLine refusedLine blockLine channels opacityMark decimal digitsIn ascii table tableFrom digits marks strings2 strings3 subset2 subset3 anchors2 anchors3 weights weightOf drawn promoted eight modeRow kindOfMode endpointCount placeAt pos width widths trailing number modeOf splitAt splitOf atPlace opened has valuePlace pPlace arrayOf indexPlace own lineOf lineBits means rotated lineAt shown pixel pixels
+listings-hold = refl

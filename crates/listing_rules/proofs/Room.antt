@@ -1,0 +1,68 @@
+-- What the machine may still say besides 40 bytes for each block, and what is asked and said at a phase.
+-- Assumes nothing.
+use mathlib.Core.Path.{_≡_, refl, sym, subst}
+use mathlib.Core.Bool.{Bool, true, false}
+use mathlib.Core.List.{List}
+use Prim.Native.Nat.{ℕ, zero, suc, _+_, _*_, _/_, _≤_}
+use native.Mathlib.Omega.{arith}
+use lib.Dec.{eqb}
+use lib.ListN.{length}
+use Rattle.listing_rules.specs.declared.HeadReader.{HeadReader}
+use Rattle.listing_rules.specs.declared.Machine.{Machine}
+use Rattle.listing_rules.specs.declared.Phase.{Phase}
+use Rattle.listing_rules.specs.declared.Phase.the-variants.{Head, Row, End, Listed, Refused}
+use Rattle.laws.specs.Padding.{Written}
+use Rattle.laws.specs.Tables.{pick}
+use Rattle.laws.proofs.Cases.{pick-either}
+use Rattle.sheet_rules.specs.Rows.{across}
+use Rattle.listing_rules.specs.Taking.{headTaken}
+use Rattle.listing_rules.specs.Machine.{ReadyIn, begun, ended, inRows, nextIn, nextInRows, nextOf, spareIn, spareOf, textIn, textOf, wantedIn}
+
+spare-rows : (c k from : ℕ) → spareOf (inRows c k from) ≡ 40
+unfolding inRows
+spare-rows c zero from = refl
+spare-rows c (suc k) from = refl
+
+pub spare-ended : (exact : Bool) → spareOf (ended exact) ≡ 0
+unfolding ended
+spare-ended true = refl
+spare-ended false = refl
+
+spare-in : (p : Phase) → spareIn p ≤ 80
+spare-in Head = omega arith
+spare-in Row = omega arith
+spare-in End = omega arith
+spare-in Listed = omega arith
+spare-in Refused = omega arith
+
+-- beside the lines of blocks there are two more at the most
+pub spare-most : (m : Machine) → spareOf m ≤ 80
+spare-most m = spare-in (m .phase)
+
+-- behind a head, and behind a row
+pub spare-begun : (r : HeadReader) → spareOf (begun (headTaken r)) ≤ 40
+unfolding begun
+spare-begun r = pick-either (λ m. spareOf m ≤ 40) (eqb (headTaken r .refusal) 0)
+    (omega (arith, spare-rows (across (headTaken r .width)) (across (headTaken r .height)) 0)) (omega (arith, spare-ended false))
+
+pub spare-next : (c k from got : ℕ) → spareOf (nextInRows c k from got) ≡ pick (eqb got (16 * c)) 40 0
+spare-next c k from got = go (eqb got (16 * c)) _ (spare-rows _ _ _)
+  where
+    go : (t : Bool) (m : Machine) → spareOf m ≡ 40 → spareOf (pick t m (ended false)) ≡ pick t 40 0
+    go true m e = e
+    go false m e = spare-ended false
+
+-- what is asked and said at a phase is what is asked and said
+module _ (m : Machine) (came : List ℕ) where
+  abbrev Asked : Phase → ℕ → ℕ → Type 0
+  Asked p at room = ReadyIn p m × (length came ≤ wantedIn p (m .columns)) × (at + 40 * (length came / 16) + spareIn p ≤ room)
+
+  pub asked : (at room : ℕ) {p : Phase} → m .phase ≡ p → Asked (m .phase) at room → Asked p at room
+  asked at room e h = subst (λ (p : Phase). Asked p at room) e h
+
+  pub says : {p : Phase} {before after : List ℕ} {at next : ℕ} → m .phase ≡ p → Written before at (textIn p m came) after next
+      → next + spareOf (nextIn p m came) ≤ at + 40 * (length came / 16) + spareIn p
+      → Written before at (textOf m came) after next × (next + spareOf (nextOf m came) ≤ at + 40 * (length came / 16) + spareOf m)
+  says {p} {before} {after} {at} {next} e w l =
+      subst (λ (p : Phase). Written before at (textIn p m came) after next ×
+      (next + spareOf (nextIn p m came) ≤ at + 40 * (length came / 16) + spareIn p)) (sym e) (w, l)

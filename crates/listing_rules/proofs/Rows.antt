@@ -1,0 +1,122 @@
+-- Rows of blocks one after the other are the blocks of the sheet, and what is printed of an input is printed row by row.
+-- Assumes nothing.
+use mathlib.Core.Path.{_≡_, refl, _∙_, ap, ap₂, sym}
+use mathlib.Core.Bool.{Bool, true, false}
+use mathlib.Core.Logic.{⊎-elim}
+use mathlib.Core.List.{List, [], _++_, append-assoc, append-nil}
+use Prim.Native.Nat.{ℕ, zero, suc, _+_, _-_, _*_, _/_, _<_, _≤_}
+use native.Mathlib.Nat.{add-assoc, add-suc, add-zero, suc-mul, zero-mul}
+use native.Mathlib.Omega.{arith}
+use lib.Dec.{eqb}
+use lib.ListN.{length, take, drop, length-append, length-drop}
+use lib.Seq.{drop-append-add, drop-append-le, length-take-le, take-add, take-all, take-append-le}
+use borrow.Author.Tests.{eq-eqb, eqb-false, eqb-true, le-leb, lt-leb, ne-eqb}
+use Rattle.laws.specs.Tables.{pick}
+use Rattle.laws.proofs.Cases.{lt-or}
+use Rattle.head.specs.Heads.{readHead}
+use Rattle.text.specs.Lines.{refusedLine, sheetLine}
+use Rattle.sheet_rules.specs.Rows.{across, blockAt}
+use Rattle.sheet_rules.specs.Sheets.{blocksOf}
+use Rattle.listing_rules.specs.Listing.{blockText, blocksListing, blocksText, listed, listing, rowsListing}
+use Rattle.listing_rules.specs.Taking.{headLength}
+use Rattle.listing_rules.proofs.Taking.{blocks-start}
+
+-- blocks in the first of two lists, and in the second
+module _ (xs ys : List ℕ) where
+  in-first : (at : ℕ) → at + 16 ≤ length xs → blockAt (xs ++ ys) at ≡ blockAt xs at
+  unfolding blockAt
+  in-first at h = ap (take 16) (drop-append-le at xs ys (omega arith)) ∙ take-append-le 16 (drop at xs) ys (omega (arith, length-drop at xs))
+
+  in-second : (at : ℕ) → blockAt (xs ++ ys) (length xs + at) ≡ blockAt ys at
+  unfolding blockAt
+  in-second at = ap (take 16) (drop-append-add xs ys at)
+
+  text-first : (from n : ℕ) → 16 * n ≤ length xs → blocksText from n (xs ++ ys) ≡ blocksText from n xs
+  unfolding blocksText
+  text-first from zero h = refl
+  text-first from (suc n) h =
+      ap₂ (λ (a b : List ℕ). a ++ b) (text-first from n (omega arith)) (ap (blockText (from + n)) (in-first (16 * n) (omega arith)))
+
+  text-both : (from c n : ℕ) → length xs ≡ 16 * c → blocksText from (c + n) (xs ++ ys) ≡ blocksText from c xs ++ blocksText (from + c) n ys
+  unfolding blocksText
+  text-both from c zero e = ap (λ (m : ℕ). blocksText from m (xs ++ ys)) (add-zero c) ∙ text-first from c (omega arith) ∙ sym (append-nil _)
+  text-both from c (suc n) e =
+      let at : 16 * (c + n) ≡ length xs + 16 * n = omega arith in
+      ap (λ (m : ℕ). blocksText from m (xs ++ ys)) (add-suc c n)
+      ∙ ap₂ (λ (a b : List ℕ). a ++ b) (text-both from c n e)
+      (ap₂ blockText (sym (add-assoc from c n)) (ap (blockAt (xs ++ ys)) at ∙ in-second (16 * n)))
+      ∙ append-assoc (blocksText from c xs) (blocksText (from + c) n ys) _
+
+  -- the lines of both, where the first has whole blocks
+  pub listed-both : (from c : ℕ) → length xs ≡ 16 * c → listed from (xs ++ ys) ≡ listed from xs ++ listed (from + c) ys
+  unfolding listed
+  listed-both from c e =
+      let all : length (xs ++ ys) / 16 ≡ c + length ys / 16 = omega (arith, length-append xs ys) in
+      let first : length xs / 16 ≡ c = omega arith in
+      ap (λ (n : ℕ). blocksText from n (xs ++ ys)) all ∙ text-both from c (length ys / 16) e
+      ∙ ap (λ (n : ℕ). blocksText from n xs ++ blocksText (from + c) (length ys / 16) ys) (sym first)
+
+-- as many bytes as are needed, told behind the first of them
+same-test : (a n m : ℕ) → a ≤ n → eqb (n - a) m ≡ eqb n (a + m)
+same-test a n m h = go (eqb n (a + m)) refl
+  where
+    go : (t : Bool) → eqb n (a + m) ≡ t → eqb (n - a) m ≡ t
+    go true e = eq-eqb (n - a) m (omega (arith, eqb-true n (a + m) e))
+    go false e = ne-eqb (n - a) m (λ q. eqb-false n (a + m) e (omega arith))
+
+-- the lines of n blocks that are numbered from a number on, and the refusal
+blocksFrom : ℕ → ℕ → List ℕ → List ℕ
+blocksFrom from n bs = listed from (take (16 * n) bs) ++ pick (eqb (length bs) (16 * n)) [] (refusedLine 10)
+
+module _ (c from k : ℕ) (bs : List ℕ) where
+  more : 16 * (suc k * c) ≡ 16 * c + 16 * (k * c)
+  more = omega (arith, suc-mul k c)
+
+  -- the first row is cut off
+  row-cut : length bs < 16 * c → rowsListing c from (suc k) bs ≡ blocksFrom from (suc k * c) bs
+  unfolding rowsListing blocksFrom
+  row-cut h =
+      rw (lt-leb (16 * c) (length bs) h, take-all (16 * c) bs (omega arith), take-all (16 * (suc k * c)) bs (omega (arith, more)), ne-eqb (length bs) (16 * (suc k * c)) (λ q. omega (arith, more)))
+
+  -- it is whole
+  row-whole : 16 * c ≤ length bs → rowsListing c (from + c) k (drop (16 * c) bs) ≡ blocksFrom (from + c) (k * c) (drop (16 * c) bs)
+      → rowsListing c from (suc k) bs ≡ blocksFrom from (suc k * c) bs
+  unfolding rowsListing blocksFrom
+  row-whole h e =
+      let row = take (16 * c) bs in
+      let rest = drop (16 * c) bs in
+      rw (le-leb (16 * c) (length bs) h) (ap (λ (t : List ℕ). listed from row ++ t) e
+      ∙ sym (append-assoc (listed from row) (listed (from + c) (take (16 * (k * c)) rest)) _)
+      ∙ ap₂ (λ (t : List ℕ) (b : Bool). t ++ pick b [] (refusedLine 10))
+      (sym (ap (λ (m : ℕ). listed from (take m bs)) more ∙ ap (listed from) (take-add (16 * c) (16 * (k * c)) bs) ∙ listed-both row (take (16 * (k * c)) rest) from c (length-take-le (16 * c) bs h)))
+      (ap (λ (n : ℕ). eqb n (16 * (k * c))) (length-drop (16 * c) bs) ∙ same-test (16 * c) (length bs) (16 * (k * c)) h ∙ ap (eqb (length bs)) (sym more)))
+
+no-rows : (c from : ℕ) (bs : List ℕ) → rowsListing c from 0 bs ≡ blocksFrom from (0 * c) bs
+unfolding rowsListing blocksFrom listed blocksText
+no-rows c from bs = rw (zero-mul c)
+
+rows-are-blocks : (c from k : ℕ) (bs : List ℕ) → rowsListing c from k bs ≡ blocksFrom from (k * c) bs
+rows-are-blocks c from zero bs = no-rows c from bs
+rows-are-blocks c from (suc k) bs =
+    ⊎-elim (row-cut c from k bs) (λ h. row-whole c from k bs h (rows-are-blocks c (from + c) k (drop (16 * c) bs))) (lt-or (length bs) (16 * c))
+
+-- k rows of c blocks, one at a time, are k · c blocks
+rows-are-listing : (c k : ℕ) (bs : List ℕ) → rowsListing c 0 k bs ≡ blocksListing (k * c) bs
+unfolding blocksListing blocksFrom
+rows-are-listing c k bs = rows-are-blocks c 0 k bs
+
+module _ (s : List ℕ) where
+  -- a refused head prints only `refused` and the number
+  pub listing-refused : (readHead s .refusal ≡ 0 → ⊥) → listing s ≡ refusedLine (readHead s .refusal)
+  unfolding listing
+  listing-refused ne = rw (ne-eqb (readHead s .refusal) 0 ne)
+
+  -- an accepted one its line, and then the rows of blocks, one at a time, from the byte behind those of the head on
+  pub listing-by-rows : readHead s .refusal ≡ 0
+      → listing s ≡ sheetLine (readHead s .width) (readHead s .height) ++ rowsListing (across (readHead s .width)) 0 (across (readHead s .height)) (drop (headLength s) s)
+  unfolding listing blocksOf
+  listing-by-rows e =
+      let w = readHead s .width in
+      let h = readHead s .height in
+      rw (eq-eqb (readHead s .refusal) 0 e) (ap (λ (t : List ℕ). sheetLine w h ++ t)
+      (ap (λ (n : ℕ). blocksListing (across h * across w) (drop n s)) (blocks-start s e) ∙ sym (rows-are-listing (across w) (across h) (drop (headLength s) s))))

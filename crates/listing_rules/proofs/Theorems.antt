@@ -1,0 +1,42 @@
+-- For every input the machine, fed with it as it asks, says `listing` of the input, and nothing else; and document 01's example.
+-- Assumes nothing.
+use mathlib.Core.Path.{_≡_, refl, ap, subst}
+use mathlib.Core.List.{List, [], _∷_, _++_}
+use Prim.Native.Nat.{ℕ}
+use native.Mathlib.Nat.{le-refl}
+use lib.ListN.{replicate, take}
+use Rattle.laws.specs.Refusals.{first}
+use Rattle.laws.specs.Tables.{table, tableFrom}
+use Rattle.format.specs.Block.{modeOf, number, trailing}
+use Rattle.format.specs.Drawing.{drawn, eight, promoted, weightOf, weights}
+use Rattle.format.specs.Lines.{arrayOf, has, indexPlace, lineAt, lineBits, lineOf, means, own, pPlace, pixel, pixels, rotated, shown, valuePlace}
+use Rattle.format.specs.Modes.{endpointCount, kindOfMode, modeRow}
+use Rattle.format.specs.Partitions.{anchors2, anchors3, digits, marks, strings2, strings3, subset2, subset3}
+use Rattle.format.specs.Places.{atPlace, opened, placeAt, pos, width, widths}
+use Rattle.format.specs.Splits.{splitAt, splitOf}
+use Rattle.head.specs.Heads.{formIn, headRefusal, heightIn, readHead, sizeRefusal, widthIn}
+use Rattle.head.specs.Numbers.{raised, readGroups, readNumber}
+use Rattle.text.specs.Lines.{ascii, blockLine, channels, decimal, digitsIn, newline, opacityMark, refusedLine, sheetLine}
+use Rattle.sheet_rules.specs.Rows.{blockAt}
+use Rattle.sheet_rules.specs.Sheets.{blocksOf}
+use Rattle.listing_rules.specs.declared.Machine.{Machine}
+use Rattle.listing_rules.specs.Listing.{blockText, blocksListing, blocksText, listed, listing}
+use Rattle.listing_rules.specs.Machine.{Run, atStart, over, textOf, turn, turnsOf, wantedOf}
+use Rattle.listing_rules.proofs.Turns.{ready-start, rest-start, runs}
+
+-- a run over each input, and what it says
+pub machine-lists : (s : List ℕ) → Run atStart s (listing s)
+machine-lists s = subst (λ (t : List ℕ). Run atStart s t) (rest-start s) (runs (turnsOf atStart) atStart s (le-refl _) ready-start)
+
+-- there is no other
+pub one-run : {m : Machine} {s t u : List ℕ} → Run m s t → Run m s u → t ≡ u
+one-run (over e) (over f) = refl
+one-run (over e) (turn n r) = absurd (n e)
+one-run (turn n r) (over e) = absurd (n e)
+one-run {m} {s} (turn n r) (turn o q) = ap (λ (t : List ℕ). textOf m (take (wantedOf m) s) ++ t) (one-run r q)
+
+-- document 01's example: block D and a reserved block
+pub document-lists : listing (0x01 ∷ 0x05 ∷ 0x04 ∷ (0x60 ∷ (replicate 5 0 ++ (0xFC ∷ 0x03 ∷ replicate 24 0))))
+    ≡ (ascii "sheet 5 4" ++ (newline ∷ [])) ++ ((ascii "0 5 255 0 0 0 -" ++ (newline ∷ [])) ++ (ascii "1 8 0 0 0 0 -" ++ (newline ∷ [])))
+unfolding listing blocksListing listed blocksText blockText readHead headRefusal formIn widthIn heightIn readNumber readGroups raised first sizeRefusal blocksOf blockAt sheetLine blockLine channels opacityMark decimal digitsIn ascii table tableFrom digits marks strings2 strings3 subset2 subset3 anchors2 anchors3 weights weightOf drawn promoted eight modeRow kindOfMode endpointCount placeAt pos width widths trailing number modeOf splitAt splitOf atPlace opened has valuePlace pPlace arrayOf indexPlace own lineOf lineBits means rotated lineAt shown pixel pixels
+document-lists = refl

@@ -1,0 +1,4 @@
+-- The definitions that the contracts cite, and what is printed in all.
+pub mod Taking
+pub mod Listing
+pub mod Machine

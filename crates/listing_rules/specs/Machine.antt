@@ -1,0 +1,145 @@
+-- The listing as a machine: what it wants next, what it says of what came, its next state; and a run of it over an input.
+-- Assumes nothing.
+use Prim.Native.Nat.{ℕ, zero, suc, _+_, _-_, _*_, _<_, _≤_}
+use mathlib.Core.Path.{_≡_}
+use mathlib.Core.Bool.{Bool, true, false, not}
+use mathlib.Core.List.{List, [], _∷_, _++_}
+use lib.Dec.{eqb}
+use lib.ListN.{length, take, drop}
+use Rattle.listing_rules.specs.declared.HeadReader.{HeadReader}
+use Rattle.listing_rules.specs.declared.Taken.{Taken}
+use Rattle.listing_rules.specs.declared.Machine.{Machine}
+use Rattle.listing_rules.specs.declared.Phase.{Phase}
+use Rattle.listing_rules.specs.declared.Phase.the-variants.{Head, Row, End, Listed, Refused}
+use Rattle.head.specs.declared.Head.{Head as SheetHead}
+use Rattle.laws.specs.Tables.{pick}
+use Rattle.text.specs.Lines.{refusedLine, sheetLine}
+use Rattle.sheet_rules.specs.Rows.{across}
+use Rattle.listing_rules.specs.Listing.{listed, unlessExact}
+use Rattle.listing_rules.specs.Taking.{fresh, goesOn, headTaken, withByte}
+
+-- a reader after what came of the head's next byte, and does the head end there
+unfoldable pub takenOf : HeadReader → List ℕ → Taken
+takenOf r [] = record { reader = r; ends = true }
+takenOf r (b ∷ bs) = record { reader = withByte r b; ends = not (goesOn (withByte r b)) }
+
+-- the states: at the head, before so many rows, at the end
+abbrev pub atHead : HeadReader → Machine
+atHead r = record { phase = Head; reader = r; columns = 0; rows = 0; from = 0 }
+
+abbrev pub atStart : Machine
+atStart = atHead fresh
+
+abbrev pub rowsPhase : ℕ → Phase
+rowsPhase zero = End
+rowsPhase (suc k) = Row
+
+unfoldable pub inRows : ℕ → ℕ → ℕ → Machine
+inRows c k from = record { phase = rowsPhase k; reader = fresh; columns = c; rows = k; from = from }
+
+unfoldable pub ended : Bool → Machine
+ended exact = record { phase = pick exact Listed Refused; reader = fresh; columns = 0; rows = 0; from = 0 }
+
+-- behind a head: what is said of it, and the state
+unfoldable pub headText : SheetHead → List ℕ
+headText h = pick (eqb (h .refusal) 0) (sheetLine (h .width) (h .height)) (refusedLine (h .refusal))
+
+unfoldable pub begun : SheetHead → Machine
+begun h = pick (eqb (h .refusal) 0) (inRows (across (h .width)) (across (h .height)) 0) (ended false)
+
+-- how many bytes are wanted
+abbrev pub wantedIn : Phase → ℕ → ℕ
+wantedIn Head c = 1
+wantedIn Row c = 16 * c
+wantedIn End c = 1
+wantedIn Listed c = 0
+wantedIn Refused c = 0
+
+abbrev pub wantedOf : Machine → ℕ
+wantedOf m = wantedIn (m .phase) (m .columns)
+
+-- what is said of what came
+abbrev pub textAtHead : Taken → List ℕ
+textAtHead t = pick (t .ends) (headText (headTaken (t .reader))) []
+
+abbrev pub textInRows : ℕ → ℕ → List ℕ → List ℕ
+textInRows c from came = listed from came ++ unlessExact (eqb (length came) (16 * c))
+
+abbrev pub textIn : Phase → Machine → List ℕ → List ℕ
+textIn Head m came = textAtHead (takenOf (m .reader) came)
+textIn Row m came = textInRows (m .columns) (m .from) came
+textIn End m came = unlessExact (eqb (length came) 0)
+textIn Listed m came = []
+textIn Refused m came = []
+
+abbrev pub textOf : Machine → List ℕ → List ℕ
+textOf m came = textIn (m .phase) m came
+
+-- the next state
+abbrev pub nextAtHead : Taken → Machine
+nextAtHead t = pick (t .ends) (begun (headTaken (t .reader))) (atHead (t .reader))
+
+abbrev pub nextInRows : ℕ → ℕ → ℕ → ℕ → Machine
+nextInRows c k from got = pick (eqb got (16 * c)) (inRows c (k - 1) (from + c)) (ended false)
+
+abbrev pub nextIn : Phase → Machine → List ℕ → Machine
+nextIn Head m came = nextAtHead (takenOf (m .reader) came)
+nextIn Row m came = nextInRows (m .columns) (m .rows) (m .from) (length came)
+nextIn End m came = ended (eqb (length came) 0)
+nextIn Listed m came = ended true
+nextIn Refused m came = ended false
+
+abbrev pub nextOf : Machine → List ℕ → Machine
+nextOf m came = nextIn (m .phase) m came
+
+-- a run over an input: the machine is fed with what it wants for as long as it wants something; what it says, put together
+pub data Run : Machine → List ℕ → List ℕ → Type 0 where
+  over : {m : Machine} {s : List ℕ} → wantedOf m ≡ 0 → Run m s []
+  turn : {m : Machine} {s t : List ℕ} → (wantedOf m ≡ 0 → ⊥) → Run (nextOf m (take (wantedOf m) s)) (drop (wantedOf m) s) t
+      → Run m s (textOf m (take (wantedOf m) s) ++ t)
+
+-- what holds in every state that a run comes to
+pub record InRows (c k from : ℕ) : Type 0 where
+  pub within : c ≤ 1024
+  pub some : 1 ≤ c
+  pub more : 1 ≤ k
+  pub numbers : from + 1024 * k ≤ 1048576
+
+abbrev pub ReadyIn : Phase → Machine → Type 0
+ReadyIn Head m = goesOn (m .reader) ≡ true
+ReadyIn Row m = InRows (m .columns) (m .rows) (m .from)
+ReadyIn End m = Unit {0}
+ReadyIn Listed m = Unit {0}
+ReadyIn Refused m = Unit {0}
+
+abbrev pub Ready : Machine → Type 0
+Ready m = ReadyIn (m .phase) m
+
+-- how many turns it still takes at the most
+abbrev pub turnsIn : Phase → Machine → ℕ
+turnsIn Head m = 9 - m .reader .count + 1026
+turnsIn Row m = m .rows + 1
+turnsIn End m = 1
+turnsIn Listed m = 0
+turnsIn Refused m = 0
+
+abbrev pub turnsOf : Machine → ℕ
+turnsOf m = turnsIn (m .phase) m
+
+-- how many bytes it may still say besides 40 for each block
+abbrev pub spareIn : Phase → ℕ
+spareIn Head = 80
+spareIn Row = 40
+spareIn End = 40
+spareIn Listed = 0
+spareIn Refused = 0
+
+abbrev pub spareOf : Machine → ℕ
+spareOf m = spareIn (m .phase)
+
+-- the next n bytes from a place on, of so many, end here: all n, or fewer where there are no more
+pub record NextEnd (at n many end : ℕ) : Type 0 where
+  pub behind : at ≤ end
+  pub few : end ≤ at + n
+  pub within : end ≤ many
+  pub all : end < at + n → end ≡ many

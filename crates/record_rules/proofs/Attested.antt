@@ -1,0 +1,89 @@
+-- WHAT HOLDS THE DEFINITIONS OF THE RECORD: whole records written out (format's Examples has what the blocks store, and where).
+-- Assumes nothing.
+use mathlib.Core.Path.{_≡_, refl}
+use mathlib.Core.List.{List, [], _∷_, map}
+use Prim.Native.Nat.{ℕ}
+use Rattle.record_rules.specs.declared.Record.{Record}
+use Rattle.record_rules.specs.declared.Unpacked.{Unpacked}
+use Rattle.record_rules.specs.declared.Packed.{Packed}
+use Rattle.format.specs.declared.Split.{Split}
+use Rattle.format.specs.declared.Split.the-variants.{Whole, Two, Vector}
+use Rattle.laws.specs.Refusals.{first}
+use Rattle.laws.specs.Tables.{table, tableFrom}
+use Rattle.format.specs.Block.{bytesOf, modeOf, number, trailing}
+use Rattle.format.specs.Modes.{endpointCount, kindOfMode, modeRow}
+use Rattle.format.specs.Partitions.{anchors2, anchors3, digits, marks, strings2, strings3}
+use Rattle.format.specs.Places.{atPlace, blockOf, listOf, opened, placeAt, pos, width, widths}
+use Rattle.format.specs.Splits.{splitAt, splitOf}
+use Rattle.format.proofs.Examples.{block4, block7}
+use Rattle.record_rules.specs.Records.{fits, made, packRefusal, packed, recordOf, says, taken}
+
+abbrev sixteenZeros : List ℕ
+sixteenZeros = 0 ∷ 0 ∷ 0 ∷ 0 ∷ 0 ∷ 0 ∷ 0 ∷ 0 ∷ 0 ∷ 0 ∷ 0 ∷ 0 ∷ 0 ∷ 0 ∷ 0 ∷ 0 ∷ []
+
+-- six endpoints of red, green, blue and alpha, of which a vector and its scalar share two
+abbrev pub record4 : Record
+record4 = record {
+  mode = 4;
+  split = Vector 2 1;
+  endpoints = 1 ∷ 3 ∷ 5 ∷ 7 ∷ 2 ∷ 4 ∷ 6 ∷ 8 ∷ 0 ∷ 0 ∷ 0 ∷ 0 ∷ 0 ∷ 0 ∷ 0 ∷ 0 ∷ 0 ∷ 0 ∷ 0 ∷ 0 ∷ 0 ∷ 0 ∷ 0 ∷ 0 ∷ [];
+  p = 0 ∷ 0 ∷ 0 ∷ 0 ∷ 0 ∷ 0 ∷ [];
+  first = 1 ∷ 2 ∷ 3 ∷ 0 ∷ 1 ∷ 2 ∷ 3 ∷ 0 ∷ 1 ∷ 2 ∷ 3 ∷ 0 ∷ 1 ∷ 2 ∷ 3 ∷ 0 ∷ [];
+  second = 3 ∷ 4 ∷ 5 ∷ 6 ∷ 7 ∷ 0 ∷ 1 ∷ 2 ∷ 3 ∷ 4 ∷ 5 ∷ 6 ∷ 7 ∷ 0 ∷ 1 ∷ 2 ∷ [];
+}
+
+abbrev indexes7 : List ℕ
+indexes7 = 1 ∷ 2 ∷ 3 ∷ 0 ∷ 1 ∷ 2 ∷ 3 ∷ 0 ∷ 0 ∷ 3 ∷ 2 ∷ 1 ∷ 0 ∷ 3 ∷ 2 ∷ 1 ∷ []
+
+abbrev lastOne : List ℕ
+lastOne = 0 ∷ 0 ∷ 0 ∷ 0 ∷ 0 ∷ 0 ∷ 0 ∷ 0 ∷ 0 ∷ 0 ∷ 0 ∷ 0 ∷ 0 ∷ 0 ∷ 0 ∷ 1 ∷ []
+
+abbrev topSet : List ℕ
+topSet = 1 ∷ 2 ∷ 3 ∷ 0 ∷ 1 ∷ 2 ∷ 3 ∷ 0 ∷ 0 ∷ 3 ∷ 2 ∷ 1 ∷ 0 ∷ 3 ∷ 2 ∷ 2 ∷ []
+
+-- a record of mode 7 whose split, first value and indexes are given
+abbrev like7 : Split → ℕ → List ℕ → List ℕ → Record
+like7 s red is js = record {
+  mode = 7;
+  split = s;
+  endpoints = red ∷ 2 ∷ 3 ∷ 4 ∷ 5 ∷ 6 ∷ 7 ∷ 8 ∷ 9 ∷ 10 ∷ 11 ∷ 12 ∷ 13 ∷ 14 ∷ 15 ∷ 16 ∷ 0 ∷ 0 ∷ 0 ∷ 0 ∷ 0 ∷ 0 ∷ 0 ∷ 0 ∷ [];
+  p = 1 ∷ 0 ∷ 1 ∷ 1 ∷ 0 ∷ 0 ∷ [];
+  first = is;
+  second = js;
+}
+
+abbrev pub record7 : Record
+record7 = like7 (Two 13) 1 indexes7 sixteenZeros
+
+-- a record of zeros in a mode; that of mode 0 is what a refusal answers beside its number
+abbrev pub zerosOf : ℕ → Record
+zerosOf m = record {
+  mode = m;
+  split = Whole;
+  endpoints = 0 ∷ 0 ∷ 0 ∷ 0 ∷ 0 ∷ 0 ∷ 0 ∷ 0 ∷ 0 ∷ 0 ∷ 0 ∷ 0 ∷ 0 ∷ 0 ∷ 0 ∷ 0 ∷ 0 ∷ 0 ∷ 0 ∷ 0 ∷ 0 ∷ 0 ∷ 0 ∷ 0 ∷ [];
+  p = 0 ∷ 0 ∷ 0 ∷ 0 ∷ 0 ∷ 0 ∷ [];
+  first = sixteenZeros;
+  second = sixteenZeros;
+}
+
+abbrev unpacked : ℕ → Record → Unpacked
+unpacked n r = record { refusal = n; «record» = r }
+
+abbrev block : ℕ → List ℕ → Packed
+block n bs = record { refusal = n; block = bs }
+
+abbrev refused : ℕ → Packed
+refused n = block n sixteenZeros
+
+-- the records of two blocks; a reserved block is refused with 1
+pub records-of-blocks : map taken (block4 ∷ block7 ∷ sixteenZeros ∷ []) ≡ unpacked 0 record4 ∷ unpacked 0 record7 ∷ unpacked 1 (zerosOf 0) ∷ []
+unfolding taken recordOf made table tableFrom atPlace opened placeAt pos width widths trailing number modeOf splitAt splitOf modeRow kindOfMode endpointCount anchors2 anchors3 digits marks strings2 strings3
+records-of-blocks = refl
+
+-- the blocks of these records; refused are a mode above 7, a split of another kind, a red of six bits, a second index where there is
+-- none, and the index 2 at the anchor 15, each with what follows it
+pub blocks-of-records : map packed (record4 ∷ record7 ∷ zerosOf 8 ∷ like7 Whole 32 topSet lastOne ∷ like7 (Two 13) 32 topSet lastOne
+    ∷ like7 (Two 13) 1 topSet lastOne ∷ like7 (Two 13) 1 topSet sixteenZeros ∷ [])
+    ≡ block 0 block4 ∷ block 0 block7 ∷ refused 5 ∷ refused 5 ∷ refused 3 ∷ refused 3 ∷ refused 6 ∷ []
+unfolding packed packRefusal fits first says blockOf listOf bytesOf table tableFrom placeAt width widths modeRow kindOfMode endpointCount anchors2 anchors3 digits marks strings2 strings3
+blocks-of-records = refl

@@ -1,0 +1,61 @@
+-- `list_call_of`: what is written is as long as the listing.
+-- Assumes nothing.
+use mathlib.Core.Path.{sym}
+use lib.Seq.{length-take-le}
+use borrow.Author.Needs.{needs}
+use Rattle.replay.proofs.list_call_of.Statement.{statement}
+use Rattle.replay.proofs.list_call_of.Tie as tie
+
+filled-requires : tie.Need-filled-requires
+filled-requires c κs = search needs
+
+same-length : tie.Need-same-length
+same-length c = search needs
+
+returns : tie.Need-returns
+returns c = search needs
+
+slice-aggregate-list-sheet : tie.Need-slice-aggregate-list-sheet
+slice-aggregate-list-sheet c = search needs
+
+list-sheet-requires : tie.Need-list-sheet-requires
+list-sheet-requires c κs = search needs
+
+cast-write-u32 : tie.Need-cast-write-u32
+cast-write-u32 c = search needs
+
+write-u32-requires : tie.Need-write-u32-requires
+write-u32-requires c κs = search needs
+
+array-share-prefix-text : tie.Need-array-share-prefix-text
+array-share-prefix-text c = search needs
+
+slice-aggregate-write-all : tie.Need-slice-aggregate-write-all
+slice-aggregate-write-all c =
+    let listed = c .before .before .before in sym (length-take-le (listed .list-sheet .result) (listed .list-sheet .last .1 .0) (search needs))
+
+write-all-requires : tie.Need-write-all-requires
+write-all-requires c κs = search needs
+
+same-length-2 : tie.Need-same-length-2
+same-length-2 c = search needs
+
+returns-2 : tie.Need-returns-2
+returns-2 c = search needs
+
+pub list-call-of-spec : {M : Type 1} → statement M
+list-call-of-spec =
+    tie.close
+    (tie.spec
+    filled-requires
+    same-length
+    returns
+    slice-aggregate-list-sheet
+    list-sheet-requires
+    cast-write-u32
+    write-u32-requires
+    array-share-prefix-text
+    slice-aggregate-write-all
+    write-all-requires
+    same-length-2
+    returns-2)

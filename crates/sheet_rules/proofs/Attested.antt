@@ -1,0 +1,153 @@
+-- WHAT HOLDS THE DEFINITIONS OF SHEETS: a picture of 5 by 6 pixels, no two alike, written out; calls on its rows and its blocks.
+-- Assumes nothing.
+use mathlib.Core.Path.{_≡_, refl}
+use mathlib.Core.List.{List, [], _∷_, _++_, map}
+use Prim.Native.Nat.{ℕ}
+use lib.ListN.{drop, length, replicate}
+use Rattle.line_rules.specs.declared.Replacement.{Replacement}
+use Rattle.laws.specs.Refusals.{first}
+use Rattle.laws.specs.Tables.{over, table, tableFrom}
+use Rattle.format.specs.Block.{bytesOf, modeOf, number, trailing}
+use Rattle.format.specs.Drawing.{drawn, eight, promoted, weightOf, weights}
+use Rattle.format.specs.Lines.{anchorOf, arrayOf, has, indexPlace, laid, lineAt, lineBits, lineOf, means, own, pPlace, pixel, pixels, rotated, shown, turned, valuePlace, withLine}
+use Rattle.format.specs.Modes.{endpointCount, kindOfMode, modeRow}
+use Rattle.format.specs.Places.{atPlace, blockOf, listOf, opened, placeAt, pos, width, widths}
+use Rattle.format.specs.Splits.{splitAt, splitOf}
+use Rattle.head.specs.Heads.{formIn, headRefusal, heightIn, readHead, sizeRefusal, widthIn}
+use Rattle.head.specs.Numbers.{raised, readGroups, readNumber}
+use Rattle.line_rules.specs.Replace.{after, indexFits, lineFits, lineGiven, oriented, ownWidth, pFits, put, refusal, refusalIn, replaced, valueFits}
+use Rattle.sheet_rules.specs.Pictures.{picture, pictureByte}
+use Rattle.sheet_rules.specs.Rows.{across, blockAt, channel, rowByte, rowBytes, rowOut, rowRefusal, shown as linesShown}
+use Rattle.sheet_rules.specs.Sheets.{blockIn, blocksOf, findRefusal, placeOf, putBlock, replacedIn, sheetAfter, sheetRefusal}
+
+-- blocks of mode 6: red from 0 to 120, blue 7, alpha 127, and a green of 10, 20, 30 or 40; p 0 and 0; pixel q has index q
+abbrev shade : ℕ → ℕ → ℕ → List ℕ
+shade a b c = 0x40 ∷ 0x00 ∷ a ∷ b ∷ c ∷ 0x1C ∷ 0xFE ∷ 0x7F ∷ 0x10 ∷ 0x32 ∷ 0x54 ∷ 0x76 ∷ 0x98 ∷ 0xBA ∷ 0xDC ∷ 0xFE ∷ []
+
+abbrev shade10 : List ℕ
+shade10 = shade 0x5E 0xA1 0x38
+
+abbrev shade20 : List ℕ
+shade20 = shade 0x9E 0x42 0x39
+
+abbrev shade30 : List ℕ
+shade30 = shade 0xDE 0xE3 0x39
+
+abbrev shade40 : List ℕ
+shade40 = shade 0x1E 0x85 0x3A
+
+-- the sheet: its head, a row of two blocks, and another, in which block 2 is given
+abbrev pub lower : List ℕ
+lower = shade30 ++ shade40
+
+abbrev sheet : List ℕ → List ℕ
+sheet block2 = (0x01 ∷ 0x05 ∷ 0x06 ∷ []) ++ shade10 ++ shade20 ++ block2 ++ shade40
+
+abbrev pub small : List ℕ
+small = sheet shade30
+
+-- a pixel by its red and its green, which are twice what is stored; and a line of the picture: four pixels of the block on the left,
+-- and of that on the right the first, which has the same red
+abbrev px : ℕ → ℕ → List ℕ
+px red green = red ∷ green ∷ 14 ∷ 254 ∷ []
+
+abbrev line : ℕ → ℕ → ℕ → ℕ → ℕ → ℕ → List ℕ
+line left right a b c d = px a left ++ px b left ++ px c left ++ px d left ++ px a right
+
+abbrev upperLines : List ℕ
+upperLines = line 20 40 0 15 34 49 ++ line 20 40 64 79 98 113 ++ line 20 40 128 143 161 176 ++ line 20 40 191 206 225 240
+
+abbrev pub lowerLines : List ℕ
+lowerLines = line 60 80 0 15 34 49 ++ line 60 80 64 79 98 113
+
+-- a line for block 2, which is turned; and the block with it: 5 6 7 8, p 0 and 1 2 3 4, p 1, and the indexes 7 14 14 and so on
+abbrev given : Replacement
+given = record { endpoints = 1 ∷ 2 ∷ 3 ∷ 4 ∷ 5 ∷ 6 ∷ 7 ∷ 8 ∷ []; p = 1 ∷ 0 ∷ []; indexes = 8 ∷ replicate 15 1 }
+
+abbrev replaced2 : List ℕ
+replaced2 = 0xC0 ∷ 0x42 ∷ 0xC0 ∷ 0x20 ∷ 0x38 ∷ 0x0C ∷ 0x10 ∷ 0x04 ∷ 0xEF ∷ replicate 7 0xEE
+
+abbrev pub smallReplaced : List ℕ
+smallReplaced = sheet replaced2
+
+-- a row decoded: what is given, the number that is answered, and the output afterwards
+pub record Row : Type 0 where
+  pub wide : ℕ
+  pub high : ℕ
+  pub row : ℕ
+  pub blocks : List ℕ
+  pub out : List ℕ
+  pub answer : ℕ
+  pub left : List ℕ
+
+abbrev decode : ℕ → ℕ → ℕ → List ℕ → List ℕ → ℕ → List ℕ → Row
+decode w h n bs out r left = record { wide = w; high = h; row = n; blocks = bs; out = out; answer = r; left = left }
+
+abbrev nines : ℕ → List ℕ
+nines n = replicate n 9
+
+-- each call is refused for what the next ones are refused for too
+abbrev pub rowClaims : List Row
+rowClaims =
+    decode 5 6 1 lower (nines 40) 0 lowerLines ∷
+    decode 0 6 2 shade30 (nines 41) 9 (nines 41) ∷
+    decode 5 6 2 shade30 (nines 41) 12 (nines 41) ∷
+    decode 5 6 1 shade30 (nines 41) 10 (nines 41) ∷
+    decode 5 6 1 lower (nines 41) 11 (nines 41) ∷
+    []
+
+-- a line replaced in a sheet: what is given, the number that is answered, and the sheet afterwards
+pub record Replaced : Type 0 where
+  pub before : List ℕ
+  pub block : ℕ
+  pub of-block : ℕ
+  pub answer : ℕ
+  pub left : List ℕ
+
+abbrev replace : List ℕ → ℕ → ℕ → ℕ → List ℕ → Replaced
+replace s b l r t = record { before = s; block = b; of-block = l; answer = r; left = t }
+
+abbrev refuse : List ℕ → ℕ → ℕ → ℕ → Replaced
+refuse s b l r = replace s b l r s
+
+-- a byte too many
+abbrev longer : List ℕ
+longer = small ++ (0 ∷ [])
+
+-- each call is refused for what the next ones are refused for too
+abbrev pub sheetClaims : List Replaced
+sheetClaims =
+    replace small 2 0 0 smallReplaced ∷
+    refuse [] 4 1 7 ∷
+    refuse (0x02 ∷ 0x00 ∷ drop 2 longer) 4 1 8 ∷
+    refuse (0x01 ∷ 0x00 ∷ drop 2 longer) 4 1 9 ∷
+    refuse longer 4 1 10 ∷
+    refuse small 4 1 12 ∷
+    refuse small 2 1 2 ∷
+    []
+
+pub record Sheets : Type 0 where
+  pub columns : map across (1 ∷ 4 ∷ 5 ∷ 4096 ∷ []) ≡ 1 ∷ 1 ∷ 2 ∷ 1024 ∷ []
+  pub in-all : blocksOf (record { refusal = 0; width = 9; height = 6; start = 3 }) ≡ 6
+  pub lines : map (linesShown 6) (0 ∷ 1 ∷ 2 ∷ []) ≡ 4 ∷ 2 ∷ 0 ∷ []
+  pub shown : picture 5 6 (drop 3 small) ≡ upperLines ++ lowerLines
+  pub blocks : map (blockIn small) (0 ∷ 1 ∷ 2 ∷ 3 ∷ []) ≡ shade10 ∷ shade20 ∷ shade30 ∷ shade40 ∷ []
+  pub row-answers : map (λ c. rowRefusal (c .wide) (c .high) (c .row) (length (c .blocks)) (length (c .out))) rowClaims
+      ≡ map (λ c. c .answer) rowClaims
+  pub rows : map (λ c. rowOut (c .wide) (c .high) (c .row) (c .blocks) (c .out)) rowClaims ≡ map (λ c. c .left) rowClaims
+  pub answers : map (λ c. sheetRefusal (c .before) (c .block) (c .of-block) given) sheetClaims ≡ map (λ c. c .answer) sheetClaims
+  pub sheets : map (λ c. sheetAfter (c .before) (c .block) (c .of-block) given) sheetClaims ≡ map (λ c. c .left) sheetClaims
+
+pub sheets-hold : Sheets
+unfolding over table tableFrom weights weightOf drawn promoted eight modeRow kindOfMode endpointCount placeAt pos width widths trailing number modeOf splitAt splitOf atPlace opened has valuePlace pPlace arrayOf indexPlace own lineOf lineBits means rotated lineAt shown pixel pixels picture pictureByte blockAt channel rowByte rowBytes rowOut rowRefusal blockIn blocksOf findRefusal placeOf putBlock replacedIn sheetAfter sheetRefusal first sizeRefusal readHead headRefusal formIn widthIn heightIn readNumber readGroups raised replaced after refusal refusalIn lineFits valueFits pFits indexFits ownWidth lineGiven put oriented withLine laid turned anchorOf blockOf listOf bytesOf
+sheets-hold = record {
+  columns = refl;
+  in-all = refl;
+  lines = refl;
+  shown = refl;
+  blocks = refl;
+  row-answers = refl;
+  rows = refl;
+  answers = refl;
+  sheets = refl;
+}
