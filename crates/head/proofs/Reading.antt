@@ -42,7 +42,8 @@ module _ (P : ℕ → ℕ → List ℕ → Number → Type 0) (none : (k at : �
   every-number zero at bs = none zero at bs
   every-number (suc k) at [] = none (suc k) at []
   every-number (suc k) at (b ∷ bs) =
-      ⊎-elim (λ l. rw (lt-ltb b 128 l) (last k at b bs l)) (λ l. rw (le-ltb b 128 l) (go l (readGroups k (at + 1) bs) (every-number k (at + 1) bs))) (lt-or b 128)
+      ⊎-elim (λ l. rw (lt-ltb b 128 l) (last k at b bs l)) (λ l. rw (le-ltb b 128 l) (go l (readGroups k (at + 1) bs) (every-number k (at + 1) bs)))
+      (lt-or b 128)
     where
       go : 128 ≤ b → (r : Number) → P k (at + 1) bs r → P (suc k) at (b ∷ bs) (raised b r)
       go l r h =
@@ -53,7 +54,8 @@ module _ (P : ℕ → ℕ → List ℕ → Number → Type 0) (none : (k at : �
 -- k groups have seven bits each, and end at most k places on
 pub value-small : (k at : ℕ) (bs : List ℕ) → readGroups k at bs .value < 128 ^ k
 value-small =
-    every-number (λ k at bs r. r .value < 128 ^ k) (λ k at bs. one-le-pow k 128 (omega arith)) (λ k at b bs l. omega (arith, pow-suc 128 k, one-le-pow k 128 (omega arith)))
+    every-number (λ k at bs r. r .value < 128 ^ k) (λ k at bs. one-le-pow k 128 (omega arith))
+    (λ k at b bs l. omega (arith, pow-suc 128 k, one-le-pow k 128 (omega arith)))
     (λ k at b bs r l ne h. omega (arith, pow-suc 128 k, h))
 
 -- so what stands above the low group leaves room for it
@@ -80,9 +82,11 @@ module _ (s : List ℕ) (at : ℕ) where
   pub last-group : (k : ℕ) {v : ℕ} → at < length s → getD s at 0 < 128 → v ≡ getD s at 0 → found v (at + 1) ≡ read (suc k) at
   last-group k h l e = rw (drop-cons s at 0 h, e) (sym (read-last k at (getD s at 0) _ l))
 
-  pub more-groups : (k : ℕ) → at < length s → 128 ≤ getD s at 0 → {above : Number} → above ≡ read k (at + 1) → raised (getD s at 0) above ≡ read (suc k) at
+  pub more-groups : (k : ℕ) → at < length s → 128 ≤ getD s at 0 → {above : Number} → above ≡ read k (at + 1)
+      → raised (getD s at 0) above ≡ read (suc k) at
   more-groups k h l e =
-      sym (rw (drop-cons s at 0 h) (read-more k at (getD s at 0) _ l ∙ ap (raised (getD s at 0)) (ap (λ (j : ℕ). readGroups k (at + 1) (drop j s)) (sym (add-one at)) ∙ sym e)))
+      sym
+      (rw (drop-cons s at 0 h) (read-more k at (getD s at 0) _ l ∙ ap (raised (getD s at 0)) (ap (λ (j : ℕ). readGroups k (at + 1) (drop j s)) (sym (add-one at)) ∙ sym e)))
 
   -- one group is not enough
   pub no-group : at < length s → 128 ≤ getD s at 0 → noNumber ≡ read 1 at

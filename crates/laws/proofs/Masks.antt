@@ -4,11 +4,11 @@
 use mathlib.Core.Path.{_≡_, refl, sym, ap, ap₂, _∙_}
 use mathlib.Core.List.{List, [], _∷_}
 use Prim.Native.Nat.{ℕ, zero, suc, _+_, _-_, _*_, _/_, _%_, _^_, _<_}
-use native.Mathlib.Nat.{mod-lt, add-comm, add-mul, mul-assoc, mul-comm, zero-add, zero-mul}
+use native.Mathlib.Nat.{mod-lt, add-mul, mul-assoc, mul-comm}
 use native.Mathlib.Omega.{arith}
-use lib.Pow.{pow-pos, pow-add, high, low, shr-mod, shr-shr, mod-pow-add, split as split-at, shl-shr}
+use lib.Pow.{pow-pos, pow-add, high, low, shr-mod, shr-shr, split as split-at, shl-shr}
 use lib.Bits.{bitAnd, and-high}
-use Rattle.laws.specs.Digits.{Fit, inserted, join, more, none, removed, total}
+use Rattle.laws.specs.Digits.{Fit, inserted, join, more, none, removed}
 use Rattle.laws.specs.Tables.{table}
 use Rattle.laws.proofs.Putting.{ands}
 use Rattle.laws.proofs.Rows.{table-cons, table-none}
@@ -53,12 +53,3 @@ removed-inserted n p =
     let up : inserted n p / 2 ^ p ≡ n / 2 ^ p * 2 = ap (λ (x : ℕ). x / 2 ^ p) (inserted-low n p) ∙ high (n / 2 ^ p * 2) p k in
     let hi : inserted n p / 2 ^ (p + 1) ≡ n / 2 ^ p = sym (shr-shr (inserted n p) p 1) ∙ ap (λ (x : ℕ). x / 2 ^ 1) up ∙ shl-shr (n / 2 ^ p) 1 in
     ap₂ (λ (x y : ℕ). x * 2 ^ p + y) hi lo ∙ split-at n p
-
--- and back, where the bit is zero
-pub inserted-removed : (n p : ℕ) → n / 2 ^ p % 2 ^ 1 ≡ 0 → inserted (removed n p) p ≡ n
-unfolding inserted removed
-inserted-removed n p z =
-    let k : n % 2 ^ p < 2 ^ p = mod-lt n (pow-pos p) in
-    let lo : n % 2 ^ (1 + p) ≡ n % 2 ^ p = mod-pow-add n 1 p ∙ ap (λ (x : ℕ). x * 2 ^ p + n % 2 ^ p) z ∙ ap (λ (x : ℕ). x + n % 2 ^ p) (zero-mul (2 ^ p)) ∙ zero-add (n % 2 ^ p) in
-    ap₂ (λ (x y : ℕ). x * 2 ^ (p + 1) + y) (high (n / 2 ^ (p + 1)) p k) (low (n / 2 ^ (p + 1)) p k ∙ sym lo ∙ ap (λ (x : ℕ). n % 2 ^ x) (add-comm 1 p))
-    ∙ split-at n (p + 1)

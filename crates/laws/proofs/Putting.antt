@@ -1,11 +1,10 @@
--- Masks over rows of digits, and one digit of a number replaced.
+-- Masks over rows of digits, a field replaced at the bottom and further up, and widths in two parts.
 -- Assumes nothing.
 use mathlib.Core.Path.{_≡_, refl, sym, ap, ap₂, _∙_}
 use mathlib.Core.List.{List, [], _∷_, _++_}
-use Prim.Native.Nat.{ℕ, zero, suc, _+_, _*_, _/_, _%_, _^_, _<_}
-use native.Mathlib.Nat.{mod-lt, mod-one, div-one, add-zero, zero-add, add-comm, add-assoc, mul-one, add-mul, mul-assoc, not-suc-le-zero, le-of-suc-le-suc}
-use lib.ListN.{length, getD, set, take}
-use lib.Pow.{pow-pos, pow-add, mod-pow-add, high, low, shr-shr}
+use Prim.Native.Nat.{ℕ, _+_, _*_, _/_, _%_, _^_}
+use native.Mathlib.Nat.{mod-one, div-one, add-zero, zero-add, add-comm, add-assoc, mul-one, add-mul, mul-assoc}
+use lib.Pow.{pow-add, mod-pow-add, shr-shr}
 use lib.Bits.{bitAnd, and-block, and-mod, and-shr}
 use Rattle.laws.specs.Digits.{Fit, join, more, none, replacedAt, split, total}
 
@@ -47,19 +46,6 @@ up n s w c v =
     ap₂ (λ (x y : ℕ). x + y) top (ap₂ (λ (x y : ℕ). x + y) mid (mod-pow-add n s w) ∙ sym (add-assoc (B * 2 ^ w) (C * 2 ^ w) (n % 2 ^ w)))
     ∙ sym (add-assoc (A * 2 ^ w) (B * 2 ^ w + C * 2 ^ w) (n % 2 ^ w))
     ∙ ap (λ (x : ℕ). x + n % 2 ^ w) (ap (λ (x : ℕ). A * 2 ^ w + x) (sym (add-mul B C (2 ^ w))) ∙ sym (add-mul A (B + C) (2 ^ w)))
-
--- one digit of a number replaced: the others stay
-pub put-digit : (ws : List ℕ) (n k v : ℕ) → k < length ws → v < 2 ^ getD ws k 0
-    → split ws (replacedAt n (total (take k ws)) (getD ws k 0) v) ≡ set (split ws n) k v
-put-digit [] n k v h l = absurd (not-suc-le-zero h)
-put-digit (w ∷ ws) n zero v h l =
-    ap (split (w ∷ ws)) (at-zero n w v)
-    ∙ ap₂ {C = List ℕ} (λ x y. x ∷ y) (low (n / 2 ^ w) w l) (ap (split ws) (high (n / 2 ^ w) w l))
-put-digit (w ∷ ws) n (suc k) v h l =
-    let m : ℕ = replacedAt (n / 2 ^ w) (total (take k ws)) (getD ws k 0) v in
-    ap (split (w ∷ ws)) (up n (total (take k ws)) w (getD ws k 0) v)
-    ∙ ap₂ {C = List ℕ} (λ x y. x ∷ y) (low m w (mod-lt n (pow-pos w)))
-    (ap (split ws) (high m w (mod-lt n (pow-pos w))) ∙ put-digit ws (n / 2 ^ w) k v (le-of-suc-le-suc h) l)
 
 -- widths in two parts: the second part is a split of what is above the first
 pub split-append : (us ws : List ℕ) (n : ℕ) → split (us ++ ws) n ≡ split us n ++ split ws (n / 2 ^ total us)

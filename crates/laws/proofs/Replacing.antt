@@ -77,7 +77,8 @@ in-lower n a c v w h =
     let e : w - (a + c) + (a + c) ≡ w = omega arith in
     let f : w - a + a ≡ w = omega arith in
     let g : w - a - c + c ≡ w - a = omega arith in
-    let same : n % 2 ^ w / 2 ^ a % 2 ^ c ≡ n / 2 ^ a % 2 ^ c = ap (λ (x : ℕ). x % 2 ^ c) (rw f at (field n (w - a) a)) ∙ (rw g at (mod-mod-pow (n / 2 ^ a) (w - a - c) c)) in
+    let same : n % 2 ^ w / 2 ^ a % 2 ^ c ≡ n / 2 ^ a % 2 ^ c =
+    ap (λ (x : ℕ). x % 2 ^ c) (rw f at (field n (w - a) a)) ∙ (rw g at (mod-mod-pow (n / 2 ^ a) (w - a - c) c)) in
     let t : n % 2 ^ w / 2 ^ a % 2 ^ c * 2 ^ a ≡ n / 2 ^ a % 2 ^ c * 2 ^ a = ap (λ (x : ℕ). x * 2 ^ a) same in
     omega (arith, taken-added n a c v, taken-added (n % 2 ^ w) a c v, taken-le n a c, taken-le (n % 2 ^ w) a c, split n w)
 
@@ -97,11 +98,15 @@ across n a c v w h k =
     let mid : v * 2 ^ a ≡ v / 2 ^ (w - a) * 2 ^ w + v % 2 ^ (w - a) * 2 ^ a =
     ap (λ (x : ℕ). x * 2 ^ a) (sym (split v (w - a)))
     ∙ add-mul (v / 2 ^ (w - a) * 2 ^ (w - a)) (v % 2 ^ (w - a)) (2 ^ a)
-    ∙ ap (λ (x : ℕ). x + v % 2 ^ (w - a) * 2 ^ a) (mul-assoc (v / 2 ^ (w - a)) (2 ^ (w - a)) (2 ^ a) ∙ ap (λ (x : ℕ). v / 2 ^ (w - a) * x) (sym (pow-add 2 (w - a) a) ∙ ap (λ (x : ℕ). 2 ^ x) f)) in
+    ∙ ap (λ (x : ℕ). x + v % 2 ^ (w - a) * 2 ^ a)
+    (mul-assoc (v / 2 ^ (w - a)) (2 ^ (w - a)) (2 ^ a) ∙ ap (λ (x : ℕ). v / 2 ^ (w - a) * x) (sym (pow-add 2 (w - a) a) ∙ ap (λ (x : ℕ). 2 ^ x) f)) in
     let lowest : n % 2 ^ w % 2 ^ a ≡ n % 2 ^ a = rw f at (mod-mod-pow n (w - a) a) in
-    let none : n % 2 ^ w / 2 ^ (a + (w - a)) * 2 ^ (a + (w - a)) ≡ 0 = rw f' (ap (λ (x : ℕ). x * 2 ^ w) (div-eq-of-lt (mod-lt n (pow-pos w))) ∙ zero-mul (2 ^ w)) in
-    let first : replacedAt (n / 2 ^ w) 0 d (v / 2 ^ (w - a)) ≡ n / 2 ^ w / 2 ^ d * 2 ^ d + v / 2 ^ (w - a) = at-zero (n / 2 ^ w) d (v / 2 ^ (w - a)) in
-    let up : (n / 2 ^ w / 2 ^ d * 2 ^ d + v / 2 ^ (w - a)) * 2 ^ w ≡ n / 2 ^ w / 2 ^ d * 2 ^ d * 2 ^ w + v / 2 ^ (w - a) * 2 ^ w = add-mul (n / 2 ^ w / 2 ^ d * 2 ^ d) (v / 2 ^ (w - a)) (2 ^ w) in
+    let none : n % 2 ^ w / 2 ^ (a + (w - a)) * 2 ^ (a + (w - a)) ≡ 0 =
+    rw f' (ap (λ (x : ℕ). x * 2 ^ w) (div-eq-of-lt (mod-lt n (pow-pos w))) ∙ zero-mul (2 ^ w)) in
+    let first : replacedAt (n / 2 ^ w) 0 d (v / 2 ^ (w - a)) ≡ n / 2 ^ w / 2 ^ d * 2 ^ d + v / 2 ^ (w - a) =
+    at-zero (n / 2 ^ w) d (v / 2 ^ (w - a)) in
+    let up : (n / 2 ^ w / 2 ^ d * 2 ^ d + v / 2 ^ (w - a)) * 2 ^ w ≡ n / 2 ^ w / 2 ^ d * 2 ^ d * 2 ^ w + v / 2 ^ (w - a) * 2 ^ w =
+    add-mul (n / 2 ^ w / 2 ^ d * 2 ^ d) (v / 2 ^ (w - a)) (2 ^ w) in
     ap₂ (λ (x y : ℕ). x + (y + n % 2 ^ a)) top mid
     ∙ sym (ap (λ (x : ℕ). x * 2 ^ w + (n % 2 ^ w / 2 ^ (a + (w - a)) * 2 ^ (a + (w - a)) + (v % 2 ^ (w - a) * 2 ^ a + n % 2 ^ w % 2 ^ a))) first
     ∙ omega (arith, up, none, lowest))

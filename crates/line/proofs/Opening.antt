@@ -52,7 +52,8 @@ module _ (bs : List ℕ) (sixteen : Fit eights bs) (low : modeOf bs < 8) where
 pub stands-low : {mode : ℕ} {b s : BitStream} → mode < 8 → b .at ≡ 0 → s ≡ skipped b (mode + 1) → s .at ≤ 128
 stands-low h zb es = rw (es, zb) (omega arith)
 
-module _ (bs : List ℕ) {mode : ℕ} {row : ModeRow} (em : mode ≡ modeOf bs) (er : row ≡ rowOf mode) {b s : BitStream} {r : ReadSplit} (hb : held b ≡ number bs) (zb : b .at ≡ 0) (es : s ≡ skipped b (mode + 1)) (e : r ≡ splitRead row s) where
+module _ (bs : List ℕ) {mode : ℕ} {row : ModeRow} (em : mode ≡ modeOf bs) (er : row ≡ rowOf mode) {b s : BitStream} {r : ReadSplit}
+    (hb : held b ≡ number bs) (zb : b .at ≡ 0) (es : s ≡ skipped b (mode + 1)) (e : r ≡ splitRead row s) where
   on : On (number bs) (mode + 1) s
   on = marker-on mode hb zb es
 
@@ -101,8 +102,14 @@ module _ (bs : List ℕ) (sixteen : Fit eights bs) (low : modeOf bs < 8) (l : �
     unfolding opened
     ready-read = read-ready (good bs sixteen low) l hl is (number bs) (λ y h. refl) (o .stream) (i .holds) (i .stands) er
 
-    pub read-0 : {r v : Replacement} → r ≡ lineAt (o .stream) (modeOf bs) row l (o .part) → v ≡ widthsIn (o .part) → record { refusal = 0; line = r; widths = v } ≡ lineRead bs l
+    pub read-0 : {r v : Replacement} → r ≡ lineAt (o .stream) (modeOf bs) row l (o .part) → v ≡ widthsIn (o .part)
+        → record { refusal = 0; line = r; widths = v } ≡ lineRead bs l
     unfolding opened
     read-0 e f =
-        rw (e, f, stands-as-read (good bs sixteen low) l hl is (number bs) (λ y h. refl) (o .stream) (i .holds) (i .stands) er, widths-are (good bs sixteen low) l hl is)
+        rw (
+          e,
+          f,
+          stands-as-read (good bs sixteen low) l hl is (number bs) (λ y h. refl) (o .stream) (i .holds) (i .stands) er,
+          widths-are (good bs sixteen low) l hl is,
+        )
         (sym (read-is bs l (no-refusal bs l low hl)))

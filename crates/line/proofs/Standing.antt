@@ -46,7 +46,8 @@ use Rattle.line_fields.proofs.Taking.{first-read, one-read, second-read}
 use Rattle.line.specs.Reading.{PartSmall, ReadReady, lineAt, psAt, setAt, twoAt, widthsIn}
 
 -- a replacement from its parts
-eight : (v : ℕ → ℕ → ℕ) {a0 a1 a2 a3 b0 b1 b2 b3 : ℕ} → a0 ≡ v 0 0 → a1 ≡ v 0 1 → a2 ≡ v 0 2 → a3 ≡ v 0 3 → b0 ≡ v 1 0 → b1 ≡ v 1 1 → b2 ≡ v 1 2 → b3 ≡ v 1 3
+eight : (v : ℕ → ℕ → ℕ) {a0 a1 a2 a3 b0 b1 b2 b3 : ℕ} → a0 ≡ v 0 0 → a1 ≡ v 0 1 → a2 ≡ v 0 2 → a3 ≡ v 0 3 → b0 ≡ v 1 0 → b1 ≡ v 1 1 → b2 ≡ v 1 2
+    → b3 ≡ v 1 3
     → a0 ∷ a1 ∷ a2 ∷ a3 ∷ b0 ∷ b1 ∷ b2 ∷ b3 ∷ [] ≡ table 8 (λ i. v (i / 4) (i % 4))
 unfolding table tableFrom
 eight v e0 e1 e2 e3 f0 f1 f2 f3 = rw (e0, e1, e2, e3, f0, f1, f2, f3)
@@ -55,7 +56,8 @@ two : (v : ℕ → ℕ) {a b : ℕ} → a ≡ v 0 → b ≡ v 1 → a ∷ b ∷ 
 unfolding table tableFrom
 two v e f = rw (e, f)
 
-given-of : (ln : Line) {e p i : List ℕ} → e ≡ table 8 (λ i. ln .value (i / 4) (i % 4)) → p ≡ table 2 (ln .p) → i ≡ table 16 (ln .index) → record { endpoints = e; p = p; indexes = i } ≡ givenAs ln
+given-of : (ln : Line) {e p i : List ℕ} → e ≡ table 8 (λ i. ln .value (i / 4) (i % 4)) → p ≡ table 2 (ln .p) → i ≡ table 16 (ln .index)
+    → record { endpoints = e; p = p; indexes = i } ≡ givenAs ln
 unfolding givenAs
 given-of ln ee ep ei = rw (ee, ep, ei)
 
@@ -69,7 +71,8 @@ module _ {m : ℕ} {s : Split} {f : Place → ℕ} (g : WellFormed m s f) (l : �
   widths-are =
       given-of (widthsOf m s l)
       (eight (widthsOf m s l .value) (value 0 0 (omega arith) (omega arith)) (value 0 1 (omega arith) (omega arith)) (value 0 2 (omega arith) (omega arith)) (value 0 3 (omega arith) (omega arith))
-      (value 1 0 (omega arith) (omega arith)) (value 1 1 (omega arith) (omega arith)) (value 1 2 (omega arith) (omega arith)) (value 1 3 (omega arith) (omega arith)))
+      (value 1 0 (omega arith) (omega arith)) (value 1 1 (omega arith) (omega arith)) (value 1 2 (omega arith) (omega arith))
+      (value 1 3 (omega arith) (omega arith)))
       (two (widthsOf m s l .p) (sym (is .p 0 (omega arith))) (sym (is .p 1 (omega arith))))
       (table-same 0 16 _ _ (λ q h. sym (is .index q h)))
     where
@@ -93,13 +96,15 @@ module _ {m : ℕ} {s : Split} {f : Place → ℕ} (g : WellFormed m s f) (l : �
     channel-first : (c : ℕ) → c < 4 → field n (channelAt at c) (w c) ≡ mine (valuePlace s l 0 c)
     unfolding fieldsOf valuePlace width
     channel-first c hc =
-        first-read m s l f n fn (valuePlace s l 0 c) (valuePlace s l 1 c) (w c) (value-there g l hl 0 c (omega arith) hc) (value-there g l hl 1 c (omega arith) hc) (value-next g l hl c)
+        first-read m s l f n fn (valuePlace s l 0 c) (valuePlace s l 1 c) (w c) (value-there g l hl 0 c (omega arith) hc)
+        (value-there g l hl 1 c (omega arith) hc) (value-next g l hl c)
         (is .value 0 c (omega arith) hc) (is .value 1 c (omega arith) hc) refl refl (channelAt at c) (λ some. channel-starts g l hl l3 c hc)
 
     channel-second : (c : ℕ) → c < 4 → field n (channelAt at c + w c) (w c) ≡ mine (valuePlace s l 1 c)
     unfolding fieldsOf valuePlace width
     channel-second c hc =
-        second-read m s l f n fn (valuePlace s l 0 c) (valuePlace s l 1 c) (w c) (value-there g l hl 0 c (omega arith) hc) (value-there g l hl 1 c (omega arith) hc) (value-next g l hl c)
+        second-read m s l f n fn (valuePlace s l 0 c) (valuePlace s l 1 c) (w c) (value-there g l hl 0 c (omega arith) hc)
+        (value-there g l hl 1 c (omega arith) hc) (value-next g l hl c)
         (is .value 0 c (omega arith) hc) (is .value 1 c (omega arith) hc) refl refl (channelAt at c) (λ some. channel-starts g l hl l3 c hc)
 
     -- the p bits
@@ -121,9 +126,12 @@ module _ {m : ℕ} {s : Split} {f : Place → ℕ} (g : WellFormed m s f) (l : �
             (λ nz. (rw t at (p-starts g l hl l3 there)) ∙ ap (λ (b : Bool). start m s (28 + pick b l (2 * l + k))) (sym t))
 
         starts : m ≢ 1 → x .p ≢ 0 → at .p + 2 * l ≡ start m s (pos (pPlace m l 0))
-        starts n1 nz = (let y : at .p + 2 * l ≡ at .p + (2 * l + 0) = omega arith in y) ∙ (rw (ne-eqb m 1 n1) at (p-starts g l hl l3 (some nz))) ∙ ap (λ (b : Bool). start m s (28 + pick b l (2 * l + 0))) (sym (ne-eqb m 1 n1))
+        starts n1 nz =
+            (let y : at .p + 2 * l ≡ at .p + (2 * l + 0) = omega arith in y) ∙ (rw (ne-eqb m 1 n1) at (p-starts g l hl l3 (some nz)))
+            ∙ ap (λ (b : Bool). start m s (28 + pick b l (2 * l + 0))) (sym (ne-eqb m 1 n1))
 
-        go : (b : Bool) → eqb m 1 ≡ b → pick b (record { a = field n (at .p + l) 1; b = field n (at .p + l) 1 }) (twoAt n (at .p + 2 * l) (x .p)) ≡ record { a = mine (pPlace m l 0); b = mine (pPlace m l 1) }
+        go : (b : Bool) → eqb m 1 ≡ b
+            → pick b (record { a = field n (at .p + l) 1; b = field n (at .p + l) 1 }) (twoAt n (at .p + 2 * l) (x .p)) ≡ record { a = mine (pPlace m l 0); b = mine (pPlace m l 1) }
         go true t = ap₂ (λ (y z : ℕ). record { a = y; b = z }) (one t 0 (omega arith)) (one t 1 (omega arith))
         go false t =
             let n1 : m ≢ 1 = eqb-false m 1 t in
@@ -140,7 +148,8 @@ module _ {m : ℕ} {s : Split} {f : Place → ℕ} (g : WellFormed m s f) (l : �
     unfolding own
     by-own q h = go (ownPixel (x .pixels) q) (is .index q h)
       where
-        go : (b : Bool) → ownWidth m s l (indexPlace s l q) ≡ pick b (x .index) 0 → pick b (f (indexPlace s l q)) 0 ≡ pick (has m s l (indexPlace s l q)) (f (indexPlace s l q)) 0
+        go : (b : Bool) → ownWidth m s l (indexPlace s l q) ≡ pick b (x .index) 0
+            → pick b (f (indexPlace s l q)) 0 ≡ pick (has m s l (indexPlace s l q)) (f (indexPlace s l q)) 0
         go true e = sym (rw (own-some m s l (indexPlace s l q) (λ z. omega (arith, is .least, sym e ∙ z))))
         go false e = sym (rw (own-none m s l (indexPlace s l q) e))
 
@@ -152,7 +161,9 @@ module _ {m : ℕ} {s : Split} {f : Place → ℕ} (g : WellFormed m s f) (l : �
         let kept : ℕ → ℕ = λ q. pick (ownPixel (x .pixels) q) (stood q) 0 in
         let small : Small wd kept = λ q h. own-lt (ownPixel (x .pixels) q) (stood-small g l is q h) in
         let e : bitAnd (setBefore n (kindOfMode m) (at .indexes) x) (maskOf (x .pixels) wd) ≡ word wd kept =
-        ap (λ (y : ℕ). bitAnd y (maskOf (x .pixels) wd)) (before-word g l is n (at .indexes) (set-starts g l hl l3) (λ q h. fn (indexPlace s l q) (index-there q h))) ∙ masked x stood (stood-small g l is) in
+        ap (λ (y : ℕ). bitAnd y (maskOf (x .pixels) wd))
+        (before-word g l is n (at .indexes) (set-starts g l hl l3) (λ q h. fn (indexPlace s l q) (index-there q h)))
+        ∙ masked x stood (stood-small g l is) in
         table-same 0 16 _ _ (λ q h. ap (λ (y : ℕ). y / 2 ^ (q * wd) % 2 ^ wd) e ∙ word-part wd kept small q h ∙ by-own q h)
       where
         own-lt : (b : Bool) {y : ℕ} → y < 2 ^ x .index → pick b y 0 < 2 ^ x .index
@@ -202,4 +213,5 @@ module _ {m : ℕ} {s : Split} {f : Place → ℕ} (g : WellFormed m s f) (l : �
       }
         where
           set-low : start m s (34 + (16 * arrayOf s l + 0)) ≤ 128
-          set-low = rw (← (whole-start g)) (start-le m s (34 + (16 * arrayOf s l + 0)) 66 (omega (arith, array-lt s l (good-index-mode g))) (omega arith))
+          set-low =
+              rw (← (whole-start g)) (start-le m s (34 + (16 * arrayOf s l + 0)) 66 (omega (arith, array-lt s l (good-index-mode g))) (omega arith))

@@ -98,7 +98,8 @@ module _ (bs : List ℕ) (sixteen : Fit eights bs) (l : ℕ) (g : Replacement) (
           word-is = ew ∙ ap (join (indexWidths (x .index) [])) (sym indexes-table)
 
           pub way-3-others : eqb (bitAnd wd mask) wd ≡ false → replacedAs 3 bs ≡ replaced bs l g
-          way-3-others e = refused-with (then nonzero (then hl (here (λ w. eqb-false (bitAnd wd mask) wd e (rw (word-is, em) (within-kept is g small w))))))
+          way-3-others e =
+              refused-with (then nonzero (then hl (here (λ w. eqb-false (bitAnd wd mask) wd e (rw (word-is, em) (within-kept is g small w))))))
 
           module _ (alone : eqb (bitAnd wd mask) wd ≡ true) where
             kept : (q : ℕ) → q < 16 → pick (ownPixel (x .pixels) q) (v q) 0 ≡ v q
@@ -133,9 +134,11 @@ module _ (bs : List ℕ) (sixteen : Fit eights bs) (l : ℕ) (g : Replacement) (
               pub ready : {row : ModeRow} → row ≡ rowOf m → LineReady (o .stream) m row l x mask st
               unfolding opened
               ready er =
-                  line-ready (good bs sixteen low) l (lineGiven g) in-mode is (is-stored is g small kept (rw (word-is, em) at es)) (number bs) (λ y h. refl) em (o .stream) (i .holds) (i .stands) er
+                  line-ready (good bs sixteen low) l (lineGiven g) in-mode is (is-stored is g small kept (rw (word-is, em) at es)) (number bs)
+                  (λ y h. refl) em (o .stream) (i .holds) (i .stands) er
 
-              pub way-0 : {row : ModeRow} → row ≡ rowOf m → (r : BitStream) → r .low < 2 ^ 64 → r .high < 2 ^ 64 → held r ≡ linePut (o .stream) m row l x mask st
+              pub way-0 : {row : ModeRow} → row ≡ rowOf m → (r : BitStream) → r .low < 2 ^ 64 → r .high < 2 ^ 64
+                  → held r ≡ linePut (o .stream) m row l x mask st
                   → replacedAs 0 (bytesOf (held r)) ≡ replaced bs l g
               unfolding opened replaced after
               way-0 er r hlo hhi e =

@@ -45,7 +45,8 @@ lineAt s mode row l x =
     let at = fieldsAt s row l x in
     let p = psAt n mode (at .p) l (x .p) in
     record {
-      endpoints = rowsOf (twoAt n (at .red) (x .colour)) (twoAt n (at .green) (x .colour)) (twoAt n (at .blue) (x .colour)) (twoAt n (at .alpha) (x .alpha));
+      endpoints =
+          rowsOf (twoAt n (at .red) (x .colour)) (twoAt n (at .green) (x .colour)) (twoAt n (at .blue) (x .colour)) (twoAt n (at .alpha) (x .alpha));
       p = p .a ∷ p .b ∷ [];
       indexes = setAt n (row .kind) (at .indexes) x;
     }

@@ -31,15 +31,18 @@ module _ (m : ℕ) (s : Split) (l : ℕ) (o : Line) (f : Place → ℕ) where
   own-laid x h = rw h
 
   -- two neighbours of one width, the only ones of the line from k on up to k'
-  module _ (a b : Place) (k k' w : ℕ) (ia : T (inside a)) (ib : T (inside b)) (next : pos b ≡ suc (pos a)) (hk : k ≤ pos a) (hk' : pos a + 2 ≤ k') (h66 : k' ≤ 66)
+  module _ (a b : Place) (k k' w : ℕ) (ia : T (inside a)) (ib : T (inside b)) (next : pos b ≡ suc (pos a)) (hk : k ≤ pos a) (hk' : pos a + 2 ≤ k')
+      (h66 : k' ≤ 66)
       (wa : ownWidth m s l a ≡ w) (wb : ownWidth m s l b ≡ w) (fa : width m (anchors s) a ≡ width m [] a) (fb : width m (anchors s) b ≡ width m [] b)
       (only : (x : Place) → T (inside x) → k ≤ pos x → pos x < k' → has m s l x ≡ true → (x ≡ a) ⊎ (x ≡ b)) where
-    module _ (x y n n' : ℕ) (hx : x < 2 ^ w) (hy : y < 2 ^ w) (lx : laid m o a ≡ x) (ly : laid m o b ≡ y) (e : n' ≡ replacedAt n (start m s (pos a)) (2 * w) (y * 2 ^ w + x)) (u : Upto m s l o f k n) where
+    module _ (x y n n' : ℕ) (hx : x < 2 ^ w) (hy : y < 2 ^ w) (lx : laid m o a ≡ x) (ly : laid m o b ≡ y)
+        (e : n' ≡ replacedAt n (start m s (pos a)) (2 * w) (y * 2 ^ w + x)) (u : Upto m s l o f k n) where
       none : w ≡ 0 → Upto m s l o f k' n'
       none z =
           let same : n' ≡ n = e ∙ rw (z, lt-one (rw z at hx), lt-one (rw z at hy)) (nothing-put n (start m s (pos a))) in
           rw same (passed m s l o f k' (omega arith) u (λ p i q r. not-so (has m s l p) (λ t. ⊎-elim
-          (λ (c : p ≡ a). no-both (rw c at t) (own-none m s l a (wa ∙ z))) (λ (c : p ≡ b). no-both (rw c at t) (own-none m s l b (wb ∙ z))) (only p i q r t))))
+          (λ (c : p ≡ a). no-both (rw c at t) (own-none m s l a (wa ∙ z))) (λ (c : p ≡ b). no-both (rw c at t) (own-none m s l b (wb ∙ z)))
+          (only p i q r t))))
 
       some : w ≢ 0 → Upto m s l o f k' n'
       some nz = more m s l o f (pos a) (pos a + 2) k' v n' hk (omega arith) hk' h66 (rw two (pair-lt w x y hx hy)) (rw two e) u holds others
@@ -77,9 +80,11 @@ module _ (m : ℕ) (s : Split) (l : ℕ) (o : Line) (f : Place → ℕ) where
               let z : start m s (pos b) - start m s (pos a) ≡ w = omega (arith, after-a) in
               rw (z, fb ∙ sym (has-width m s l b hb) ∙ wb, own-laid b hb, ly) (ap (λ (c : ℕ). c % 2 ^ w) (high y w hx) ∙ mod-eq-of-lt hy)
 
-          holds : (p : Place) → T (inside p) → pos a ≤ pos p → pos p < pos a + 2 → v / 2 ^ (start m s (pos p) - start m s (pos a)) % 2 ^ width m (anchors s) p ≡ withLine m s l o f p
+          holds : (p : Place) → T (inside p) → pos a ≤ pos p → pos p < pos a + 2
+              → v / 2 ^ (start m s (pos p) - start m s (pos a)) % 2 ^ width m (anchors s) p ≡ withLine m s l o f p
           holds p i q r =
-              ⊎-elim (λ c. subst (λ (p : Place). v / 2 ^ (start m s (pos p) - start m s (pos a)) % 2 ^ width m (anchors s) p ≡ withLine m s l o f p) (pos-one a p ia i c) at-a)
+              ⊎-elim
+              (λ c. subst (λ (p : Place). v / 2 ^ (start m s (pos p) - start m s (pos a)) % 2 ^ width m (anchors s) p ≡ withLine m s l o f p) (pos-one a p ia i c) at-a)
               (λ c. subst (λ (p : Place). v / 2 ^ (start m s (pos p) - start m s (pos a)) % 2 ^ width m (anchors s) p ≡ withLine m s l o f p) (pos-one b p ib i (omega arith)) at-b)
               (eq-or-lt-of-le q)
 

@@ -100,7 +100,8 @@ module _ {m : ℕ} {s : Split} {f : Place → ℕ} (g : WellFormed m s f) (l : �
   unfolding indexPlace width
   stood-small q h = rw bits (lt-of-lt-of-le (g .fits (index a q) (inside-index ha h)) (pow-mono (pick-less (among q (anchors s)) (indexBits m a))))
 
-  pub before-word : (n b : ℕ) → b ≡ start m s (34 + (16 * a + 0)) → ((q : ℕ) → q < 16 → atPlace m s n (indexPlace s l q) ≡ stood q) → setBefore n k b x ≡ word w stood
+  pub before-word : (n b : ℕ) → b ≡ start m s (34 + (16 * a + 0)) → ((q : ℕ) → q < 16 → atPlace m s n (indexPlace s l q) ≡ stood q)
+      → setBefore n k b x ≡ word w stood
   unfolding setBefore indexPlace
   before-word n b eb e =
       rw (anchors-are, size-is, eb, bits)
@@ -115,21 +116,30 @@ module _ {m : ℕ} {s : Split} {f : Place → ℕ} (g : WellFormed m s f) (l : �
     unfolding withLine laid indexPlace
     by-own q h = go (own q) (is .index q h)
       where
-        go : (b : Bool) → ownWidth m s l (indexPlace s l q) ≡ pick b w 0 → pick (has m s l (index a q)) (o .index q) (f (index a q)) ≡ pick b (o .index q) (f (index a q))
+        go : (b : Bool) → ownWidth m s l (indexPlace s l q) ≡ pick b w 0
+            → pick (has m s l (index a q)) (o .index q) (f (index a q)) ≡ pick b (o .index q) (f (index a q))
         go true e = rw (own-some m s l (indexPlace s l q) (λ z. omega (arith, is .least, sym e ∙ z)))
         go false e = rw (own-none m s l (indexPlace s l q) e)
 
     stands-small : Small w stands
     stands-small q h = rw bits (lt-of-lt-of-le (fits q h) (pow-mono (pick-less (among q (anchors s)) (indexBits m a))))
 
-    after-word : (n b : ℕ) {mask new : ℕ} → setBefore n k b x ≡ word w stood → mask ≡ word w (maskPart x) → new ≡ word w (λ q. pick (own q) (o .index q) 0) → setAfter n k b x mask new ≡ word w stands
+    after-word : (n b : ℕ) {mask new : ℕ} → setBefore n k b x ≡ word w stood → mask ≡ word w (maskPart x)
+        → new ≡ word w (λ q. pick (own q) (o .index q) 0) → setAfter n k b x mask new ≡ word w stands
     after-word n b eb em en =
         let others : ℕ → ℕ = λ q. pick (own q) 0 (stood q) in
         let mine : ℕ → ℕ = λ q. pick (own q) (stood q) 0 in
         let put : ℕ → ℕ = λ q. pick (own q) (o .index q) 0 in
-        let less : word w stood ≡ word w others + word w mine = word-same w stood (λ q. others q + mine q) (λ q h. apart (own q) (stood q)) ∙ word-plus w others mine (λ q h. either (own q) 0 (stood q) (pow-pos w) (stood-small q h)) (λ q h. either (own q) (stood q) 0 (stood-small q h) (pow-pos w)) in
-        let all : word w stands ≡ word w others + word w put = word-same w stands (λ q. others q + put q) (λ q h. by-own q h ∙ together (own q) (o .index q) (stood q)) ∙ word-plus w others put (λ q h. either (own q) 0 (stood q) (pow-pos w) (stood-small q h)) (λ q h. mine-small (own q) (stood q) (o .index q) (by-own q h) (stands-small q h)) in
-        rw (eb, em, en, masked x stood stood-small, less) (let z : word w others + word w mine - word w mine + word w put ≡ word w stands = omega arith in z)
+        let less : word w stood ≡ word w others + word w mine =
+        word-same w stood (λ q. others q + mine q) (λ q h. apart (own q) (stood q))
+        ∙ word-plus w others mine (λ q h. either (own q) 0 (stood q) (pow-pos w) (stood-small q h))
+        (λ q h. either (own q) (stood q) 0 (stood-small q h) (pow-pos w)) in
+        let all : word w stands ≡ word w others + word w put =
+        word-same w stands (λ q. others q + put q) (λ q h. by-own q h ∙ together (own q) (o .index q) (stood q))
+        ∙ word-plus w others put (λ q h. either (own q) 0 (stood q) (pow-pos w) (stood-small q h))
+        (λ q h. mine-small (own q) (stood q) (o .index q) (by-own q h) (stands-small q h)) in
+        rw (eb, em, en, masked x stood stood-small, less)
+        (let z : word w others + word w mine - word w mine + word w put ≡ word w stands = omega arith in z)
       where
         apart : (b : Bool) (y : ℕ) → y ≡ pick b 0 y + pick b y 0
         apart true y = sym (zero-add y)

@@ -59,7 +59,8 @@ module _ {m : ℕ} {s : Split} {f : Place → ℕ} (g : WellFormed m s f) (l : �
 
   pub value-there : (k c : ℕ) → k < 2 → c < 4 → T (inside (valuePlace s l k c))
   unfolding valuePlace
-  value-there k c hk hc = inside-value {c = c} {e = pick (isVector s) k (2 * l + k)} hc (pick-lt (isVector s) k (2 * l + k) 6 (omega arith) (omega (arith, h3)))
+  value-there k c hk hc =
+      inside-value {c = c} {e = pick (isVector s) k (2 * l + k)} hc (pick-lt (isVector s) k (2 * l + k) 6 (omega arith) (omega (arith, h3)))
 
   pub value-next : (c : ℕ) → pos (valuePlace s l 1 c) ≡ suc (pos (valuePlace s l 0 c))
   unfolding valuePlace pos
@@ -99,10 +100,12 @@ module _ {m : ℕ} {s : Split} {f : Place → ℕ} (g : WellFormed m s f) (l : �
   either x (suc (suc j)) at h e = absurd (let y : ⊥ = omega arith in y)
 
   pub channel-put : (c w n n' : ℕ) → c < 4 → ownWidth m s l (valuePlace s l 0 c) ≡ w → o .value 0 c < 2 ^ w → o .value 1 c < 2 ^ w
-      → n' ≡ replacedAt n (start m s (pos (valuePlace s l 0 c))) (2 * w) (o .value 1 c * 2 ^ w + o .value 0 c) → Until (4 + 6 * c) n → Until (10 + 6 * c) n'
+      → n' ≡ replacedAt n (start m s (pos (valuePlace s l 0 c))) (2 * w) (o .value 1 c * 2 ^ w + o .value 0 c) → Until (4 + 6 * c) n
+      → Until (10 + 6 * c) n'
   unfolding valuePlace pos width
   channel-put c w n n' hc hw h0 h1 e u =
-      pair-put m s l o f (valuePlace s l 0 c) (valuePlace s l 1 c) (4 + 6 * c) (10 + 6 * c) w (value-there g l hl 0 c (omega arith) hc) (value-there g l hl 1 c (omega arith) hc) (value-next g l hl c) (omega arith) (room (isVector s)) (omega arith)
+      pair-put m s l o f (valuePlace s l 0 c) (valuePlace s l 1 c) (4 + 6 * c) (10 + 6 * c) w (value-there g l hl 0 c (omega arith) hc)
+      (value-there g l hl 1 c (omega arith) hc) (value-next g l hl c) (omega arith) (room (isVector s)) (omega arith)
       hw (ws g l hl .value 1 c (omega arith) hc ∙ sym (ws g l hl .value 0 c (omega arith) hc) ∙ hw) refl refl only
       (o .value 0 c) (o .value 1 c) n n' h0 h1 (laid-value m s l o 0 c (omega arith)) (laid-value m s l o 1 c (omega arith)) e u
     where
@@ -110,7 +113,8 @@ module _ {m : ℕ} {s : Split} {f : Place → ℕ} (g : WellFormed m s f) (l : �
       room true = omega arith
       room false = omega (arith, h3 g l hl)
 
-      only : (x : Place) → T (inside x) → 4 + 6 * c ≤ pos x → pos x < 10 + 6 * c → has m s l x ≡ true → (x ≡ valuePlace s l 0 c) ⊎ (x ≡ valuePlace s l 1 c)
+      only : (x : Place) → T (inside x) → 4 + 6 * c ≤ pos x → pos x < 10 + 6 * c → has m s l x ≡ true
+          → (x ≡ valuePlace s l 0 c) ⊎ (x ≡ valuePlace s l 1 c)
       only (head k) i p q h = absurd (let k4 : k < 4 = ltb→lt k 4 i in let y : ⊥ = omega arith in y)
       only (value c' e) i p q h =
           let he : e < 6 = ltb→lt e 6 (both-right (ltb c' 4) (ltb e 6) i) in
@@ -124,7 +128,8 @@ module _ {m : ℕ} {s : Split} {f : Place → ℕ} (g : WellFormed m s f) (l : �
   unfolding pos
   p-only (head k) i p q h = absurd (let k4 : k < 4 = ltb→lt k 4 i in let y : ⊥ = omega arith in y)
   p-only (value c e) i p q h =
-      absurd (let c4 : c < 4 = ltb→lt c 4 (both-left (ltb c 4) (ltb e 6) i) in let e6 : e < 6 = ltb→lt e 6 (both-right (ltb c 4) (ltb e 6) i) in let y : ⊥ = omega arith in y)
+      absurd
+      (let c4 : c < 4 = ltb→lt c 4 (both-left (ltb c 4) (ltb e 6) i) in let e6 : e < 6 = ltb→lt e 6 (both-right (ltb c 4) (ltb e 6) i) in let y : ⊥ = omega arith in y)
   p-only (pbit k) i p q h = (k, refl)
   p-only (index a q') i p q h = absurd (let y : ⊥ = omega arith in y)
 
@@ -132,7 +137,8 @@ module _ {m : ℕ} {s : Split} {f : Place → ℕ} (g : WellFormed m s f) (l : �
       → n' ≡ replacedAt n (start m s (pos (pPlace m l 0))) (2 * w) (o .p 1 * 2 ^ w + o .p 0) → Until 28 n → Until 34 n'
   unfolding pPlace pos width
   p-put w n n' n1 hw h0 h1 e u =
-      pair-put m s l o f (pPlace m l 0) (pPlace m l 1) 28 34 w (p-there g l hl 0 (omega arith)) (p-there g l hl 1 (omega arith)) (p-next g l hl n1) (omega arith) room (omega arith)
+      pair-put m s l o f (pPlace m l 0) (pPlace m l 1) 28 34 w (p-there g l hl 0 (omega arith)) (p-there g l hl 1 (omega arith)) (p-next g l hl n1)
+      (omega arith) room (omega arith)
       (ws g l hl .p 0 (omega arith) ∙ hw) (ws g l hl .p 1 (omega arith) ∙ hw) refl refl only
       (o .p 0) (o .p 1) n n' h0 h1 (laid-p m l o 0 (omega arith) (λ z. absurd (n1 z))) (laid-p m l o 1 (omega arith) (λ z. absurd (n1 z))) e u
     where
@@ -145,12 +151,15 @@ module _ {m : ℕ} {s : Split} {f : Place → ℕ} (g : WellFormed m s f) (l : �
       only : (x : Place) → T (inside x) → 28 ≤ pos x → pos x < 34 → has m s l x ≡ true → (x ≡ pPlace m l 0) ⊎ (x ≡ pPlace m l 1)
       only x i p q h =
           let (k, ex) = p-only x i p q h in
-          either x (k % 2) (pPlace m l) (mod-lt k (lit< tt)) (ap (λ (b : Bool). pPlace m l (pick b 0 (k % 2))) (sym not-1) ∙ own-pbit m s l k (rw ex at h) ∙ sym ex)
+          either x (k % 2) (pPlace m l) (mod-lt k (lit< tt))
+          (ap (λ (b : Bool). pPlace m l (pick b 0 (k % 2))) (sym not-1) ∙ own-pbit m s l k (rw ex at h) ∙ sym ex)
 
   -- in mode 1 the line has one
   pub p-put-1 : (n n' : ℕ) → m ≡ 1 → pCount m ≢ 0 → o .p 0 < 2 → n' ≡ replacedAt n (start m s (28 + l)) 1 (o .p 0) → Until 28 n → Until 34 n'
   unfolding pos width
-  p-put-1 n n' e1 some h0 e u = more m s l o f (28 + l) (28 + l + 1) 34 (o .p 0) n' (omega arith) (omega arith) (omega (arith, h3 g l hl)) (omega arith) (rw one h0) (rw one e) u holds others
+  p-put-1 n n' e1 some h0 e u =
+      more m s l o f (28 + l) (28 + l + 1) 34 (o .p 0) n' (omega arith) (omega arith) (omega (arith, h3 g l hl)) (omega arith) (rw one h0)
+      (rw one e) u holds others
     where
       here : pPlace m l 0 ≡ pbit l
       here = p-place-1 m l 0 e1
@@ -167,10 +176,13 @@ module _ {m : ℕ} {s : Split} {f : Place → ℕ} (g : WellFormed m s f) (l : �
       one : start m s (28 + l + 1) - start m s (28 + l) ≡ 1
       one =
           let z : 28 + l + 1 ≡ suc (28 + l) = omega arith in
-          let n : start m s (28 + l + 1) ≡ start m s (28 + l) + 1 = ap (start m s) z ∙ start-next m s (28 + l) (omega (arith, h3 g l hl)) ∙ ap (λ (c : ℕ). start m s (28 + l) + c) (ap (width m (anchors s)) (placeAt-pos (pbit l) there) ∙ bit) in
+          let n : start m s (28 + l + 1) ≡ start m s (28 + l) + 1 =
+          ap (start m s) z ∙ start-next m s (28 + l) (omega (arith, h3 g l hl))
+          ∙ ap (λ (c : ℕ). start m s (28 + l) + c) (ap (width m (anchors s)) (placeAt-pos (pbit l) there) ∙ bit) in
           omega (arith, n)
 
-      holds : (x : Place) → T (inside x) → 28 + l ≤ pos x → pos x < 28 + l + 1 → o .p 0 / 2 ^ (start m s (pos x) - start m s (28 + l)) % 2 ^ width m (anchors s) x ≡ withLine m s l o f x
+      holds : (x : Place) → T (inside x) → 28 + l ≤ pos x → pos x < 28 + l + 1
+          → o .p 0 / 2 ^ (start m s (pos x) - start m s (28 + l)) % 2 ^ width m (anchors s) x ≡ withLine m s l o f x
       holds x i p q =
           let ex : pbit l ≡ x = pos-one (pbit l) x there i (let z : 28 + l ≡ pos x = omega arith in z) in
           subst (λ (x : Place). o .p 0 / 2 ^ (start m s (pos x) - start m s (28 + l)) % 2 ^ width m (anchors s) x ≡ withLine m s l o f x) ex
@@ -187,10 +199,12 @@ module _ {m : ℕ} {s : Split} {f : Place → ℕ} (g : WellFormed m s f) (l : �
   -- the set of indexes, as they are stored
   pub indexes-put : (v n n' : ℕ) → v < 2 ^ total (indexWidths (indexBits m (arrayOf s l)) (anchors s))
       → split (indexWidths (indexBits m (arrayOf s l)) (anchors s)) v ≡ table 16 (λ q. withLine m s l o f (indexPlace s l q))
-      → n' ≡ replacedAt n (start m s (34 + (16 * arrayOf s l + 0))) (total (indexWidths (indexBits m (arrayOf s l)) (anchors s))) v → Until 34 n → Until 66 n'
+      → n' ≡ replacedAt n (start m s (34 + (16 * arrayOf s l + 0))) (total (indexWidths (indexBits m (arrayOf s l)) (anchors s))) v → Until 34 n
+      → Until 66 n'
   unfolding indexWidths indexPlace pos width
   indexes-put v n n' hv sv e u =
-      more m s l o f (34 + (16 * a + 0)) (34 + (16 * a + 16)) 66 v n' (omega arith) (omega arith) (omega (arith, ha)) (omega arith) (rw all hv) (rw all e) u holds others
+      more m s l o f (34 + (16 * a + 0)) (34 + (16 * a + 16)) 66 v n' (omega arith) (omega arith) (omega (arith, ha)) (omega arith) (rw all hv)
+      (rw all e) u holds others
     where
       a : ℕ
       a = arrayOf s l
@@ -204,9 +218,11 @@ module _ {m : ℕ} {s : Split} {f : Place → ℕ} (g : WellFormed m s f) (l : �
       all : start m s (34 + (16 * a + 16)) - start m s (34 + (16 * a + 0)) ≡ total (table 16 wide)
       all = omega (arith, begins m s a ha 16 (omega arith))
 
-      at-pixel : (q : ℕ) → q < 16 → v / 2 ^ (start m s (34 + (16 * a + q)) - start m s (34 + (16 * a + 0))) % 2 ^ wide q ≡ withLine m s l o f (index a q)
+      at-pixel : (q : ℕ) → q < 16
+          → v / 2 ^ (start m s (34 + (16 * a + q)) - start m s (34 + (16 * a + 0))) % 2 ^ wide q ≡ withLine m s l o f (index a q)
       at-pixel q hq =
-          let z : start m s (34 + (16 * a + q)) - start m s (34 + (16 * a + 0)) ≡ total (table q wide) = omega (arith, begins m s a ha q (omega arith)) in
+          let z : start m s (34 + (16 * a + q)) - start m s (34 + (16 * a + 0)) ≡ total (table q wide) =
+          omega (arith, begins m s a ha q (omega arith)) in
           rw z (sym (digit 16 wide v q hq) ∙ ap (λ (vs : List ℕ). getD vs q 0) sv ∙ getD-table 16 (λ q. withLine m s l o f (index a q)) 0 q hq)
 
       holds : (x : Place) → T (inside x) → 34 + (16 * a + 0) ≤ pos x → pos x < 34 + (16 * a + 16)
@@ -220,7 +236,8 @@ module _ {m : ℕ} {s : Split} {f : Place → ℕ} (g : WellFormed m s f) (l : �
       others : (x : Place) → T (inside x) → 34 ≤ pos x → pos x < 66 → (pos x < 34 + (16 * a + 0)) ⊎ (34 + (16 * a + 16) ≤ pos x) → has m s l x ≡ false
       others (head k) i p q r = absurd (let k4 : k < 4 = ltb→lt k 4 i in let y : ⊥ = omega arith in y)
       others (value c e) i p q r =
-          absurd (let c4 : c < 4 = ltb→lt c 4 (both-left (ltb c 4) (ltb e 6) i) in let e6 : e < 6 = ltb→lt e 6 (both-right (ltb c 4) (ltb e 6) i) in let y : ⊥ = omega arith in y)
+          absurd
+          (let c4 : c < 4 = ltb→lt c 4 (both-left (ltb c 4) (ltb e 6) i) in let e6 : e < 6 = ltb→lt e 6 (both-right (ltb c 4) (ltb e 6) i) in let y : ⊥ = omega arith in y)
       others (pbit k) i p q r = absurd (let k6 : k < 6 = ltb→lt k 6 i in let y : ⊥ = omega arith in y)
       others (index b k) i p q r =
           not-so (has m s l (index b k)) (λ t.
@@ -232,5 +249,6 @@ module _ {m : ℕ} {s : Split} {f : Place → ℕ} (g : WellFormed m s f) (l : �
   pub put-whole : (n : ℕ) → n < 2 ^ 128 → Until 66 n → bytesOf n ≡ blockOf m s (withLine m s l o f)
   unfolding blockOf atPlace
   put-whole n hn u =
-      ap bytesOf (sym (join-split (widths m s) n (rw (good-total g) hn)) ∙ ap (join (widths m s)) (sym (list-at (split (widths m s) n) (length-split (widths m s) n ∙ length-widths m s))
+      ap bytesOf
+      (sym (join-split (widths m s) n (rw (good-total g) hn)) ∙ ap (join (widths m s)) (sym (list-at (split (widths m s) n) (length-split (widths m s) n ∙ length-widths m s))
       ∙ list-ext _ _ (λ x i. u .done x i (pos-lt x i))))

@@ -34,7 +34,7 @@ module _ (m : ℕ) (s : Split) where
     ends : start m s i + (start m s j - start m s i) ≡ start m s j
     ends = omega (arith, start-le m s i j ij hj)
 
-    pub out-of-run : (x : Place) → T (inside x) → (pos x < i) ⊎ (j ≤ pos x) → atPlace m s run x ≡ atPlace m s n x
+    out-of-run : (x : Place) → T (inside x) → (pos x < i) ⊎ (j ≤ pos x) → atPlace m s run x ≡ atPlace m s n x
     out-of-run x h w = at-field m s run x h ∙ ⊎-elim lower upper w ∙ sym (at-field m s n x h)
       where
         lower : pos x < i → run / 2 ^ start m s (pos x) % 2 ^ wide x ≡ n / 2 ^ start m s (pos x) % 2 ^ wide x
@@ -45,17 +45,20 @@ module _ (m : ℕ) (s : Split) where
             stays-above n (start m s i) (start m s j - start m s i) v hv (start m s (pos x)) (wide x)
             (rw ends (start-le m s j (pos x) l (omega (arith, pos-lt x h))))
 
-    pub in-run : (x : Place) → T (inside x) → i ≤ pos x → pos x < j → atPlace m s run x ≡ v / 2 ^ (start m s (pos x) - start m s i) % 2 ^ wide x
+    in-run : (x : Place) → T (inside x) → i ≤ pos x → pos x < j → atPlace m s run x ≡ v / 2 ^ (start m s (pos x) - start m s i) % 2 ^ wide x
     in-run x h l k =
         let d : ℕ = start m s (pos x) - start m s i in
         let e : start m s i + d ≡ start m s (pos x) = omega (arith, start-le m s i (pos x) l (omega arith)) in
         at-field m s run x h
-        ∙ (rw e at (is-inside n (start m s i) (start m s j - start m s i) v hv d (wide x) (omega (arith, room x j h k hj, start-le m s i (pos x) l (omega arith)))))
+        ∙
+        (rw e at (is-inside n (start m s i) (start m s j - start m s i) v hv d (wide x) (omega (arith, room x j h k hj, start-le m s i (pos x) l (omega arith)))))
 
 -- no bits put
 pub nothing-put : (n a : ℕ) → replacedAt n a 0 0 ≡ n
 unfolding replacedAt
-nothing-put n a = let e : a + 0 ≡ a = omega arith in rw e (ap (λ (x : ℕ). n / 2 ^ a * 2 ^ a + x) (let z : 0 * 2 ^ a + n % 2 ^ a ≡ n % 2 ^ a = omega arith in z) ∙ split n a)
+nothing-put n a =
+    let e : a + 0 ≡ a = omega arith in rw e
+    (ap (λ (x : ℕ). n / 2 ^ a * 2 ^ a + x) (let z : 0 * 2 ^ a + n % 2 ^ a ≡ n % 2 ^ a = omega arith in z) ∙ split n a)
 
 -- the places below k have the line o, and the others have what f says
 pub record Upto (m : ℕ) (s : Split) (l : ℕ) (o : Line) (f : Place → ℕ) (k n : ℕ) : Type 0 where
@@ -71,14 +74,16 @@ module _ (m : ℕ) (s : Split) (l : ℕ) (o : Line) (f : Place → ℕ) where
   begin n e = record { done = λ x h p. absurd (let y : ⊥ = omega arith in y); rest = λ x h p. e x h }
 
   -- places that aren't the line's are passed over
-  pub passed : {k n : ℕ} (k' : ℕ) → k ≤ k' → Upto m s l o f k n → ((x : Place) → T (inside x) → k ≤ pos x → pos x < k' → has m s l x ≡ false) → Upto m s l o f k' n
+  pub passed : {k n : ℕ} (k' : ℕ) → k ≤ k' → Upto m s l o f k n → ((x : Place) → T (inside x) → k ≤ pos x → pos x < k' → has m s l x ≡ false)
+      → Upto m s l o f k' n
   passed {k} {n} k' hk u none = record {
     done = λ x h p. ⊎-elim (u .done x h) (λ q. u .rest x h q ∙ not-own x (none x h q p)) (lt-or (pos x) k);
     rest = λ x h p. u .rest x h (le-trans hk p);
   }
 
   -- and a run of the line's is put in
-  pub more : {k n : ℕ} (i j k' v n' : ℕ) → k ≤ i → i ≤ j → j ≤ k' → k' ≤ 66 → v < 2 ^ (start m s j - start m s i) → n' ≡ replacedAt n (start m s i) (start m s j - start m s i) v
+  pub more : {k n : ℕ} (i j k' v n' : ℕ) → k ≤ i → i ≤ j → j ≤ k' → k' ≤ 66 → v < 2 ^ (start m s j - start m s i)
+      → n' ≡ replacedAt n (start m s i) (start m s j - start m s i) v
       → Upto m s l o f k n
       → ((x : Place) → T (inside x) → i ≤ pos x → pos x < j → v / 2 ^ (start m s (pos x) - start m s i) % 2 ^ width m (anchors s) x ≡ withLine m s l o f x)
       → ((x : Place) → T (inside x) → k ≤ pos x → pos x < k' → (pos x < i) ⊎ (j ≤ pos x) → has m s l x ≡ false)
@@ -97,4 +102,5 @@ module _ (m : ℕ) (s : Split) (l : ℕ) (o : Line) (f : Place → ℕ) where
       done' : (x : Place) → T (inside x) → pos x < k' → atPlace m s n' x ≡ withLine m s l o f x
       done' x h p =
           ⊎-elim (λ q. outside x h p (inl q))
-          (λ q. ⊎-elim (λ r. ap (λ (y : ℕ). atPlace m s y x) e ∙ in-run m s n i j v hj (le-trans hk h66) hv x h q r ∙ own x h q r) (λ r. outside x h p (inr r)) (lt-or (pos x) j)) (lt-or (pos x) i)
+          (λ q. ⊎-elim (λ r. ap (λ (y : ℕ). atPlace m s y x) e ∙ in-run m s n i j v hj (le-trans hk h66) hv x h q r ∙ own x h q r) (λ r. outside x h p (inr r)) (lt-or (pos x) j))
+          (lt-or (pos x) i)

@@ -18,7 +18,8 @@ use Rattle.bcn_indexes.proofs.Remove.{size-kind}
 use Rattle.line_fields.specs.Fields.{SetReady, anchorsIn, setAfter, setBefore, sizeIn, standing}
 
 module _ (s : BitStream) (k a : ℕ) (x : LinePart) (mask new : ℕ) where
-  pub before-is : {q : BitStream} {r : NewIndexes} → q ≡ standing s a → r ≡ newIndexes (x .index) (anchorsIn k x) q (sizeIn k x) → r .indexes .uncompressed ≡ setBefore (held s) k a x
+  pub before-is : {q : BitStream} {r : NewIndexes} → q ≡ standing s a → r ≡ newIndexes (x .index) (anchorsIn k x) q (sizeIn k x)
+      → r .indexes .uncompressed ≡ setBefore (held s) k a x
   unfolding setBefore held
   before-is eq er = rw (er, eq)
 
@@ -29,7 +30,8 @@ module _ (s : BitStream) (k a : ℕ) (x : LinePart) (mask new : ℕ) where
     pub after-fits : b - bitAnd b mask + new < 2 ^ 64
     after-fits = rw after-is (lt-of-lt-of-le (r .small) (pow-mono {i = 16 * x .index} {j = 64} (omega (arith, r .most))))
 
-  pub stored-lt : {v t : ℕ} → SetReady (held s) k a x mask new → t ≡ sizeIn k x → v ≡ join (indexWidths (x .index) (anchorsIn k x)) (split (indexWidths (x .index) []) (setAfter (held s) k a x mask new)) → v < 2 ^ t
+  pub stored-lt : {v t : ℕ} → SetReady (held s) k a x mask new → t ≡ sizeIn k x
+      → v ≡ join (indexWidths (x .index) (anchorsIn k x)) (split (indexWidths (x .index) []) (setAfter (held s) k a x mask new)) → v < 2 ^ t
   stored-lt r et ev = rw (ev, et, ← (size-kind k (x .index) (x .anchors .b) (x .anchors .c) (r .least) (r .rising))) (join-lt (r .fits))
 
 pub size-lt : (k w : ℕ) → 0 < w → w ≤ 4 → 16 * w - anchorCount k < 64

@@ -77,7 +77,8 @@ one-anchor w h = size-1 w h
 module _ {m : ℕ} {s : Split} {f : Place → ℕ} (g : WellFormed m s f) (l : ℕ) (hl : l < lines m) (l3 : l < 3) where
   tested : T (both (below 4 (channelTest s m l)) (pTest s m l))
   unfolding lineTest
-  tested = implied (ltb l (lines m)) _ (at 3 (lineTest s m) (at 8 (λ m. below 3 (lineTest s m)) (all-start s) m (g .mode)) l l3) (lt→ltb l (lines m) hl)
+  tested =
+      implied (ltb l (lines m)) _ (at 3 (lineTest s m) (at 8 (λ m. below 3 (lineTest s m)) (all-start s) m (g .mode)) l l3) (lt→ltb l (lines m) hl)
 
   a-channel : (c : ℕ) → c < 4 → T (channelTest s m l c)
   a-channel c h = at 4 (channelTest s m l) (both-left (below 4 (channelTest s m l)) _ tested) c h
@@ -98,18 +99,21 @@ module _ {m : ℕ} {s : Split} {f : Place → ℕ} (g : WellFormed m s f) (l : �
   pub p-starts : pCount m ≢ 0 → at-line m l .p + pick (eqb m 1) l (2 * l + 0) ≡ start m s (28 + pick (eqb m 1) l (2 * l + 0))
   unfolding pTest
   p-starts n =
-      eqb→eq _ _ (implied (not (eqb (pCount m) 0)) _ (both-left (implies (not (eqb (pCount m) 0)) (eqb (at-line m l .p + pick (eqb m 1) l (2 * l + 0)) (start m s (28 + pick (eqb m 1) l (2 * l + 0))))) _ a-p)
+      eqb→eq _ _
+      (implied (not (eqb (pCount m) 0)) _ (both-left (implies (not (eqb (pCount m) 0)) (eqb (at-line m l .p + pick (eqb m 1) l (2 * l + 0)) (start m s (28 + pick (eqb m 1) l (2 * l + 0))))) _ a-p)
       (rw (ne-eqb (pCount m) 0 n) tt))
 
   rest : T (both (leb (at-line m l .p) 100) (eqb (at-line m l .indexes) (start m s 34)))
   unfolding pTest
-  rest = both-right (implies (not (eqb (pCount m) 0)) (eqb (at-line m l .p + pick (eqb m 1) l (2 * l + 0)) (start m s (28 + pick (eqb m 1) l (2 * l + 0))))) _ a-p
+  rest =
+      both-right
+      (implies (not (eqb (pCount m) 0)) (eqb (at-line m l .p + pick (eqb m 1) l (2 * l + 0)) (start m s (28 + pick (eqb m 1) l (2 * l + 0))))) _ a-p
 
   pub p-low : at-line m l .p ≤ 100
   p-low = leb→le _ 100 (both-left (leb (at-line m l .p) 100) _ rest)
 
   -- the first set, and the second behind it
-  pub first-starts : at-line m l .indexes ≡ start m s 34
+  first-starts : at-line m l .indexes ≡ start m s 34
   first-starts = eqb→eq _ _ (both-right (leb (at-line m l .p) 100) _ rest)
 
   pub set-starts : fieldsOf (rowOf m) (headEnd m) l (arrayOf s l) .indexes ≡ start m s (34 + (16 * arrayOf s l + 0))

@@ -64,7 +64,8 @@ pub whole-start : {m : ℕ} {s : Split} {f : Place → ℕ} → WellFormed m s f
 unfolding start widths
 whole-start {m} {s} g = ap total (take-table 66 66 (λ i. width m (anchors s) (placeAt i)) (le-refl 66)) ∙ good-total g
 
-module _ {m : ℕ} {s : Split} {f : Place → ℕ} (g : WellFormed m s f) (l : ℕ) (ln : Line) (acc : refusalIn m s l ln ≡ 0) {x : LinePart} (is : IsPart m s l x) where
+module _ {m : ℕ} {s : Split} {f : Place → ℕ} (g : WellFormed m s f) (l : ℕ) (ln : Line) (acc : refusalIn m s l ln ≡ 0) {x : LinePart}
+    (is : IsPart m s l x) where
   abbrev o : Line
   o = oriented m s l ln
 
@@ -115,7 +116,8 @@ module _ {m : ℕ} {s : Split} {f : Place → ℕ} (g : WellFormed m s f) (l : �
       → n' ≡ twoPut n b w x0 y0 → Until (4 + 6 * c) n → Until (10 + 6 * c) n'
   unfolding fieldsOf
   channel c w b x0 y0 n n' hc ew eb ex ey e u =
-      channel-put g l hl o c w n n' hc (is .value 0 c (omega arith) hc ∙ ew) (rw ew at (o-value 0 c (omega arith) hc)) (rw ew at (o-value 1 c (omega arith) hc))
+      channel-put g l hl o c w n n' hc (is .value 0 c (omega arith) hc ∙ ew) (rw ew at (o-value 0 c (omega arith) hc))
+      (rw ew at (o-value 1 c (omega arith) hc))
       (e ∙ rw (eb, ex, ey, channel-starts g l hl l3 c hc)) u
 
   module _ {st : Stored} (ist : IsStored x st o) where
@@ -125,7 +127,8 @@ module _ {m : ℕ} {s : Split} {f : Place → ℕ} (g : WellFormed m s f) (l : �
     after-values : (n : ℕ) → Until 4 n → Until 28 (endpointsPut n at x (st .endpoints))
     unfolding endpointsPut
     after-values n u =
-        channel 3 (x .alpha) (at .alpha) (e 3) (e 7) _ _ (omega arith) refl refl (ist .value 0 3 (omega arith) (omega arith)) (ist .value 1 3 (omega arith) (omega arith)) refl
+        channel 3 (x .alpha) (at .alpha) (e 3) (e 7) _ _ (omega arith) refl refl (ist .value 0 3 (omega arith) (omega arith))
+        (ist .value 1 3 (omega arith) (omega arith)) refl
         (channel 2 (x .colour) (at .blue) (e 2) (e 6) _ _ (omega arith) refl refl (ist .value 0 2 (omega arith) (omega arith)) (ist .value 1 2 (omega arith) (omega arith)) refl
         (channel 1 (x .colour) (at .green) (e 1) (e 5) _ _ (omega arith) refl refl (ist .value 0 1 (omega arith) (omega arith)) (ist .value 1 1 (omega arith) (omega arith)) refl
         (channel 0 (x .colour) (at .red) (e 0) (e 4) _ _ (omega arith) refl refl (ist .value 0 0 (omega arith) (omega arith)) (ist .value 1 0 (omega arith) (omega arith)) refl u)))
@@ -156,12 +159,14 @@ module _ {m : ℕ} {s : Split} {f : Place → ℕ} (g : WellFormed m s f) (l : �
             none : x .p ≡ 0 → (b : ℕ) → replacedAt n b (2 * x .p) (o .p 1 * 2 ^ x .p + o .p 0) ≡ n
             none z b = rw (z, lt-one (rw z at (o-p 0 (omega arith))), lt-one (rw z at (o-p 1 (omega arith)))) (nothing-put n b)
 
-            either : Dec (pCount m ≡ 0) → twoPut n (at .p + 2 * l) (x .p) p0 p1 ≡ replacedAt n (start m s (pos (pPlace m l 0))) (2 * x .p) (o .p 1 * 2 ^ x .p + o .p 0)
+            either : Dec (pCount m ≡ 0)
+                → twoPut n (at .p + 2 * l) (x .p) p0 p1 ≡ replacedAt n (start m s (pos (pPlace m l 0))) (2 * x .p) (o .p 1 * 2 ^ x .p + o .p 0)
             either (yes z) =
                 let zp : x .p ≡ 0 = sym p-is ∙ rw (eq-eqb (pCount m) 0 z) in
                 rw (e0, e1) (none zp _ ∙ sym (none zp _))
             either (no nz) =
-                let z : at .p + 2 * l ≡ start m s (28 + (2 * l + 0)) = (let y : at .p + 2 * l ≡ at .p + (2 * l + 0) = omega arith in y) ∙ (rw (ne-eqb m 1 n1) at (p-starts g l hl l3 nz)) in
+                let z : at .p + 2 * l ≡ start m s (28 + (2 * l + 0)) =
+                (let y : at .p + 2 * l ≡ at .p + (2 * l + 0) = omega arith in y) ∙ (rw (ne-eqb m 1 n1) at (p-starts g l hl l3 nz)) in
                 rw (e0, e1, z, ne-eqb m 1 n1)
 
         go : (b : Bool) → eqb m 1 ≡ b → Until 34 (pick b (replacedAt n (at .p + l) 1 p0) (twoPut n (at .p + 2 * l) (x .p) p0 p1))
@@ -194,9 +199,11 @@ module _ {m : ℕ} {s : Split} {f : Place → ℕ} (g : WellFormed m s f) (l : �
       unfolding indexWidths
       set-room =
           let h : arrayOf s l < 2 = array-lt s l (good-index-mode g) in
-          rw (← (begins m s (arrayOf s l) h 16 (omega arith)), ← (whole-start g)) (start-le m s (34 + (16 * arrayOf s l + 16)) 66 (omega arith) (omega arith))
+          rw (← (begins m s (arrayOf s l) h 16 (omega arith)), ← (whole-start g))
+          (start-le m s (34 + (16 * arrayOf s l + 16)) 66 (omega arith) (omega arith))
 
-      module _ {mask : ℕ} (em : mask ≡ word (x .index) (maskPart x)) (q : BitStream) (hq : held q ≡ n) (aq : q .at ≡ headEnd m) {row : ModeRow} (er : row ≡ rowOf m) where
+      module _ {mask : ℕ} (em : mask ≡ word (x .index) (maskPart x)) (q : BitStream) (hq : held q ≡ n) (aq : q .at ≡ headEnd m) {row : ModeRow}
+          (er : row ≡ rowOf m) where
         fields-are : fieldsAt q row l x ≡ at
         fields-are = rw (er, aq, is .set)
 
@@ -206,7 +213,8 @@ module _ {m : ℕ} {s : Split} {f : Place → ℕ} (g : WellFormed m s f) (l : �
         ready-set : SetReady n' (kindOfMode m) (at .indexes) x mask (st .indexes)
         ready-set = set-ready g l is o stands-fits n' (at .indexes) (set-starts g l hl l3) as-stood em (ist .indexes) set-room
 
-        pair : (c w i j : ℕ) (b : ℕ) → c < 4 → pick (eqb c 3) (x .alpha) (x .colour) ≡ w → w ≤ 8 → b ≡ channelAt at c → e i ≡ o .value 0 c → e j ≡ o .value 1 c → PairReady b w (e i) (e j)
+        pair : (c w i j : ℕ) (b : ℕ) → c < 4 → pick (eqb c 3) (x .alpha) (x .colour) ≡ w → w ≤ 8 → b ≡ channelAt at c → e i ≡ o .value 0 c
+            → e j ≡ o .value 1 c → PairReady b w (e i) (e j)
         unfolding fieldsOf
         pair c w i j b hc ew hw eb ei ej =
             let low : b ≤ 100 = rw eb (channel-low g l hl l3 c hc) in
@@ -223,10 +231,18 @@ module _ {m : ℕ} {s : Split} {f : Place → ℕ} (g : WellFormed m s f) (l : �
           mode-row = record { mode = m; low = g .mode; is = er };
           start = rw aq (head-low m (g .mode));
           line = l3;
-          red = rw fields-are (pair 0 (x .colour) 0 4 (at .red) (omega arith) refl (is .colour-small) refl (ist .value 0 0 (omega arith) (omega arith)) (ist .value 1 0 (omega arith) (omega arith)));
-          green = rw fields-are (pair 1 (x .colour) 1 5 (at .green) (omega arith) refl (is .colour-small) refl (ist .value 0 1 (omega arith) (omega arith)) (ist .value 1 1 (omega arith) (omega arith)));
-          blue = rw fields-are (pair 2 (x .colour) 2 6 (at .blue) (omega arith) refl (is .colour-small) refl (ist .value 0 2 (omega arith) (omega arith)) (ist .value 1 2 (omega arith) (omega arith)));
-          alpha = rw fields-are (pair 3 (x .alpha) 3 7 (at .alpha) (omega arith) refl (is .alpha-small) refl (ist .value 0 3 (omega arith) (omega arith)) (ist .value 1 3 (omega arith) (omega arith)));
+          red =
+              rw fields-are
+              (pair 0 (x .colour) 0 4 (at .red) (omega arith) refl (is .colour-small) refl (ist .value 0 0 (omega arith) (omega arith)) (ist .value 1 0 (omega arith) (omega arith)));
+          green =
+              rw fields-are
+              (pair 1 (x .colour) 1 5 (at .green) (omega arith) refl (is .colour-small) refl (ist .value 0 1 (omega arith) (omega arith)) (ist .value 1 1 (omega arith) (omega arith)));
+          blue =
+              rw fields-are
+              (pair 2 (x .colour) 2 6 (at .blue) (omega arith) refl (is .colour-small) refl (ist .value 0 2 (omega arith) (omega arith)) (ist .value 1 2 (omega arith) (omega arith)));
+          alpha =
+              rw fields-are
+              (pair 3 (x .alpha) 3 7 (at .alpha) (omega arith) refl (is .alpha-small) refl (ist .value 0 3 (omega arith) (omega arith)) (ist .value 1 3 (omega arith) (omega arith)));
           p-start = rw fields-are p-at-low;
           p-width = is .p-small;
           p-first = rw (ist .p 0 (omega arith)) (o-p 0 (omega arith));
@@ -235,7 +251,8 @@ module _ {m : ℕ} {s : Split} {f : Place → ℕ} (g : WellFormed m s f) (l : �
           set = rw (values-are, fields-are, er) ready-set;
         }
 
-        pub line-block : (r : BitStream) → r .low < 2 ^ 64 → r .high < 2 ^ 64 → held r ≡ linePut q m row l x mask st → bytesOf (held r) ≡ blockOf m s (put m s l ln f)
+        pub line-block : (r : BitStream) → r .low < 2 ^ 64 → r .high < 2 ^ 64 → held r ≡ linePut q m row l x mask st
+            → bytesOf (held r) ≡ blockOf m s (put m s l ln f)
         unfolding put linePut held
         line-block r hlo hhi e =
             put-whole g l hl o (held r) (digits-lt {m = 2 ^ 64} {c = 2 ^ 64} hhi hlo)

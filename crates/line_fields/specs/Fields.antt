@@ -71,7 +71,8 @@ abbrev pub setAfter : ℕ → ℕ → ℕ → LinePart → ℕ → ℕ → ℕ
 setAfter n k a x mask new = setBefore n k a x - bitAnd (setBefore n k a x) mask + new
 
 unfoldable pub setPut : ℕ → ℕ → ℕ → LinePart → ℕ → ℕ → ℕ
-setPut n k a x mask new = replacedAt n a (sizeIn k x) (join (indexWidths (x .index) (anchorsIn k x)) (split (indexWidths (x .index) []) (setAfter n k a x mask new)))
+setPut n k a x mask new =
+    replacedAt n a (sizeIn k x) (join (indexWidths (x .index) (anchorsIn k x)) (split (indexWidths (x .index) []) (setAfter n k a x mask new)))
 
 -- what that asks for
 pub record SetReady (n k a : ℕ) (x : LinePart) (mask new : ℕ) : Type 0 where

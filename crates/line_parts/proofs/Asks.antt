@@ -52,7 +52,9 @@ module _ (w a b : ℕ) {x y : ℕ} (ex : x ≡ a / 2 ^ w) (ey : y ≡ b / 2 ^ w)
   two-fit e = rw (fit a w (sym ex ∙ omega arith), fit b w (sym ey ∙ omega arith))
 
   pub two-unfit : (x + y ≡ 0 → ⊥) → both (ltb b (2 ^ w)) (both (ltb a (2 ^ w)) true) ≡ false
-  two-unfit n = ⊎-elim (λ h. rw (unfit a w (λ z. n (let ze : x ≡ 0 = ex ∙ z in omega arith))) (none (ltb b (2 ^ w)))) (λ h. rw (unfit b w (λ z. omega (arith, ey ∙ z)))) (lt-or y 1)
+  two-unfit n =
+      ⊎-elim (λ h. rw (unfit a w (λ z. n (let ze : x ≡ 0 = ex ∙ z in omega arith))) (none (ltb b (2 ^ w))))
+      (λ h. rw (unfit b w (λ z. omega (arith, ey ∙ z)))) (lt-or y 1)
     where
       none : (t : Bool) → both t false ≡ false
       none true = refl
@@ -66,7 +68,8 @@ pub eight-bytes : (es : List ℕ) (f : ℕ → ℕ) {w : ℕ} → ((i : ℕ) →
     → w ≡ join (replicate 8 8) (getD es 0 0 ∷ getD es 1 0 ∷ getD es 2 0 ∷ getD es 3 0 ∷ getD es 4 0 ∷ getD es 5 0 ∷ getD es 6 0 ∷ getD es 7 0 ∷ [])
     → below 8 (λ i. ltb (getD (split (replicate 8 8) w) i 0) (2 ^ f i)) ≡ below 8 (λ i. ltb (getD es i 0) (2 ^ f i))
 eight-bytes es f h e =
-    let fits : Fit (replicate 8 8) (getD es 0 0 ∷ getD es 1 0 ∷ getD es 2 0 ∷ getD es 3 0 ∷ getD es 4 0 ∷ getD es 5 0 ∷ getD es 6 0 ∷ getD es 7 0 ∷ []) =
+    let fits : Fit (replicate 8 8)
+    (getD es 0 0 ∷ getD es 1 0 ∷ getD es 2 0 ∷ getD es 3 0 ∷ getD es 4 0 ∷ getD es 5 0 ∷ getD es 6 0 ∷ getD es 7 0 ∷ []) =
     more (h 0) (more (h 1) (more (h 2) (more (h 3) (more (h 4) (more (h 5) (more (h 6) (more (h 7) none))))))) in
     ap (λ (vs : List ℕ). below 8 (λ i. ltb (getD vs i 0) (2 ^ f i))) (ap (split (replicate 8 8)) e ∙ split-join fits)
 

@@ -33,7 +33,8 @@ second-anchor (Three a) h = rw (anchors-in3 a h .are) (omega (arith, anchors-in3
 second-anchor (Vector r i) h = lit< tt
 
 -- the pixels of a line are those of its subset, and all of a vector's and its scalar's
-pub own-pixel : (s : Split) (l q : ℕ) → partition s < 64 → q < 16 → (kindOf s ≡ 0 → l ≡ 0) → ownPixel (linePixels s l) q ≡ pick (isVector s) true (eqb (subset s q) l)
+pub own-pixel : (s : Split) (l q : ℕ) → partition s < 64 → q < 16 → (kindOf s ≡ 0 → l ≡ 0)
+    → ownPixel (linePixels s l) q ≡ pick (isVector s) true (eqb (subset s q) l)
 unfolding ownPixel field
 own-pixel Whole l q h hq e = rw (e refl, zero-div (2 ^ (q * 1)))
 own-pixel (Two a) l q h hq e = rw (mul-one q) (ap (λ (x : ℕ). eqb x l) (subset-in2 a q h hq))
@@ -60,10 +61,15 @@ either : (b : Bool) → _≡_ {A = ℕ} (pick b 0 0) 0
 either true = refl
 either false = refl
 
-pub anchor-is : (s : Split) (l : ℕ) → partition s < 64 → (kindOf s ≡ 1 → l < 2) → (kindOf s ≡ 2 → l < 3) → anchorIn (kindOf s) l (linePixels s l) (anchorsOf s) ≡ anchorOf s l
+pub anchor-is : (s : Split) (l : ℕ) → partition s < 64 → (kindOf s ≡ 1 → l < 2) → (kindOf s ≡ 2 → l < 3)
+    → anchorIn (kindOf s) l (linePixels s l) (anchorsOf s) ≡ anchorOf s l
 anchor-is Whole l h h2 h3 = ap (pick (eqb l 0) 0) (either (ownPixel (linePixels Whole l) 0)) ∙ either (eqb l 0) ∙ sym (whole-anchor l)
 anchor-is (Two a) l h h2 h3 =
-    rw (anchors-in2 a h .are, own-pixel (Two a) l (map2 a .«fixup_index_2») h (anchors-in2 a h .last) (λ z. absurd (let y : ⊥ = omega arith in y)), in-subset-1 a h)
+    rw (
+      anchors-in2 a h .are,
+      own-pixel (Two a) l (map2 a .«fixup_index_2») h (anchors-in2 a h .last) (λ z. absurd (let y : ⊥ = omega arith in y)),
+      in-subset-1 a h,
+    )
     (go l (h2 refl) ∙ sym (anchor-in2 a l h (h2 refl)))
   where
     go : (l : ℕ) → l < 2 → pick (eqb l 0) 0 (pick (eqb 1 l) (map2 a .«fixup_index_2») 0) ≡ pick (eqb l 0) 0 (map2 a .«fixup_index_2»)
@@ -71,6 +77,9 @@ anchor-is (Two a) l h h2 h3 =
     go (suc zero) l2 = refl
     go (suc (suc l)) l2 = absurd (let y : ⊥ = omega arith in y)
 anchor-is (Three a) l h h2 h3 =
-    rw (anchors-in3 a h .are, own-pixel (Three a) l (map3 a .«fixup_index_2») h (omega (arith, anchors-in3 a h .next, anchors-in3 a h .last)) (λ z. absurd (let y : ⊥ = omega arith in y)))
+    rw (
+      anchors-in3 a h .are,
+      own-pixel (Three a) l (map3 a .«fixup_index_2») h (omega (arith, anchors-in3 a h .next, anchors-in3 a h .last)) (λ z. absurd (let y : ⊥ = omega arith in y)),
+    )
     (sym (anchor-in3 a l h (h3 refl)))
 anchor-is (Vector r i) l h h2 h3 = either (eqb l 0) ∙ sym (vector-anchor r i l)

@@ -94,17 +94,20 @@ module _ {m : ℕ} {s : Split} {f : Place → ℕ} (g : WellFormed m s f) (l : �
   pub of-line : {row : ModeRow} → row ≡ rowOf m → OfLine row s l
   of-line e = record { kind = rw e (sym (good-kind g)); partition = good-64 g }
 
-  values : (k c : ℕ) → k < 2 → c < 4 → ownWidth m s l (valuePlace s l k c) ≡ pick (eqb c 3) (partOf (rowOf m) s l .alpha) (partOf (rowOf m) s l .colour)
+  values : (k c : ℕ) → k < 2 → c < 4
+      → ownWidth m s l (valuePlace s l k c) ≡ pick (eqb c 3) (partOf (rowOf m) s l .alpha) (partOf (rowOf m) s l .colour)
   values k c hk hc = ws .value k c hk hc ∙ rw vector (go (isVector s) refl (eqb c 3))
     where
-      line : (l : ℕ) (b : Bool) → l < 2 → pick (eqb (pick b 1 0) l) (pick b (alphaBits m) (colourBits m)) 0 ≡ pick b (pick (eqb l 0) 0 (alphaBits m)) (pick (eqb l 1) 0 (colourBits m))
+      line : (l : ℕ) (b : Bool) → l < 2
+          → pick (eqb (pick b 1 0) l) (pick b (alphaBits m) (colourBits m)) 0 ≡ pick b (pick (eqb l 0) 0 (alphaBits m)) (pick (eqb l 1) 0 (colourBits m))
       line zero true h = refl
       line zero false h = refl
       line (suc zero) true h = refl
       line (suc zero) false h = refl
       line (suc (suc l)) b h = absurd (let y : ⊥ = omega arith in y)
 
-      go : (v : Bool) → isVector s ≡ v → (b : Bool) → pick v (pick (eqb (pick b 1 0) l) (pick b (alphaBits m) (colourBits m)) 0) (pick b (alphaBits m) (colourBits m))
+      go : (v : Bool) → isVector s ≡ v → (b : Bool)
+          → pick v (pick (eqb (pick b 1 0) l) (pick b (alphaBits m) (colourBits m)) 0) (pick b (alphaBits m) (colourBits m))
           ≡ pick b (pick v (pick (eqb l 0) 0 (alphaBits m)) (alphaBits m)) (pick v (pick (eqb l 1) 0 (colourBits m)) (colourBits m))
       go true e b = line l b (two e)
       go false e true = refl
@@ -115,10 +118,12 @@ module _ {m : ℕ} {s : Split} {f : Place → ℕ} (g : WellFormed m s f) (l : �
   bits-is = rw sets refl
 
   -- its pixels, and its anchor
-  pixels : (q : ℕ) → q < 16 → pick (isVector s) (lineBits m s l) (pick (eqb (subset s q) l) (lineBits m s l) 0) ≡ pick (ownPixel (linePixels s l) q) (partOf (rowOf m) s l .index) 0
+  pixels : (q : ℕ) → q < 16
+      → pick (isVector s) (lineBits m s l) (pick (eqb (subset s q) l) (lineBits m s l) 0) ≡ pick (ownPixel (linePixels s l) q) (partOf (rowOf m) s l .index) 0
   pixels q hq = rw (bits-is, own-pixel s l q (good-64 g) hq (λ z. lt-one (by-kind 0 refl z))) (go (isVector s))
     where
-      go : (v : Bool) → pick v (lineBits m s l) (pick (eqb (subset s q) l) (lineBits m s l) 0) ≡ pick (pick v true (eqb (subset s q) l)) (lineBits m s l) 0
+      go : (v : Bool)
+          → pick v (lineBits m s l) (pick (eqb (subset s q) l) (lineBits m s l) 0) ≡ pick (pick v true (eqb (subset s q) l)) (lineBits m s l) 0
       go true = refl
       go false = refl
 

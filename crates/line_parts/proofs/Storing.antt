@@ -63,7 +63,9 @@ module _ {m : ℕ} {s : Split} {l : ℕ} {x : LinePart} (is : IsPart m s l x) (g
     last-less q = pick (own q) (2 ^ w - 1 - v q) 0
 
     whole-mask : word w (maskPart x) ≡ word w last-less + word w v
-    whole-mask = word-same w (maskPart x) (λ q. last-less q + v q) (λ q h. go (own q) (kept q h) (le-ones w (fits q h))) ∙ word-plus w last-less v (λ q h. small (own q) q) fits
+    whole-mask =
+        word-same w (maskPart x) (λ q. last-less q + v q) (λ q h. go (own q) (kept q h) (le-ones w (fits q h)))
+        ∙ word-plus w last-less v (λ q h. small (own q) q) fits
       where
         go : (b : Bool) {z : ℕ} → pick b z 0 ≡ z → z ≤ 2 ^ w - 1 → pick b (2 ^ w - 1) 0 ≡ pick b (2 ^ w - 1 - z) 0 + z
         go true k h = omega arith
@@ -95,7 +97,8 @@ module _ {m : ℕ} {s : Split} {l : ℕ} {x : LinePart} (is : IsPart m s l x) (g
         es : ℕ → ℕ
         es i = getD (g .endpoints) i 0
 
-        four : (k c : ℕ) → c < 4 → (f : ℕ → ℕ) → f 0 ≡ es (4 * (1 - k) + 0) → f 1 ≡ es (4 * (1 - k) + 1) → f 2 ≡ es (4 * (1 - k) + 2) → f 3 ≡ es (4 * (1 - k) + 3) → f c ≡ es (4 * (1 - k) + c)
+        four : (k c : ℕ) → c < 4 → (f : ℕ → ℕ) → f 0 ≡ es (4 * (1 - k) + 0) → f 1 ≡ es (4 * (1 - k) + 1) → f 2 ≡ es (4 * (1 - k) + 2)
+            → f 3 ≡ es (4 * (1 - k) + 3) → f c ≡ es (4 * (1 - k) + c)
         four k zero h f e0 e1 e2 e3 = e0
         four k (suc zero) h f e0 e1 e2 e3 = e1
         four k (suc (suc zero)) h f e0 e1 e2 e3 = e2
@@ -104,7 +107,8 @@ module _ {m : ℕ} {s : Split} {l : ℕ} {x : LinePart} (is : IsPart m s l x) (g
 
         value : (k c : ℕ) → k < 2 → c < 4 → getD (turnedRound g (word w (maskPart x) - word w v) .endpoints) (4 * k + c) 0 ≡ es (4 * (1 - k) + c)
         value zero c hk hc = four 0 c hc (λ c. getD (turnedRound g (word w (maskPart x) - word w v) .endpoints) (4 * 0 + c) 0) refl refl refl refl
-        value (suc zero) c hk hc = four 1 c hc (λ c. getD (turnedRound g (word w (maskPart x) - word w v) .endpoints) (4 * 1 + c) 0) refl refl refl refl
+        value (suc zero) c hk hc =
+            four 1 c hc (λ c. getD (turnedRound g (word w (maskPart x) - word w v) .endpoints) (4 * 1 + c) 0) refl refl refl refl
         value (suc (suc k)) c hk hc = absurd (let y : ⊥ = omega arith in y)
 
         p : (k : ℕ) → k < 2 → getD (turnedRound g (word w (maskPart x) - word w v) .p) k 0 ≡ getD (g .p) (1 - k) 0

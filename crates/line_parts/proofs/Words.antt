@@ -53,7 +53,7 @@ module _ (w : ℕ) where
     pub word-plus : word w (λ q. a q + b q) ≡ word w a + word w b
     word-plus = ap (join (indexWidths w [])) (sym (plus-table 16 a b)) ∙ join-plus (word-fits a ha) (word-fits b hb)
 
-    pub word-and : bitAnd (word w a) (word w b) ≡ word w (λ q. bitAnd (a q) (b q))
+    word-and : bitAnd (word w a) (word w b) ≡ word w (λ q. bitAnd (a q) (b q))
     word-and = and-join (word-fits a ha) (word-fits b hb) ∙ ap (join (indexWidths w [])) (ands-table 16 a b)
 
     pub word-one : word w a ≡ word w b → (q : ℕ) → q < 16 → a q ≡ b q
@@ -71,7 +71,8 @@ module _ (x : LinePart) where
       go true = ones-lt (x .index)
       go false = pow-pos (x .index)
 
-  pub masked : (f : ℕ → ℕ) → Small (x .index) f → bitAnd (word (x .index) f) (word (x .index) maskPart) ≡ word (x .index) (λ q. pick (ownPixel (x .pixels) q) (f q) 0)
+  pub masked : (f : ℕ → ℕ) → Small (x .index) f
+      → bitAnd (word (x .index) f) (word (x .index) maskPart) ≡ word (x .index) (λ q. pick (ownPixel (x .pixels) q) (f q) 0)
   masked f hf = word-and (x .index) f maskPart hf mask-small ∙ word-same (x .index) _ _ (λ q h. go (ownPixel (x .pixels) q) (hf q h))
     where
       go : (b : Bool) {z : ℕ} → z < 2 ^ x .index → bitAnd z (pick b (2 ^ x .index - 1) 0) ≡ pick b z 0

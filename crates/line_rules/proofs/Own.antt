@@ -4,18 +4,15 @@ use mathlib.Core.Path.{_≡_, refl}
 use mathlib.Core.Logic.{_≢_}
 use mathlib.Core.Bool.{Bool, true, false, not}
 use mathlib.Core.List.{[]}
-use Prim.Native.Nat.{ℕ, _<_}
-use native.Mathlib.Omega.{arith}
+use Prim.Native.Nat.{ℕ}
 use borrow.Author.Tests.{eq-eqb, eqb-true, ne-eqb}
 use lib.Dec.{T, eqb}
 use Rattle.format.specs.declared.Split.{Split}
 use Rattle.laws.specs.Tables.{both, pick}
 use Rattle.laws.proofs.Tests.{T-true, not-so}
 use Rattle.format.specs.Lines.{has, lineOfPlace}
-use Rattle.format.specs.Places.{Place, head, inside, width}
-use Rattle.format.proofs.Lens.{has-head, has-parts}
-use Rattle.format.proofs.Modes.{lines-le}
-use Rattle.line_rules.specs.Coded.{LineOfBlock}
+use Rattle.format.specs.Places.{Place, inside, width}
+use Rattle.format.proofs.Lens.{has-parts}
 use Rattle.line_rules.specs.Replace.{ownWidth}
 
 -- a place of another line has none, and one of the line itself has all its bits
@@ -35,10 +32,6 @@ own-is m s l x i e = rw (T-true (inside x) i, eq-eqb (lineOfPlace m s x) l e) (g
     go : (b : Bool) → eqb (width m [] x) 0 ≡ b → pick (both (not b) true) (width m [] x) 0 ≡ width m [] x
     go true z = rw (eqb-true (width m [] x) 0 z)
     go false z = refl
-
-pub own-head : (m : ℕ) (s : Split) (l k : ℕ) → l < 9 → ownWidth m s l (head k) ≡ 0
-unfolding ownWidth
-own-head m s l k h = rw (has-head m s l k h)
 
 -- a line has a place exactly where the place has bits in it
 pub own-none : (m : ℕ) (s : Split) (l : ℕ) (x : Place) → ownWidth m s l x ≡ 0 → has m s l x ≡ false
@@ -60,6 +53,3 @@ has-width m s l x h = rw h
 pub no-width : (m : ℕ) (s : Split) (l : ℕ) (x : Place) → has m s l x ≡ false → ownWidth m s l x ≡ 0
 unfolding ownWidth
 no-width m s l x h = rw h
-
-pub line-below-3 : {m : ℕ} {s : Split} {l : ℕ} → LineOfBlock m s l → l < 3
-line-below-3 {m} h = omega (arith, h .line, lines-le m (h .holds .mode))

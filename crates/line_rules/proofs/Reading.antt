@@ -51,10 +51,11 @@ pub record Agree (a b : Line) : Type 0 where
   pub p : (k : ℕ) → k < 2 → a .p k ≡ b .p k
   pub index : (q : ℕ) → q < 16 → a .index q ≡ b .index q
 
-pub given-ext : (a b : Line) → Agree a b → givenAs a ≡ givenAs b
+given-ext : (a b : Line) → Agree a b → givenAs a ≡ givenAs b
 unfolding givenAs
 given-ext a b h =
-    let e : table 8 (λ i. a .value (i / 4) (i % 4)) ≡ table 8 (λ i. b .value (i / 4) (i % 4)) = table-same 0 8 _ _ (λ i l. h .value (i / 4) (i % 4) (omega arith) (mod-lt i (lit< tt))) in
+    let e : table 8 (λ i. a .value (i / 4) (i % 4)) ≡ table 8 (λ i. b .value (i / 4) (i % 4)) =
+    table-same 0 8 _ _ (λ i l. h .value (i / 4) (i % 4) (omega arith) (mod-lt i (lit< tt))) in
     let p : table 2 (a .p) ≡ table 2 (b .p) = table-same 0 2 _ _ (h .p) in
     let x : table 16 (a .index) ≡ table 16 (b .index) = table-same 0 16 _ _ (h .index) in
     λ j. record { endpoints = e j; p = p j; indexes = x j }
@@ -82,7 +83,7 @@ given-back g he hp hi =
     by-elements : (n : ℕ) (vs : List ℕ) (f : ℕ → ℕ) → length vs ≡ n → ((i : ℕ) → i < n → getD vs i 0 ≡ f i) → vs ≡ table n f
     by-elements n vs f e h = part-all {d = 0} {P = λ k. Unit {0}} (record { long = e; done = λ k l t. h k l }) (λ k l. tt)
 
-pub laid-same : (m : ℕ) (a b : Line) → Agree a b → (x : Place) → T (inside x) → laid m a x ≡ laid m b x
+laid-same : (m : ℕ) (a b : Line) → Agree a b → (x : Place) → T (inside x) → laid m a x ≡ laid m b x
 unfolding laid
 laid-same m a b h (head k) i = refl
 laid-same m a b h (value c e) i = h .value (e % 2) c (mod-lt e (lit< tt)) (ltb→lt c 4 (both-left (ltb c 4) (ltb e 6) i))
@@ -128,7 +129,7 @@ module _ {m : ℕ} {s : Split} {f : Place → ℕ} (g : WellFormed m s f) (l : �
   agrees : Agree read (lineOf m s l f)
   agrees = given-line (lineOf m s l f)
 
-  pub read-acceptable : Acceptable m s l read
+  read-acceptable : Acceptable m s l read
   unfolding lineOf pPlace
   read-acceptable = record {
     line = hl;
@@ -137,16 +138,18 @@ module _ {m : ℕ} {s : Split} {f : Place → ℕ} (g : WellFormed m s f) (l : �
       p = λ k hk. rw (agrees .p k hk) (own-fits (pPlace m l k));
       index = λ q hq. rw (agrees .index q hq) (own-fits (indexPlace s l q));
     };
-    same-p = λ e. agrees .p 0 (lit< tt) ∙ ap (λ (b : Bool). own m s l f (pbit (pick b l (2 * l + 0)))) (eq-eqb m 1 e) ∙ sym (ap (λ (b : Bool). own m s l f (pbit (pick b l (2 * l + 1)))) (eq-eqb m 1 e)) ∙ sym (agrees .p 1 (lit< tt));
+    same-p =
+        λ e. agrees .p 0 (lit< tt) ∙ ap (λ (b : Bool). own m s l f (pbit (pick b l (2 * l + 0)))) (eq-eqb m 1 e)
+        ∙ sym (ap (λ (b : Bool). own m s l f (pbit (pick b l (2 * l + 1)))) (eq-eqb m 1 e)) ∙ sym (agrees .p 1 (lit< tt));
   }
 
-  pub read-unturned : topSet m s l read ≡ false
+  read-unturned : topSet m s l read ≡ false
   unfolding lineOf
   read-unturned =
       lt-leb (2 ^ (lineBits m s l - 1)) (read .index (anchorOf s l))
       (rw (agrees .index (anchorOf s l) (anchor-lt s l (good-64 g) (omega (arith, lines-le m (g .mode))))) own-anchor)
 
-  pub put-read : (x : Place) → T (inside x) → put m s l read f x ≡ f x
+  put-read : (x : Place) → T (inside x) → put m s l read f x ≡ f x
   unfolding put withLine oriented
   put-read x i = rw read-unturned (go (has m s l x) refl)
     where
@@ -159,7 +162,8 @@ pub read-answers : (bs : List ℕ) → Fit eights bs → (l : ℕ) → Answers (
 unfolding readRefusal
 read-answers bs sixteen l = answers (rule (open-is bs sixteen) λ o. rule (by-not-ltb tt l (lines (modeOf bs))) λ h. none)
 
-pub read-is : (bs : List ℕ) (l : ℕ) → readRefusal bs l ≡ 0 → lineRead bs l ≡ readAs 0 (lineOf (modeOf bs) (splitOf bs) l (opened bs)) (widthsOf (modeOf bs) (splitOf bs) l)
+pub read-is : (bs : List ℕ) (l : ℕ) → readRefusal bs l ≡ 0
+    → lineRead bs l ≡ readAs 0 (lineOf (modeOf bs) (splitOf bs) l (opened bs)) (widthsOf (modeOf bs) (splitOf bs) l)
 unfolding lineRead
 read-is bs l e = rw (eq-eqb (readRefusal bs l) 0 e, e)
 
@@ -187,7 +191,9 @@ module _ (bs : List ℕ) (sixteen : Fit eights bs) where
     replaced-by-read =
         let c : Call = callOf l (lineRead bs l .line) in
         let a = read-acceptable good l line-there in
-        let e : refusal bs c ≡ 0 = rw line-is (accepted-when (on-block bs sixteen (callOf l _)) .1 (accepted-when (read-answers bs sixteen l) .0 ok .0, (a .line, (a .within, (a .same-p, tt))))) in
+        let e : refusal bs c ≡ 0 =
+        rw line-is
+        (accepted-when (on-block bs sixteen (callOf l _)) .1 (accepted-when (read-answers bs sixteen l) .0 ok .0, (a .line, (a .within, (a .same-p, tt))))) in
         rw (e, line-is)
         (ap (replacedAs 0) (block-ext (modeOf bs) (splitOf bs) _ (opened bs) (put-read good l line-there) ∙ block-opened bs sixteen open-mode-is))
 
@@ -195,7 +201,8 @@ module _ (bs : List ℕ) (sixteen : Fit eights bs) where
     read-not-turned = rw line-is (read-unturned good l line-there)
 
     -- it draws what the block shows
-    pub read-drawn : (q ch : ℕ) → q < 16 → ch < 4 → draws (modeOf bs) (splitOf bs) l q ch ≡ true → meant (modeOf bs) (splitOf bs) l (lineGiven (lineRead bs l .line)) q ch ≡ pixel bs q ch
+    pub read-drawn : (q ch : ℕ) → q < 16 → ch < 4 → draws (modeOf bs) (splitOf bs) l q ch ≡ true
+        → meant (modeOf bs) (splitOf bs) l (lineGiven (lineRead bs l .line)) q ch ≡ pixel bs q ch
     unfolding pixel shown meant
     read-drawn q ch hq hc dr =
         let p = drawn-by (modeOf bs) (splitOf bs) l q ch dr in
@@ -214,7 +221,9 @@ module _ (bs : List ℕ) (sixteen : Fit eights bs) where
       same x = go (has (modeOf bs) (splitOf bs) l x) refl
         where
           go : (b : Bool) → has (modeOf bs) (splitOf bs) l x ≡ b → pick b (opened (after bs c) x) 0 ≡ pick b (opened bs x) 0
-          go true h = places-kept bs sixteen c x (has-parts (modeOf bs) (splitOf bs) l x h .0) (not-so _ (λ t. has-one (modeOf bs) (splitOf bs) (c .line) l x n t h))
+          go true h =
+              places-kept bs sixteen c x (has-parts (modeOf bs) (splitOf bs) l x h .0)
+              (not-so _ (λ t. has-one (modeOf bs) (splitOf bs) (c .line) l x n t h))
           go false h = refl
 
   -- after an accepted call its line reads as it was given, or turned round where the index at its anchor had its top bit set
@@ -249,7 +258,8 @@ module _ (bs : List ℕ) (sixteen : Fit eights bs) where
     no-index q hq h = nothing (a .within .index q hq) (no-width m s l _ h)
 
     -- what is read is what was laid there
-    stored : (x : Place) {v : ℕ} → (has m s l x ≡ true → laid m (oriented m s l (c .given)) x ≡ v) → (has m s l x ≡ false → v ≡ 0) → own m s l (opened (after bs c)) x ≡ v
+    stored : (x : Place) {v : ℕ} → (has m s l x ≡ true → laid m (oriented m s l (c .given)) x ≡ v) → (has m s l x ≡ false → v ≡ 0)
+        → own m s l (opened (after bs c)) x ≡ v
     unfolding own
     stored x {v} put none = go (has m s l x) refl
       where
@@ -257,14 +267,16 @@ module _ (bs : List ℕ) (sixteen : Fit eights bs) where
         go true h = places-stored bs sixteen c x e (has-parts m s l x h .0) h ∙ put h
         go false h = sym (none h)
 
-    pub read-back : Agree (lineOf m s l (opened (after bs c))) (pick (topSet m s l (c .given)) (turnedIn m s l (c .given)) (c .given))
+    read-back : Agree (lineOf m s l (opened (after bs c))) (pick (topSet m s l (c .given)) (turnedIn m s l (c .given)) (c .given))
     unfolding lineOf oriented turnedIn turned
     read-back = go (topSet m s l (c .given)) refl
       where
         go : (b : Bool) → topSet m s l (c .given) ≡ b → Agree (lineOf m s l (opened (after bs c))) (pick b (turnedIn m s l (c .given)) (c .given))
         go true t = record {
           value = λ k ch hk hc. stored (valuePlace s l k ch) (λ h. laid-value m s l _ k ch hk ∙ rw t) (no-value k (1 - k) ch hk (omega arith) hc);
-          p = λ k hk. stored (pPlace m l k) (λ h. laid-p m l _ k hk (λ z. same-oriented m s l (c .given) (a .same-p z)) ∙ rw t) (no-p k (1 - k) hk (omega arith));
+          p =
+              λ k hk. stored (pPlace m l k) (λ h. laid-p m l _ k hk (λ z. same-oriented m s l (c .given) (a .same-p z)) ∙ rw t)
+              (no-p k (1 - k) hk (omega arith));
           index = λ q hq. stored (indexPlace s l q) (λ h. laid-index m s l _ q ∙ rw (t, h)) (λ h. rw h);
         }
         go false t = record {
@@ -276,15 +288,18 @@ module _ (bs : List ℕ) (sixteen : Fit eights bs) where
     -- the reading isn't refused
     pub read-after : readRefusal (after bs c) l ≡ 0
     read-after =
-        accepted-when (read-answers (after bs c) (after-sixteen bs sixteen c) l) .1
-        ((λ z. let y : ⊥ = omega (arith, after-mode bs sixteen c, accepted-open bs c e, reserved-mode (after bs c) z) in y), (rw (after-mode bs sixteen c) (a .line), tt))
+        accepted-when (read-answers (after bs c) (after-sixteen bs sixteen c) l) .1 (
+          (λ z. let y : ⊥ = omega (arith, after-mode bs sixteen c, accepted-open bs c e, reserved-mode (after bs c) z) in y),
+          (rw (after-mode bs sixteen c) (a .line), tt),
+        )
 
     pub put-is-read : lineRead (after bs c) l .line ≡ givenAs (pick (topSet m s l (c .given)) (turnedIn m s l (c .given)) (c .given))
     put-is-read =
         ap (λ (r : LineRead). r .line) (read-is (after bs c) l read-after)
         ∙ rw (after-mode bs sixteen c, after-split bs sixteen c) (given-ext _ _ read-back)
 
-    pub put-draws : (q ch : ℕ) → q < 16 → ch < 4 → draws m s l q ch ≡ true → meant m s l (lineGiven (lineRead (after bs c) l .line)) q ch ≡ meant m s l (c .given) q ch
+    pub put-draws : (q ch : ℕ) → q < 16 → ch < 4 → draws m s l q ch ≡ true
+        → meant m s l (lineGiven (lineRead (after bs c) l .line)) q ch ≡ meant m s l (c .given) q ch
     put-draws q ch hq hc dr =
         let d : draws (modeOf (after bs c)) (splitOf (after bs c)) l q ch ≡ true = rw (after-mode bs sixteen c, after-split bs sixteen c) dr in
         (rw (after-mode bs sixteen c, after-split bs sixteen c) at (read-drawn (after bs c) (after-sixteen bs sixteen c) l read-after q ch hq hc d))

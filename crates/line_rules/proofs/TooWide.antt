@@ -35,11 +35,14 @@ at-endpoint g k ch hk hc = rw (lt-ltb (4 * k + ch) 8 (omega arith))
 
 at-p : (g : Replacement) (k : ℕ) → k < 2 → valueAt g (8 + k) ≡ lineGiven g .p k
 unfolding valueAt lineGiven
-at-p g k hk = rw (le-ltb (8 + k) 8 (omega arith), lt-ltb (8 + k) 10 (omega arith)) (ap (λ (j : ℕ). getD (g .p) j 0) (let z : 8 + k - 8 ≡ k = omega arith in z))
+at-p g k hk =
+    rw (le-ltb (8 + k) 8 (omega arith), lt-ltb (8 + k) 10 (omega arith)) (ap (λ (j : ℕ). getD (g .p) j 0) (let z : 8 + k - 8 ≡ k = omega arith in z))
 
 at-index : (g : Replacement) (q : ℕ) → valueAt g (10 + q) ≡ lineGiven g .index q
 unfolding valueAt lineGiven
-at-index g q = rw (le-ltb (10 + q) 8 (omega arith), le-ltb (10 + q) 10 (omega arith)) (ap (λ (j : ℕ). getD (g .indexes) j 0) (let z : 10 + q - 10 ≡ q = omega arith in z))
+at-index g q =
+    rw (le-ltb (10 + q) 8 (omega arith), le-ltb (10 + q) 10 (omega arith))
+    (ap (λ (j : ℕ). getD (g .indexes) j 0) (let z : 10 + q - 10 ≡ q = omega arith in z))
 
 module _ (m : ℕ) (s : Split) (l : ℕ) (g : Replacement) where
   abbrev ws : Replacement
@@ -52,7 +55,9 @@ module _ (m : ℕ) (s : Split) (l : ℕ) (g : Replacement) where
   by-values : ((i : ℕ) → i < 26 → Narrow i) → Within m s l (lineGiven g)
   unfolding Narrow widthsOf
   by-values t = record {
-    value = λ k ch hk hc. rw (at-endpoint g k ch hk hc, at-endpoint ws k ch hk hc, given-line (widthsOf m s l) .value k ch hk hc) at (t (4 * k + ch) (omega arith));
+    value =
+        λ k ch hk hc. rw (at-endpoint g k ch hk hc, at-endpoint ws k ch hk hc, given-line (widthsOf m s l) .value k ch hk hc) at
+        (t (4 * k + ch) (omega arith));
     p = λ k hk. rw (at-p g k hk, at-p ws k hk, given-line (widthsOf m s l) .p k hk) at (t (8 + k) (omega arith));
     index = λ q hq. rw (at-index g q, at-index ws q, given-line (widthsOf m s l) .index q hq) at (t (10 + q) (omega arith));
   }
@@ -96,7 +101,8 @@ module _ (m : ℕ) (s : Split) (l : ℕ) (g : Replacement) where
   wide-unfit t = not-so _ (λ e. let n = by-line (fits-within m s l (lineGiven g) e) (t .at) (t .below) in let y : ⊥ = omega (arith, n, t .wide) in y)
 
 -- of refusals in order, the third
-third : (a b c d : Bool) → first (refuse 1 a ∷ refuse 2 b ∷ refuse 3 c ∷ refuse 4 d ∷ []) ≡ 3 → (first (refuse 1 a ∷ refuse 2 b ∷ []) ≡ 0) × (c ≡ true)
+third : (a b c d : Bool) → first (refuse 1 a ∷ refuse 2 b ∷ refuse 3 c ∷ refuse 4 d ∷ []) ≡ 3
+    → (first (refuse 1 a ∷ refuse 2 b ∷ []) ≡ 0) × (c ≡ true)
 unfolding first
 third true b c d e = absurd (let y : ⊥ = omega arith in y)
 third false true c d e = absurd (let y : ⊥ = omega arith in y)
@@ -110,10 +116,13 @@ so-third true b c d e t = absurd (let y : ⊥ = omega arith in y)
 so-third false true c d e t = absurd (let y : ⊥ = omega arith in y)
 so-third false false c d e t = rw t
 
-pub refused-with-3 : (bs : List ℕ) (l : ℕ) (g : Replacement) → (refusal bs (callOf l g) ≡ 3) ↔ ((readRefusal bs l ≡ 0) × TooWide g (lineRead bs l .widths))
+pub refused-with-3 : (bs : List ℕ) (l : ℕ) (g : Replacement)
+    → (refusal bs (callOf l g) ≡ 3) ↔ ((readRefusal bs l ≡ 0) × TooWide g (lineRead bs l .widths))
 unfolding refusal refusalIn readRefusal
 refused-with-3 bs l g = (
-  λ e. let t = third (eqb m 8) (not (ltb l (lines m))) (not (lineFits m s l ln)) differ e in (t .0, rw (widths (t .0)) (unfit-wide m s l g (not-true _ (t .1)))),
+  λ e. let t =
+      third (eqb m 8) (not (ltb l (lines m))) (not (lineFits m s l ln)) differ e in
+      (t .0, rw (widths (t .0)) (unfit-wide m s l g (not-true _ (t .1)))),
   λ x. so-third (eqb m 8) (not (ltb l (lines m))) (not (lineFits m s l ln)) differ (x .0) (rw (wide-unfit m s l g (rw (widths (x .0)) at (x .1)))),
 )
   where

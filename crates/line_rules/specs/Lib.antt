@@ -3,4 +3,3 @@ pub mod Replace
 pub mod Calls
 pub mod Acceptable
 pub mod Read
-pub mod Coded

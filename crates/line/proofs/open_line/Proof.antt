@@ -39,12 +39,15 @@ read-split-requires c κs =
 line-part-requires : tie.Need-line-part-requires
 line-part-requires c κs =
     let s = c .before .before .before .before in
-    asks (s .args .block) (s .pre .0) (s .pre .2) (c .before .before .before .new .ensures .0) (c .before .before .before .new .ensures .1) (c .before .before .skip .ensures) (c .before .read-split .ensures) (sixteen s) (s .pre .1) (s .args .line) (s .pre .3)
+    asks (s .args .block) (s .pre .0) (s .pre .2) (c .before .before .before .new .ensures .0) (c .before .before .before .new .ensures .1)
+    (c .before .before .skip .ensures) (c .before .read-split .ensures) (sixteen s) (s .pre .1) (s .args .line) (s .pre .3)
 
 returns : tie.Need-returns
 returns c =
     let s = c .before .before .before .before .before in
-    is-opened (s .args .block) (s .pre .0) (s .pre .2) (c .before .before .before .before .new .ensures .0) (c .before .before .before .before .new .ensures .1) (c .before .before .before .skip .ensures) (c .before .before .read-split .ensures) (s .args .line) (c .line-part .ensures)
+    is-opened (s .args .block) (s .pre .0) (s .pre .2) (c .before .before .before .before .new .ensures .0)
+    (c .before .before .before .before .new .ensures .1) (c .before .before .before .skip .ensures) (c .before .before .read-split .ensures)
+    (s .args .line) (c .line-part .ensures)
 
 pub open-line-spec : {M : Type 1} → statement M
 open-line-spec =

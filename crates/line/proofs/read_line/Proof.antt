@@ -68,7 +68,12 @@ returns-2 c =
     c .unread2 .ensures ∙ read-2 _ _ (low d) k
 
 open-line-requires : tie.Need-open-line-requires
-open-line-requires c κs = (mode-is (unreserved c), rw (mode-is (unreserved c)) (low (unreserved c)), c .before .before .mode-row .ensures, rw (mode-is (unreserved c)) (counted c))
+open-line-requires c κs = (
+  mode-is (unreserved c),
+  rw (mode-is (unreserved c)) (low (unreserved c)),
+  c .before .before .mode-row .ensures,
+  rw (mode-is (unreserved c)) (counted c),
+)
 
 line-at-requires : tie.Need-line-at-requires
 line-at-requires c κs =
@@ -86,7 +91,8 @@ returns-3 : tie.Need-returns-3
 returns-3 c =
     let o = c .before .before .before in
     let d = unreserved (o .before) in
-    read-0 _ (sixteen (call d)) (low d) _ (counted (o .before)) (o .open-line .ensures) (row-is (o .before)) (rw (mode-is d) at (c .before .line-at .ensures)) (c .widths-of .ensures)
+    read-0 _ (sixteen (call d)) (low d) _ (counted (o .before)) (o .open-line .ensures) (row-is (o .before))
+    (rw (mode-is d) at (c .before .line-at .ensures)) (c .widths-of .ensures)
 
 pub read-line-spec : {M : Type 1} → statement M
 read-line-spec =

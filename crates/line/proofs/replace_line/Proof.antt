@@ -58,7 +58,8 @@ row-is c = c .before .before .mode-row .ensures ∙ ap rowOf (mode-is (unreserve
 counted : (c : tie.Else2) → call (unreserved c) .args .line < lines (modeOf (call (unreserved c) .args .block))
 counted c = rw (row-is c) at (c .if2 .left)
 
-line-is : (c : tie.After-open-line) → IsPart (modeOf (call (unreserved (c .before)) .args .block)) (splitOf (call (unreserved (c .before)) .args .block)) (call (unreserved (c .before)) .args .line) (c .open-line .result .part)
+line-is : (c : tie.After-open-line)
+    → IsPart (modeOf (call (unreserved (c .before)) .args .block)) (splitOf (call (unreserved (c .before)) .args .block)) (call (unreserved (c .before)) .args .line) (c .open-line .result .part)
 line-is c =
     let d = unreserved (c .before) in
     is _ (sixteen (call d)) _ (call d .args .new) (long (call d)) (low d) (counted (c .before)) (c .open-line .ensures)
@@ -77,7 +78,8 @@ masking c = c .before .before
 abbrev fit : tie.Else4 → tie.Else3
 fit c = masking c .before .before .before .before
 
-alone : (c : tie.Else4) → eqb (bitAnd (masking c .before .before .word-of .result) (masking c .mask-of .result)) (masking c .before .before .word-of .result) ≡ true
+alone : (c : tie.Else4)
+    → eqb (bitAnd (masking c .before .before .word-of .result) (masking c .mask-of .result)) (masking c .before .before .word-of .result) ≡ true
 alone c = sym (c .before .only-own .ensures) ∙ not-false _ (c .if4 .left)
 
 -- and the p bits to be as the mode wants them
@@ -96,7 +98,9 @@ refused-requires : tie.Need-refused-requires
 refused-requires c κs = search needs
 
 returns : tie.Need-returns
-returns c = let s = c .before .before .before in c .refused .ensures ∙ way-1 _ (sixteen s) _ _ (long s) (sym (c .before .before .mode-of .ensures) ∙ c .before .if1 .taken)
+returns c =
+    let s = c .before .before .before in c .refused .ensures
+    ∙ way-1 _ (sixteen s) _ _ (long s) (sym (c .before .before .mode-of .ensures) ∙ c .before .if1 .taken)
 
 mode-row-requires : tie.Need-mode-row-requires
 mode-row-requires c κs = rw (mode-is c) (low c)
@@ -111,7 +115,12 @@ returns-2 c =
     c .refused2 .ensures ∙ way-2 _ (sixteen (call d)) _ _ (long (call d)) (low d) k
 
 open-line-requires : tie.Need-open-line-requires
-open-line-requires c κs = (mode-is (unreserved c), rw (mode-is (unreserved c)) (low (unreserved c)), c .before .before .mode-row .ensures, rw (mode-is (unreserved c)) (counted c))
+open-line-requires c κs = (
+  mode-is (unreserved c),
+  rw (mode-is (unreserved c)) (low (unreserved c)),
+  c .before .before .mode-row .ensures,
+  rw (mode-is (unreserved c)) (counted c),
+)
 
 parts-fit-requires : tie.Need-parts-fit-requires
 parts-fit-requires c κs = let i = line-is (c .before) in (i .colour-small, i .alpha-small, omega (arith, i .p-small), omega (arith, i .most))
@@ -123,13 +132,17 @@ returns-3 : tie.Need-returns-3
 returns-3 c =
     let o = c .before .before .before .before in
     let d = unreserved (o .before) in
-    c .refused3 .ensures ∙ way-3 _ (sixteen (call d)) _ _ (long (call d)) (low d) (counted (o .before)) (o .open-line .ensures) (sym (c .before .before .parts-fit .ensures) ∙ not-true _ (c .before .if3 .taken))
+    c .refused3 .ensures
+    ∙ way-3 _ (sixteen (call d)) _ _ (long (call d)) (low d) (counted (o .before)) (o .open-line .ensures)
+    (sym (c .before .before .parts-fit .ensures) ∙ not-true _ (c .before .if3 .taken))
 
 word-of-requires : tie.Need-word-of-requires
 word-of-requires c κs =
     let o = opening (c .before) in
-    let d = unreserved (o .before) in
-    (line-is o .most, indexes-fit _ (sixteen (call d)) _ _ (long (call d)) (low d) (counted (o .before)) (o .open-line .ensures) (fitting (c .before)))
+    let d = unreserved (o .before) in (
+      line-is o .most,
+      indexes-fit _ (sixteen (call d)) _ _ (long (call d)) (low d) (counted (o .before)) (o .open-line .ensures) (fitting (c .before)),
+    )
 
 mask-of-requires : tie.Need-mask-of-requires
 mask-of-requires c κs = let i = line-is (opening (c .before .before .before)) in (i .map, i .most)
@@ -147,7 +160,8 @@ returns-4 c =
     let o = opening f in
     let d = unreserved (o .before) in
     c .refused4 .ensures
-    ∙ way-3-others _ (sixteen (call d)) _ _ (long (call d)) (low d) (counted (o .before)) (o .open-line .ensures) (fitting f) (k .before .before .word-of .ensures) (k .mask-of .ensures)
+    ∙ way-3-others _ (sixteen (call d)) _ _ (long (call d)) (low d) (counted (o .before)) (o .open-line .ensures) (fitting f)
+    (k .before .before .word-of .ensures) (k .mask-of .ensures)
     (sym (c .before .before .only-own .ensures) ∙ not-true _ (c .before .if4 .taken))
 
 p-bits-differ-requires : tie.Need-p-bits-differ-requires
@@ -162,7 +176,8 @@ returns-5 c =
     let o = opening (fit k) in
     let d = unreserved (o .before) in
     c .refused5 .ensures
-    ∙ way-4 _ (sixteen (call d)) _ _ (long (call d)) (low d) (counted (o .before)) (o .open-line .ensures) (fitting (fit k)) (masking k .before .before .word-of .ensures) (masking k .mask-of .ensures) (alone k)
+    ∙ way-4 _ (sixteen (call d)) _ _ (long (call d)) (low d) (counted (o .before)) (o .open-line .ensures) (fitting (fit k))
+    (masking k .before .before .word-of .ensures) (masking k .mask-of .ensures) (alone k)
     (rw (mode-is d) at (sym (c .before .before .p-bits-differ .ensures) ∙ c .before .if5 .taken))
 
 oriented-requires : tie.Need-oriented-requires
@@ -174,7 +189,8 @@ oriented-requires c κs =
       omega (arith, i .least),
       i .most,
       i .anchor-small,
-      below-mask _ (sixteen (call d)) _ _ (long (call d)) (low d) (counted (o .before)) (o .open-line .ensures) (fitting (fit k)) (masking k .before .before .word-of .ensures) (masking k .mask-of .ensures) (alone k),
+      below-mask _ (sixteen (call d)) _ _ (long (call d)) (low d) (counted (o .before)) (o .open-line .ensures) (fitting (fit k))
+          (masking k .before .before .word-of .ensures) (masking k .mask-of .ensures) (alone k),
     )
 
 put-line-requires : tie.Need-put-line-requires
@@ -196,8 +212,10 @@ returns-6 c =
     let d = unreserved (o .before) in
     let r = c .before .put-line .result in
     ap (replacedAs 0) (c .bytes-of .ensures)
-    ∙ way-0 _ (sixteen (call d)) _ _ (long (call d)) (low d) (counted (o .before)) (o .open-line .ensures) (fitting (fit k)) (masking k .before .before .word-of .ensures) (masking k .mask-of .ensures) (alone k)
-    (same (c .before .before .before)) (c .before .before .oriented .ensures) (row-is (o .before)) r (halves (c .before) .0) (halves (c .before) .1) (rw (mode-is d) at (c .before .put-line .ensures))
+    ∙ way-0 _ (sixteen (call d)) _ _ (long (call d)) (low d) (counted (o .before)) (o .open-line .ensures) (fitting (fit k))
+    (masking k .before .before .word-of .ensures) (masking k .mask-of .ensures) (alone k)
+    (same (c .before .before .before)) (c .before .before .oriented .ensures) (row-is (o .before)) r (halves (c .before) .0) (halves (c .before) .1)
+    (rw (mode-is d) at (c .before .put-line .ensures))
 
 pub replace-line-spec : {M : Type 1} → statement M
 replace-line-spec =

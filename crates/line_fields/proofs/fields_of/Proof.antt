@@ -65,7 +65,9 @@ add-t17 : tie.Need-add-t17
 add-t17 c = let r = rooms (c .before .before .before .before .before .before) in record { fits = omega arith }
 
 set-start-requires : tie.Need-set-start-requires
-set-start-requires c κs = let r = rooms (c .before .before .before .before .before .before) in (c .before .before .before .before .before .before .before .pre .0, omega arith)
+set-start-requires c κs =
+    let r = rooms (c .before .before .before .before .before .before) in
+    (c .before .before .before .before .before .before .before .pre .0, omega arith)
 
 returns : tie.Need-returns
 unfolding fieldsOf

@@ -56,7 +56,9 @@ returns : tie.Need-returns
 unfolding held
 returns c =
     let s = c .before .before .before .before .before in
-    let e = read-at (s .args .s) (s .args .at) (s .args .count) (c .before .before .before .before .standing-at .ensures) (c .before .before .before .take .ensures) in
+    let e =
+    read-at (s .args .s) (s .args .at) (s .args .count) (c .before .before .before .before .standing-at .ensures)
+    (c .before .before .before .take .ensures) in
     rw (c .before .exchanged .ensures, c .exchanged2 .ensures, e)
     (in-low (s .args .s .low) (s .args .s .high) (s .args .at) (s .args .count) (s .args .value) (search needs) (search needs) (s .pre .3) (omega arith) (s .pre .2) .whole)
 
@@ -82,7 +84,8 @@ returns-2 : tie.Need-returns-2
 unfolding held
 returns-2 c =
     let s = c .before .before .before .before in
-    let e = read-at (s .args .s) (s .args .at) (s .args .count) (c .before .before .before .standing-at .ensures) (c .before .before .take .ensures) in
+    let e =
+    read-at (s .args .s) (s .args .at) (s .args .count) (c .before .before .before .standing-at .ensures) (c .before .before .take .ensures) in
     rw (c .exchanged3 .ensures, e)
     (in-high (s .args .s .low) (s .args .s .high) (s .args .at) (s .args .count) (s .args .value) (search needs) (search needs) (s .pre .3) (omega arith) (s .pre .2) .whole)
 

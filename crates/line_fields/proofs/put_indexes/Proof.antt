@@ -15,20 +15,25 @@ use Rattle.line_fields.proofs.put_indexes.Statement.{statement}
 use Rattle.line_fields.proofs.put_indexes.Tie as tie
 
 -- the set as it stands
-before : (c : tie.After-read-indexes) → c .read-indexes .result .indexes .uncompressed ≡ setBefore (held (c .before .before .before .args .s)) (c .before .before .before .args .kind) (c .before .before .before .args .at) (c .before .before .before .args .part)
-before c = let s = c .before .before .before in before-is (s .args .s) (s .args .kind) (s .args .at) (s .args .part) (s .args .mask) (s .args .new) (c .before .standing-at .ensures) (c .read-indexes .ensures)
+before : (c : tie.After-read-indexes)
+    → c .read-indexes .result .indexes .uncompressed ≡ setBefore (held (c .before .before .before .args .s)) (c .before .before .before .args .kind) (c .before .before .before .args .at) (c .before .before .before .args .part)
+before c =
+    let s = c .before .before .before in before-is (s .args .s) (s .args .kind) (s .args .at) (s .args .part) (s .args .mask) (s .args .new)
+    (c .before .standing-at .ensures) (c .read-indexes .ensures)
 
 standing-at-requires : tie.Need-standing-at-requires
 standing-at-requires c κs = search needs
 
 read-indexes-requires : tie.Need-read-indexes-requires
-read-indexes-requires c κs = let s = c .before .before in (s .pre .least, s .pre .most, s .pre .rising, rw (c .standing-at .ensures) (le-of-lt (s .pre .below)))
+read-indexes-requires c κs =
+    let s = c .before .before in (s .pre .least, s .pre .most, s .pre .rising, rw (c .standing-at .ensures) (le-of-lt (s .pre .below)))
 
 sub-after : tie.Need-sub-after
 sub-after c = and-le-l _ _
 
 add-after : tie.Need-add-after
-add-after c = let s = c .before .before .before .before in record { fits = after-fits (s .args .s) (s .args .kind) (s .args .at) (s .args .part) (s .args .mask) (s .args .new) (before (c .before)) (s .pre) }
+add-after c =
+    let s = c .before .before .before .before in record { fits = after-fits (s .args .s) (s .args .kind) (s .args .at) (s .args .part) (s .args .mask) (s .args .new) (before (c .before)) (s .pre) }
 
 cast-compressed : tie.Need-cast-compressed
 cast-compressed c = search needs
@@ -39,19 +44,23 @@ cast-compressed-2 c = search needs
 compressed-requires : tie.Need-compressed-requires
 compressed-requires c κs =
     let s = c .before .before .before .before .before .before in
-    let e = after-is (s .args .s) (s .args .kind) (s .args .at) (s .args .part) (s .args .mask) (s .args .new) (before (c .before .before .before)) (s .pre) in
+    let e =
+    after-is (s .args .s) (s .args .kind) (s .args .at) (s .args .part) (s .args .mask) (s .args .new) (before (c .before .before .before))
+    (s .pre) in
     (s .pre .least, s .pre .most, s .pre .rising, rw e (s .pre .small), rw e (s .pre .fits))
 
 -- the set as it is stored
 stored : (c : tie.After-compressed)
     → c .compressed .result
-    ≡ join (indexWidths (c .before .before .before .before .before .before .before .args .part .index) (anchorsIn (c .before .before .before .before .before .before .before .args .kind) (c .before .before .before .before .before .before .before .args .part)))
+    ≡ join
+    (indexWidths (c .before .before .before .before .before .before .before .args .part .index) (anchorsIn (c .before .before .before .before .before .before .before .args .kind) (c .before .before .before .before .before .before .before .args .part)))
     (split (indexWidths (c .before .before .before .before .before .before .before .args .part .index) [])
     (setAfter (held (c .before .before .before .before .before .before .before .args .s)) (c .before .before .before .before .before .before .before .args .kind) (c .before .before .before .before .before .before .before .args .at) (c .before .before .before .before .before .before .before .args .part) (c .before .before .before .before .before .before .before .args .mask) (c .before .before .before .before .before .before .before .args .new)))
 stored c =
     let s = c .before .before .before .before .before .before .before in
     c .compressed .ensures
-    ∙ ap (λ (y : ℕ). join (indexWidths (s .args .part .index) (anchorsIn (s .args .kind) (s .args .part))) (split (indexWidths (s .args .part .index) []) y))
+    ∙ ap
+    (λ (y : ℕ). join (indexWidths (s .args .part .index) (anchorsIn (s .args .kind) (s .args .part))) (split (indexWidths (s .args .part .index) []) y))
     (after-is (s .args .s) (s .args .kind) (s .args .at) (s .args .part) (s .args .mask) (s .args .new) (before (c .before .before .before .before)) (s .pre))
 
 stored-bits-requires : tie.Need-stored-bits-requires
@@ -63,14 +72,16 @@ put-requires c κs =
       rw (c .stored-bits .ensures) (size-lt (s .args .kind) (s .args .part .index) (s .pre .least) (s .pre .most)),
       s .pre .below,
       rw (c .stored-bits .ensures) (s .pre .room),
-      stored-lt (s .args .s) (s .args .kind) (s .args .at) (s .args .part) (s .args .mask) (s .args .new) (s .pre) (c .stored-bits .ensures) (stored (c .before)),
+      stored-lt (s .args .s) (s .args .kind) (s .args .at) (s .args .part) (s .args .mask) (s .args .new) (s .pre) (c .stored-bits .ensures)
+          (stored (c .before)),
     )
 
 returns : tie.Need-returns
 unfolding setPut
 returns c =
     let s = c .before .before .before .before .before .before .before .before .before in
-    c .put .ensures ∙ ap₂ (λ (t v : ℕ). replacedAt (held (s .args .s)) (s .args .at) t v) (c .before .stored-bits .ensures) (stored (c .before .before))
+    c .put .ensures
+    ∙ ap₂ (λ (t v : ℕ). replacedAt (held (s .args .s)) (s .args .at) t v) (c .before .stored-bits .ensures) (stored (c .before .before))
 
 pub put-indexes-spec : {M : Type 1} → statement M
 put-indexes-spec =

@@ -17,7 +17,8 @@ array-read-put-two-2 : tie.Need-array-read-put-two-2
 array-read-put-two-2 c = search needs
 
 put-two-requires : tie.Need-put-two-requires
-put-two-requires c κs = let r = c .before .before .before .pre .red in rw (c .before .before .fields-of .ensures) (r .width, r .below, r .room, r .first, r .second)
+put-two-requires c κs =
+    let r = c .before .before .before .pre .red in rw (c .before .before .fields-of .ensures) (r .width, r .below, r .room, r .first, r .second)
 
 array-read-put-two-3 : tie.Need-array-read-put-two-3
 array-read-put-two-3 c = search needs
@@ -26,7 +27,9 @@ array-read-put-two-4 : tie.Need-array-read-put-two-4
 array-read-put-two-4 c = search needs
 
 put-two-requires-2 : tie.Need-put-two-requires-2
-put-two-requires-2 c κs = let r = c .before .before .before .before .pre .green in rw (c .before .before .before .fields-of .ensures) (r .width, r .below, r .room, r .first, r .second)
+put-two-requires-2 c κs =
+    let r = c .before .before .before .before .pre .green in rw (c .before .before .before .fields-of .ensures)
+    (r .width, r .below, r .room, r .first, r .second)
 
 array-read-put-two-5 : tie.Need-array-read-put-two-5
 array-read-put-two-5 c = search needs
@@ -35,7 +38,9 @@ array-read-put-two-6 : tie.Need-array-read-put-two-6
 array-read-put-two-6 c = search needs
 
 put-two-requires-3 : tie.Need-put-two-requires-3
-put-two-requires-3 c κs = let r = c .before .before .before .before .before .pre .blue in rw (c .before .before .before .before .fields-of .ensures) (r .width, r .below, r .room, r .first, r .second)
+put-two-requires-3 c κs =
+    let r = c .before .before .before .before .before .pre .blue in rw (c .before .before .before .before .fields-of .ensures)
+    (r .width, r .below, r .room, r .first, r .second)
 
 array-read-put-two-7 : tie.Need-array-read-put-two-7
 array-read-put-two-7 c = search needs
@@ -44,7 +49,9 @@ array-read-put-two-8 : tie.Need-array-read-put-two-8
 array-read-put-two-8 c = search needs
 
 put-two-requires-4 : tie.Need-put-two-requires-4
-put-two-requires-4 c κs = let r = c .before .before .before .before .before .before .pre .alpha in rw (c .before .before .before .before .before .fields-of .ensures) (r .width, r .below, r .room, r .first, r .second)
+put-two-requires-4 c κs =
+    let r = c .before .before .before .before .before .before .pre .alpha in rw (c .before .before .before .before .before .fields-of .ensures)
+    (r .width, r .below, r .room, r .first, r .second)
 
 put-p-requires : tie.Need-put-p-requires
 put-p-requires c κs =
@@ -54,13 +61,27 @@ put-p-requires c κs =
 -- what is put before the indexes
 values : (c : tie.After-put-p)
     → held (c .put-p .result)
-    ≡ valuesPut (c .before .before .before .before .before .before .before .before .args .s) (c .before .before .before .before .before .before .before .before .args .mode) (c .before .before .before .before .before .before .before .before .args .row) (c .before .before .before .before .before .before .before .before .args .line) (c .before .before .before .before .before .before .before .before .args .part) (c .before .before .before .before .before .before .before .before .args .new)
+    ≡ valuesPut (c .before .before .before .before .before .before .before .before .args .s)
+    (c .before .before .before .before .before .before .before .before .args .mode)
+    (c .before .before .before .before .before .before .before .before .args .row)
+    (c .before .before .before .before .before .before .before .before .args .line)
+    (c .before .before .before .before .before .before .before .before .args .part)
+    (c .before .before .before .before .before .before .before .before .args .new)
 unfolding endpointsPut
 values c =
-    rw (c .put-p .ensures, c .before .put-two4 .ensures, c .before .before .put-two3 .ensures, c .before .before .before .put-two2 .ensures, c .before .before .before .before .put-two .ensures, c .before .before .before .before .before .before .before .fields-of .ensures)
+    rw (
+      c .put-p .ensures,
+      c .before .put-two4 .ensures,
+      c .before .before .put-two3 .ensures,
+      c .before .before .before .put-two2 .ensures,
+      c .before .before .before .before .put-two .ensures,
+      c .before .before .before .before .before .before .before .fields-of .ensures,
+    )
 
 put-indexes-requires : tie.Need-put-indexes-requires
-put-indexes-requires c κs = rw (values c, c .before .before .before .before .before .before .before .fields-of .ensures) (c .before .before .before .before .before .before .before .before .pre .set)
+put-indexes-requires c κs =
+    rw (values c, c .before .before .before .before .before .before .before .fields-of .ensures)
+    (c .before .before .before .before .before .before .before .before .pre .set)
 
 returns : tie.Need-returns
 unfolding linePut

@@ -25,13 +25,18 @@ add-put c =
 
 put-requires : tie.Need-put-requires
 put-requires c κs =
-    let s = c .before .before in
-    (omega arith, s .pre .1, s .pre .2, rw (pair-is (s .args .width) (s .args .a) (s .args .b) (s .pre .0) (s .pre .4) (c .before .wide .ensures) (c .wide2 .ensures)) (pair-lt (s .args .width) (s .args .a) (s .args .b) (s .pre .3) (s .pre .4)))
+    let s = c .before .before in (
+      omega arith,
+      s .pre .1,
+      s .pre .2,
+      rw (pair-is (s .args .width) (s .args .a) (s .args .b) (s .pre .0) (s .pre .4) (c .before .wide .ensures) (c .wide2 .ensures)) (pair-lt (s .args .width) (s .args .a) (s .args .b) (s .pre .3) (s .pre .4)),
+    )
 
 returns : tie.Need-returns
 returns c =
     let s = c .before .before .before in
-    rw (pair-is (s .args .width) (s .args .a) (s .args .b) (s .pre .0) (s .pre .4) (c .before .before .wide .ensures) (c .before .wide2 .ensures)) at (c .put .ensures)
+    rw (pair-is (s .args .width) (s .args .a) (s .args .b) (s .pre .0) (s .pre .4) (c .before .before .wide .ensures) (c .before .wide2 .ensures)) at
+    (c .put .ensures)
 
 pub put-two-spec : {M : Type 1} → statement M
 put-two-spec = tie.close (tie.spec mul-put wide-requires shl-put wide-requires-2 add-put put-requires returns)

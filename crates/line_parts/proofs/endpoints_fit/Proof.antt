@@ -48,7 +48,8 @@ pair-fits-requires c κs = search needs
 returns : tie.Need-returns
 returns c =
     let s = c .before .before in
-    c .pair-fits .ensures ∙ eight-bytes (s .args .t1) (λ i. pick (eqb (i % 4) 3) (s .args .alpha) (s .args .colour)) (λ i. byte s i .fits) (c .before .word .ensures)
+    c .pair-fits .ensures
+    ∙ eight-bytes (s .args .t1) (λ i. pick (eqb (i % 4) 3) (s .args .alpha) (s .args .colour)) (λ i. byte s i .fits) (c .before .word .ensures)
 
 pub endpoints-fit-spec : {M : Type 1} → statement M
 endpoints-fit-spec =

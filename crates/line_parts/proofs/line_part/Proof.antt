@@ -28,8 +28,10 @@ index-width-requires c κs = search needs
 
 anchor-requires : tie.Need-anchor-requires
 anchor-requires c κs =
-    let s = c .before .before .before .before .before .before .before in
-    (rw (c .before .before .before .before .before .pixels-of .ensures) (map-bits (s .args .split) (s .args .line)), rw (c .before .before .before .before .anchors-of .ensures) (second-anchor (s .args .split) (s .pre .partition)))
+    let s = c .before .before .before .before .before .before .before in (
+      rw (c .before .before .before .before .before .pixels-of .ensures) (map-bits (s .args .split) (s .args .line)),
+      rw (c .before .before .before .before .anchors-of .ensures) (second-anchor (s .args .split) (s .pre .partition)),
+    )
 
 returns : tie.Need-returns
 returns c =

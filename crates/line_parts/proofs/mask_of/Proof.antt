@@ -43,15 +43,20 @@ at-own-requires : tie.Need-at-own-requires Inv-loop μ-loop
 at-own-requires c κs = (c .before .before .pre .0, omega arith)
 
 -- the part that comes next, and what it makes of the word
-part-is : (c : tie.After-at-own Inv-loop μ-loop) → c .at-own .result ≡ getD (parts (c .before .before .before .args .pixels) (c .before .before .before .args .width)) (c .before .before .loop .i - 1) 0
+part-is : (c : tie.After-at-own Inv-loop μ-loop)
+    → c .at-own .result ≡ getD (parts (c .before .before .before .args .pixels) (c .before .before .before .args .width)) (c .before .before .loop .i - 1) 0
 part-is c =
-    c .at-own .ensures ∙ ap (λ (v : ℕ). pick (ownPixel (c .before .before .before .args .pixels) (c .before .before .loop .i - 1)) v 0) (c .before .before .loop .inv .1)
-    ∙ sym (getD-table 16 (λ q. pick (ownPixel (c .before .before .before .args .pixels) q) (2 ^ c .before .before .before .args .width - 1) 0) 0 (c .before .before .loop .i - 1) (omega arith))
+    c .at-own .ensures
+    ∙ ap (λ (v : ℕ). pick (ownPixel (c .before .before .before .args .pixels) (c .before .before .loop .i - 1)) v 0) (c .before .before .loop .inv .1)
+    ∙ sym
+    (getD-table 16 (λ q. pick (ownPixel (c .before .before .before .args .pixels) q) (2 ^ c .before .before .before .args .width - 1) 0) 0 (c .before .before .loop .i - 1) (omega arith))
 
-step : (c : tie.After-at-own Inv-loop μ-loop) → Next (c .before .before .before .args .width) (parts (c .before .before .before .args .pixels) (c .before .before .before .args .width)) (c .before .before .loop .i) (c .before .before .loop .mask)
+step : (c : tie.After-at-own Inv-loop μ-loop)
+    → Next (c .before .before .before .args .width) (parts (c .before .before .before .args .pixels) (c .before .before .before .args .width)) (c .before .before .loop .i) (c .before .before .loop .mask)
 step c =
     let s = c .before .before .before in
-    upper-next _ _ (mask-fits (s .args .pixels) (s .args .width)) (s .pre .1) (c .before .before .loop .i) (c .before .before .loop .mask) (omega arith) (c .before .before .loop .inv .0) (c .before .before .loop .inv .2)
+    upper-next _ _ (mask-fits (s .args .pixels) (s .args .width)) (s .pre .1) (c .before .before .loop .i) (c .before .before .loop .mask)
+    (omega arith) (c .before .before .loop .inv .0) (c .before .before .loop .inv .2)
 
 add-mask : tie.Need-add-mask Inv-loop μ-loop
 add-mask c = record { fits = rw (part-is c) (step c .0) }
@@ -63,7 +68,9 @@ loop-again : tie.Need-loop-again Inv-loop μ-loop
 loop-again c = (omega arith, c .before .before .loop .inv .1, rw (part-is c) (step c .1))
 
 returns : tie.Need-returns Inv-loop μ-loop
-returns c = upper-all _ _ (mask-fits (c .before .before .args .pixels) (c .before .before .args .width)) _ (let z : c .before .loop .i ≡ 0 = omega arith in rw z at (c .before .loop .inv .2))
+returns c =
+    upper-all _ _ (mask-fits (c .before .before .args .pixels) (c .before .before .args .width)) _
+    (let z : c .before .loop .i ≡ 0 = omega arith in rw z at (c .before .loop .inv .2))
 
 pub mask-of-spec : {M : Type 1} → statement M
 mask-of-spec =

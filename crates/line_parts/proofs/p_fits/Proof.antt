@@ -31,10 +31,12 @@ add-rest c =
     record { fits = sum-fits (s .args .width) _ _ (byte s 0 .fits) (byte s 1 .fits) (c .before .above .ensures) (c .above2 .ensures) }
 
 returns : tie.Need-returns
-returns c = sym (two-fit (c .before .before .before .args .width) _ _ (c .before .before .above .ensures) (c .before .above2 .ensures) (c .if1 .taken))
+returns c =
+    sym (two-fit (c .before .before .before .args .width) _ _ (c .before .before .above .ensures) (c .before .above2 .ensures) (c .if1 .taken))
 
 returns-2 : tie.Need-returns-2
-returns-2 c = sym (two-unfit (c .before .before .before .args .width) _ _ (c .before .before .above .ensures) (c .before .above2 .ensures) (c .if1 .left))
+returns-2 c =
+    sym (two-unfit (c .before .before .before .args .width) _ _ (c .before .before .above .ensures) (c .before .above2 .ensures) (c .if1 .left))
 
 pub p-fits-spec : {M : Type 1} → statement M
 p-fits-spec =

@@ -16,14 +16,17 @@ p-fits-requires : tie.Need-p-fits-requires
 p-fits-requires c κs = search needs
 
 returns-2 : tie.Need-returns-2
-returns-2 c = no-p _ _ (c .before .before .before .indexes-fit .ensures) (not-false _ (c .before .before .if1 .left)) (c .before .p-fits .ensures) (not-true _ (c .if2 .taken))
+returns-2 c =
+    no-p _ _ (c .before .before .before .indexes-fit .ensures) (not-false _ (c .before .before .if1 .left)) (c .before .p-fits .ensures)
+    (not-true _ (c .if2 .taken))
 
 endpoints-fit-requires : tie.Need-endpoints-fit-requires
 endpoints-fit-requires c κs = search needs
 
 returns-3 : tie.Need-returns-3
 returns-3 c =
-    by-values _ _ (c .before .before .before .before .indexes-fit .ensures) (not-false _ (c .before .before .before .if1 .left)) (c .before .before .p-fits .ensures)
+    by-values _ _ (c .before .before .before .before .indexes-fit .ensures) (not-false _ (c .before .before .before .if1 .left))
+    (c .before .before .p-fits .ensures)
     (not-false _ (c .before .if2 .left)) (c .endpoints-fit .ensures)
 
 pub parts-fit-spec : {M : Type 1} → statement M

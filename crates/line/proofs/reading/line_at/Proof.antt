@@ -18,18 +18,30 @@ two-at-requires-3 : tie.Need-two-at-requires-3
 two-at-requires-3 c κs = let r = c .before .before .before .pre in rw (c .before .before .fields-of .ensures) (r .blue, r .small .colour)
 
 two-at-requires-4 : tie.Need-two-at-requires-4
-two-at-requires-4 c κs = let r = c .before .before .before .before .pre in rw (c .before .before .before .fields-of .ensures) (r .alpha, r .small .alpha)
+two-at-requires-4 c κs =
+    let r = c .before .before .before .before .pre in rw (c .before .before .before .fields-of .ensures) (r .alpha, r .small .alpha)
 
 p-at-requires : tie.Need-p-at-requires
-p-at-requires c κs = let r = c .before .before .before .before .before .pre in rw (c .before .before .before .before .fields-of .ensures) (r .p-start, r .line, r .small .p)
+p-at-requires c κs =
+    let r = c .before .before .before .before .before .pre in rw (c .before .before .before .before .fields-of .ensures)
+    (r .p-start, r .line, r .small .p)
 
 set-at-requires : tie.Need-set-at-requires
-set-at-requires c κs = rw (c .before .before .before .before .before .fields-of .ensures) (c .before .before .before .before .before .before .pre .set)
+set-at-requires c κs =
+    rw (c .before .before .before .before .before .fields-of .ensures) (c .before .before .before .before .before .before .pre .set)
 
 returns : tie.Need-returns
 unfolding lineAt
 returns c =
-    rw (c .set-at .ensures, c .before .p-at .ensures, c .before .before .two-at4 .ensures, c .before .before .before .two-at3 .ensures, c .before .before .before .before .two-at2 .ensures, c .before .before .before .before .before .two-at .ensures, c .before .before .before .before .before .before .fields-of .ensures)
+    rw (
+      c .set-at .ensures,
+      c .before .p-at .ensures,
+      c .before .before .two-at4 .ensures,
+      c .before .before .before .two-at3 .ensures,
+      c .before .before .before .before .two-at2 .ensures,
+      c .before .before .before .before .before .two-at .ensures,
+      c .before .before .before .before .before .before .fields-of .ensures,
+    )
 
 pub line-at-spec : {M : Type 1} → statement M
 line-at-spec =

@@ -14,7 +14,8 @@ standing-at-requires : tie.Need-standing-at-requires
 standing-at-requires c κs = search needs
 
 read-indexes-requires : tie.Need-read-indexes-requires
-read-indexes-requires c κs = let s = c .before .before .before .before in (s .pre .least, s .pre .most, s .pre .rising, rw (c .standing-at .ensures) (s .pre .below))
+read-indexes-requires c κs =
+    let s = c .before .before .before .before in (s .pre .least, s .pre .most, s .pre .rising, rw (c .standing-at .ensures) (s .pre .below))
 
 parts-of-requires : tie.Need-parts-of-requires
 parts-of-requires c κs = search needs
@@ -24,7 +25,10 @@ unfolding setAt
 returns c =
     let s = c .before .before .before .before .before .before .before .before in
     c .parts-of .ensures
-    ∙ rw (before-is (s .args .s) (s .args .kind) (s .args .at) (s .args .part) 0 0 (c .before .before .before .before .standing-at .ensures) (c .before .before .before .read-indexes .ensures), c .before .before .before .before .before .mask-of .ensures)
+    ∙ rw (
+      before-is (s .args .s) (s .args .kind) (s .args .at) (s .args .part) 0 0 (c .before .before .before .before .standing-at .ensures) (c .before .before .before .read-indexes .ensures),
+      c .before .before .before .before .before .mask-of .ensures,
+    )
 
 pub set-at-spec : {M : Type 1} → statement M
 set-at-spec =
