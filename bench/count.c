@@ -89,6 +89,13 @@ static void say_number(u64 number, int width) {
     say_right(digits(text + 23, number), width);
 }
 
+static void say_left(const char *text, int width) {
+    int length = 0;
+    say(text);
+    while (text[length]) length++;
+    for (; length < width; length++) say(" ");
+}
+
 static void say_ratio(u64 part, u64 whole, int width) {
     u64 hundredths = (200 * part + whole) / (2 * whole);
     char text[24];
@@ -235,13 +242,6 @@ static void count_blocks(void) {
 
 #ifdef ROWS
 
-static void say_left(const char *text, int width) {
-    int length = 0;
-    say(text);
-    while (text[length]) length++;
-    for (; length < width; length++) say(" ");
-}
-
 static u32 lines_of_row(u32 height, u32 row) { return height - 4 * row < 4 ? height - 4 * row : 4; }
 
 static u32 blocks_of_row(u32 width) { return (width + 3) / 4; }
@@ -339,6 +339,197 @@ static void count_rows(void) {
 
 #endif
 
+/* ---- what takes apart, packs, reads and replaces, counted */
+
+#ifdef WRITING
+
+typedef u32 two_buffers(const u8 *from, u8 *to);
+typedef u32 read_one(const u8 *block, u32 line, u8 *replacement, u8 *widths);
+typedef u32 replace_one(u8 *block, u32 line, const u8 *replacement);
+typedef u32 replace_in(u8 *sheet, u64 length, u32 block, u32 line, const u8 *replacement);
+
+two_buffers bc7_unpack, bc7_pack;
+read_one bc7_read_line;
+replace_one bc7_replace_line;
+replace_in sheet_replace_line;
+
+enum { RECORD = 66, LINE = 26, VALUES = 8, FIRST_INDEX = 10, HEAD = 4 };
+
+/* a sheet of COUNTED blocks in one row, 256 by 4, and beside it the calls that are measured on it */
+static u8 sheet[HEAD + 16 * COUNTED], kept_sheet[sizeof sheet];
+static u8 records[RECORD * COUNTED], lines[LINE * COUNTED], widths[LINE];
+static u32 line_numbers[COUNTED];
+static u8 *const sheet_blocks = sheet + HEAD;
+
+/* what is measured, by its number; each goes through a pointer, so that the call of a function that does nothing costs the same */
+static two_buffers *volatile two_buffers_call;
+static read_one *volatile read_call;
+static replace_one *volatile replace_call;
+static replace_in *volatile replace_in_call;
+
+static u32 no_two_buffers(const u8 *from, u8 *to) {
+    __asm__ volatile("" ::"r"(from), "r"(to) : "memory");
+    return 0;
+}
+
+static u32 no_read(const u8 *block, u32 line, u8 *replacement, u8 *width) {
+    __asm__ volatile("" ::"r"(block), "r"(line), "r"(replacement), "r"(width) : "memory");
+    return 0;
+}
+
+static u32 no_replace(u8 *block, u32 line, const u8 *replacement) {
+    __asm__ volatile("" ::"r"(block), "r"(line), "r"(replacement) : "memory");
+    return 0;
+}
+
+static u32 no_replace_in(u8 *all, u64 length, u32 block, u32 line, const u8 *replacement) {
+    __asm__ volatile("" ::"r"(all), "r"(length), "r"(block), "r"(line), "r"(replacement) : "memory");
+    return 0;
+}
+
+typedef u32 one_call(u32 i);
+
+static u32 unpack_one(u32 i) { return two_buffers_call(sheet_blocks + 16 * i, records + RECORD * i); }
+static u32 pack_one(u32 i) { return two_buffers_call(records + RECORD * i, out + 16 * i); }
+static u32 read_a_line(u32 i) { return read_call(sheet_blocks + 16 * i, line_numbers[i], out + LINE * i, widths); }
+static u32 replace_a_line(u32 i) { return replace_call(sheet_blocks + 16 * i, line_numbers[i], lines + LINE * i); }
+static u32 replace_in_sheet(u32 i) {
+    return replace_in_call(sheet, sizeof sheet, i, line_numbers[i], lines + LINE * i);
+}
+
+static void point_at_calls(int at_none) {
+    read_call = at_none ? no_read : bc7_read_line;
+    replace_call = at_none ? no_replace : bc7_replace_line;
+    replace_in_call = at_none ? no_replace_in : sheet_replace_line;
+}
+
+static __attribute__((noinline)) u64 steps_of_calls(one_call *call) {
+    start_counting();
+    for (u32 i = 0; i < COUNTED; i++) call(i);
+    return stop_counting();
+}
+
+/* The blocks stay as they are: each count starts from the same sheet. Every call must answer this refusal. */
+static u64 call_cost(one_call *call, u32 refusal) {
+    for (u32 i = 0; i < COUNTED; i++)
+        if (call(i) != refusal) {
+            say("ANOTHER refusal than ");
+            say_number(refusal, 0);
+            say("\n");
+            leave(1);
+        }
+    memcpy(sheet, kept_sheet, sizeof sheet);
+    u64 steps_with = steps_of_calls(call);
+    memcpy(sheet, kept_sheet, sizeof sheet);
+    two_buffers *kept = two_buffers_call;
+    two_buffers_call = no_two_buffers;
+    point_at_calls(1);
+    u64 steps_without = steps_of_calls(call);
+    two_buffers_call = kept;
+    point_at_calls(0);
+    return steps_with - steps_without;
+}
+
+static u64 decoded;
+
+static void say_call(const char *name, one_call *call, u32 refusal) {
+    u64 cost = call_cost(call, refusal);
+    say_left(name, 58);
+    say_number(cost / COUNTED, 8);
+    say_ratio(cost, decoded, 9);
+    say("\n");
+}
+
+static void make_sheet(int mode) {
+    static const u8 head[HEAD] = {0x01, 0x80, 0x02, 0x04};
+    memcpy(sheet, head, HEAD);
+    make_blocks(sheet_blocks, COUNTED, mode);
+    memcpy(kept_sheet, sheet, sizeof sheet);
+}
+
+/* Of each block one line as it stands, with other endpoints: the pair stays as it is given, for the anchor's top bit is clear. */
+static void make_lines(void) {
+    for (u32 i = 0; i < COUNTED; i++) {
+        const u8 *block = sheet_blocks + 16 * i;
+        u8 *line = lines + LINE * i;
+        u32 count = 0;
+        while (!bc7_read_line(block, count, line, widths)) count++;
+        line_numbers[i] = count ? (u32)(random_number() % count) : 0;
+        bc7_read_line(block, line_numbers[i], line, widths);
+        for (int v = 0; v < VALUES; v++) line[v] = (u8)(random_number() % (1ul << widths[v]));
+    }
+}
+
+/* Each index i as last - i: the anchor's top bit is set, and the pair has to be turned. */
+static void turn_lines(void) {
+    for (u32 i = 0; i < COUNTED; i++) {
+        bc7_read_line(sheet_blocks + 16 * i, line_numbers[i], out, widths);
+        for (int v = FIRST_INDEX; v < LINE; v++) lines[LINE * i + v] = (u8)((1u << widths[v]) - 1 - lines[LINE * i + v]);
+    }
+}
+
+static void set_in_each(u8 *bytes, u32 size, u32 place, u8 value) {
+    for (u32 i = 0; i < COUNTED; i++) bytes[size * i + place] = value;
+}
+
+static void count_writing(void) {
+    make_sheet(MIXED);
+    make_lines();
+    point_at_calls(0);
+    decoded = block_cost(bc7_decode_block, COUNTED, sheet_blocks, out);
+    say("\nInstructions a call, and in decoded blocks, over ");
+    say_number(COUNTED, 0);
+    say(" mixed blocks\n");
+
+    two_buffers_call = bc7_unpack;
+    say_call("bc7_unpack", unpack_one, 0);
+    two_buffers_call = bc7_pack;
+    say_call("bc7_pack", pack_one, 0);
+    enum { MODE = 0, PIXEL_0 = 34 };
+    set_in_each(records, RECORD, PIXEL_0 + 15, 16);
+    say_call("bc7_pack, refused with 3: an index of 16", pack_one, 3);
+    set_in_each(records, RECORD, MODE, 9);
+    say_call("bc7_pack, refused with 5: mode 9", pack_one, 5);
+
+    say_call("bc7_read_line", read_a_line, 0);
+    say_call("bc7_replace_line, kept", replace_a_line, 0);
+    say_call("sheet_replace_line, kept", replace_in_sheet, 0);
+    turn_lines();
+    say_call("bc7_replace_line, turned", replace_a_line, 0);
+    say_call("sheet_replace_line, turned", replace_in_sheet, 0);
+    set_in_each(lines, LINE, LINE - 1, 16);
+    say_call("bc7_replace_line, refused with 3: an index of 16", replace_a_line, 3);
+    for (u32 i = 0; i < COUNTED; i++) line_numbers[i] = 3;
+    say_call("bc7_read_line, refused with 2", read_a_line, 2);
+    say_call("bc7_replace_line, refused with 2", replace_a_line, 2);
+    make_sheet(8);
+    two_buffers_call = bc7_unpack;
+    say_call("bc7_unpack, refused with 1", unpack_one, 1);
+    say_call("bc7_read_line, refused with 1", read_a_line, 1);
+    say_call("bc7_replace_line, refused with 1", replace_a_line, 1);
+
+    say("\nThe same by mode\nmode            ");
+    for (int mode = 0; mode < 8; mode++) say_right(column_names[mode], 7);
+    one_call *const calls[] = {unpack_one, pack_one, read_a_line, replace_a_line};
+    two_buffers *const functions[] = {bc7_unpack, bc7_pack, 0, 0};
+    const char *const names[] = {"bc7_unpack", "bc7_pack", "bc7_read_line", "bc7_replace_line"};
+    for (int k = 0; k < 4; k++) {
+        say("\n");
+        say_left(names[k], 16);
+        for (int mode = 0; mode < 8; mode++) {
+            make_sheet(mode);
+            make_lines();
+            two_buffers_call = functions[k];
+            if (calls[k] == pack_one)
+                for (u32 i = 0; i < COUNTED; i++) bc7_unpack(sheet_blocks + 16 * i, records + RECORD * i);
+            say_number(call_cost(calls[k], 0) / COUNTED, 7);
+        }
+    }
+    say("\n");
+}
+
+#endif
+
 void run(void) {
     compare_blocks();
     prepare_counting();
@@ -349,6 +540,11 @@ void run(void) {
     count_growth();
 #else
     say("\nno rows: the archive has no sheet_decode_row\n");
+#endif
+#ifdef WRITING
+    count_writing();
+#else
+    say("\nnothing that writes: the archive has no bc7_read_line\n");
 #endif
     leave(0);
 }

@@ -3,6 +3,7 @@
 #     prepare [ARCHIVE] [PUBLISHED]
 # sets  archive    the static library that is measured
 #       has_rows   yes where the archive has sheet_decode_row, else empty
+#       has_lines  yes where it has bc7_read_line, with which the calls that write are prepared, else empty
 #       kit        the folder of the kit's clang and linker for this machine
 #       work       a fresh folder, removed at exit, with the published sources and reference.rs in it
 
@@ -23,6 +24,8 @@ prepare() {
     grep -qaw bc7_decode_block "$archive" || die "$archive has no bc7_decode_block"
     has_rows=
     if grep -qaw sheet_decode_row "$archive"; then has_rows=yes; fi
+    has_lines=
+    if grep -qaw bc7_read_line "$archive"; then has_lines=yes; fi
 
     place=${2:-$repository/../shared}
     for published in "$place/docs/src/src" "$place/src" "$place"; do

@@ -96,6 +96,63 @@ mod rows {
     }
 }
 
+/// What takes apart, packs, reads and replaces: nothing of the Rust's stands beside it, so the times are those of a call.
+#[cfg(lines)]
+mod writing {
+    use super::*;
+
+    type Record = [u8; 66];
+    type Line = [u8; 26];
+
+    extern "C" {
+        fn bc7_unpack(block: &Block, record: &mut Record) -> u32;
+        fn bc7_pack(record: &Record, block: &mut Block) -> u32;
+        fn bc7_read_line(block: &Block, line: u32, replacement: &mut Line, widths: &mut Line) -> u32;
+        fn bc7_replace_line(block: &mut Block, line: u32, replacement: &Line) -> u32;
+        fn sheet_replace_line(sheet: *mut u8, length: usize, block: u32, line: u32, replacement: &Line) -> u32;
+    }
+
+    fn nanoseconds(name: &str, count: usize, mut every: impl FnMut() -> u32) {
+        let times = (0..SMALL_ROUNDS).map(|_| {
+            let start = Instant::now();
+            assert_eq!(every(), 0, "{name} refuses a call");
+            start.elapsed().as_secs_f64()
+        });
+        println!("{name:28} {:7.1}", 1e9 * median(times.collect()) / count as f64);
+    }
+
+    pub fn time() {
+        println!("\nNanoseconds a call, over {SMALL} mixed blocks again and again, {SMALL_ROUNDS} rounds, in cache");
+        let blocks = make_blocks(SMALL, MIXED);
+        let (mut records, mut out) = (vec![[0; 66]; SMALL], blocks.clone());
+        let (mut lines, mut widths) = (vec![[0; 26]; SMALL], [0; 26]);
+        // 256 columns of blocks
+        let head = [0x01, 0x80, 0x08, (4 * SMALL / 256) as u8];
+        let mut sheet = [&head[..], blocks.as_flattened()].concat();
+
+        let every = |call: &mut dyn FnMut(usize) -> u32| (0..SMALL).fold(0, |refused, i| refused | call(i));
+        nanoseconds("bc7_decode_block", SMALL, || {
+            let mut pixels = [[0; 4]; 16];
+            every(&mut |i| unsafe { bc7_decode_block(black_box(&blocks[i]), black_box(&mut pixels)); 0 })
+        });
+        nanoseconds("bc7_unpack", SMALL, || every(&mut |i| unsafe { bc7_unpack(&blocks[i], &mut records[i]) }));
+        nanoseconds("bc7_pack", SMALL, || every(&mut |i| unsafe { bc7_pack(&records[i], &mut out[i]) }));
+        nanoseconds("bc7_read_line", SMALL, || every(&mut |i| unsafe { bc7_read_line(&blocks[i], 0, &mut lines[i], &mut widths) }));
+        let replaced = |lines: &[Line], out: &mut [Block]| every(&mut |i| unsafe { bc7_replace_line(&mut out[i], 0, &lines[i]) });
+        nanoseconds("bc7_replace_line, kept", SMALL, || replaced(&lines, &mut out));
+        nanoseconds("sheet_replace_line, kept", SMALL, || {
+            every(&mut |i| unsafe { sheet_replace_line(sheet.as_mut_ptr(), sheet.len(), i as u32, 0, &lines[i]) })
+        });
+        for (block, line) in blocks.iter().zip(&mut lines) {
+            unsafe { bc7_read_line(block, 0, line, &mut widths) };
+            for v in 10..26 {
+                line[v] = ((1 << widths[v]) - 1) - line[v];
+            }
+        }
+        nanoseconds("bc7_replace_line, turned", SMALL, || replaced(&lines, &mut out));
+    }
+}
+
 fn seconds(decode: Decode, picture: &Picture, out: &mut [Pixels]) -> f64 {
     let start = Instant::now();
     decode(black_box(picture), black_box(&mut *out));
@@ -184,6 +241,9 @@ fn main() {
             line(name, SMALL, compare(*sides, &Picture { blocks: &blocks, columns: *columns }, &mut out, SMALL_ROUNDS));
         }
     }
+
+    #[cfg(lines)]
+    writing::time();
 
     let cache = largest_cache();
     let wanted = 2 * cache.unwrap_or(64 << 20);

@@ -1,24 +1,25 @@
--- Each place of a block as a field of its number, by the mode alone; and the words of indexes.
+-- Each place of a block as a field of its number, by the mode alone; the words of indexes; and the splits of modes 4 and 5.
 -- Assumes nothing.
-use mathlib.Core.Path.{_≡_, sym, ap, ap₂, _∙_}
+use mathlib.Core.Path.{_≡_, refl, sym, ap, ap₂, _∙_}
 use mathlib.Core.Bool.{Bool}
 use mathlib.Core.List.{List, []}
 use Prim.Native.Nat.{ℕ, zero, suc, _+_, _*_, _/_, _%_, _^_, _≤_, _<_}
-use native.Mathlib.Nat.{lt-of-lt-of-le}
+use native.Mathlib.Nat.{div-one, lt-of-lt-of-le, mod-one}
 use native.Mathlib.Omega.{arith}
 use borrow.Author.Tests.{lt-ltb}
 use lib.Dec.{T, eqb, eqb→eq, leb, leb→le, ltb, lt→ltb}
 use lib.Pow.{shr-shr}
 use Rattle.format.specs.declared.Split.{Split}
+use Rattle.format.specs.declared.Split.the-variants.{Vector}
 use Rattle.laws.specs.Digits.{join, total}
 use Rattle.laws.specs.Refusals.{first}
 use Rattle.laws.specs.Tables.{below, implies, pick, table, tableFrom}
 use Rattle.laws.proofs.Rows.{split-mod, total-more}
 use Rattle.laws.proofs.Tests.{at, implied}
 use Rattle.format.specs.Block.{field}
-use Rattle.format.specs.Modes.{alphaBits, channelBits, colourBits, endpointCount, indexBits, modeRow, pCount}
+use Rattle.format.specs.Modes.{alphaBits, channelBits, colourBits, endpointCount, indexBits, kindOfMode, modeRow, pCount}
 use Rattle.format.specs.Places.{atPlace, index, pbit, placeAt, pos, value, width, widths}
-use Rattle.format.specs.Splits.{anchors}
+use Rattle.format.specs.Splits.{anchors, splitAt}
 use Rattle.format.proofs.Places.{inside-index, inside-pbit, inside-value, placeAt-pos}
 use Rattle.format.proofs.Starts.{at-field, start, start-next}
 use Rattle.bcn_indexes.specs.Indexes.{expanded, indexWidth, indexWidths, part}
@@ -111,3 +112,21 @@ module _ (m : ℕ) (s : Split) (a : ℕ) (ha : a < 2) where
       ∙ part-expanded w (anchors s) (n / 2 ^ first) q hq
       ∙ ap (λ (x : ℕ). x % 2 ^ wide q) (shr-shr n first (total (table q wide)) ∙ ap (λ (x : ℕ). n / 2 ^ x) (sym (begins q (omega arith))))
       ∙ sym (at-field m s n (index a q) (inside-index ha hq))
+
+-- where the second indexes of modes 4 and 5 start, and what their split is
+pub second-4 : (r i : ℕ) → start 4 (Vector r i) 50 ≡ 81
+unfolding start widths table tableFrom placeAt width modeRow endpointCount
+second-4 r i = refl
+
+pub second-5 : (r i : ℕ) → start 5 (Vector r i) 50 ≡ 97
+unfolding start widths table tableFrom placeAt width modeRow endpointCount
+second-5 r i = refl
+
+pub split-4 : (n : ℕ) → splitAt 4 n ≡ Vector (field n 5 2) (field n 7 1)
+unfolding splitAt field modeRow kindOfMode
+split-4 n =
+    λ j. Vector (ap (λ (x : ℕ). x % 2 ^ 2) (div-one (n / 2 ^ 5)) j) ((ap (λ (x : ℕ). x / 2 ^ 2 % 2 ^ 1) (div-one (n / 2 ^ 5)) ∙ ap (λ (x : ℕ). x % 2 ^ 1) (shr-shr n 5 2)) j)
+
+pub split-5 : (n : ℕ) → splitAt 5 n ≡ Vector (field n 6 2) 0
+unfolding splitAt field modeRow kindOfMode
+split-5 n = λ j. Vector (ap (λ (x : ℕ). x % 2 ^ 2) (div-one (n / 2 ^ 6)) j) (mod-one (n / 2 ^ 6 / 2 ^ 0 / 2 ^ 2) j)

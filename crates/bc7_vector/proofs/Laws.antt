@@ -1,17 +1,14 @@
 -- A vector and its scalar: from what modes 4 and 5 read and paint to what their number shows.
 -- Assumes nothing.
-use mathlib.Core.Path.{_≡_, refl, sym, ap, _∙_}
+use mathlib.Core.Path.{_≡_, refl, sym, ap}
 use mathlib.Core.List.{List, [], _∷_}
-use Prim.Native.Nat.{ℕ, zero, suc, _+_, _-_, _*_, _/_, _%_, _^_, _≤_, _<_}
-use native.Mathlib.Nat.{div-one, mod-one}
+use Prim.Native.Nat.{ℕ, zero, suc, _+_, _-_, _*_, _≤_, _<_}
 use native.Mathlib.Omega.{arith}
 use lib.Dec.{eqb}
-use lib.Pow.{shr-shr}
 use Rattle.format.specs.declared.Split.the-variants.{Vector}
-use Rattle.laws.specs.Tables.{pick, table, tableFrom}
+use Rattle.laws.specs.Tables.{pick}
 use Rattle.format.specs.Block.{field}
-use Rattle.format.specs.Modes.{endpointCount, indexBits, kindOfMode, modeRow}
-use Rattle.format.specs.Places.{placeAt, width, widths}
+use Rattle.format.specs.Modes.{indexBits}
 use Rattle.format.specs.Splits.{splitAt}
 use Rattle.format.proofs.Starts.{start}
 use Rattle.bcn_indexes.specs.Indexes.{expanded, part}
@@ -33,21 +30,3 @@ pub vector-either : (m n r i : ℕ) (hr : r < 4) (es : splitAt m n ≡ Vector r 
 vector-either m n r zero hr es h first second p q = vector-law m n r 0 hr es first second p q
 vector-either m n r (suc zero) hr es h first second p q = vector-law m n r 1 hr es second first q p
 vector-either m n r (suc (suc i)) hr es h first second p q = absurd (let z : ⊥ = omega arith in z)
-
--- where the second indexes of modes 4 and 5 start, and what their split is
-pub second-4 : (r i : ℕ) → start 4 (Vector r i) 50 ≡ 81
-unfolding start widths table tableFrom placeAt width modeRow endpointCount
-second-4 r i = refl
-
-pub second-5 : (r i : ℕ) → start 5 (Vector r i) 50 ≡ 97
-unfolding start widths table tableFrom placeAt width modeRow endpointCount
-second-5 r i = refl
-
-pub split-4 : (n : ℕ) → splitAt 4 n ≡ Vector (field n 5 2) (field n 7 1)
-unfolding splitAt field modeRow kindOfMode
-split-4 n =
-    λ j. Vector (ap (λ (x : ℕ). x % 2 ^ 2) (div-one (n / 2 ^ 5)) j) ((ap (λ (x : ℕ). x / 2 ^ 2 % 2 ^ 1) (div-one (n / 2 ^ 5)) ∙ ap (λ (x : ℕ). x % 2 ^ 1) (shr-shr n 5 2)) j)
-
-pub split-5 : (n : ℕ) → splitAt 5 n ≡ Vector (field n 6 2) 0
-unfolding splitAt field modeRow kindOfMode
-split-5 n = λ j. Vector (ap (λ (x : ℕ). x % 2 ^ 2) (div-one (n / 2 ^ 6)) j) (mod-one (n / 2 ^ 6 / 2 ^ 0 / 2 ^ 2) j)

@@ -14,12 +14,12 @@ use Rattle.head.specs.declared.Head.{Head}
 use Rattle.head.specs.declared.HeadBytes.{HeadBytes}
 use Rattle.laws.specs.Refusals.{Given}
 use Rattle.laws.proofs.Cases.{lt-or}
-use Rattle.laws.proofs.Refusals.{Answers, accepted-when, exactly}
-use Rattle.head.specs.Heads.{Sized, form, formIn, headBytes, headOf, headRefusal, headRules, heightIn, readHead, widthIn, writeHead}
+use Rattle.laws.proofs.Refusals.{Answers, accepted-when, alone, exactly}
+use Rattle.head.specs.Heads.{Sized, form, formIn, headBytes, headOf, headRefusal, headRules, heightIn, readHead, sizeRefusal, sizeRules, widthIn, writeHead}
 use Rattle.head.specs.Numbers.{Bytes, found, groups, noNumber, numberBytes, numbersEnd, raised, readGroups, readNumber}
-use Rattle.head.proofs.Heading.{accepted, head-rules, refused}
+use Rattle.head.proofs.Heading.{accepted, head-rules, refused, size-test}
 use Rattle.head.proofs.Reading.{every-number, raised-some, read-last, read-more, value-small}
-use Rattle.head.proofs.Writing.{groups-last, groups-more, one-byte}
+use Rattle.head.proofs.Writing.{groups-last, groups-more, nothing, one-byte, written}
 
 -- what was written is read, with its end
 small : (k n at : ℕ) (rest : List ℕ) → n < 128 → readGroups (suc k) at (groups (suc k) n ++ rest) ≡ found n (at + length (groups (suc k) n))
@@ -197,6 +197,13 @@ module _ (s : List ℕ) where
       let z = sym refusal-is ∙ e in
       let p = parts z in
       subst (λ (r : Head). Sized (r .width) (r .height) × (s ≡ headBytes (r .width) (r .height) ++ drop (r .start) s)) (accepted s z) (p .size, spelt s p y)
+
+-- writing a head gives 9 exactly when the size is not a sheet's, and no other number
+pub head-not-written-when : (w h n : ℕ) → (writeHead w h .refusal ≡ n) ↔ Given (sizeRules w h) n
+head-not-written-when w h = exactly (rw same (alone (size-test w h)))
+  where
+    same : writeHead w h .refusal ≡ sizeRefusal w h
+    same = ⊎-elim (λ z. sym (ap (λ (b : HeadBytes). b .refusal) (written w h refl z)) ∙ sym z) (λ p. sym (ap (λ (b : HeadBytes). b .refusal) (nothing w h refl (λ q. omega arith)))) (eq-zero-or-pos (sizeRefusal w h))
 
 -- any two results that a call's promise admits coincide: each promise is an equation
 pub determined-read-head : (s : List ℕ) (a b : Head) → a ≡ readHead s → b ≡ readHead s → a ≡ b

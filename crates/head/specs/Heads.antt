@@ -44,6 +44,10 @@ headRules f w h =
     unless 9 (Sized (w .value) (h .value)) ∷
     []
 
+-- the one rule of writing a head
+abbrev pub sizeRules : ℕ → ℕ → List Rule
+sizeRules w h = unless 9 (Sized w h) ∷ []
+
 -- the three numbers of a head
 unfoldable pub formIn : List ℕ → Number
 formIn s = readNumber s 0

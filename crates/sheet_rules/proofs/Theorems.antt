@@ -29,9 +29,10 @@ use Rattle.line_rules.specs.Replace.{after, refusal}
 use Rattle.line_rules.proofs.Draws.{drawn-by-one}
 use Rattle.line_rules.proofs.Theorems.{accepted-draws, last-call-is-seen, others-keep, same-answer, same-last-calls, trade-places}
 use Rattle.sheet_rules.specs.Calls.{SheetCall, WholeSheet, callsOn, onBlock, refusalOn, sheetWith, sheetWithAll}
-use Rattle.sheet_rules.specs.Rows.{rowOut, rowRefusal}
+use Rattle.sheet_rules.specs.Rows.{rowOut, rowRefusal, rowRules}
 use Rattle.sheet_rules.specs.Sheets.{blockIn, blocksOf, placeOf, sheetRules}
 use Rattle.sheet_rules.proofs.Calling.{Same, all-block, all-kept, answered-as-block, beyond, in-words, none-changes, parts, same-here, same-on, sixteen, unchanged, whole-or, with-kept, with-named, with-other}
+use Rattle.sheet_rules.proofs.Refusing.{row-rules}
 use Rattle.sheet_rules.proofs.Replacing.{accepted-is}
 use Rattle.sheet_rules.proofs.Storing.{put-long, put-outside}
 
@@ -49,6 +50,10 @@ others-stay s c = ⊎-elim taken (λ p. left (λ q. omega arith)) (eq-zero-or-po
     left : refusalOn s c ≢ 0 → (length (sheetWith s c) ≡ length s)
         × ((k : ℕ) → ((placeOf (readHead s) (c .block) ≤ k) × (k < placeOf (readHead s) (c .block) + 16) → ⊥) → getD (sheetWith s c) k 0 ≡ getD s k 0)
     left ne = let p = unchanged s c ne in (ap length p, λ k n. ap (λ (t : List ℕ). getD t k 0) p)
+
+-- each refusal number of a row is given exactly when document 01 says (`rowRules` has the words)
+pub row-refused-when : (w h row given room n : ℕ) → (rowRefusal w h row given room ≡ n) ↔ Given (rowRules w h row given room) n
+row-refused-when w h row given room = exactly (row-rules w h row given room)
 
 -- each refusal number is given exactly when document 01 says (`sheetRules` has the words)
 pub sheet-refused-when : (s : List ℕ) → Bytes s → (c : SheetCall) (n : ℕ) → (refusalOn s c ≡ n) ↔ Given (sheetRules s (c .block) (c .line) (c .given)) n

@@ -12,7 +12,8 @@ use Rattle.bcn_util.specs.Stream.{held}
 use Rattle.bcn_util.proofs.On.{field-lt}
 use Rattle.bc7_fields.specs.Fields.{endByte, headEnd, pStart, valueStart}
 use Rattle.bc7_fields.proofs.Pictures.{stack}
-use Rattle.bc7_vector.proofs.Laws.{by-set, second-4, split-4, vector-either}
+use Rattle.bc7_fields.proofs.Places.{second-4, split-4}
+use Rattle.bc7_vector.proofs.Laws.{by-set, vector-either}
 use Rattle.bc7_vector.proofs.mode_4.Statement.{statement}
 use Rattle.bc7_vector.proofs.mode_4.Tie as tie
 

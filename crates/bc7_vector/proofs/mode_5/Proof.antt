@@ -12,7 +12,8 @@ use Rattle.bcn_util.specs.Stream.{held}
 use Rattle.bcn_util.proofs.On.{field-lt}
 use Rattle.bc7_fields.specs.Fields.{endByte, headEnd, pStart, valueStart}
 use Rattle.bc7_fields.proofs.Pictures.{stack, vector-law}
-use Rattle.bc7_vector.proofs.Laws.{by-set, second-5, split-5}
+use Rattle.bc7_fields.proofs.Places.{second-5, split-5}
+use Rattle.bc7_vector.proofs.Laws.{by-set}
 use Rattle.bc7_vector.proofs.mode_5.Statement.{statement}
 use Rattle.bc7_vector.proofs.mode_5.Tie as tie
 
