@@ -7,8 +7,6 @@ use native.Mathlib.Nat.{div-eq-of-lt, div-lt-iff-lt-mul, le-of-suc-le-suc, lt-of
 use borrow.Author.Tests.{le-ltb, lt-ltb}
 use lib.Dec.{lit<, ltb}
 use lib.Pow.{pow-pos}
-use Rattle.format.specs.Places.{value, width}
-use Rattle.record_rules.specs.Records.{fits}
 
 -- a value fits w bits where nothing is left of it above them
 pub fit : (v w : ℕ) → v / 2 ^ w ≡ 0 → ltb v (2 ^ w) ≡ true
