@@ -76,16 +76,20 @@ module _ (w n : ℕ) (hw : 0 < w) (hn : n < 2 ^ (16 * w)) where
       let m : ℕ = stored (0 ∷ p ∷ []) in
       let m1 : ℕ = inserted m (top 0) in
       let e : inserted m1 (top p) ≡ n = two-anchors w hw m 0 p m1 _ h0 hp (short _ _ f (size-2 w p hw h0 hp)) refl refl ∙ again (0 ∷ p ∷ []) f in
-      eb ∙ ap (λ (x : ℕ). removed x (top 0)) (ea ∙ ap (λ (x : ℕ). removed x (top p)) (sym e) ∙ removed-inserted m1 (top p)) ∙ removed-inserted m (top 0)
+      eb ∙ ap (λ (x : ℕ). removed x (top 0)) (ea ∙ ap (λ (x : ℕ). removed x (top p)) (sym e) ∙ removed-inserted m1 (top p))
+      ∙ removed-inserted m (top 0)
 
-  three : {p q a b c : ℕ} → 0 < p → p < q → q < 16 → Fits (0 ∷ p ∷ q ∷ []) → a ≡ removed n (top q) → b ≡ removed a (top p) → c ≡ removed b (top 0) → c ≡ stored (0 ∷ p ∷ q ∷ [])
+  three : {p q a b c : ℕ} → 0 < p → p < q → q < 16 → Fits (0 ∷ p ∷ q ∷ []) → a ≡ removed n (top q) → b ≡ removed a (top p) → c ≡ removed b (top 0)
+      → c ≡ stored (0 ∷ p ∷ q ∷ [])
   three {p} {q} h0 hp hq f ea eb ec =
       let m : ℕ = stored (0 ∷ p ∷ q ∷ []) in
       let m1 : ℕ = inserted m (top 0) in
       let m2 : ℕ = inserted m1 (top p) in
-      let e : inserted m2 (top q) ≡ n = three-anchors w hw m p q m1 m2 _ h0 hp hq (short _ _ f (size-3 w p q hw h0 hp hq)) refl refl refl ∙ again (0 ∷ p ∷ q ∷ []) f in
+      let e : inserted m2 (top q) ≡ n = three-anchors w hw m p q m1 m2 _ h0 hp hq (short _ _ f (size-3 w p q hw h0 hp hq)) refl refl refl
+      ∙ again (0 ∷ p ∷ q ∷ []) f in
       ec ∙ ap (λ (x : ℕ). removed x (top 0))
-      (eb ∙ ap (λ (x : ℕ). removed x (top p)) (ea ∙ ap (λ (x : ℕ). removed x (top q)) (sym e) ∙ removed-inserted m2 (top q)) ∙ removed-inserted m1 (top p))
+      (eb ∙ ap (λ (x : ℕ). removed x (top p)) (ea ∙ ap (λ (x : ℕ). removed x (top q)) (sym e) ∙ removed-inserted m2 (top q))
+      ∙ removed-inserted m1 (top p))
       ∙ removed-inserted m (top 0)
 
   -- by the kind

@@ -3,7 +3,6 @@
 use mathlib.Core.Path.{_≡_, ap, ap₂}
 use Prim.Native.Nat.{ℕ, _+_, _*_, _≤_, _<_, _^_}
 use native.Mathlib.Nat.{mod-lt, lt-of-lt-of-le}
-use native.Mathlib.Numerals.{add-one}
 use native.Mathlib.Omega.{arith}
 use lib.Pow.{pow-pos, pow-mono}
 use Rattle.bcn_util.specs.declared.stream.BitStream.{BitStream}
@@ -12,7 +11,7 @@ use Rattle.bcn_util.specs.declared.stream.Bits64.{Bits64}
 use Rattle.bcn_util.specs.declared.stream.Values2.{Values2}
 use Rattle.laws.specs.Digits.{split, total}
 use Rattle.laws.specs.Tables.{table}
-use Rattle.laws.proofs.Rows.{split-table, table-none, total-more}
+use Rattle.laws.proofs.Rows.{split-table}
 use Rattle.format.specs.Block.{field}
 use Rattle.bcn_util.specs.Stream.{consumed2, consumed64, consumed8, held, skipped}
 
@@ -67,15 +66,7 @@ module _ {n a : ℕ} {s : BitStream} (o : On n a s) (w : ℕ) where
   pub on-2 : {r : Values2} → r ≡ consumed2 s w → On n (a + 2 * w) (r .stream)
   on-2 e = rw e (on-skipped o (2 * w))
 
--- a loop that reads values of the widths f 0, f 1, .., from the start of n: after i turns it stands at the total of the first i
-module _ (f : ℕ → ℕ) {n : ℕ} {s : BitStream} where
-  pub row-start : On n 0 s → On n (total (table 0 f)) s
-  row-start o = rw (table-none f) o
-
-  pub row-next : (i : ℕ) → On n (total (table i f) + f i) s → On n (total (table (i + 1) f)) s
-  row-next i o = rw (add-one, total-more i f) o
-
--- and the values that it has read are the digits of n
+-- values read at the widths f 0, f 1, .. one after the other are the digits of n
 pub split-fields : (k : ℕ) (f : ℕ → ℕ) (n : ℕ) → split (table k f) n ≡ table k (λ i. field n (total (table i f)) (f i))
 unfolding field
 split-fields k f n = split-table k f n

@@ -37,7 +37,8 @@ all-below w v h = rw (div-eq-of-lt h, zero-mul (2 ^ w))
 
 -- a row of bytes under the mask of their widths
 masked : (n : ℕ) (w : ℕ → ℕ) {vs : List ℕ} → ((i : ℕ) → i < n → w i ≤ 8) → Fit (replicate n 8) vs
-    → bitAnd (join (replicate n 8) vs) (join (replicate n 8) (table n (λ i. barred (w i)))) ≡ join (replicate n 8) (table n (λ i. getD vs i 0 / 2 ^ w i * 2 ^ w i))
+    → bitAnd (join (replicate n 8) vs) (join (replicate n 8) (table n (λ i. barred (w i))))
+    ≡ join (replicate n 8) (table n (λ i. getD vs i 0 / 2 ^ w i * 2 ^ w i))
 masked n w hw f = and-join f (fit-barred n w) ∙ ap (join (replicate n 8)) (each n w hw f)
   where
     fit-barred : (n : ℕ) (w : ℕ → ℕ) → Fit (replicate n 8) (table n (λ i. barred (w i)))

@@ -27,9 +27,11 @@ module _ (w n : ℕ) (v : ℕ → ℕ) (fits : (k : ℕ) → k < n → v k < 2 ^
   down-more i x h e =
       let p : ℕ = 2 ^ (i * w) in
       let top : x * 2 ^ ((i + 1) * w) ≡ x * 2 ^ w * p =
-      ap (λ (k : ℕ). x * 2 ^ k) (let z : (i + 1) * w ≡ w + i * w = omega arith in z) ∙ ap (λ (y : ℕ). x * y) (pow-add 2 w (i * w)) ∙ sym (mul-assoc x (2 ^ w) p) in
+      ap (λ (k : ℕ). x * 2 ^ k) (let z : (i + 1) * w ≡ w + i * w = omega arith in z) ∙ ap (λ (y : ℕ). x * y) (pow-add 2 w (i * w))
+      ∙ sym (mul-assoc x (2 ^ w) p) in
       let low : row (i + 1) w v ≡ v i * p + row i w v =
-      rw (add-one i) (join-more i (λ k. w) v (λ k l. fits k (omega arith))) ∙ ap (λ (k : ℕ). v i * 2 ^ k + row i w v) (total-same (λ k. w) w i (λ k l. refl)) in
+      rw (add-one i) (join-more i (λ k. w) v (λ k l. fits k (omega arith)))
+      ∙ ap (λ (k : ℕ). v i * 2 ^ k + row i w v) (total-same (λ k. w) w i (λ k l. refl)) in
       ap (λ (y : ℕ). y + row i w v) (add-mul (x * 2 ^ w) (v i) p) ∙ add-assoc (x * 2 ^ w * p) (v i * p) (row i w v)
       ∙ sym (ap₂ (λ (y z : ℕ). y + z) top low) ∙ e
 

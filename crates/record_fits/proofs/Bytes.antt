@@ -35,7 +35,8 @@ module _ (c a : ℕ) (hc : c ≤ 8) (ha : a ≤ 8) where
   low-widths : (i : ℕ) → i < 8 → ofPair i ≤ 8
   low-widths i h = le-of-suc-le-suc (pick-lt (eqb (i % 4) 3) a c 9 (omega arith) (omega arith))
 
-  pair-mask : (256 - (1 * 2 ^ c) % 2 ^ 64) * 0x0001010100010101 + (256 - (1 * 2 ^ a) % 2 ^ 64) * 0x0100000001000000 ≡ join (replicate 8 8) (table 8 (λ i. barred (ofPair i)))
+  pair-mask : (256 - (1 * 2 ^ c) % 2 ^ 64) * 0x0001010100010101 + (256 - (1 * 2 ^ a) % 2 ^ 64) * 0x0100000001000000
+      ≡ join (replicate 8 8) (table 8 (λ i. barred (ofPair i)))
   unfolding table tableFrom
   pair-mask = rw (one-shl c (omega arith), one-shl a (omega arith)) (omega arith)
 

@@ -39,26 +39,32 @@ use Rattle.record_fits.proofs.Bytes.{one-width}
 
 -- a pair of endpoints as one word
 module _ (row : ModeRow) (e : List ℕ) (o : ℕ) (bytes : (i : ℕ) → getD e i 0 < 2 ^ 8) (whole : o % 8 ≡ 0) where
-  pair-bytes : {x : ℕ} → x ≡ join (replicate 8 8) (table 8 (λ i. getD e (o + i) 0)) → (i : ℕ) → i < 8 → getD (split (replicate 8 8) x) i 0 ≡ getD e (o + i) 0
+  pair-bytes : {x : ℕ} → x ≡ join (replicate 8 8) (table 8 (λ i. getD e (o + i) 0)) → (i : ℕ) → i < 8
+      → getD (split (replicate 8 8) x) i 0 ≡ getD e (o + i) 0
   unfolding table tableFrom
   pair-bytes ex i h =
       ap (λ (y : ℕ). getD (split (replicate 8 8) y) i 0) ex
-      ∙ ap (λ (l : List ℕ). getD l i 0) (split-join (fit-table 8 (λ i. 8) (λ i. getD e (o + i) 0) (λ i l. bytes (o + i)))) ∙ getD-table 8 (λ i. getD e (o + i) 0) 0 i h
+      ∙ ap (λ (l : List ℕ). getD l i 0) (split-join (fit-table 8 (λ i. 8) (λ i. getD e (o + i) 0) (λ i l. bytes (o + i))))
+      ∙ getD-table 8 (λ i. getD e (o + i) 0) 0 i h
 
-  pair-by : (c a : ℕ) → ((i : ℕ) → i < 8 → pick (eqb (i % 4) 3) a c ≡ valueBits row (o + i)) → {x : ℕ} {t : Bool} → x ≡ join (replicate 8 8) (table 8 (λ i. getD e (o + i) 0))
-      → t ≡ below 8 (λ i. ltb (getD (split (replicate 8 8) x) i 0) (2 ^ pick (eqb (i % 4) 3) a c)) → t ≡ below 8 (λ i. ltb (getD e (o + i) 0) (2 ^ valueBits row (o + i)))
+  pair-by : (c a : ℕ) → ((i : ℕ) → i < 8 → pick (eqb (i % 4) 3) a c ≡ valueBits row (o + i)) → {x : ℕ} {t : Bool}
+      → x ≡ join (replicate 8 8) (table 8 (λ i. getD e (o + i) 0))
+      → t ≡ below 8 (λ i. ltb (getD (split (replicate 8 8) x) i 0) (2 ^ pick (eqb (i % 4) 3) a c))
+      → t ≡ below 8 (λ i. ltb (getD e (o + i) 0) (2 ^ valueBits row (o + i)))
   pair-by c a w ex et = et ∙ scan-same 8 _ _ (λ i h. ap₂ (λ (x y : ℕ). ltb x (2 ^ y)) (pair-bytes ex i h) (w i h))
 
   -- one that the mode has not
   pub pair-none : 4 * row .endpoints ≤ o → {x : ℕ} {t : Bool} → x ≡ join (replicate 8 8) (table 8 (λ i. getD e (o + i) 0))
-      → t ≡ below 8 (λ i. ltb (getD (split (replicate 8 8) x) i 0) (2 ^ pick (eqb (i % 4) 3) 0 0)) → t ≡ below 8 (λ i. ltb (getD e (o + i) 0) (2 ^ valueBits row (o + i)))
+      → t ≡ below 8 (λ i. ltb (getD (split (replicate 8 8) x) i 0) (2 ^ pick (eqb (i % 4) 3) 0 0))
+      → t ≡ below 8 (λ i. ltb (getD e (o + i) 0) (2 ^ valueBits row (o + i)))
   pair-none past =
       pair-by 0 0 (λ i h.
       one-width (eqb (i % 4) 3) 0 ∙ sym (rw (le-ltb ((o + i) / 4) (row .endpoints) (omega arith))))
 
   -- one that it has
   pub pair-has : row .endpoints % 2 ≡ 0 → o < 4 * row .endpoints → {x : ℕ} {t : Bool} → x ≡ join (replicate 8 8) (table 8 (λ i. getD e (o + i) 0))
-      → t ≡ below 8 (λ i. ltb (getD (split (replicate 8 8) x) i 0) (2 ^ pick (eqb (i % 4) 3) (row .alpha) (row .colour))) → t ≡ below 8 (λ i. ltb (getD e (o + i) 0) (2 ^ valueBits row (o + i)))
+      → t ≡ below 8 (λ i. ltb (getD (split (replicate 8 8) x) i 0) (2 ^ pick (eqb (i % 4) 3) (row .alpha) (row .colour)))
+      → t ≡ below 8 (λ i. ltb (getD e (o + i) 0) (2 ^ valueBits row (o + i)))
   pair-has even there =
       pair-by (row .colour) (row .alpha) (λ i h.
       let m : (o + i) % 4 ≡ i % 4 = omega arith in
@@ -88,18 +94,22 @@ module _ (r : Record) {row : ModeRow} (hm : r .mode < 8) (er : row ≡ rowOf (r 
 
   pub first-from : Within r → allFit 16 (λ q. getD (r .first) q 0) (λ q. row .first) ≡ true
   unfolding says width
-  first-from w = rw er (fits-all 16 (λ q. getD (r .first) q 0) (λ q. rowOf (r .mode) .first) (λ q l. w (index 0 q) (inside-index {a = 0} (omega arith) l)))
+  first-from w =
+      rw er (fits-all 16 (λ q. getD (r .first) q 0) (λ q. rowOf (r .mode) .first) (λ q l. w (index 0 q) (inside-index {a = 0} (omega arith) l)))
 
   pub second-from : Within r → allFit 16 (λ q. getD (r .second) q 0) (λ q. row .second) ≡ true
   unfolding says width
-  second-from w = rw er (fits-all 16 (λ q. getD (r .second) q 0) (λ q. rowOf (r .mode) .second) (λ q l. w (index 1 q) (inside-index {a = 1} (omega arith) l)))
+  second-from w =
+      rw er (fits-all 16 (λ q. getD (r .second) q 0) (λ q. rowOf (r .mode) .second) (λ q l. w (index 1 q) (inside-index {a = 1} (omega arith) l)))
 
   -- and back
   module _ (s : splitFits (r .split) row ≡ true) (v : allFit 24 (λ i. getD (r .endpoints) i 0) (valueBits row) ≡ true)
-      (p : allFit 6 (λ k. getD (r .p) k 0) (λ k. pick (ltb k (row .p)) 1 0) ≡ true) (f : allFit 16 (λ q. getD (r .first) q 0) (λ q. row .first) ≡ true) where
+      (p : allFit 6 (λ k. getD (r .p) k 0) (λ k. pick (ltb k (row .p)) 1 0) ≡ true)
+      (f : allFit 16 (λ q. getD (r .first) q 0) (λ q. row .first) ≡ true) where
     heads : (partition (r .split) < 2 ^ row .partition) × (rotation (r .split) < 2 ^ row .rotation) × (indexMode (r .split) < 2 ^ row .«index_mode»)
     heads =
-        let rest = both-true (ltb (partition (r .split)) (2 ^ row .partition)) (both (ltb (rotation (r .split)) (2 ^ row .rotation)) (ltb (indexMode (r .split)) (2 ^ row .«index_mode»))) s in
+        let rest = both-true (ltb (partition (r .split)) (2 ^ row .partition))
+        (both (ltb (rotation (r .split)) (2 ^ row .rotation)) (ltb (indexMode (r .split)) (2 ^ row .«index_mode»))) s in
         let last = both-true (ltb (rotation (r .split)) (2 ^ row .rotation)) (ltb (indexMode (r .split)) (2 ^ row .«index_mode»)) (rest .1) in
         (ltb-true _ _ (rest .0), ltb-true _ _ (last .0), ltb-true _ _ (last .1))
 
@@ -117,16 +127,21 @@ module _ (r : Record) {row : ModeRow} (hm : r .mode < 8) (er : row ≡ rowOf (r 
         let q : (4 * e + c) % 4 ≡ c = omega arith in
         rw (er, d, q) at (fits-each 24 (λ i. getD (r .endpoints) i 0) (valueBits row) v (4 * e + c) (omega arith))
     within g (pbit k) h = rw er at (fits-each 6 (λ k. getD (r .p) k 0) (λ k. pick (ltb k (row .p)) 1 0) p k (ltb→lt k 6 h))
-    within g (index zero q) h = rw er at (fits-each 16 (λ q. getD (r .first) q 0) (λ q. row .first) f q (ltb→lt q 16 (both-right (ltb 0 2) (ltb q 16) h)))
-    within g (index (suc zero) q) h = rw er at (fits-each 16 (λ q. getD (r .second) q 0) (λ q. row .second) g q (ltb→lt q 16 (both-right (ltb 1 2) (ltb q 16) h)))
-    within g (index (suc (suc a)) q) h = absurd (let l = ltb→lt (suc (suc a)) 2 (both-left (ltb (suc (suc a)) 2) (ltb q 16) h) in let z : ⊥ = omega arith in z)
+    within g (index zero q) h =
+        rw er at (fits-each 16 (λ q. getD (r .first) q 0) (λ q. row .first) f q (ltb→lt q 16 (both-right (ltb 0 2) (ltb q 16) h)))
+    within g (index (suc zero) q) h =
+        rw er at (fits-each 16 (λ q. getD (r .second) q 0) (λ q. row .second) g q (ltb→lt q 16 (both-right (ltb 1 2) (ltb q 16) h)))
+    within g (index (suc (suc a)) q) h =
+        absurd (let l = ltb→lt (suc (suc a)) 2 (both-left (ltb (suc (suc a)) 2) (ltb q 16) h) in let z : ⊥ = omega arith in z)
 
   -- so where a group fails all fails, and where the others hold the last one decides
   pub one-fails : (b : Bool) → (Within r → b ≡ true) → b ≡ false → false ≡ fits (r .mode) [] (says r)
   one-fails b f e = sym (not-so _ (λ t. no-both (f (fits-at (r .mode) [] (says r) t)) e))
 
-  pub last-decides : splitFits (r .split) row ≡ true → allFit 24 (λ i. getD (r .endpoints) i 0) (valueBits row) ≡ true → allFit 6 (λ k. getD (r .p) k 0) (λ k. pick (ltb k (row .p)) 1 0) ≡ true
-      → allFit 16 (λ q. getD (r .first) q 0) (λ q. row .first) ≡ true → allFit 16 (λ q. getD (r .second) q 0) (λ q. row .second) ≡ fits (r .mode) [] (says r)
+  pub last-decides : splitFits (r .split) row ≡ true → allFit 24 (λ i. getD (r .endpoints) i 0) (valueBits row) ≡ true
+      → allFit 6 (λ k. getD (r .p) k 0) (λ k. pick (ltb k (row .p)) 1 0) ≡ true
+      → allFit 16 (λ q. getD (r .first) q 0) (λ q. row .first) ≡ true
+      → allFit 16 (λ q. getD (r .second) q 0) (λ q. row .second) ≡ fits (r .mode) [] (says r)
   last-decides s v p f = go (allFit 16 (λ q. getD (r .second) q 0) (λ q. row .second)) refl
     where
       go : (b : Bool) → allFit 16 (λ q. getD (r .second) q 0) (λ q. row .second) ≡ b → b ≡ fits (r .mode) [] (says r)
@@ -186,7 +201,8 @@ module _ {r : Record} {row : ModeRow} (full : Full r row) where
           let rest = both-true (ltb (getD vs (a .a) 0) (2 ^ w)) (both (ltb (getD vs (a .b) 0) (2 ^ w)) (ltb (getD vs (a .c) 0) (2 ^ w))) t in
           let last = both-true (ltb (getD vs (a .b) 0) (2 ^ w)) (ltb (getD vs (a .c) 0) (2 ^ w)) (rest .1) in
           rw (ev q h)
-          (one-of-three (λ q. getD vs q 0 < 2 ^ w) q (a .a) (a .b) (a .c) (subst T (sym (are q)) i) (ltb-true _ _ (rest .0)) (ltb-true _ _ (last .0)) (ltb-true _ _ (last .1)))
+          (one-of-three (λ q. getD vs q 0 < 2 ^ w) q (a .a) (a .b) (a .c) (subst T (sym (are q)) i) (ltb-true _ _ (rest .0))
+          (ltb-true _ _ (last .0)) (ltb-true _ _ (last .1)))
 
     -- both sets
     abbrev firstClear : Bool
@@ -203,11 +219,14 @@ module _ {r : Record} {row : ModeRow} (full : Full r row) where
     unfolding says
     second-from-clear c = rw (full .is) (tops-from 1 (omega arith) (r .second) (λ q h. refl) c)
 
-    clear : firstClear ≡ true → ((q : ℕ) → q < 16 → T (among q (anchors (r .split))) → says r (index 1 q) < 2 ^ (secondBits (r .mode) - 1)) → TopsClear r
+    clear : firstClear ≡ true → ((q : ℕ) → q < 16 → T (among q (anchors (r .split))) → says r (index 1 q) < 2 ^ (secondBits (r .mode) - 1))
+        → TopsClear r
     unfolding says
-    clear f g zero q i t = from-tops 0 (omega arith) (r .first) (λ q h. refl) (rw (full .is) at f) q (ltb→lt q 16 (both-right (ltb 0 2) (ltb q 16) i)) t
+    clear f g zero q i t =
+        from-tops 0 (omega arith) (r .first) (λ q h. refl) (rw (full .is) at f) q (ltb→lt q 16 (both-right (ltb 0 2) (ltb q 16) i)) t
     clear f g (suc zero) q i t = g q (ltb→lt q 16 (both-right (ltb 1 2) (ltb q 16) i)) t
-    clear f g (suc (suc k)) q i t = absurd (let l = ltb→lt (suc (suc k)) 2 (both-left (ltb (suc (suc k)) 2) (ltb q 16) i) in let z : ⊥ = omega arith in z)
+    clear f g (suc (suc k)) q i t =
+        absurd (let l = ltb→lt (suc (suc k)) 2 (both-left (ltb (suc (suc k)) 2) (ltb q 16) i) in let z : ⊥ = omega arith in z)
 
     stored-of : TopsClear r → storedFit r ≡ true
     stored-of c = fits-of (r .mode) (anchors (r .split)) (says r) (clear-stored r (full .within) c)

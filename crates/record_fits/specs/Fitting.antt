@@ -12,7 +12,6 @@ use Rattle.record_widths.specs.declared.ModeRow.{ModeRow}
 use Rattle.format.specs.declared.Split.{Split}
 use Rattle.laws.specs.Tables.{both, pick}
 use Rattle.format.specs.Modes.{kindOfMode}
-use Rattle.format.specs.Places.{width}
 use Rattle.format.specs.Splits.{anchors, indexMode, kindOf, partition, rotation}
 use Rattle.record_rules.specs.Answers.{Within}
 use Rattle.record_rules.specs.Records.{fits, says}

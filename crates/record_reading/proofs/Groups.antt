@@ -42,7 +42,8 @@ module _ (row : ModeRow) (red green blue alpha : ℕ) where
   pub values-none : Values 0 (replicate 24 0)
   values-none = record {
     long = refl;
-    done = λ k l past. let h : row .endpoints ≤ k / 4 = omega (arith, past (omega arith)) in rw (le-ltb (k / 4) (row .endpoints) h) (getD-replicate 24 k 0 0 l);
+    done = λ k l past. let h : row .endpoints ≤ k / 4 = omega (arith, past (omega arith)) in rw (le-ltb (k / 4) (row .endpoints) h)
+        (getD-replicate 24 k 0 0 l);
   }
 
   pub values-next : (e : ℕ) {out : List ℕ} {r g b a : ℕ} → e < row .endpoints → row .endpoints ≤ 6 → Values e out
@@ -78,7 +79,8 @@ endpoints-read row s er eg eb ea ee =
 
 -- six parts of one read
 pub p-read : (row : ModeRow) (s : BitStream) {x : Bits64} {p0 p1 p2 p3 p4 p5 : ℕ} → x ≡ consumed64 s (row .p)
-    → p0 ≡ part (x .value) 1 0 → p1 ≡ part (x .value) 1 1 → p2 ≡ part (x .value) 1 2 → p3 ≡ part (x .value) 1 3 → p4 ≡ part (x .value) 1 4 → p5 ≡ part (x .value) 1 5
+    → p0 ≡ part (x .value) 1 0 → p1 ≡ part (x .value) 1 1 → p2 ≡ part (x .value) 1 2 → p3 ≡ part (x .value) 1 3 → p4 ≡ part (x .value) 1 4
+    → p5 ≡ part (x .value) 1 5
     → record { p = p0 ∷ p1 ∷ p2 ∷ p3 ∷ p4 ∷ p5 ∷ []; stream = x .stream } ≡ pRead row s
 unfolding pRead table tableFrom
 p-read row s ex e0 e1 e2 e3 e4 e5 = rw (e0, e1, e2, e3, e4, e5, ex)

@@ -30,9 +30,11 @@ vector n a i =
 
 -- in each mode, what the kind takes of one read is what stands at the split's places
 one-read : (m n a : ℕ) → m < 8
-    → ofKind (kindOfMode m) (field n a (partitionBits m + rotationBits m + indexModeBits m)) (field n a (partitionBits m + rotationBits m + indexModeBits m) % 4)
+    → ofKind (kindOfMode m) (field n a (partitionBits m + rotationBits m + indexModeBits m))
+    (field n a (partitionBits m + rotationBits m + indexModeBits m) % 4)
     (field n a (partitionBits m + rotationBits m + indexModeBits m) / 2 ^ 2)
-    ≡ ofKind (kindOfMode m) (field n a (partitionBits m)) (field n (a + partitionBits m) (rotationBits m)) (field n (a + (partitionBits m + rotationBits m)) (indexModeBits m))
+    ≡ ofKind (kindOfMode m) (field n a (partitionBits m)) (field n (a + partitionBits m) (rotationBits m))
+    (field n (a + (partitionBits m + rotationBits m)) (indexModeBits m))
 unfolding modeRow kindOfMode
 one-read zero n a h = refl
 one-read (suc zero) n a h = refl
@@ -44,7 +46,8 @@ one-read (suc (suc (suc (suc (suc (suc zero)))))) n a h = refl
 one-read (suc (suc (suc (suc (suc (suc (suc zero))))))) n a h = refl
 one-read (suc (suc (suc (suc (suc (suc (suc (suc m)))))))) n a h = absurd (let z : ⊥ = omega arith in z)
 
-pub split-taken : (row : ModeRow) (s : BitStream) {x : Bits64} {t : Split} → OfMode row → x ≡ consumed64 s (row .partition + row .rotation + row .«index_mode»)
+pub split-taken : (row : ModeRow) (s : BitStream) {x : Bits64} {t : Split} → OfMode row
+    → x ≡ consumed64 s (row .partition + row .rotation + row .«index_mode»)
     → t ≡ ofKind (row .kind) (x .value) (x .value % 4) (x .value / 2 ^ 2) → record { split = t; stream = x .stream } ≡ splitRead row s
 unfolding held
 split-taken row s {t = t} o ex et =
@@ -62,11 +65,13 @@ split-parts : (m n : ℕ)
 unfolding splitAt field
 split-parts m n = rw (← (add-assoc (m + 1) (partitionBits m) (rotationBits m))) (simp (shr-shr, add-one))
 
-pub split-is : (m : ℕ) {n : ℕ} {row : ModeRow} {s : BitStream} {r : ReadSplit} → row ≡ rowOf m → On n (m + 1) s → r ≡ splitRead row s → r .split ≡ splitAt m n
+pub split-is : (m : ℕ) {n : ℕ} {row : ModeRow} {s : BitStream} {r : ReadSplit} → row ≡ rowOf m → On n (m + 1) s → r ≡ splitRead row s
+    → r .split ≡ splitAt m n
 split-is m e o er =
     let p : ℕ = partitionBits m in
     let q : ℕ = p + rotationBits m in
     rw (er, e, next-is o p, next-is (on-skipped o p) (rotationBits m), next-is (on-skipped o q) (indexModeBits m)) (split-parts m _)
 
-pub split-on : (row : ModeRow) {a n : ℕ} {s : BitStream} {r : ReadSplit} → On n a s → r ≡ splitRead row s → On n (a + (row .partition + row .rotation + row .«index_mode»)) (r .stream)
+pub split-on : (row : ModeRow) {a n : ℕ} {s : BitStream} {r : ReadSplit} → On n a s → r ≡ splitRead row s
+    → On n (a + (row .partition + row .rotation + row .«index_mode»)) (r .stream)
 split-on row o er = rw er (on-skipped o (row .partition + row .rotation + row .«index_mode»))

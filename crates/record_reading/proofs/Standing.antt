@@ -110,7 +110,8 @@ module _ (m : ℕ) (s : Split) (n : ℕ) (hm : m < 8) where
     value-there c e hc he =
         let k : ℕ = endpointCount m in
         let b : ℕ = channelBits m c in
-        let room : e * b + b ≤ k * b = subst (λ (x : ℕ). x ≤ k * b) (let z : (e + 1) * b ≡ e * b + b = omega arith in z) (mul-le-mul-right b (rw (add-one e) he)) in
+        let room : e * b + b ≤ k * b = subst (λ (x : ℕ). x ≤ k * b) (let z : (e + 1) * b ≡ e * b + b = omega arith in z)
+        (mul-le-mul-right b (rw (add-one e) he)) in
         let place : headEnd m + c * (k * colourBits m) + e * b ≡ headEnd m + k * (colourBits m * c) + b * e =
         ap₂ (λ (x y : ℕ). headEnd m + x + y) (mul-comm c (k * colourBits m) ∙ mul-assoc k (colourBits m) c) (mul-comm e b) in
         ap (λ (x : ℕ). part x b e) (channel-word c) ∙ part-field n _ (k * b) b e room
@@ -121,7 +122,9 @@ module _ (m : ℕ) (s : Split) (n : ℕ) (hm : m < 8) where
     values-stand = table-same 0 24 _ _ (λ i l. stands (i % 4) (i / 4) (omega arith) (omega arith))
       where
         stands : (c e : ℕ) → c < 4 → e < 6
-            → pick (ltb e (row .endpoints)) (part (channelOf (channelsAt row t 0) (channelsAt row t 1) (channelsAt row t 2) (channelsAt row t 3) c) (pick (eqb c 3) (row .alpha) (row .colour)) e) 0
+            → pick (ltb e (row .endpoints))
+            (part (channelOf (channelsAt row t 0) (channelsAt row t 1) (channelsAt row t 2) (channelsAt row t 3) c)
+            (pick (eqb c 3) (row .alpha) (row .colour)) e) 0
             ≡ at (value c e)
         stands c e hc he =
             ⊎-elim
@@ -135,7 +138,8 @@ module _ (m : ℕ) (s : Split) (n : ℕ) (hm : m < 8) where
         let k : ℕ = endpointCount m in
         let x : ℕ = 3 * (k * colourBits m) + k * alphaBits m in
         let e : headEnd m + x ≡ valuesEnd m =
-        ap (λ (y : ℕ). headEnd m + (y + k * alphaBits m)) (sym (mul-assoc 3 k (colourBits m)) ∙ ap (λ (y : ℕ). y * colourBits m) (mul-comm 3 k) ∙ mul-assoc k 3 (colourBits m))
+        ap (λ (y : ℕ). headEnd m + (y + k * alphaBits m))
+        (sym (mul-assoc 3 k (colourBits m)) ∙ ap (λ (y : ℕ). y * colourBits m) (mul-comm 3 k) ∙ mul-assoc k 3 (colourBits m))
         ∙ ap (λ (y : ℕ). headEnd m + y) (sym (mul-add k (3 * colourBits m) (alphaBits m))) in
         rw er (subst (λ (a : ℕ). On n a (skipped t x)) e (on-skipped o x))
 
@@ -148,7 +152,8 @@ module _ (m : ℕ) (s : Split) (n : ℕ) (hm : m < 8) where
         stands : (k : ℕ) → k < 6 → part (field n (valuesEnd m) (pCount m)) 1 k ≡ at (pbit k)
         stands k h =
             ⊎-elim
-            (λ (l : k < pCount m). part-field n (valuesEnd m) (pCount m) 1 k (rw (mul-one k) (omega arith)) ∙ ap (λ (x : ℕ). field n (valuesEnd m + x) 1) (mul-one k) ∙ sym (bit-at m s n hm k l))
+            (λ (l : k < pCount m). part-field n (valuesEnd m) (pCount m) 1 k (rw (mul-one k) (omega arith))
+            ∙ ap (λ (x : ℕ). field n (valuesEnd m + x) 1) (mul-one k) ∙ sym (bit-at m s n hm k l))
             (λ l. part-past n (valuesEnd m) (pCount m) k l ∙ sym (nothing (pbit k) (inside-pbit h) (rw (le-ltb k (pCount m) l))))
             (lt-or k (pCount m))
 
@@ -157,17 +162,21 @@ module _ (m : ℕ) (s : Split) (n : ℕ) (hm : m < 8) where
     ps-on = rw (er, first-start m s hm) (on-skipped o (pCount m))
 
   -- a set of indexes, read whole
-  pub set-stands : (a : ℕ) → a < 2 → {an : List ℕ} {t : BitStream} (b : ℕ) → an ≡ anchors s → b ≡ total (indexWidths (indexBits m a) (anchors s)) → On n (start m s (34 + (16 * a + 0))) t
+  pub set-stands : (a : ℕ) → a < 2 → {an : List ℕ} {t : BitStream} (b : ℕ) → an ≡ anchors s → b ≡ total (indexWidths (indexBits m a) (anchors s))
+      → On n (start m s (34 + (16 * a + 0))) t
       → table 16 (part (newIndexes (indexBits m a) an t b .indexes .uncompressed) (indexBits m a)) ≡ table 16 (λ q. at (index a q))
   set-stands a ha {an} {t} b ea eb o =
       table-same 0 16 _ _ (λ q l.
-      ap₂ (λ (l : List ℕ) (x : ℕ). part (expanded (indexBits m a) l x) (indexBits m a) q) ea (next-is o b ∙ ap (field n (start m s (34 + (16 * a + 0)))) eb)
+      ap₂ (λ (l : List ℕ) (x : ℕ). part (expanded (indexBits m a) l x) (indexBits m a) q) ea
+      (next-is o b ∙ ap (field n (start m s (34 + (16 * a + 0)))) eb)
       ∙ index-at m s a ha n q l)
 
   -- and one that the mode hasn't got
   pub set-none : secondBits m ≡ 0 → replicate 16 0 ≡ table 16 (λ q. at (index 1 q))
   unfolding table tableFrom width
-  set-none e = table-same 0 16 (λ q. 0) (λ q. at (index 1 q)) (λ q l. sym (nothing (index 1 q) (inside-index {a = 1} (omega arith) l) (rw e (le-zero (pick-less (among q (anchors s)) 0)))))
+  set-none e =
+      table-same 0 16 (λ q. 0) (λ q. at (index 1 q))
+      (λ q l. sym (nothing (index 1 q) (inside-index {a = 1} (omega arith) l) (rw e (le-zero (pick-less (among q (anchors s)) 0)))))
 
 -- A BLOCK READ, of mode m, whose row is `row`
 module _ (bs : List ℕ) (sixteen : Fit eights bs) {m : ℕ} (em : m ≡ modeOf bs) (hm : m < 8) {row : ModeRow} (er : row ≡ rowOf m) where
@@ -202,31 +211,37 @@ module _ (bs : List ℕ) (sixteen : Fit eights bs) {m : ℕ} (em : m ≡ modeOf 
       set-size w h = sym (size-kind (row .kind) w (a .b) (a .c) h rise) ∙ ap (λ (l : List ℕ). total (indexWidths w l)) anchors-are
 
       second-on : {t : BitStream} {set : NewIndexes} → On n (start m s 34) t
-          → set ≡ newIndexes (row .first) (anchorsOfKind (row .kind) (a .b) (a .c)) t (16 * row .first - anchorCount (row .kind)) → On n (start m s 50) (set .stream)
+          → set ≡ newIndexes (row .first) (anchorsOfKind (row .kind) (a .b) (a .c)) t (16 * row .first - anchorCount (row .kind))
+          → On n (start m s 50) (set .stream)
       unfolding indexWidths
       second-on o e =
           let w : 0 < row .first = omega (arith, small of-mode .least) in
-          let size : 16 * row .first - anchorCount (row .kind) ≡ total (indexWidths (firstBits m) (anchors s)) = set-size (row .first) w ∙ ap (λ (r : ModeRow). total (indexWidths (r .first) (anchors s))) er in
+          let size : 16 * row .first - anchorCount (row .kind) ≡ total (indexWidths (firstBits m) (anchors s)) = set-size (row .first) w
+          ∙ ap (λ (r : ModeRow). total (indexWidths (r .first) (anchors s))) er in
           rw (e, size, begins m s 0 (omega arith) 16 (omega arith)) (on-skipped o _)
 
       second-stands : {t : BitStream} → On n (start m s 50) t → secondRead row a t ≡ table 16 (λ q. atPlace m s n (index 1 q))
       unfolding secondRead
       second-stands {t} o = go (eqb (row .kind) 3) refl
         where
-          two : row .kind ≡ 3 → table 16 (part (newIndexes (row .second) (anchorsOfKind (row .kind) (a .b) (a .c)) t (16 * row .second - anchorCount (row .kind)) .indexes .uncompressed) (row .second))
+          two : row .kind ≡ 3 → table 16
+              (part (newIndexes (row .second) (anchorsOfKind (row .kind) (a .b) (a .c)) t (16 * row .second - anchorCount (row .kind)) .indexes
+              .uncompressed) (row .second))
               ≡ table 16 (λ q. atPlace m s n (index 1 q))
           two k =
               let e : row .second ≡ secondBits m = ap (λ (r : ModeRow). r .second) er in
               rw e (set-stands m s n hm 1 (omega arith) _ anchors-are (rw e at (set-size (row .second) (second-bits of-mode k))) o)
 
           go : (b : Bool) → eqb (row .kind) 3 ≡ b
-              → pick b (table 16 (part (newIndexes (row .second) (anchorsOfKind (row .kind) (a .b) (a .c)) t (16 * row .second - anchorCount (row .kind)) .indexes .uncompressed) (row .second))) (replicate 16 0)
+              → pick b (table 16 (part (newIndexes (row .second) (anchorsOfKind (row .kind) (a .b) (a .c)) t
+              (16 * row .second - anchorCount (row .kind)) .indexes .uncompressed) (row .second))) (replicate 16 0)
               ≡ table 16 (λ q. atPlace m s n (index 1 q))
           go true e = two (eqb-true (row .kind) 3 e)
           go false e = set-none m s n hm (by-subset m hm (λ k. eqb-false (row .kind) 3 e (ap (λ (r : ModeRow). r .kind) er ∙ k)) .second)
 
       first-stands : {t : BitStream} → On n (start m s 34) t
-          → table 16 (part (newIndexes (row .first) (anchorsOfKind (row .kind) (a .b) (a .c)) t (16 * row .first - anchorCount (row .kind)) .indexes .uncompressed) (row .first))
+          → table 16 (part (newIndexes (row .first) (anchorsOfKind (row .kind) (a .b) (a .c)) t (16 * row .first - anchorCount (row .kind)) .indexes
+          .uncompressed) (row .first))
           ≡ table 16 (λ q. atPlace m s n (index 0 q))
       first-stands o =
           let e : row .first ≡ firstBits m = ap (λ (r : ModeRow). r .first) er in
@@ -261,10 +276,12 @@ module _ (bs : List ℕ) (sixteen : Fit eights bs) {m : ℕ} (em : m ≡ modeOf 
         pub first-room : p .stream .at ≤ 128
         first-room = rw (p-behind .stands, first-start m (h .split) hm) (in-block m hm .first)
 
-        pub second-room : (l : List ℕ) {set : NewIndexes} → set ≡ newIndexes (row .first) l (p .stream) (16 * row .first - anchorCount (row .kind)) → set .stream .at ≤ 128
+        pub second-room : (l : List ℕ) {set : NewIndexes} → set ≡ newIndexes (row .first) l (p .stream) (16 * row .first - anchorCount (row .kind))
+            → set .stream .at ≤ 128
         second-room l e = rw (e, p-behind .stands, first-start m (h .split) hm, er) (in-block m hm .second)
 
-        pub record-read : {a : Anchors} → a ≡ anchorsOf (h .split) → {set : NewIndexes} → set ≡ newIndexes (row .first) (anchorsOfKind (row .kind) (a .b) (a .c)) (p .stream) (16 * row .first - anchorCount (row .kind))
+        pub record-read : {a : Anchors} → a ≡ anchorsOf (h .split) → {set : NewIndexes}
+            → set ≡ newIndexes (row .first) (anchorsOfKind (row .kind) (a .b) (a .c)) (p .stream) (16 * row .first - anchorCount (row .kind))
             → {first second : List ℕ} → first ≡ table 16 (part (set .indexes .uncompressed) (row .first)) → second ≡ secondRead row a (set .stream)
             → record { mode = m; split = h .split; endpoints = v .endpoints; p = p .p; first = first; second = second } ≡ recordOf bs
         unfolding recordOf made opened

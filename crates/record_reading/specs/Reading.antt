@@ -29,7 +29,8 @@ channelOf red green blue alpha c = getD (red ∷ green ∷ blue ∷ alpha ∷ []
 
 unfoldable pub endpointsOf : ModeRow → ℕ → ℕ → ℕ → ℕ → List ℕ
 endpointsOf row red green blue alpha =
-    table 24 (λ i. pick (ltb (i / 4) (row .endpoints)) (part (channelOf red green blue alpha (i % 4)) (pick (eqb (i % 4) 3) (row .alpha) (row .colour)) (i / 4)) 0)
+    table 24 (λ i. pick (ltb (i / 4) (row .endpoints))
+    (part (channelOf red green blue alpha (i % 4)) (pick (eqb (i % 4) 3) (row .alpha) (row .colour)) (i / 4)) 0)
 
 -- a word for each channel comes next
 abbrev pub channelsAt : ModeRow → BitStream → ℕ → ℕ
@@ -49,5 +50,6 @@ pRead row s = record { p = table 6 (part (nextBits s (row .p)) 1); stream = skip
 unfoldable pub secondRead : ModeRow → Anchors → BitStream → List ℕ
 secondRead row a s =
     pick (eqb (row .kind) 3)
-    (table 16 (part (newIndexes (row .second) (anchorsOfKind (row .kind) (a .b) (a .c)) s (16 * row .second - anchorCount (row .kind)) .indexes .uncompressed) (row .second)))
+    (table 16 (part (newIndexes (row .second) (anchorsOfKind (row .kind) (a .b) (a .c)) s (16 * row .second - anchorCount (row .kind)) .indexes
+    .uncompressed) (row .second)))
     (replicate 16 0)

@@ -36,7 +36,8 @@ three-are (Vector r i) h q = thrice (eqb q 0)
 pub anchors-two : (a : ℕ) → a < 64 → _≡_ {A = Anchors} (record { a = 0; b = map2 a .«fixup_index_2»; c = 0 }) (anchorsOf (Two a))
 anchors-two a h = rw (anchors-in2 a h .are)
 
-pub anchors-three : (a : ℕ) → a < 64 → _≡_ {A = Anchors} (record { a = 0; b = map3 a .«fixup_index_2»; c = map3 a .«fixup_index_3» }) (anchorsOf (Three a))
+pub anchors-three : (a : ℕ) → a < 64
+    → _≡_ {A = Anchors} (record { a = 0; b = map3 a .«fixup_index_2»; c = map3 a .«fixup_index_3» }) (anchorsOf (Three a))
 anchors-three a h = rw (anchors-in3 a h .are)
 
 -- the anchors of a split by its kind

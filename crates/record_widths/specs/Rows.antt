@@ -28,7 +28,8 @@ rowAs l k e p r i c a b x y = record {
 
 abbrev pub rowOf : ℕ → ModeRow
 rowOf m =
-    rowAs (lines m) (kindOfMode m) (endpointCount m) (partitionBits m) (rotationBits m) (indexModeBits m) (colourBits m) (alphaBits m) (pCount m) (firstBits m) (secondBits m)
+    rowAs (lines m) (kindOfMode m) (endpointCount m) (partitionBits m) (rotationBits m) (indexModeBits m) (colourBits m) (alphaBits m) (pCount m)
+    (firstBits m) (secondBits m)
 
 -- the row of one of the eight modes
 pub record OfMode (row : ModeRow) : Type 0 where

@@ -60,7 +60,8 @@ module _ {r : Record} {row : ModeRow} (p : Packs r row) where
   room-128 i h =
       let e : i + (66 - i) ≡ 66 = omega arith in
       let t : total (table 66 (wide r)) ≡ total (table i (wide r)) + total (table (66 - i) (λ j. wide r (i + j))) =
-      subst (λ (n : ℕ). total (table n (wide r)) ≡ total (table i (wide r)) + total (table (66 - i) (λ j. wide r (i + j)))) e (rows-total i (66 - i) (wide r) (said r)) in
+      subst (λ (n : ℕ). total (table n (wide r)) ≡ total (table i (wide r)) + total (table (66 - i) (λ j. wide r (i + j)))) e
+      (rows-total i (66 - i) (wide r) (said r)) in
       omega (arith, all-128)
 
   -- a group of k places from i on: what a push asks, and what it gives
@@ -72,13 +73,21 @@ module _ {r : Record} {row : ModeRow} (p : Packs r row) where
         rw (ex, en, eb) (
           join-lt (fit-table k (λ j. wide r (i + j)) (λ j. said r (i + j)) (λ j l. each (i + j) (omega arith))),
           rw (← (rows-total i k (wide r) (said r))) (room-128 (i + k) room),
-          rw (written-of (join (table i (wide r)) (table i (said r))) (total (table i (wide r)))) (join-lt (fit-table i (wide r) (said r) (λ j l. each j (omega arith)))),
+          rw (written-of (join (table i (wide r)) (table i (said r))) (total (table i (wide r))))
+              (join-lt (fit-table i (wide r) (said r) (λ j l. each j (omega arith)))),
         )
 
     pub group-next : {c : BitWriter} → c ≡ pushed b x n → c ≡ upto r (i + k)
     unfolding upto
     group-next ec =
-        ec ∙ rw (eb, ex, en, written-of (join (table i (wide r)) (table i (said r))) (total (table i (wide r))), rows-total i k (wide r) (said r), rows-join i k (wide r) (said r) (λ j l. each j (omega arith)))
+        ec ∙ rw (
+          eb,
+          ex,
+          en,
+          written-of (join (table i (wide r)) (table i (said r))) (total (table i (wide r))),
+          rows-total i k (wide r) (said r),
+          rows-join i k (wide r) (said r) (λ j l. each j (omega arith)),
+        )
 
   -- one place
   module _ (i : ℕ) (h : i < 66) {b : BitWriter} (eb : b ≡ upto r i) {v w : ℕ} (ev : v ≡ said r i) (ew : w ≡ wide r i) where
@@ -107,7 +116,8 @@ module _ {r : Record} {row : ModeRow} (p : Packs r row) where
   unfolding width placeAt
   head-wide = rw (p .is) (refl, refl, refl)
 
-  pub head-said : {x y z : ℕ} → x ≡ partition (r .split) → y ≡ rotation (r .split) → z ≡ indexMode (r .split) → (x ≡ said r 1) × (y ≡ said r 2) × (z ≡ said r 3)
+  pub head-said : {x y z : ℕ} → x ≡ partition (r .split) → y ≡ rotation (r .split) → z ≡ indexMode (r .split)
+      → (x ≡ said r 1) × (y ≡ said r 2) × (z ≡ said r 3)
   unfolding says placeAt
   head-said a b c = (a, b, c)
 
@@ -169,7 +179,10 @@ module _ {r : Record} {row : ModeRow} (p : Packs r row) where
       wides j h = rw (ew, p .is) (value-wide j h)
 
       pub channel-bits : w ≤ 8
-      channel-bits = rw (ew, ← (ap (λ (x : ModeRow). x .alpha) (p .is)), ← (ap (λ (x : ModeRow). x .colour) (p .is))) (le-of-suc-le-suc (pick-lt (eqb c 3) (row .alpha) (row .colour) 9 (omega (arith, small of-mode .alpha)) (omega (arith, small of-mode .colour))))
+      channel-bits =
+          rw (ew, ← (ap (λ (x : ModeRow). x .alpha) (p .is)), ← (ap (λ (x : ModeRow). x .colour) (p .is)))
+          (le-of-suc-le-suc (pick-lt (eqb c 3) (row .alpha) (row .colour) 9 (omega (arith, small of-mode .alpha))
+          (omega (arith, small of-mode .colour))))
 
       pub channel-fits : (k : ℕ) → k < row .endpoints → values k < 2 ^ w
       channel-fits = run-fits (4 + 6 * c) (omega arith) (row .endpoints) w values (small of-mode .endpoints) wides value-said
@@ -237,7 +250,9 @@ module _ {r : Record} {row : ModeRow} (p : Packs r row) where
       set-said = sym (table-is 16 _ vs long (λ q h. ap (says r) (index-place q h) ∙ ev q h))
 
       pub set-fit : Fit stored vs
-      set-fit = rw (set-wide, set-said) (fit-table 16 (λ q. wide r (34 + 16 * a + q)) (λ q. said r (34 + 16 * a + q)) (λ q h. each (34 + 16 * a + q) (omega arith)))
+      set-fit =
+          rw (set-wide, set-said) (fit-table 16 (λ q. wide r (34 + 16 * a + q)) (λ q. said r (34 + 16 * a + q))
+          (λ q h. each (34 + 16 * a + q) (omega arith)))
 
       pub set-join : join stored vs ≡ join (table 16 (λ q. wide r (34 + 16 * a + q))) (table 16 (λ q. said r (34 + 16 * a + q)))
       set-join = ap₂ join set-wide set-said
@@ -258,7 +273,8 @@ module _ {r : Record} {row : ModeRow} (p : Packs r row) where
     anchors-are : anchorsOfKind (row .kind) (a .b) (a .c) ≡ anchors (r .split)
     anchors-are = rw (kind-is, ea) (anchors-kind (r .split) part-64)
 
-    module _ (k : ℕ) (hk : k < 2) {w : ℕ} (ew : w ≡ indexBits (r .mode) k) (hw : 0 < w) (vs : List ℕ) (long : length vs ≡ 16) (ev : (q : ℕ) → q < 16 → says r (index k q) ≡ getD vs q 0) where
+    module _ (k : ℕ) (hk : k < 2) {w : ℕ} (ew : w ≡ indexBits (r .mode) k) (hw : 0 < w) (vs : List ℕ) (long : length vs ≡ 16)
+        (ev : (q : ℕ) → q < 16 → says r (index k q) ≡ getD vs q 0) where
       abbrev at-anchors : List ℕ
       at-anchors = indexWidths w (anchorsOfKind (row .kind) (a .b) (a .c))
 
@@ -290,7 +306,8 @@ module _ {r : Record} {row : ModeRow} (p : Packs r row) where
   set-none e =
       let none : (k : ℕ) → 50 ≤ k → k < 50 + 16 → wide r k ≡ 0 =
       λ k h l.
-      ap (wide r) (let z : k ≡ 34 + 16 * 1 + (k - 50) = omega arith in z) ∙ ap (width (r .mode) (anchors (r .split))) (index-place 1 (omega arith) (k - 50) (omega arith))
+      ap (wide r) (let z : k ≡ 34 + 16 * 1 + (k - 50) = omega arith in z)
+      ∙ ap (width (r .mode) (anchors (r .split))) (index-place 1 (omega arith) (k - 50) (omega arith))
       ∙ rw e (le-zero (pick-less (among (k - 50) (anchors (r .split))) 0)) in
       sym (ap₂ writerOf (tail-join 50 (wide r) (said r) 16 each none) (tail-total 50 (wide r) (said r) 16 none))
 

@@ -48,7 +48,8 @@ module _ (w : ℕ) (an : List ℕ) (vs : List ℕ) (f : Fit (indexWidths w an) v
   unfolding indexWidths
   full-fit =
       subst (Fit (indexWidths w [])) (table-is 16 _ vs (fit-length f ∙ length-table 16 (indexWidth w an)) (λ i l. refl))
-      (fit-table 16 (indexWidth w []) (λ k. getD vs k 0) (λ k l. lt-of-lt-of-le (rw (getD-table 16 (indexWidth w an) 0 k l) at (fit-get f k)) (pow-mono (pick-less (among k an) w))))
+      (fit-table 16 (indexWidth w []) (λ k. getD vs k 0)
+      (λ k l. lt-of-lt-of-le (rw (getD-table 16 (indexWidth w an) 0 k l) at (fit-get f k)) (pow-mono (pick-less (among k an) w))))
 
   pub word-split : {x : ℕ} → x ≡ join (indexWidths w []) vs → split (indexWidths w []) x ≡ vs
   word-split e = ap (split (indexWidths w [])) e ∙ split-join full-fit

@@ -12,7 +12,7 @@ use Rattle.format.specs.Modes.{kindOfMode}
 use Rattle.format.specs.Places.{Place, inside, placeAt, width}
 use Rattle.format.specs.Splits.{anchors, kindOf}
 use Rattle.bcn_util.specs.Writer.{writerOf}
-use Rattle.record_rules.specs.Records.{fits, says}
+use Rattle.record_rules.specs.Records.{says}
 use Rattle.record_widths.specs.Rows.{rowOf}
 
 -- a record that packs, with the row of its mode: everything fits as it is stored

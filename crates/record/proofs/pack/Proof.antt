@@ -16,10 +16,12 @@ use borrow.Author.Needs.{needs}
 use Rattle.record.proofs.pack.Statement.{statement}
 use Rattle.record.proofs.pack.Tie as tie
 
-same-kind : (c : tie.Else2) → kindOf (c .before .before .before .before .before .args .«record» .split) ≡ kindOfMode (c .before .before .before .before .before .args .«record» .mode)
+same-kind : (c : tie.Else2) → kindOf (c .before .before .before .before .before .args .«record» .split)
+    ≡ kindOfMode (c .before .before .before .before .before .args .«record» .mode)
 same-kind c = sym (c .before .before .kind-of .ensures) ∙ c .if2 .left ∙ ap (λ (r : ModeRow). r .kind) (c .before .before .before .mode-row .ensures)
 
-full : (c : tie.Else3) → Full (c .before .before .before .before .before .before .before .args .«record») (c .before .before .before .before .before .mode-row .result)
+full : (c : tie.Else3) → Full (c .before .before .before .before .before .before .before .args .«record»)
+    (c .before .before .before .before .before .mode-row .result)
 full c =
     let else2 = c .before .before in
     record {
@@ -61,7 +63,9 @@ returns-3 : tie.Need-returns-3
 returns-3 c =
     let else2 = c .before .before .before in
     c .refused3 .ensures
-    ∙ refused-as _ (then (c .before .before .before .before .before .before .before .if1 .left) (then (same-kind else2) (here (λ w. no-both (fits-of _ _ _ w) (sym (c .before .before .record-fits .ensures) ∙ not-true _ (c .before .if3 .taken))))))
+    ∙ refused-as _ (then (c .before .before .before .before .before .before .before .if1 .left)
+    (then (same-kind else2) (here (λ w. no-both (fits-of _ _ _ w)
+    (sym (c .before .before .record-fits .ensures) ∙ not-true _ (c .before .if3 .taken))))))
 
 anchors-of-requires : tie.Need-anchors-of-requires
 anchors-of-requires c κs = part-64 (full c)
@@ -76,13 +80,20 @@ returns-4 : tie.Need-returns-4
 returns-4 c =
     let f = full (c .before .before .before .before) in
     c .refused4 .ensures
-    ∙ refused-as _ (then (c .before .before .before .before .before .before .before .before .before .before .if1 .left) (then (f .kind) (then (f .within) (here (tops-set f (sym (c .before .before .anchors-fit .ensures) ∙ not-true _ (c .before .if4 .taken)))))))
+    ∙ refused-as _ (then (c .before .before .before .before .before .before .before .before .before .before .if1 .left)
+    (then (f .kind) (then (f .within) (here (tops-set f (sym (c .before .before .anchors-fit .ensures) ∙ not-true _ (c .before .if4 .taken)))))))
 
 write-record-requires : tie.Need-write-record-requires
-write-record-requires c κs = (packs (full (c .before .before .before)) (sym (c .before .anchors-fit .ensures) ∙ not-false _ (c .if4 .left)), c .before .before .anchors-of .ensures)
+write-record-requires c κs = (
+  packs (full (c .before .before .before)) (sym (c .before .anchors-fit .ensures) ∙ not-false _ (c .if4 .left)),
+  c .before .before .anchors-of
+      .ensures,
+)
 
 returns-5 : tie.Need-returns-5
-returns-5 c = written (full (c .before .before .before .before)) (sym (c .before .before .anchors-fit .ensures) ∙ not-false _ (c .before .if4 .left)) (c .write-record .ensures)
+returns-5 c =
+    written (full (c .before .before .before .before)) (sym (c .before .before .anchors-fit .ensures) ∙ not-false _ (c .before .if4 .left))
+    (c .write-record .ensures)
 
 pub pack-spec : {M : Type 1} → statement M
 pack-spec =

@@ -20,7 +20,8 @@ mode-row-requires : tie.Need-mode-row-requires
 mode-row-requires c κs = mode-low _ (c .before .mode-of .ensures) (c .if1 .left)
 
 read-record-requires : tie.Need-read-record-requires
-read-record-requires c κs = (c .before .before .mode-of .ensures, mode-low _ (c .before .before .mode-of .ensures) (c .before .if1 .left), c .mode-row .ensures)
+read-record-requires c κs =
+    (c .before .before .mode-of .ensures, mode-low _ (c .before .before .mode-of .ensures) (c .before .if1 .left), c .mode-row .ensures)
 
 returns-2 : tie.Need-returns-2
 returns-2 c = ap (unpackedAs 0) (c .read-record .ensures) ∙ accepted _ (c .before .before .before .mode-of .ensures) (c .before .before .if1 .left)

@@ -19,13 +19,21 @@ returns : tie.Need-returns
 returns c = let s = c .before .before .before in first-not (s .pre .0) (s .pre .1) (sym (c .before .tops-clear .ensures) ∙ not-true _ (c .if1 .taken))
 
 returns-2 : tie.Need-returns-2
-returns-2 c = let s = c .before .before .before .before .before in first-only (s .pre .0) (s .pre .1) (sym (c .before .before .before .tops-clear .ensures) ∙ not-false _ (c .before .before .if1 .left)) (c .if2 .taken)
+returns-2 c =
+    let s = c .before .before .before .before .before in
+    first-only (s .pre .0) (s .pre .1) (sym (c .before .before .before .tops-clear .ensures) ∙ not-false _ (c .before .before .if1 .left))
+    (c .if2 .taken)
 
 tops-clear-requires-2 : tie.Need-tops-clear-requires-2
-tops-clear-requires-2 c κs = let s = c .before .before .before .before .before .before in (second-bits (of-mode s) (c .before .if2 .left), small (of-mode s) .second, pixels (s .pre .0) (s .pre .1))
+tops-clear-requires-2 c κs =
+    let s = c .before .before .before .before .before .before in
+    (second-bits (of-mode s) (c .before .if2 .left), small (of-mode s) .second, pixels (s .pre .0) (s .pre .1))
 
 returns-3 : tie.Need-returns-3
-returns-3 c = let s = c .before .before .before .before .before .before .before in c .tops-clear2 .ensures ∙ second-decides (s .pre .0) (s .pre .1) (sym (c .before .before .before .before .before .tops-clear .ensures) ∙ not-false _ (c .before .before .before .before .if1 .left))
+returns-3 c =
+    let s = c .before .before .before .before .before .before .before in
+    c .tops-clear2 .ensures ∙ second-decides (s .pre .0) (s .pre .1)
+    (sym (c .before .before .before .before .before .tops-clear .ensures) ∙ not-false _ (c .before .before .before .before .if1 .left))
 
 pub anchors-fit-spec : {M : Type 1} → statement M
 anchors-fit-spec =

@@ -31,7 +31,10 @@ endpoints-fit-at-requires-2 : tie.Need-endpoints-fit-at-requires-2
 endpoints-fit-at-requires-2 c κs = search needs
 
 returns-2 : tie.Need-returns-2
-returns-2 c = sym (first-holds _ _ (thirds (c .before .before .before .before)) (sym (c .before .before .before .endpoints-fit-at .ensures) ∙ not-false _ (c .before .before .if1 .left)) ∙ first-fails _ _ refl (sym (c .before .endpoints-fit-at2 .ensures) ∙ not-true _ (c .if2 .taken)))
+returns-2 c =
+    sym (first-holds _ _ (thirds (c .before .before .before .before))
+    (sym (c .before .before .before .endpoints-fit-at .ensures) ∙ not-false _ (c .before .before .if1 .left))
+    ∙ first-fails _ _ refl (sym (c .before .endpoints-fit-at2 .ensures) ∙ not-true _ (c .if2 .taken)))
 
 endpoints-fit-at-requires-3 : tie.Need-endpoints-fit-at-requires-3
 endpoints-fit-at-requires-3 c κs = search needs
@@ -39,7 +42,9 @@ endpoints-fit-at-requires-3 c κs = search needs
 returns-3 : tie.Need-returns-3
 returns-3 c =
     c .endpoints-fit-at3 .ensures
-    ∙ sym (first-holds _ _ (thirds (c .before .before .before .before .before)) (sym (c .before .before .before .before .endpoints-fit-at .ensures) ∙ not-false _ (c .before .before .before .if1 .left)) ∙ first-holds _ _ refl (sym (c .before .before .endpoints-fit-at2 .ensures) ∙ not-false _ (c .before .if2 .left)))
+    ∙ sym (first-holds _ _ (thirds (c .before .before .before .before .before))
+    (sym (c .before .before .before .before .endpoints-fit-at .ensures) ∙ not-false _ (c .before .before .before .if1 .left))
+    ∙ first-holds _ _ refl (sym (c .before .before .endpoints-fit-at2 .ensures) ∙ not-false _ (c .before .if2 .left)))
 
 pub endpoints-fit-spec : {M : Type 1} → statement M
 endpoints-fit-spec =

@@ -24,7 +24,9 @@ pair-fits-requires : tie.Need-pair-fits-requires
 pair-fits-requires c κs = (omega arith, omega arith)
 
 returns : tie.Need-returns
-returns c = let s = c .before .before .before .before in pair-none (s .args .row) (s .args .e) _ (byte s) (s .pre .2) (c .before .before .if1 .taken) (c .before .pair .ensures) (c .pair-fits .ensures)
+returns c =
+    let s = c .before .before .before .before in
+    pair-none (s .args .row) (s .args .e) _ (byte s) (s .pre .2) (c .before .before .if1 .taken) (c .before .pair .ensures) (c .pair-fits .ensures)
 
 pair-requires-2 : tie.Need-pair-requires-2
 pair-requires-2 c κs = c .before .before .pre .1
@@ -33,7 +35,10 @@ pair-fits-requires-2 : tie.Need-pair-fits-requires-2
 pair-fits-requires-2 c κs = let b = small (c .before .before .before .pre .0) in (b .colour, b .alpha)
 
 returns-2 : tie.Need-returns-2
-returns-2 c = let s = c .before .before .before .before in pair-has (s .args .row) (s .args .e) _ (byte s) (s .pre .2) (small (s .pre .0) .even) (omega arith) (c .before .pair2 .ensures) (c .pair-fits2 .ensures)
+returns-2 c =
+    let s = c .before .before .before .before in
+    pair-has (s .args .row) (s .args .e) _ (byte s) (s .pre .2) (small (s .pre .0) .even) (omega arith) (c .before .pair2 .ensures)
+    (c .pair-fits2 .ensures)
 
 pub endpoints-fit-at-spec : {M : Type 1} → statement M
 endpoints-fit-at-spec =

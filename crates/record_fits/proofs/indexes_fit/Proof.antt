@@ -29,7 +29,8 @@ sixteen s = sixteen-bytes _ (size s) (λ i l. byte s i .fits)
 word : (c : tie.After-new) → c .new .result .low < 2 ^ 64
 word c = search needs
 
-halves : (c : tie.After-new) → below 16 (λ i. ltb (getD (c .before .args .indexes) i 0) (2 ^ c .before .args .width)) ≡ both (octetTest (c .before .args .width) (c .new .result .low)) (octetTest (c .before .args .width) (c .new .result .high))
+halves : (c : tie.After-new) → below 16 (λ i. ltb (getD (c .before .args .indexes) i 0) (2 ^ c .before .args .width))
+    ≡ both (octetTest (c .before .args .width) (c .new .result .low)) (octetTest (c .before .args .width) (c .new .result .high))
 halves c = halves-test _ (sixteen (c .before)) (c .new .result) (c .new .ensures .0) (word c)
 
 new-requires : tie.Need-new-requires
@@ -45,7 +46,9 @@ pair-fits-requires-2 : tie.Need-pair-fits-requires-2
 pair-fits-requires-2 c κs = search needs
 
 returns-2 : tie.Need-returns-2
-returns-2 c = c .pair-fits2 .ensures ∙ sym (first-holds _ _ (halves (c .before .before .before)) (sym (c .before .before .pair-fits .ensures) ∙ not-false _ (c .before .if1 .left)))
+returns-2 c =
+    c .pair-fits2 .ensures ∙ sym (first-holds _ _ (halves (c .before .before .before))
+    (sym (c .before .before .pair-fits .ensures) ∙ not-false _ (c .before .if1 .left)))
 
 pub indexes-fit-spec : {M : Type 1} → statement M
 indexes-fit-spec =

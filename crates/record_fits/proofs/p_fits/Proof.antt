@@ -25,7 +25,9 @@ Inv-loop row p k₀ k = (k ≤ 6) × (below k (test row p) ≡ true)
 abbrev μ-loop : tie.MeasureT-loop
 μ-loop row p k₀ k = 6 - k
 
-tested : (c : tie.After-value-fits Inv-loop μ-loop) → c .value-fits .result ≡ test (c .before .before .before .before .before .args .row) (c .before .before .before .before .before .args .t1) (c .before .before .before .before .loop .k)
+tested : (c : tie.After-value-fits Inv-loop μ-loop)
+    → c .value-fits .result ≡ test (c .before .before .before .before .before .args .row) (c .before .before .before .before .before .args .t1)
+    (c .before .before .before .before .loop .k)
 tested c =
     c .value-fits .ensures
     ∙ ap (λ (w : ℕ). ltb (getD (c .before .before .before .before .before .args .t1) (c .before .before .before .before .loop .k) 0) (2 ^ w))
@@ -41,7 +43,10 @@ value-fits-requires : tie.Need-value-fits-requires Inv-loop μ-loop
 value-fits-requires c κs = ⊎-elim (λ w. omega arith) (λ w. omega arith) (c .if1 .came)
 
 returns : tie.Need-returns Inv-loop μ-loop
-returns c = sym (scan-fails 6 (test (c .before .before .before .before .before .before .args .row) (c .before .before .before .before .before .before .args .t1)) _ (c .before .before .before .before .loop-test .taken) (sym (tested (c .before)) ∙ not-true _ (c .if2 .taken)))
+returns c =
+    sym (scan-fails 6 (test (c .before .before .before .before .before .before .args .row)
+    (c .before .before .before .before .before .before .args .t1)) _ (c .before .before .before .before .loop-test .taken)
+    (sym (tested (c .before)) ∙ not-true _ (c .if2 .taken)))
 
 add-k : tie.Need-add-k Inv-loop μ-loop
 add-k c = omega arith
@@ -50,7 +55,12 @@ loop-less : tie.Need-loop-less Inv-loop μ-loop
 loop-less c = omega arith
 
 loop-again : tie.Need-loop-again Inv-loop μ-loop
-loop-again c = (omega arith, scan-more (test (c .before .before .before .before .before .before .args .row) (c .before .before .before .before .before .before .args .t1)) _ (c .before .before .before .before .before .loop .inv .1) (sym (tested (c .before)) ∙ not-false _ (c .if2 .left)))
+loop-again c = (
+  omega arith,
+  scan-more (test (c .before .before .before .before .before .before .args .row)
+      (c .before .before .before .before .before .before .args .t1)) _ (c .before .before .before .before .before .loop .inv .1)
+      (sym (tested (c .before)) ∙ not-false _ (c .if2 .left)),
+)
 
 returns-2 : tie.Need-returns-2 Inv-loop μ-loop
 returns-2 c =

@@ -30,7 +30,9 @@ value-fits-requires-2 : tie.Need-value-fits-requires-2
 value-fits-requires-2 c κs = search needs
 
 returns-2 : tie.Need-returns-2
-returns-2 c = sym (first-holds _ _ refl (sym (c .before .before .before .value-fits .ensures) ∙ not-false _ (c .before .before .if1 .left)) ∙ first-fails _ _ refl (sym (c .before .value-fits2 .ensures) ∙ not-true _ (c .if2 .taken)))
+returns-2 c =
+    sym (first-holds _ _ refl (sym (c .before .before .before .value-fits .ensures) ∙ not-false _ (c .before .before .if1 .left))
+    ∙ first-fails _ _ refl (sym (c .before .value-fits2 .ensures) ∙ not-true _ (c .if2 .taken)))
 
 array-read-value-fits-3 : tie.Need-array-read-value-fits-3
 array-read-value-fits-3 c = omega (arith, c .before .before .before .before .pre .2 .third)
@@ -44,7 +46,8 @@ value-fits-requires-3 c κs = search needs
 returns-3 : tie.Need-returns-3
 returns-3 c =
     c .value-fits3 .ensures
-    ∙ sym (first-holds _ _ refl (sym (c .before .before .before .before .value-fits .ensures) ∙ not-false _ (c .before .before .before .if1 .left)) ∙ first-holds _ _ refl (sym (c .before .before .value-fits2 .ensures) ∙ not-false _ (c .before .if2 .left)))
+    ∙ sym (first-holds _ _ refl (sym (c .before .before .before .before .value-fits .ensures) ∙ not-false _ (c .before .before .before .if1 .left))
+    ∙ first-holds _ _ refl (sym (c .before .before .value-fits2 .ensures) ∙ not-false _ (c .before .if2 .left)))
 
 pub tops-clear-spec : {M : Type 1} → statement M
 tops-clear-spec =

@@ -41,7 +41,8 @@ array-write-endpoints-2 : tie.Need-array-write-endpoints-2 Inv-loop μ-loop
 array-write-endpoints-2 c = omega (arith, six (c .before .before .before .before .before), c .before .before .before .before .loop .inv .1 .long)
 
 part-of-requires-3 : tie.Need-part-of-requires-3 Inv-loop μ-loop
-part-of-requires-3 c κs = (small (c .before .before .before .before .before .pre) .colour, omega (arith, six (c .before .before .before .before .before)))
+part-of-requires-3 c κs =
+    (small (c .before .before .before .before .before .pre) .colour, omega (arith, six (c .before .before .before .before .before)))
 
 mul-endpoints-3 : tie.Need-mul-endpoints-3 Inv-loop μ-loop
 mul-endpoints-3 c = omega (arith, six (c .before .before .before .before .before .before))
@@ -50,10 +51,12 @@ add-endpoints-2 : tie.Need-add-endpoints-2 Inv-loop μ-loop
 add-endpoints-2 c = omega (arith, six (c .before .before .before .before .before .before))
 
 array-write-endpoints-3 : tie.Need-array-write-endpoints-3 Inv-loop μ-loop
-array-write-endpoints-3 c = omega (arith, six (c .before .before .before .before .before .before), c .before .before .before .before .before .loop .inv .1 .long)
+array-write-endpoints-3 c =
+    omega (arith, six (c .before .before .before .before .before .before), c .before .before .before .before .before .loop .inv .1 .long)
 
 part-of-requires-4 : tie.Need-part-of-requires-4 Inv-loop μ-loop
-part-of-requires-4 c κs = (small (c .before .before .before .before .before .before .pre) .alpha, omega (arith, six (c .before .before .before .before .before .before)))
+part-of-requires-4 c κs =
+    (small (c .before .before .before .before .before .before .pre) .alpha, omega (arith, six (c .before .before .before .before .before .before)))
 
 mul-endpoints-4 : tie.Need-mul-endpoints-4 Inv-loop μ-loop
 mul-endpoints-4 c = omega (arith, six (c .before .before .before .before .before .before .before))
@@ -62,7 +65,13 @@ add-endpoints-3 : tie.Need-add-endpoints-3 Inv-loop μ-loop
 add-endpoints-3 c = omega (arith, six (c .before .before .before .before .before .before .before))
 
 array-write-endpoints-4 : tie.Need-array-write-endpoints-4 Inv-loop μ-loop
-array-write-endpoints-4 c = omega (arith, six (c .before .before .before .before .before .before .before), c .before .before .before .before .before .before .loop .inv .1 .long)
+array-write-endpoints-4 c =
+    omega (
+      arith,
+      six (c .before .before .before .before .before .before .before),
+      c .before .before .before .before .before .before .loop .inv .1
+          .long,
+    )
 
 add-e : tie.Need-add-e Inv-loop μ-loop
 add-e c = omega (arith, six (c .before .before .before .before .before .before .before))
@@ -73,8 +82,11 @@ loop-less c = omega arith
 loop-again : tie.Need-loop-again Inv-loop μ-loop
 loop-again c =
     let loop = c .before .before .before .before .before .before in
-    let s = loop .before in
-    (omega arith, values-next (s .args .row) _ _ _ _ _ (c .before .before .before .before .if1 .taken) (six s) (loop .loop .inv .1) (c .before .before .before .part-of .ensures) (c .before .before .part-of2 .ensures) (c .before .part-of3 .ensures) (c .part-of4 .ensures))
+    let s = loop .before in (
+      omega arith,
+      values-next (s .args .row) _ _ _ _ _ (c .before .before .before .before .if1 .taken) (six s) (loop .loop .inv .1)
+          (c .before .before .before .part-of .ensures) (c .before .before .part-of2 .ensures) (c .before .part-of3 .ensures) (c .part-of4 .ensures),
+    )
 
 returns : tie.Need-returns Inv-loop μ-loop
 returns c = values-all _ _ _ _ _ _ (c .if1 .left) (c .before .before .loop .inv .1)

@@ -53,8 +53,12 @@ loop-again c =
     let loop = c .before in
     let s = loop .before in
     let w = s .args .width in
-    let e = loop .loop .inv .2 in
-    (omega arith, filled-next _ _ (loop .loop .inv .1) (omega arith) (rw (one-shl w (omega arith), e)), rw e (one-on (s .args .word) w (loop .loop .i)))
+    let e = loop .loop .inv .2 in (
+      omega arith,
+      filled-next _ _ (loop .loop .inv .1) (omega arith) (rw (one-shl w (omega arith), e)),
+      rw e
+          (one-on (s .args .word) w (loop .loop .i)),
+    )
 
 returns : tie.Need-returns Inv-loop μ-loop
 returns c = filled-all (c .before .loop .inv .1) (omega arith)

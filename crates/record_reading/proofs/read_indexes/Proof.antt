@@ -38,7 +38,12 @@ new-p1-requires : tie.Need-new-p1-requires
 new-p1-requires c κs = search needs
 
 returns-3 : tie.Need-returns-3
-returns-3 c = c .new-p1 .ensures ∙ rw (one-kind _ 0 0 (c .before .before .if1 .left) (c .before .if2 .left), one-kind _ _ _ (c .before .before .if1 .left) (c .before .if2 .left))
+returns-3 c =
+    c .new-p1 .ensures ∙ rw (
+      one-kind _ 0 0 (c .before .before .if1 .left) (c .before .if2 .left),
+      one-kind _ _ _ (c .before .before .if1 .left)
+          (c .before .if2 .left),
+    )
 
 pub read-indexes-spec : {M : Type 1} → statement M
 read-indexes-spec =

@@ -32,7 +32,10 @@ part-of-requires-6 : tie.Need-part-of-requires-6
 part-of-requires-6 c κs = search needs
 
 returns : tie.Need-returns
-returns c = p-read _ _ (c .before .before .before .before .before .before .before .take .ensures) (c .before .before .before .before .before .part-of .ensures) (c .before .before .before .before .part-of2 .ensures) (c .before .before .before .part-of3 .ensures) (c .before .before .part-of4 .ensures) (c .before .part-of5 .ensures) (c .part-of6 .ensures)
+returns c =
+    p-read _ _ (c .before .before .before .before .before .before .before .take .ensures)
+    (c .before .before .before .before .before .part-of .ensures) (c .before .before .before .before .part-of2 .ensures)
+    (c .before .before .before .part-of3 .ensures) (c .before .before .part-of4 .ensures) (c .before .part-of5 .ensures) (c .part-of6 .ensures)
 
 pub read-p-spec : {M : Type 1} → statement M
 read-p-spec =

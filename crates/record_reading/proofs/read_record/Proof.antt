@@ -34,8 +34,11 @@ of-mode s = record { mode = _; low = s .pre .1; is = s .pre .2 }
 behind : (c : tie.After-skip) → On (number (c .before .before .args .block)) (c .before .before .args .mode + 1) (c .skip .result)
 behind c = marker-on _ (c .before .new .ensures .0) (c .before .new .ensures .1) (c .skip .ensures)
 
-split-of : (c : tie.After-read-split) → c .read-split .result .split ≡ splitAt (c .before .before .before .args .mode) (number (c .before .before .before .args .block))
-split-of c = let s = c .before .before .before in the-split _ (sixteen s) (s .pre .0) (s .pre .1) (s .pre .2) (behind (c .before)) (c .read-split .ensures)
+split-of : (c : tie.After-read-split)
+    → c .read-split .result .split ≡ splitAt (c .before .before .before .args .mode) (number (c .before .before .before .args .block))
+split-of c =
+    let s = c .before .before .before in
+    the-split _ (sixteen s) (s .pre .0) (s .pre .1) (s .pre .2) (behind (c .before)) (c .read-split .ensures)
 
 new-requires : tie.Need-new-requires
 new-requires c κs = search needs
@@ -50,13 +53,22 @@ read-split-requires : tie.Need-read-split-requires
 read-split-requires c κs = (of-mode (c .before .before), rw (behind c .stands) (omega (arith, c .before .before .pre .1)))
 
 read-endpoints-requires : tie.Need-read-endpoints-requires
-read-endpoints-requires c κs = let s = c .before .before .before in (of-mode s, values-room _ (sixteen s) (s .pre .0) (s .pre .1) (s .pre .2) (behind (c .before)) (c .read-split .ensures))
+read-endpoints-requires c κs =
+    let s = c .before .before .before in
+    (of-mode s, values-room _ (sixteen s) (s .pre .0) (s .pre .1) (s .pre .2) (behind (c .before)) (c .read-split .ensures))
 
 read-p-requires : tie.Need-read-p-requires
-read-p-requires c κs = let s = c .before .before .before .before .before in (of-mode s, p-room _ (sixteen s) (s .pre .0) (s .pre .1) (s .pre .2) (behind (c .before .before .before)) (c .before .before .read-split .ensures) (c .before .read-endpoints .ensures))
+read-p-requires c κs =
+    let s = c .before .before .before .before .before in (
+      of-mode s,
+      p-room _ (sixteen s) (s .pre .0) (s .pre .1) (s .pre .2) (behind (c .before .before .before))
+          (c .before .before .read-split .ensures) (c .before .read-endpoints .ensures),
+    )
 
 anchors-of-requires : tie.Need-anchors-of-requires
-anchors-of-requires c κs = let s = c .before .before .before .before .before .before .before in partition-64 _ (sixteen s) (s .pre .0) (s .pre .1) (s .pre .2) (split-of (c .before .before .before .before))
+anchors-of-requires c κs =
+    let s = c .before .before .before .before .before .before .before in
+    partition-64 _ (sixteen s) (s .pre .0) (s .pre .1) (s .pre .2) (split-of (c .before .before .before .before))
 
 read-indexes-requires : tie.Need-read-indexes-requires
 read-indexes-requires c κs =
@@ -65,7 +77,9 @@ read-indexes-requires c κs =
       omega (arith, b .least),
       b .most,
       rise _ (sixteen s) (s .pre .0) (s .pre .1) (s .pre .2) (split-of (c .before .before .before .before .before)) (c .anchors-of .ensures),
-      first-room _ (sixteen s) (s .pre .0) (s .pre .1) (s .pre .2) (behind (c .before .before .before .before .before .before)) (c .before .before .before .before .before .read-split .ensures) (c .before .before .before .before .read-endpoints .ensures) (c .before .before .read-p .ensures),
+      first-room _ (sixteen s) (s .pre .0) (s .pre .1) (s .pre .2) (behind (c .before .before .before .before .before .before))
+          (c .before .before .before .before .before .read-split .ensures) (c .before .before .before .before .read-endpoints .ensures)
+          (c .before .before .read-p .ensures),
     )
 
 parts-of-requires : tie.Need-parts-of-requires
@@ -75,15 +89,25 @@ read-second-requires : tie.Need-read-second-requires
 read-second-requires c κs =
     let s = c .before .before .before .before .before .before .before .before .before .before .before in (
       of-mode s,
-      rise _ (sixteen s) (s .pre .0) (s .pre .1) (s .pre .2) (split-of (c .before .before .before .before .before .before .before .before)) (c .before .before .before .anchors-of .ensures),
-      second-room _ (sixteen s) (s .pre .0) (s .pre .1) (s .pre .2) (behind (c .before .before .before .before .before .before .before .before .before)) (c .before .before .before .before .before .before .before .before .read-split .ensures) (c .before .before .before .before .before .before .before .read-endpoints .ensures) (c .before .before .before .before .before .read-p .ensures) _ (c .before .before .read-indexes .ensures),
+      rise _ (sixteen s) (s .pre .0) (s .pre .1) (s .pre .2) (split-of (c .before .before .before .before .before .before .before .before))
+          (c .before .before .before .anchors-of .ensures),
+      second-room _ (sixteen s) (s .pre .0) (s .pre .1) (s .pre .2)
+          (behind (c .before .before .before .before .before .before .before .before .before))
+          (c .before .before .before .before .before .before .before .before .read-split .ensures)
+          (c .before .before .before .before .before .before .before .read-endpoints .ensures)
+          (c .before .before .before .before .before .read-p .ensures) _ (c .before .before .read-indexes .ensures),
     )
 
 returns : tie.Need-returns
 returns c =
     let s = c .before .before .before .before .before .before .before .before .before .before .before .before in
-    record-read _ (sixteen s) (s .pre .0) (s .pre .1) (s .pre .2) (behind (c .before .before .before .before .before .before .before .before .before .before)) (c .before .before .before .before .before .before .before .before .before .read-split .ensures) (c .before .before .before .before .before .before .before .before .read-endpoints .ensures) (c .before .before .before .before .before .before .read-p .ensures)
-    (c .before .before .before .before .anchors-of .ensures) (c .before .before .before .read-indexes .ensures) (c .before .parts-of .ensures) (c .read-second .ensures)
+    record-read _ (sixteen s) (s .pre .0) (s .pre .1) (s .pre .2)
+    (behind (c .before .before .before .before .before .before .before .before .before .before))
+    (c .before .before .before .before .before .before .before .before .before .read-split .ensures)
+    (c .before .before .before .before .before .before .before .before .read-endpoints .ensures)
+    (c .before .before .before .before .before .before .read-p .ensures)
+    (c .before .before .before .before .anchors-of .ensures) (c .before .before .before .read-indexes .ensures) (c .before .parts-of .ensures)
+    (c .read-second .ensures)
 
 pub read-record-spec : {M : Type 1} → statement M
 read-record-spec =

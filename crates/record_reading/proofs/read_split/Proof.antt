@@ -18,13 +18,18 @@ take-requires : tie.Need-take-requires
 take-requires c κs = let b = small (c .before .before .pre .0) .split in (omega (arith, b), omega (arith, b, c .before .before .pre .1))
 
 cast-value : tie.Need-cast-value
-cast-value c = record { fits = rw (c .before .before .take .ensures) (field-below _ _ _ 8 (omega (arith, small (c .before .before .before .before .before .pre .0) .split))) }
+cast-value c =
+    record {
+      fits = rw (c .before .before .take .ensures)
+          (field-below _ _ _ 8 (omega (arith, small (c .before .before .before .before .before .pre .0) .split)));
+    }
 
 split-of-kind-requires : tie.Need-split-of-kind-requires
 split-of-kind-requires c κs = search needs
 
 returns : tie.Need-returns
-returns c = split-taken _ _ (c .before .before .before .before .before .before .pre .0) (c .before .before .before .take .ensures) (c .split-of-kind .ensures)
+returns c =
+    split-taken _ _ (c .before .before .before .before .before .before .pre .0) (c .before .before .before .take .ensures) (c .split-of-kind .ensures)
 
 pub read-split-spec : {M : Type 1} → statement M
 read-split-spec =

@@ -46,12 +46,14 @@ returns c = sym (ap anchorsOf (c .enum-told .given .1))
 returns-2 : tie.Need-returns-2
 returns-2 c =
     let known = c .before .before in
-    rw (c .fixup-index-2 .ensures) (anchors-two _ (low (known .before .before .pre) (known .split .given .1)) ∙ sym (ap anchorsOf (known .split .given .1)))
+    rw (c .fixup-index-2 .ensures)
+    (anchors-two _ (low (known .before .before .pre) (known .split .given .1)) ∙ sym (ap anchorsOf (known .split .given .1)))
 
 returns-3 : tie.Need-returns-3
 returns-3 c =
     let known = c .before .before .before .before in
-    rw (c .before .before .fixup-indexes-3 .ensures) (anchors-three _ (low (known .before .before .pre) (known .split2 .given .1)) ∙ sym (ap anchorsOf (known .split2 .given .1)))
+    rw (c .before .before .fixup-indexes-3 .ensures)
+    (anchors-three _ (low (known .before .before .pre) (known .split2 .given .1)) ∙ sym (ap anchorsOf (known .split2 .given .1)))
 
 returns-4 : tie.Need-returns-4
 returns-4 c = sym (ap anchorsOf (c .enum-told2 .given .1))

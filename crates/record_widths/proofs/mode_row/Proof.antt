@@ -79,7 +79,8 @@ unfolding modeRow kindOfMode endpointCount
 returns-8 c =
     let not = c .before .match .rest in
     let from-3 = past (past (past {i = 0} (omega arith) (not .0 .0 .0 .0 .0 .0 .1)) (not .0 .0 .0 .0 .0 .1)) (not .0 .0 .0 .0 .1) in
-    of {k = 7} (c .row8 .ensures) (seven (past (past (past (past from-3 (not .0 .0 .0 .1)) (not .0 .0 .1)) (not .0 .1)) (not .1)) (c .before .before .pre))
+    of {k = 7} (c .row8 .ensures) (seven (past (past (past (past from-3 (not .0 .0 .0 .1)) (not .0 .0 .1)) (not .0 .1)) (not .1))
+    (c .before .before .pre))
 
 pub mode-row-spec : {M : Type 1} → statement M
 mode-row-spec =

@@ -16,10 +16,13 @@ Inv-loop count channel width e word₀ k₀ word k = (k ≤ count) × Down width
 abbrev μ-loop : tie.MeasureT-loop
 μ-loop count channel width e word₀ k₀ word k = k
 
-step : (c : tie.In-loop Inv-loop μ-loop) → Step (c .before .before .args .width) (c .before .before .args .count) (λ i. getD (c .before .before .args .t1) (4 * i + c .before .before .args .channel) 0) (c .before .loop .k) (c .before .loop .word)
+step : (c : tie.In-loop Inv-loop μ-loop)
+    → Step (c .before .before .args .width) (c .before .before .args .count)
+    (λ i. getD (c .before .before .args .t1) (4 * i + c .before .before .args .channel) 0) (c .before .loop .k) (c .before .loop .word)
 step c =
     let s = c .before .before in
-    down-next _ _ _ (s .pre .3) (omega (arith, times-width (s .args .width) (s .args .count) 6 (s .pre .0))) (c .before .loop .k) (c .before .loop .word) (omega arith) (c .before .loop .inv .0) (c .before .loop .inv .1)
+    down-next _ _ _ (s .pre .3) (omega (arith, times-width (s .args .width) (s .args .count) 6 (s .pre .0))) (c .before .loop .k)
+    (c .before .loop .word) (omega arith) (c .before .loop .inv .0) (c .before .loop .inv .1)
 
 loop-holds : tie.Need-loop-holds Inv-loop μ-loop
 loop-holds c = (omega arith, down-none _ _ _ (c .pre .3))

@@ -15,10 +15,12 @@ Inv-loop count p word₀ k₀ word k = (k ≤ count) × Down 1 count (λ i. getD
 abbrev μ-loop : tie.MeasureT-loop
 μ-loop count p word₀ k₀ word k = k
 
-step : (c : tie.In-loop Inv-loop μ-loop) → Step 1 (c .before .before .args .count) (λ i. getD (c .before .before .args .t1) i 0) (c .before .loop .k) (c .before .loop .word)
+step : (c : tie.In-loop Inv-loop μ-loop)
+    → Step 1 (c .before .before .args .count) (λ i. getD (c .before .before .args .t1) i 0) (c .before .loop .k) (c .before .loop .word)
 step c =
     let s = c .before .before in
-    down-next _ _ _ (s .pre .1) (omega (arith, s .pre .0)) (c .before .loop .k) (c .before .loop .word) (omega arith) (c .before .loop .inv .0) (c .before .loop .inv .1)
+    down-next _ _ _ (s .pre .1) (omega (arith, s .pre .0)) (c .before .loop .k) (c .before .loop .word) (omega arith) (c .before .loop .inv .0)
+    (c .before .loop .inv .1)
 
 loop-holds : tie.Need-loop-holds Inv-loop μ-loop
 loop-holds c = (omega arith, down-none _ _ _ (c .pre .1))

@@ -10,13 +10,19 @@ push-channel-requires : tie.Need-push-channel-requires
 push-channel-requires c κs = let s = c in (s .pre .0, omega arith, ap (λ (x : ModeRow). x .colour) (s .pre .0 .is), s .pre .1)
 
 push-channel-requires-2 : tie.Need-push-channel-requires-2
-push-channel-requires-2 c κs = let s = c .before in (s .pre .0, omega arith, ap (λ (x : ModeRow). x .colour) (s .pre .0 .is), c .push-channel .ensures)
+push-channel-requires-2 c κs =
+    let s = c .before in
+    (s .pre .0, omega arith, ap (λ (x : ModeRow). x .colour) (s .pre .0 .is), c .push-channel .ensures)
 
 push-channel-requires-3 : tie.Need-push-channel-requires-3
-push-channel-requires-3 c κs = let s = c .before .before in (s .pre .0, omega arith, ap (λ (x : ModeRow). x .colour) (s .pre .0 .is), c .push-channel2 .ensures)
+push-channel-requires-3 c κs =
+    let s = c .before .before in
+    (s .pre .0, omega arith, ap (λ (x : ModeRow). x .colour) (s .pre .0 .is), c .push-channel2 .ensures)
 
 push-channel-requires-4 : tie.Need-push-channel-requires-4
-push-channel-requires-4 c κs = let s = c .before .before .before in (s .pre .0, omega arith, ap (λ (x : ModeRow). x .alpha) (s .pre .0 .is), c .push-channel3 .ensures)
+push-channel-requires-4 c κs =
+    let s = c .before .before .before in
+    (s .pre .0, omega arith, ap (λ (x : ModeRow). x .alpha) (s .pre .0 .is), c .push-channel3 .ensures)
 
 returns : tie.Need-returns
 returns c = c .push-channel4 .ensures

@@ -10,7 +10,11 @@ use Rattle.record_writing.proofs.Sets.{full-fit, stored-again, word-lt,
 use Rattle.record_writing.proofs.push_set.Statement.{statement}
 use Rattle.record_writing.proofs.push_set.Tie as tie
 
-stored : (c : tie.After-compressed) → c .compressed .result ≡ join (indexWidths (c .before .before .before .before .args .width) (anchorsOfKind (c .before .before .before .before .args .kind) (c .before .before .before .before .args .anchors .b) (c .before .before .before .before .args .anchors .c))) (c .before .before .before .before .args .indexes)
+stored : (c : tie.After-compressed)
+    → c .compressed .result ≡ join
+    (indexWidths (c .before .before .before .before .args .width)
+    (anchorsOfKind (c .before .before .before .before .args .kind) (c .before .before .before .before .args .anchors .b)
+    (c .before .before .before .before .args .anchors .c))) (c .before .before .before .before .args .indexes)
 stored c = c .compressed .ensures ∙ stored-again _ _ _ (c .before .before .before .before .pre .4) (c .before .before .before .word-of .ensures)
 
 word-of-requires : tie.Need-word-of-requires

@@ -14,8 +14,12 @@ Inv-loop width indexes word₀ i₀ word i = (i ≤ 16) × Upper width indexes i
 abbrev μ-loop : tie.MeasureT-loop
 μ-loop width indexes word₀ i₀ word i = i
 
-step : (c : tie.In-loop Inv-loop μ-loop) → Next (c .before .before .args .width) (c .before .before .args .t1) (c .before .loop .i) (c .before .loop .word)
-step c = let s = c .before .before in upper-next _ _ (s .pre .1) (s .pre .0) (c .before .loop .i) (c .before .loop .word) (omega arith) (c .before .loop .inv .0) (c .before .loop .inv .1)
+step : (c : tie.In-loop Inv-loop μ-loop)
+    → Next (c .before .before .args .width) (c .before .before .args .t1) (c .before .loop .i) (c .before .loop .word)
+step c =
+    let s = c .before .before in
+    upper-next _ _ (s .pre .1) (s .pre .0) (c .before .loop .i) (c .before .loop .word) (omega arith) (c .before .loop .inv .0)
+    (c .before .loop .inv .1)
 
 loop-holds : tie.Need-loop-holds Inv-loop μ-loop
 loop-holds c = (omega arith, upper-none _ _ (c .pre .1))

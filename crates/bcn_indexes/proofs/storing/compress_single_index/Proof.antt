@@ -48,7 +48,10 @@ rem-result c = let top = c .args .index * c .args .bits + (c .args .bits - 1) in
 add-result : tie.Need-add-result
 add-result c =
     let top = c .args .index * c .args .bits + (c .args .bits - 1) in
-    record { fits = rw (remove-machine (c .args .word) top (below-64 c) (search needs)) (lt-of-lt-of-le (removed-lt (c .args .word) top (below-64 c) (search needs)) (pow-mono {i = 63} {j = 64} (omega arith))) }
+    record {
+      fits = rw (remove-machine (c .args .word) top (below-64 c) (search needs))
+          (lt-of-lt-of-le (removed-lt (c .args .word) top (below-64 c) (search needs)) (pow-mono {i = 63} {j = 64} (omega arith)));
+    }
 
 returns : tie.Need-returns
 returns c = remove-machine (c .args .word) (c .args .index * c .args .bits + (c .args .bits - 1)) (below-64 c) (search needs)

@@ -15,7 +15,8 @@ compress-single-index-requires-2 c κs = search needs
 returns : tie.Need-returns
 returns c =
     let s = c .before .before .before in
-    store-2 _ _ (s .pre .0) (s .pre .3) (s .pre .2) (s .pre .4) (c .before .before .if1 .taken) (c .before .compress-single-index .ensures) (c .compress-single-index2 .ensures)
+    store-2 _ _ (s .pre .0) (s .pre .3) (s .pre .2) (s .pre .4) (c .before .before .if1 .taken) (c .before .compress-single-index .ensures)
+    (c .compress-single-index2 .ensures)
 
 compress-single-index-requires-3 : tie.Need-compress-single-index-requires-3
 compress-single-index-requires-3 c κs = let s = c .before .before in (s .pre .0, s .pre .1, s .pre .2 .three (c .if2 .taken) .2)
@@ -41,7 +42,8 @@ compress-single-index-requires-6 c κs = search needs
 returns-3 : tie.Need-returns-3
 returns-3 c =
     let s = c .before .before .before in
-    store-1 _ _ (s .pre .0) (s .pre .3) (s .pre .2) (s .pre .4) (c .before .before .if1 .left) (c .before .if2 .left) (c .compress-single-index6 .ensures)
+    store-1 _ _ (s .pre .0) (s .pre .3) (s .pre .2) (s .pre .4) (c .before .before .if1 .left) (c .before .if2 .left)
+    (c .compress-single-index6 .ensures)
 
 pub compressed-spec : {M : Type 1} → statement M
 compressed-spec =
