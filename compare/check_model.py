@@ -44,8 +44,8 @@ def check_round_trips(seed, count):
         block = some_block(dice, reserved_percent=0)
         refusal, record = model.unpack(block)
         assert refusal == 0 and model.pack(record) == (0, block), block.hex()
-        record = protocol.record_from(some_record(dice))
-        refusal, block = model.pack(record)
+        record, spare = protocol.record_from(some_record(dice))
+        refusal, block = model.pack(record, spare)
         if refusal == 0:
             assert model.unpack(block) == (0, record)
             packed += 1
