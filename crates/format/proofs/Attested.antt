@@ -1,4 +1,4 @@
--- WHAT HOLDS THE DEFINITIONS OF BITS AND OF DRAWING: numbers that a reader can check on paper. (Chart has the fields of the modes,
+-- WHAT HOLDS THE DEFINITIONS OF BITS, DRAWING AND LINES: numbers that a reader can check on paper. (Chart has the fields of the modes,
 -- Printed the partitions, the crate document_01 whole blocks.)
 -- Assumes nothing.
 use mathlib.Core.Path.{_≡_, refl}
@@ -6,13 +6,14 @@ use mathlib.Core.List.{List, [], _∷_, _++_, map}
 use Prim.Native.Nat.{ℕ, _+_, _-_, _*_, _/_, _^_}
 use lib.Dec.{T, eqb}
 use lib.ListN.{replicate}
+use Rattle.format.specs.declared.Split.the-variants.{Two}
 use Rattle.laws.specs.Tables.{below, table, tableFrom}
 use Rattle.format.specs.Block.{bitsOf, bitsOfBytes, bytesOf, field, modeOf, number, trailing, valueOfBits}
 use Rattle.format.specs.Drawing.{drawn, eight, promoted, weightOf, weights}
-use Rattle.format.specs.Lines.{arrayOf, has, indexPlace, lineAt, lineBits, lineOf, means, own, pPlace, pixel, rotated, shown, valuePlace}
+use Rattle.format.specs.Lines.{Line, arrayOf, has, indexPlace, laid, lineAt, lineBits, lineOf, means, own, pPlace, pixel, rotated, shown, turned, valuePlace, withLine}
 use Rattle.format.specs.Modes.{endpointCount, kindOfMode, modeRow}
 use Rattle.format.specs.Partitions.{anchors2, anchors3, digits, marks, strings2, strings3, subset2, subset3}
-use Rattle.format.specs.Places.{atPlace, opened, placeAt, pos, width, widths}
+use Rattle.format.specs.Places.{atPlace, listOf, opened, pbit, placeAt, pos, width, widths}
 use Rattle.format.specs.Splits.{splitAt, splitOf}
 use Rattle.format.proofs.Examples.{block0, block3, block4, block7}
 
@@ -72,3 +73,28 @@ pub blocks-show : map (λ (b : List ℕ). map (λ (q : ℕ). map (pixel b q) (0 
     []
 unfolding table tableFrom weights weightOf drawn promoted eight modeRow kindOfMode endpointCount placeAt pos width widths trailing number modeOf splitAt splitOf atPlace opened has valuePlace pPlace arrayOf indexPlace own lineOf lineBits means rotated lineAt shown pixel subset2 subset3 anchors2 anchors3 digits marks strings2 strings3
 blocks-show = refl
+
+-- a line: endpoint 0 is 0 1 2 3, endpoint 1 is 10 11 12 13; p 4 and 5; pixel q has index q
+abbrev counted : Line
+counted = record { value = λ k c. 10 * k + c; p = λ k. 4 + k; index = λ q. q }
+
+pub record LineTurnedAndPut : Type 0 where
+  pub turned-values : map (λ (k : ℕ). map (turned 4 counted .value k) (0 ∷ 1 ∷ 2 ∷ 3 ∷ [])) (0 ∷ 1 ∷ [])
+      ≡ (10 ∷ 11 ∷ 12 ∷ 13 ∷ []) ∷ (0 ∷ 1 ∷ 2 ∷ 3 ∷ []) ∷ []
+  pub turned-p : map (turned 4 counted .p) (0 ∷ 1 ∷ []) ≡ 5 ∷ 4 ∷ []
+  pub turned-indexes : map (turned 4 counted .index) (0 ∷ 1 ∷ 14 ∷ 15 ∷ []) ≡ 15 ∷ 14 ∷ 1 ∷ 0 ∷ []
+  -- put in as line 1 of mode 7 and partition 13, the lower half, where 99 stood everywhere: the head; red, green, blue and alpha of the
+  -- endpoints 0 to 5; the p bits; the first indexes; the second
+  pub put : listOf (withLine 7 (Two 13) 1 counted (λ x. 99))
+      ≡ (99 ∷ 99 ∷ 99 ∷ 99 ∷ [])
+      ++ (99 ∷ 99 ∷ 0 ∷ 10 ∷ 99 ∷ 99 ∷ []) ++ (99 ∷ 99 ∷ 1 ∷ 11 ∷ 99 ∷ 99 ∷ [])
+      ++ (99 ∷ 99 ∷ 2 ∷ 12 ∷ 99 ∷ 99 ∷ []) ++ (99 ∷ 99 ∷ 3 ∷ 13 ∷ 99 ∷ 99 ∷ [])
+      ++ (99 ∷ 99 ∷ 4 ∷ 5 ∷ 99 ∷ 99 ∷ [])
+      ++ (replicate 8 99 ++ (8 ∷ 9 ∷ 10 ∷ 11 ∷ 12 ∷ 13 ∷ 14 ∷ 15 ∷ []))
+      ++ replicate 16 99
+  -- in mode 1 its one p bit is the first's
+  pub put-p : map (withLine 1 (Two 13) 1 counted (λ x. 99)) (pbit 0 ∷ pbit 1 ∷ pbit 2 ∷ []) ≡ 99 ∷ 4 ∷ 99 ∷ []
+
+pub line-turned-and-put : LineTurnedAndPut
+unfolding table tableFrom listOf placeAt width modeRow endpointCount has withLine laid turned subset2 digits strings2
+line-turned-and-put = record { turned-values = refl; turned-p = refl; turned-indexes = refl; put = refl; put-p = refl }
