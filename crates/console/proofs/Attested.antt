@@ -16,16 +16,17 @@ use Rattle.format.specs.Places.{atPlace, blockOf, listOf, opened, placeAt, pos,
 use Rattle.format.specs.Splits.{splitAt, splitOf}
 use Rattle.format.proofs.Examples.{block4, block7}
 use Rattle.record_rules.specs.Records.{fits, made, packRefusal, packed, recordOf, says, taken}
+use Rattle.line_rules.specs.Read.{givenAs, lineRead, readRefusal, valueAt, widthsOf}
 use Rattle.line_rules.specs.Replace.{after, indexFits, lineFits, lineGiven, oriented, ownWidth, pFits, put, refusal, refusalIn, replaced, valueFits}
 use Rattle.line_rules.proofs.Attested.{after7}
-use Rattle.wire.specs.Wire.{bytesRefusal, packedBytes, recordByte, recordBytes, recordOfBytes, replacementOf, spelt}
+use Rattle.wire.specs.Wire.{bytesRefusal, packedBytes, recordByte, recordBytes, recordOfBytes, replacementBytes, replacementOf, spelt}
 use Rattle.wire.proofs.Attested.{bytes4, bytes7, bytesGiven}
 use Rattle.head.specs.Heads.{formIn, headBytes, headRefusal, heightIn, readHead, sizeRefusal, widthIn, writeHead}
 use Rattle.head.specs.Numbers.{groups, raised, readGroups, readNumber}
 use Rattle.sheet_rules.specs.Rows.{blockAt, channel, rowByte, rowBytes, rowOut, rowRefusal}
 use Rattle.sheet_rules.specs.Sheets.{blockIn, blocksOf, findRefusal, placeOf, putBlock, replacedIn, sheetAfter, sheetRefusal}
 use Rattle.sheet_rules.proofs.Attested.{lower, lowerLines, small, smallReplaced}
-use Rattle.console.specs.Promises.{Decodes, DecodesRow, Packs, ReadsHead, Replaces, ReplacesIn, Unpacks, WritesHead}
+use Rattle.console.specs.Promises.{Decodes, DecodesRow, Packs, ReadsHead, ReadsLine, Replaces, ReplacesIn, Unpacks, WritesHead}
 
 abbrev zeros : ℕ → List ℕ
 zeros n = replicate n 0
@@ -43,6 +44,13 @@ half4 =
     rgba 16 29 49 33 ∷ rgba 8 31 41 24 ∷ rgba 9 32 42 25 ∷ rgba 10 28 43 27 ∷
     []
 
+-- line 1 of block7 as it stands, and how many bits each of its parts has
+abbrev line7 : List ℕ
+line7 = 9 ∷ 10 ∷ 11 ∷ 12 ∷ 13 ∷ 14 ∷ 15 ∷ 16 ∷ 1 ∷ 1 ∷ (zeros 8 ++ (0 ∷ 3 ∷ 2 ∷ 1 ∷ 0 ∷ 3 ∷ 2 ∷ 1 ∷ []))
+
+abbrev widths7 : List ℕ
+widths7 = replicate 8 5 ++ (1 ∷ 1 ∷ zeros 8) ++ replicate 8 2
+
 -- the line that block 2 of the small sheet is given, as bytes
 abbrev bytesGiven6 : List ℕ
 bytesGiven6 = 1 ∷ 2 ∷ 3 ∷ 4 ∷ 5 ∷ 6 ∷ 7 ∷ 8 ∷ 1 ∷ 0 ∷ 8 ∷ replicate 15 1
@@ -54,6 +62,8 @@ pub record Calls : Type 0 where
   pub unpacks-not : Unpacks (zeros 16) (nines 66) 1 (nines 66)
   pub packs : Packs bytes7 (nines 16) 0 block7
   pub packs-not : Packs (bytes4 4) (nines 16) 5 (nines 16)
+  pub reads-line : ReadsLine block7 1 (nines 26, nines 26) 0 (line7, widths7)
+  pub reads-line-not : ReadsLine block7 2 (nines 26, nines 26) 2 (nines 26, nines 26)
   pub replaces : Replaces block7 1 bytesGiven 0 after7
   pub replaces-not : Replaces block7 2 bytesGiven 2 block7
   pub reads-head : ReadsHead small (nines 3) 0 (5 ∷ 6 ∷ 3 ∷ [])
@@ -66,7 +76,7 @@ pub record Calls : Type 0 where
   pub replaces-in-not : ReplacesIn small 0 2 bytesGiven6 2 small
 
 pub calls-hold : Calls
-unfolding padded first over table tableFrom weights weightOf drawn promoted eight modeRow kindOfMode endpointCount placeAt pos width widths trailing number modeOf splitAt splitOf atPlace opened has valuePlace pPlace arrayOf indexPlace own lineOf lineBits means rotated lineAt shown pixel pixels digits marks strings2 strings3 subset2 subset3 anchors2 anchors3 taken recordOf made packed packRefusal fits says blockOf listOf bytesOf replaced after refusal refusalIn lineFits valueFits pFits indexFits ownWidth lineGiven put oriented withLine laid turned anchorOf recordByte recordBytes recordOfBytes replacementOf packedBytes bytesRefusal spelt readHead headRefusal formIn widthIn heightIn readNumber readGroups raised sizeRefusal writeHead headBytes groups blockAt channel rowByte rowBytes rowOut rowRefusal blockIn blocksOf findRefusal placeOf putBlock replacedIn sheetAfter sheetRefusal
+unfolding padded first over table tableFrom weights weightOf drawn promoted eight modeRow kindOfMode endpointCount placeAt pos width widths trailing number modeOf splitAt splitOf atPlace opened has valuePlace pPlace arrayOf indexPlace own lineOf lineBits means rotated lineAt shown pixel pixels digits marks strings2 strings3 subset2 subset3 anchors2 anchors3 taken recordOf made packed packRefusal fits says blockOf listOf bytesOf replaced after refusal refusalIn lineFits valueFits pFits indexFits ownWidth lineGiven put oriented withLine laid turned anchorOf lineRead readRefusal givenAs widthsOf valueAt recordByte recordBytes recordOfBytes replacementOf replacementBytes packedBytes bytesRefusal spelt readHead headRefusal formIn widthIn heightIn readNumber readGroups raised sizeRefusal writeHead headBytes groups blockAt channel rowByte rowBytes rowOut rowRefusal blockIn blocksOf findRefusal placeOf putBlock replacedIn sheetAfter sheetRefusal
 calls-hold = record {
   decodes = refl;
   decodes-reserved = refl;
@@ -74,6 +84,8 @@ calls-hold = record {
   unpacks-not = (refl, refl);
   packs = (refl, refl);
   packs-not = (refl, refl);
+  reads-line = (refl, refl);
+  reads-line-not = (refl, refl);
   replaces = (refl, refl);
   replaces-not = (refl, refl);
   reads-head = (refl, refl);

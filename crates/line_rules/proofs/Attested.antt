@@ -1,5 +1,5 @@
--- WHAT HOLDS THE DEFINITIONS OF REPLACING: calls with the block that each leaves, written out (format's Examples has what the blocks
--- store, and where).
+-- WHAT HOLDS THE DEFINITIONS OF REPLACING AND READING A LINE: calls with the block that each leaves or the line that it answers,
+-- written out (format's Examples has what the blocks store, and where).
 -- Assumes nothing.
 use mathlib.Core.Path.{_≡_, refl}
 use mathlib.Core.List.{List, [], _∷_, _++_, map}
@@ -7,17 +7,19 @@ use Prim.Native.Nat.{ℕ}
 use lib.ListN.{replicate}
 use Rattle.line_rules.specs.declared.Replacement.{Replacement}
 use Rattle.line_rules.specs.declared.Replaced.{Replaced}
+use Rattle.line_rules.specs.declared.LineRead.{LineRead}
 use Rattle.laws.specs.Refusals.{first}
 use Rattle.laws.specs.Tables.{table, tableFrom}
 use Rattle.calls.specs.Calls.{run}
 use Rattle.format.specs.Block.{bytesOf, modeOf, number, trailing}
-use Rattle.format.specs.Lines.{anchorOf, arrayOf, has, indexPlace, laid, lineBits, lineOf, pPlace, turned, valuePlace, withLine}
+use Rattle.format.specs.Lines.{anchorOf, arrayOf, has, indexPlace, laid, lineBits, lineOf, own, pPlace, turned, valuePlace, withLine}
 use Rattle.format.specs.Modes.{endpointCount, kindOfMode, modeRow}
 use Rattle.format.specs.Partitions.{anchors2, anchors3, digits, marks, strings2, strings3, subset2, subset3}
 use Rattle.format.specs.Places.{atPlace, blockOf, listOf, opened, placeAt, pos, width, widths}
 use Rattle.format.specs.Splits.{splitAt, splitOf}
-use Rattle.format.proofs.Examples.{block5, block7}
+use Rattle.format.proofs.Examples.{block4, block5, block7}
 use Rattle.line_rules.specs.Calls.{afterAll}
+use Rattle.line_rules.specs.Read.{givenAs, lineRead, readRefusal, widthsOf}
 use Rattle.line_rules.specs.Replace.{after, callOf, indexFits, lineFits, lineGiven, oriented, ownWidth, pFits, put, refusal, refusalIn, replaced, valueFits}
 
 -- two endpoints, of which the first has this red and this p; indexes at the pixels 8 to 15, of which 15 is the anchor, and one at pixel
@@ -106,8 +108,30 @@ claims =
     call block1 0 p01 4 block1 ∷
     []
 
+-- what reading a line answers: its number, the line, and how many bits each of its parts has
+abbrev reads : ℕ → Replacement → Replacement → LineRead
+reads n line widths = record { refusal = n; line = line; widths = widths }
+
+abbrev parts : List ℕ → List ℕ → List ℕ → Replacement
+parts ends p indexes = record { endpoints = ends; p = p; indexes = indexes }
+
+abbrev nothing : Replacement
+nothing = parts (replicate 8 0) (0 ∷ 0 ∷ []) (replicate 16 0)
+
 -- each is answered so; and of two calls on a line the later decides
 pub lines-replaced : (map (λ c. replaced (c .block) (c .line) (c .given)) claims ≡ map (λ c. record { refusal = c .number; block = c .left }) claims)
     × (afterAll block7 (callOf 1 (given7 1) ∷ callOf 1 (given7 2) ∷ []) ≡ turned7)
 unfolding run table tableFrom digits marks strings2 strings3 subset2 subset3 anchors2 anchors3 modeRow kindOfMode endpointCount placeAt pos width widths trailing number modeOf splitAt splitOf atPlace opened has valuePlace pPlace arrayOf indexPlace lineBits lineOf replaced after refusal refusalIn lineFits valueFits pFits indexFits ownWidth lineGiven put oriented withLine laid turned anchorOf blockOf listOf first bytesOf
 lines-replaced = (refl, refl)
+
+-- line 1 of block7, the lower half; line 1 of block4, its scalar, whose indexes are the first; no line 2, and none of a reserved block
+pub lines-read : lineRead block7 1 ∷ lineRead block4 1 ∷ lineRead block4 2 ∷ lineRead (replicate 16 0) 2 ∷ []
+    ≡ reads 0 (parts (9 ∷ 10 ∷ 11 ∷ 12 ∷ 13 ∷ 14 ∷ 15 ∷ 16 ∷ []) (1 ∷ 1 ∷ []) (replicate 8 0 ++ (0 ∷ 3 ∷ 2 ∷ 1 ∷ 0 ∷ 3 ∷ 2 ∷ 1 ∷ [])))
+    (parts (replicate 8 5) (1 ∷ 1 ∷ []) (replicate 8 0 ++ replicate 8 2)) ∷
+    reads 0 (parts (0 ∷ 0 ∷ 0 ∷ 7 ∷ 0 ∷ 0 ∷ 0 ∷ 8 ∷ []) (0 ∷ 0 ∷ []) (1 ∷ 2 ∷ 3 ∷ 0 ∷ 1 ∷ 2 ∷ 3 ∷ 0 ∷ 1 ∷ 2 ∷ 3 ∷ 0 ∷ 1 ∷ 2 ∷ 3 ∷ 0 ∷ []))
+    (parts (0 ∷ 0 ∷ 0 ∷ 6 ∷ 0 ∷ 0 ∷ 0 ∷ 6 ∷ []) (0 ∷ 0 ∷ []) (replicate 16 2)) ∷
+    reads 2 nothing nothing ∷
+    reads 1 nothing nothing ∷
+    []
+unfolding first table tableFrom digits marks strings2 strings3 subset2 subset3 anchors2 anchors3 modeRow kindOfMode endpointCount placeAt pos width widths trailing number modeOf splitAt splitOf atPlace opened has valuePlace pPlace arrayOf indexPlace own lineOf ownWidth lineRead readRefusal givenAs widthsOf
+lines-read = refl

@@ -3,7 +3,7 @@
 use mathlib.Core.Path.{_≡_, refl}
 use mathlib.Core.List.{List, [], _∷_, map}
 use Prim.Native.Nat.{ℕ, _+_}
-use lib.ListN.{replicate}
+use lib.ListN.{drop, replicate}
 use Rattle.line_rules.specs.declared.Replacement.{Replacement}
 use Rattle.record_rules.specs.declared.Packed.{Packed}
 use Rattle.record_rules.specs.declared.Record.{Record}
@@ -17,8 +17,9 @@ use Rattle.format.specs.Places.{blockOf, listOf, placeAt, width, widths}
 use Rattle.format.proofs.Examples.{block4, block7}
 use Rattle.record_rules.specs.Records.{fits, packRefusal, packed, says}
 use Rattle.record_rules.proofs.Attested.{record4, record7, zerosOf}
+use Rattle.line_rules.specs.Read.{valueAt}
 use Rattle.line_rules.proofs.Attested.{given7}
-use Rattle.wire.specs.Wire.{bytesRefusal, packedBytes, recordByte, recordBytes, recordOfBytes, replacementOf, spelt}
+use Rattle.wire.specs.Wire.{bytesRefusal, packedBytes, recordByte, recordBytes, recordOfBytes, replacementBytes, replacementOf, spelt}
 
 -- mode, the kind that is given, rotation, index mode; six endpoints; p bits; the first indexes; the second
 abbrev pub bytes4 : ℕ → List ℕ
@@ -55,18 +56,26 @@ counted = record { mode = 2; split = Vector 4 5; endpoints = counting 6 24; p = 
 abbrev block : ℕ → List ℕ → Packed
 block n bs = record { refusal = n; block = bs }
 
-abbrev refused : Packed
-refused = block 5 (0 ∷ 0 ∷ 0 ∷ 0 ∷ 0 ∷ 0 ∷ 0 ∷ 0 ∷ 0 ∷ 0 ∷ 0 ∷ 0 ∷ 0 ∷ 0 ∷ 0 ∷ 0 ∷ [])
+abbrev refused : ℕ → Packed
+refused n = block n (0 ∷ 0 ∷ 0 ∷ 0 ∷ 0 ∷ 0 ∷ 0 ∷ 0 ∷ 0 ∷ 0 ∷ 0 ∷ 0 ∷ 0 ∷ 0 ∷ 0 ∷ 0 ∷ [])
 
 pub record Bytes : Type 0 where
   pub of-records : map recordBytes (record4 ∷ record7 ∷ zerosOf 0 ∷ counted ∷ []) ≡ bytes4 3 ∷ bytes7 ∷ replicate 66 0 ∷ counting 2 66 ∷ []
   pub to-records : map recordOfBytes (bytes4 3 ∷ bytes7 ∷ replicate 66 0 ∷ counting 2 66 ∷ []) ≡ record4 ∷ record7 ∷ zerosOf 0 ∷ counted ∷ []
+  pub of-replacement : replacementBytes (given7 1) ≡ bytesGiven
   pub to-replacement : replacementOf bytesGiven ≡ given7 1
   pub to-replacement-in-order : replacementOf (counting 0 26) ≡ record { endpoints = counting 0 8; p = 8 ∷ 9 ∷ []; indexes = counting 10 16 }
-  -- no split has a kind above 3
-  pub to-blocks : map packedBytes (bytes7 ∷ bytes4 3 ∷ bytes4 0 ∷ bytes4 4 ∷ bytes4 255 ∷ [])
-      ≡ block 0 block7 ∷ block 0 block4 ∷ refused ∷ refused ∷ refused ∷ []
+  -- no split has a kind above 3, and two subsets have no index mode
+  pub to-blocks : map packedBytes (bytes7 ∷ bytes4 3 ∷ bytes4 0 ∷ bytes4 4 ∷ bytes4 255 ∷ (7 ∷ 1 ∷ 13 ∷ 1 ∷ drop 4 bytes7) ∷ [])
+      ≡ block 0 block7 ∷ block 0 block4 ∷ refused 5 ∷ refused 5 ∷ refused 5 ∷ refused 3 ∷ []
 
 pub bytes-hold : Bytes
-unfolding recordByte recordBytes recordOfBytes replacementOf packedBytes bytesRefusal spelt packed packRefusal fits first says blockOf listOf bytesOf table tableFrom placeAt width widths modeRow kindOfMode endpointCount anchors2 digits marks strings2
-bytes-hold = record { of-records = refl; to-records = refl; to-replacement = refl; to-replacement-in-order = refl; to-blocks = refl }
+unfolding recordByte recordBytes recordOfBytes replacementOf replacementBytes valueAt packedBytes bytesRefusal spelt packed packRefusal fits first says blockOf listOf bytesOf table tableFrom placeAt width widths modeRow kindOfMode endpointCount anchors2 digits marks strings2
+bytes-hold = record {
+  of-records = refl;
+  to-records = refl;
+  of-replacement = refl;
+  to-replacement = refl;
+  to-replacement-in-order = refl;
+  to-blocks = refl;
+}
