@@ -10,15 +10,16 @@ use lib.ListN.{getD, length, replicate}
 use Rattle.laws.specs.Digits.{Fit}
 use Rattle.laws.proofs.Digits.{split-join}
 use Rattle.laws.proofs.Tests.{at}
-use Rattle.format.specs.Block.{eights, field, modeOf, number, trailing}
-use Rattle.format.specs.Lines.{pixels}
-use Rattle.format.proofs.Subsets.{sixteen-bytes}
-use Rattle.format.proofs.Trailing.{mode-le-8}
-use Rattle.bcn_util.specs.Stream.{held, skipped}
-use Rattle.bcn_util.specs.declared.stream.BitStream.{BitStream}
-use Rattle.bc7_fields.specs.Fields.{directPixels}
-use Rattle.format.proofs.Reserved.{nothing-shown}
-use Rattle.bc7_fields.proofs.Showing.{pixels-are}
+use Rattle.bcn_format.specs.Block.{eights, field, number, trailing}
+use Rattle.bc7_format.specs.Modes.{modeOf}
+use Rattle.bc7_format.specs.Lines.{pixels}
+use Rattle.bc7_format.proofs.Subsets.{sixteen-bytes}
+use Rattle.bc7_format.proofs.Modes.{mode-le-8}
+use Rattle.bits.specs.Stream.{held, skipped}
+use Rattle.bits.specs.declared.stream.BitStream.{BitStream}
+use Rattle.bc7_format.specs.Fields.{directPixels}
+use Rattle.bc7_format.proofs.Reserved.{nothing-shown}
+use Rattle.bc7_format.proofs.Showing.{pixels-are}
 
 -- none of the first eight
 pub eight : (n : ℕ) → n ≤ 8 → n ≢ 0 → n ≢ 1 → n ≢ 2 → n ≢ 3 → n ≢ 4 → n ≢ 5 → n ≢ 6 → n ≢ 7 → n ≡ 8

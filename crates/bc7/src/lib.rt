@@ -1,23 +1,23 @@
 // One block to sixteen pixels: the port of the Rust's src/decode/bc7.rs. A function for each mode reads with literal widths, so
 // that positions and masks fold away; mode 6, the one that is whole, stands here.
 ghost use mathlib.Core.Path.{_≡_};
-ghost use Rattle.format.specs.Block.{field, trailing};
-ghost use Rattle.format.specs.Lines.{pixels};
-ghost use Rattle.bcn_util.specs.Stream.{held};
-ghost use Rattle.bc7_fields.specs.Fields.{directPixels};
-use bc7_color::Stored;
-use bc7_color::alone_p;
-use bc7_palette::mix_16;
-use bc7_parts::indexes_1;
-use bc7_parts::values_1;
-use bc7_subset_2::mode_1;
-use bc7_subset_2::mode_3;
-use bc7_subset_2::mode_7;
-use bc7_subset_3::mode_0;
-use bc7_subset_3::mode_2;
-use bc7_vector::mode_4;
-use bc7_vector::mode_5;
-use bcn_util::stream::BitStream;
+ghost use Rattle.bcn_format.specs.Block.{field, trailing};
+ghost use Rattle.bc7_format.specs.Lines.{pixels};
+ghost use Rattle.bits.specs.Stream.{held};
+ghost use Rattle.bc7_format.specs.Fields.{directPixels};
+use bc7_reads::indexes_1;
+use bc7_reads::values_1;
+use bc7_subsets::three::mode_0;
+use bc7_subsets::three::mode_2;
+use bc7_subsets::two::mode_1;
+use bc7_subsets::two::mode_3;
+use bc7_subsets::two::mode_7;
+use bc7_unsplit::mode_4;
+use bc7_unsplit::mode_5;
+use bits::stream::BitStream;
+use drawing::color::Stored;
+use drawing::color::alone_p;
+use drawing::palette::mix_16;
 
 // The sixteen pixels of a block, row by row: red, green, blue, alpha. Any sixteen bytes are a block; a reserved one shows 0 0 0 0.
 pub fn decode_bc7_block(block: [u8; 16]) -> [[u8; 4]; 16]

@@ -7,22 +7,22 @@ use lib.ListN.{replicate}
 use Rattle.laws.specs.Padding.{padded}
 use Rattle.laws.specs.Refusals.{first}
 use Rattle.laws.specs.Tables.{over, table, tableFrom}
-use Rattle.format.specs.Block.{bytesOf, modeOf, number, trailing}
-use Rattle.format.specs.Drawing.{drawn, eight, promoted, weightOf, weights}
-use Rattle.format.specs.Lines.{anchorOf, arrayOf, has, indexPlace, laid, lineAt, lineBits, lineOf, means, own, pPlace, pixel, pixels, rotated, shown, turned, valuePlace, withLine}
-use Rattle.format.specs.Modes.{endpointCount, kindOfMode, modeRow}
-use Rattle.format.specs.Partitions.{anchors2, anchors3, digits, marks, strings2, strings3, subset2, subset3}
-use Rattle.format.specs.Places.{atPlace, blockOf, listOf, opened, placeAt, pos, width, widths}
-use Rattle.format.specs.Splits.{splitAt, splitOf}
-use Rattle.format.proofs.Examples.{block4, block7}
+use Rattle.bcn_format.specs.Block.{bytesOf, number, trailing}
+use Rattle.bc7_format.specs.Modes.{modeOf, endpointCount, kindOfMode, modeRow}
+use Rattle.bcn_format.specs.Drawing.{drawn, promoted, weightOf, weights}
+use Rattle.bc7_format.specs.Lines.{eight, anchorOf, arrayOf, has, indexPlace, laid, lineAt, lineBits, lineOf, means, own, pPlace, pixel, pixels, rotated, shown, turned, valuePlace, withLine}
+use Rattle.bcn_format.specs.Partitions.{anchors2, anchors3, digits, marks, strings2, strings3, subset2, subset3}
+use Rattle.bc7_format.specs.Places.{atPlace, blockOf, listOf, opened, placeAt, pos, width, widths}
+use Rattle.bc7_format.specs.Splits.{splitAt, splitOf}
+use Rattle.bc7_format.proofs.Examples.{block4, block7}
 use Rattle.record_rules.specs.Records.{fits, made, packRefusal, packed, recordOf, says, taken}
 use Rattle.line_rules.specs.Read.{givenAs, lineRead, readRefusal, valueAt, widthsOf}
 use Rattle.line_rules.specs.Replace.{after, indexFits, lineFits, lineGiven, oriented, ownWidth, pFits, put, refusal, refusalIn, replaced, valueFits}
 use Rattle.line_rules.proofs.Attested.{after7}
-use Rattle.wire.specs.Wire.{bytesRefusal, packedBytes, recordByte, recordBytes, recordOfBytes, replacementBytes, replacementOf, spelt}
-use Rattle.wire.proofs.Attested.{bytes4, bytes7, bytesGiven}
-use Rattle.head.specs.Heads.{formIn, headBytes, headRefusal, heightIn, readHead, sizeRefusal, widthIn, writeHead}
-use Rattle.head.specs.Numbers.{groups, raised, readGroups, readNumber}
+use Rattle.record_bytes.specs.Wire.{bytesRefusal, packedBytes, recordByte, recordBytes, recordOfBytes, replacementBytes, replacementOf, spelt}
+use Rattle.record_bytes.proofs.Attested.{bytes4, bytes7, bytesGiven}
+use Rattle.sheet_head.specs.Heads.{formIn, headBytes, headRefusal, heightIn, readHead, sizeRefusal, widthIn, writeHead}
+use Rattle.sheet_head.specs.Numbers.{groups, raised, readGroups, readNumber}
 use Rattle.sheet_rules.specs.Rows.{blockAt, channel, rowByte, rowBytes, rowOut, rowRefusal}
 use Rattle.sheet_rules.specs.Sheets.{blockIn, blocksOf, findRefusal, placeOf, putBlock, replacedIn, sheetAfter, sheetRefusal}
 use Rattle.sheet_rules.proofs.Attested.{lower, lowerLines, small, smallReplaced}

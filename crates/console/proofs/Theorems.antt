@@ -7,7 +7,7 @@ use mathlib.Core.List.{List}
 use borrow.Author.Tests.{ne-eqb}
 use Rattle.line_rules.specs.Replace.{callOf, replaced}
 use Rattle.line_rules.proofs.Theorems.{refused-same}
-use Rattle.wire.specs.Wire.{replacementOf}
+use Rattle.record_bytes.specs.Wire.{replacementOf}
 use Rattle.sheet_rules.proofs.Theorems.{refused-row-leaves, refused-sheet-leaves}
 use Rattle.console.specs.Promises.{Decodes, DecodesRow, Determined, Gives, Packs, ReadsHead, ReadsLine, Replaces, ReplacesIn, Unpacks, Writes, WritesHead}
 

@@ -7,14 +7,14 @@ use mathlib.Core.List.{List, [], _∷_}
 use lib.Dec.{eqb}
 use lib.ListN.{length}
 use Rattle.laws.specs.Tables.{pick}
-use Rattle.format.specs.Lines.{pixels}
-use Rattle.head.specs.Heads.{readHead, writeHead}
+use Rattle.bc7_format.specs.Lines.{pixels}
+use Rattle.sheet_head.specs.Heads.{readHead, writeHead}
 use Rattle.line_rules.specs.Read.{lineRead}
 use Rattle.line_rules.specs.Replace.{replaced}
 use Rattle.record_rules.specs.Records.{taken}
 use Rattle.sheet_rules.specs.Rows.{rowOut, rowRefusal}
 use Rattle.sheet_rules.specs.Sheets.{sheetAfter, sheetRefusal}
-use Rattle.wire.specs.Wire.{packedBytes, recordBytes, replacementBytes, replacementOf}
+use Rattle.record_bytes.specs.Wire.{packedBytes, recordBytes, replacementBytes, replacementOf}
 
 -- this number is answered, and this is left
 abbrev pub Gives : {A : Type 0} → ℕ → A → ℕ → A → Type 0

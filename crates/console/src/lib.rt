@@ -3,17 +3,17 @@
 // console` writes the archive.
 ghost use Rattle.console.specs.Promises.{Decodes, DecodesRow, Packs, ReadsHead, ReadsLine, Replaces, ReplacesIn, Unpacks, WritesHead};
 use bc7::decode_bc7_block;
-use head::read_head;
-use head::write_head;
 use line::read_line;
 use line::replace_line;
 use record::unpack;
+use record_bytes::pack_bytes;
+use record_bytes::record_bytes;
+use record_bytes::replacement_bytes;
+use record_bytes::replacement_of;
 use sheet::decode_row;
 use sheet::replace_in_sheet;
-use wire::pack_bytes;
-use wire::record_bytes;
-use wire::replacement_bytes;
-use wire::replacement_of;
+use sheet_head::read_head;
+use sheet_head::write_head;
 
 // The sixteen pixels of a block, red green blue alpha each.
 #[no_mangle]

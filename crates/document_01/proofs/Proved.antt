@@ -4,15 +4,15 @@ use mathlib.Core.Path.{_≡_, refl}
 use mathlib.Core.List.{map}
 use Rattle.laws.specs.Refusals.{first}
 use Rattle.laws.specs.Tables.{table, tableFrom}
-use Rattle.format.specs.Block.{bytesOf, modeOf, number, trailing}
-use Rattle.format.specs.Drawing.{drawn, eight, promoted, weightOf, weights}
-use Rattle.format.specs.Lines.{anchorOf, arrayOf, has, indexPlace, laid, lineAt, lineBits, lineOf, means, own, pPlace, pixel, pixels, rotated, shown, turned, valuePlace, withLine}
-use Rattle.format.specs.Modes.{endpointCount, kindOfMode, modeRow}
-use Rattle.format.specs.Partitions.{anchors2, anchors3, digits, marks, strings2, strings3, subset2, subset3}
-use Rattle.format.specs.Places.{atPlace, blockOf, listOf, opened, placeAt, pos, width, widths}
-use Rattle.format.specs.Splits.{splitAt, splitOf}
+use Rattle.bcn_format.specs.Block.{bytesOf, number, trailing}
+use Rattle.bc7_format.specs.Modes.{modeOf, endpointCount, kindOfMode, modeRow}
+use Rattle.bcn_format.specs.Drawing.{drawn, promoted, weightOf, weights}
+use Rattle.bc7_format.specs.Lines.{eight, anchorOf, arrayOf, has, indexPlace, laid, lineAt, lineBits, lineOf, means, own, pPlace, pixel, pixels, rotated, shown, turned, valuePlace, withLine}
+use Rattle.bcn_format.specs.Partitions.{anchors2, anchors3, digits, marks, strings2, strings3, subset2, subset3}
+use Rattle.bc7_format.specs.Places.{atPlace, blockOf, listOf, opened, placeAt, pos, width, widths}
+use Rattle.bc7_format.specs.Splits.{splitAt, splitOf}
 use Rattle.record_rules.specs.Records.{made, recordOf, taken}
-use Rattle.head.specs.Numbers.{groups, raised, readGroups, readNumber}
+use Rattle.sheet_head.specs.Numbers.{groups, raised, readGroups, readNumber}
 use Rattle.line_rules.specs.Replace.{after, indexFits, lineFits, lineGiven, oriented, ownWidth, pFits, put, refusal, refusalIn, replaced, valueFits}
 use Rattle.document_01.specs.Claims.{answer, claims}
 

@@ -1,3 +1,4 @@
+pub mod Words
 pub mod Tests
 pub mod Scan
 pub mod Cases
@@ -20,3 +21,4 @@ pub mod Replacing
 pub mod Masks
 pub mod Barred
 pub mod Lanes
+pub mod calls

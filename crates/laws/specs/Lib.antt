@@ -1,4 +1,5 @@
--- Definitions that are about numbers and lists alone.
+-- One call after another.
+pub mod Calls
 pub mod Tables
 pub mod Digits
 pub mod Refusals

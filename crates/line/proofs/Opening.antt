@@ -10,25 +10,25 @@ use lib.Dec.{eqb}
 use Rattle.line.specs.declared.Opened.{Opened}
 use Rattle.line_rules.specs.declared.Replacement.{Replacement}
 use Rattle.laws.specs.Refusals.{first}
-use Rattle.bcn_util.specs.declared.stream.BitStream.{BitStream}
-use Rattle.record_reading.specs.declared.ReadSplit.{ReadSplit}
-use Rattle.record_widths.specs.declared.ModeRow.{ModeRow}
-use Rattle.line_parts.specs.declared.LinePart.{LinePart}
+use Rattle.bits.specs.declared.stream.BitStream.{BitStream}
+use Rattle.record.specs.declared.reading.ReadSplit.{ReadSplit}
+use Rattle.bc7_places.specs.declared.modes.ModeRow.{ModeRow}
+use Rattle.line.specs.declared.parts.LinePart.{LinePart}
 use Rattle.laws.specs.Digits.{Fit}
-use Rattle.format.specs.Block.{eights, modeOf, number}
-use Rattle.format.specs.Modes.{indexModeBits, lines, partitionBits, rotationBits}
-use Rattle.format.specs.Places.{opened}
-use Rattle.format.specs.Splits.{splitAt, splitOf}
-use Rattle.format.specs.WellFormed.{WellFormed}
-use Rattle.format.proofs.Opening.{opened-good}
-use Rattle.bcn_util.specs.Stream.{held, skipped}
-use Rattle.bcn_util.proofs.On.{On}
-use Rattle.bc7_fields.specs.Fields.{headEnd}
-use Rattle.record_widths.specs.Rows.{rowOf}
-use Rattle.record_reading.specs.Reading.{splitRead}
-use Rattle.record_reading.proofs.Heads.{marker-on, split-is, split-on}
-use Rattle.line_parts.specs.Parts.{OfLine, partOf}
-use Rattle.line_parts.proofs.Parts.{IsPart, is-part, of-line}
+use Rattle.bcn_format.specs.Block.{eights, number}
+use Rattle.bc7_format.specs.Modes.{modeOf, indexModeBits, lines, partitionBits, rotationBits}
+use Rattle.bc7_format.specs.Places.{opened}
+use Rattle.bc7_format.specs.Splits.{splitAt, splitOf}
+use Rattle.bc7_format.specs.WellFormed.{WellFormed}
+use Rattle.bc7_format.proofs.Opening.{opened-good}
+use Rattle.bits.specs.Stream.{held, skipped}
+use Rattle.bits.proofs.On.{On}
+use Rattle.bc7_format.specs.Fields.{headEnd}
+use Rattle.bc7_places.specs.Rows.{rowOf}
+use Rattle.record.specs.Reading.{splitRead}
+use Rattle.record.proofs.reading.Heads.{marker-on, split-is, split-on}
+use Rattle.line.specs.Parts.{OfLine, partOf}
+use Rattle.line.proofs.parts.Parts.{IsPart, is-part, of-line}
 use Rattle.line_rules.specs.Read.{lineRead, noLine, readAs, readRefusal}
 use Rattle.line_rules.proofs.Reading.{read-is}
 use Rattle.line.specs.Opened.{IsOpened}

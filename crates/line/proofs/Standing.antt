@@ -10,39 +10,39 @@ use borrow.Author.Tests.{eq-eqb, eqb-false, eqb-true, ne-eqb}
 use lib.Bits.{bitAnd}
 use lib.Dec.{T, eqb}
 use lib.Pow.{pow-pos}
-use Rattle.bcn_util.specs.declared.stream.BitStream.{BitStream}
-use Rattle.line_fields.specs.declared.Fields.{Fields}
-use Rattle.line_parts.specs.declared.LinePart.{LinePart}
-use Rattle.record_widths.specs.declared.ModeRow.{ModeRow}
-use Rattle.format.specs.declared.Split.{Split}
+use Rattle.bits.specs.declared.stream.BitStream.{BitStream}
+use Rattle.line.specs.declared.fields.Fields.{Fields}
+use Rattle.line.specs.declared.parts.LinePart.{LinePart}
+use Rattle.bc7_places.specs.declared.modes.ModeRow.{ModeRow}
+use Rattle.bc7_format.specs.declared.Split.{Split}
 use Rattle.laws.specs.Tables.{pick, table, tableFrom}
 use Rattle.laws.proofs.Joining.{table-same}
-use Rattle.format.specs.Block.{field}
-use Rattle.format.specs.Lines.{Line, arrayOf, has, indexPlace, lineOf, own, pPlace, valuePlace}
-use Rattle.format.specs.Modes.{kindOfMode, lines, pCount}
-use Rattle.format.specs.Places.{Place, atPlace, inside, pos, width}
-use Rattle.format.specs.WellFormed.{WellFormed}
-use Rattle.format.proofs.Meaning.{array-lt}
-use Rattle.format.proofs.Modes.{good-index-mode, lines-le}
-use Rattle.format.proofs.Places.{inside-index}
-use Rattle.format.proofs.Starts.{start, start-le}
-use Rattle.bcn_util.specs.Stream.{held}
-use Rattle.bcn_indexes.specs.Indexes.{part}
-use Rattle.bc7_fields.specs.Fields.{headEnd}
-use Rattle.record_widths.specs.Rows.{rowOf}
+use Rattle.bcn_format.specs.Block.{field}
+use Rattle.bc7_format.specs.Lines.{Line, arrayOf, has, indexPlace, lineOf, own, pPlace, valuePlace}
+use Rattle.bc7_format.specs.Modes.{kindOfMode, lines, pCount}
+use Rattle.bc7_format.specs.Places.{Place, atPlace, inside, pos, width}
+use Rattle.bc7_format.specs.WellFormed.{WellFormed}
+use Rattle.bc7_format.proofs.Meaning.{array-lt}
+use Rattle.bc7_format.proofs.Modes.{good-index-mode, lines-le}
+use Rattle.bc7_format.proofs.Places.{inside-index}
+use Rattle.bc7_format.proofs.Starts.{start, start-le}
+use Rattle.bits.specs.Stream.{held}
+use Rattle.bcn_format.specs.Indexes.{part}
+use Rattle.bc7_format.specs.Fields.{headEnd}
+use Rattle.bc7_places.specs.Rows.{rowOf}
 use Rattle.line_rules.specs.Read.{givenAs, widthsOf}
 use Rattle.line_rules.specs.Replace.{ownWidth}
 use Rattle.line_rules.proofs.Own.{own-none, own-some}
 use Rattle.line_rules.proofs.OwnWidths.{own-widths}
-use Rattle.line_parts.specs.Parts.{maskOf, ownPixel}
-use Rattle.line_parts.proofs.Parts.{IsPart}
-use Rattle.line_parts.proofs.Words.{Small, masked, word, word-part}
-use Rattle.line_fields.specs.Fields.{fieldsAt, fieldsOf, setBefore}
-use Rattle.line_fields.proofs.Indexes.{before-word, rising, stood-small}
-use Rattle.line_fields.proofs.Putting.{p-next, p-there, value-next, value-there}
-use Rattle.line_fields.proofs.Starting.{channel-low, channel-starts, channelAt, p-low, p-starts, set-starts}
-use Rattle.line_fields.proofs.Whole.{head-low, two-of-1, whole-start}
-use Rattle.line_fields.proofs.Taking.{first-read, one-read, second-read}
+use Rattle.line.specs.Parts.{maskOf, ownPixel}
+use Rattle.line.proofs.parts.Parts.{IsPart}
+use Rattle.line.proofs.parts.Words.{Small, masked, word, word-part}
+use Rattle.line.specs.Fields.{fieldsAt, fieldsOf, setBefore}
+use Rattle.line.proofs.fields.Indexes.{before-word, rising, stood-small}
+use Rattle.line.proofs.fields.Putting.{p-next, p-there, value-next, value-there}
+use Rattle.line.proofs.fields.Starting.{channel-low, channel-starts, channelAt, p-low, p-starts, set-starts}
+use Rattle.line.proofs.fields.Whole.{head-low, two-of-1, whole-start}
+use Rattle.line.proofs.fields.Taking.{first-read, one-read, second-read}
 use Rattle.line.specs.Reading.{PartSmall, ReadReady, lineAt, psAt, setAt, twoAt, widthsIn}
 
 -- a replacement from its parts

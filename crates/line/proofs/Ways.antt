@@ -11,37 +11,37 @@ use lib.Bits.{bitAnd}
 use lib.Dec.{eqb}
 use lib.ListN.{length, getD}
 use Rattle.line.specs.declared.Opened.{Opened}
-use Rattle.bcn_util.specs.declared.stream.BitStream.{BitStream}
-use Rattle.line_parts.specs.declared.LinePart.{LinePart}
-use Rattle.line_parts.specs.declared.Stored.{Stored}
+use Rattle.bits.specs.declared.stream.BitStream.{BitStream}
+use Rattle.line.specs.declared.parts.LinePart.{LinePart}
+use Rattle.line.specs.declared.parts.Stored.{Stored}
 use Rattle.line_rules.specs.declared.Replacement.{Replacement}
-use Rattle.record_widths.specs.declared.ModeRow.{ModeRow}
-use Rattle.format.specs.declared.Split.{Split}
+use Rattle.bc7_places.specs.declared.modes.ModeRow.{ModeRow}
+use Rattle.bc7_format.specs.declared.Split.{Split}
 use Rattle.laws.specs.Digits.{Fit, join}
 use Rattle.laws.specs.Refusals.{Given, here, then}
 use Rattle.laws.specs.Tables.{both, pick, table}
 use Rattle.laws.proofs.Part.{part-all}
 use Rattle.laws.proofs.Refusals.{accepted-when, exactly}
 use Rattle.laws.proofs.Tests.{both-true, no-both}
-use Rattle.format.specs.Block.{bytesOf, eights, modeOf, number}
-use Rattle.format.specs.Modes.{lines}
-use Rattle.format.specs.Places.{opened}
-use Rattle.format.specs.Splits.{splitOf}
-use Rattle.format.proofs.Reserved.{reserved-mode, zero-byte}
-use Rattle.bcn_util.specs.Stream.{held}
-use Rattle.bcn_indexes.specs.Indexes.{indexWidths}
-use Rattle.record_widths.specs.Rows.{rowOf}
+use Rattle.bcn_format.specs.Block.{bytesOf, eights, number}
+use Rattle.bc7_format.specs.Modes.{modeOf, lines}
+use Rattle.bc7_format.specs.Places.{opened}
+use Rattle.bc7_format.specs.Splits.{splitOf}
+use Rattle.bc7_format.proofs.Reserved.{reserved-mode, zero-byte}
+use Rattle.bits.specs.Stream.{held}
+use Rattle.bcn_format.specs.Indexes.{indexWidths}
+use Rattle.bc7_places.specs.Rows.{rowOf}
 use Rattle.line_rules.specs.Acceptable.{Within, callRules}
 use Rattle.line_rules.specs.Replace.{after, callOf, lineGiven, refusal, refusalIn, replaced, replacedAs}
 use Rattle.line_rules.proofs.Accepting.{on-block, second}
 use Rattle.line_rules.proofs.Blocks.{unchanged}
-use Rattle.line_parts.specs.Parts.{ownPixel, partsFit, storedAs}
-use Rattle.line_parts.proofs.Given.{only-kept, parts-within, small-indexes, within-kept, within-parts}
-use Rattle.line_parts.proofs.Parts.{IsPart}
-use Rattle.line_parts.proofs.Storing.{is-stored, mask-above}
-use Rattle.line_parts.proofs.Words.{Small, maskPart, word, word-fits}
-use Rattle.line_fields.specs.Fields.{LineReady, linePut}
-use Rattle.line_fields.proofs.Whole.{line-block, line-ready}
+use Rattle.line.specs.Parts.{ownPixel, partsFit, storedAs}
+use Rattle.line.proofs.parts.Given.{only-kept, parts-within, small-indexes, within-kept, within-parts}
+use Rattle.line.proofs.parts.Parts.{IsPart}
+use Rattle.line.proofs.parts.Storing.{is-stored, mask-above}
+use Rattle.line.proofs.parts.Words.{Small, maskPart, word, word-fits}
+use Rattle.line.specs.Fields.{LineReady, linePut}
+use Rattle.line.proofs.fields.Whole.{line-block, line-ready}
 use Rattle.line.specs.Opened.{IsOpened}
 use Rattle.line.proofs.Opening.{good, line-is}
 

@@ -5,17 +5,17 @@ use Prim.Native.Nat.{ℕ, _+_, _*_, _≤_, _<_}
 use lib.Bits.{bitAnd}
 use lib.Dec.{eqb}
 use Rattle.line.specs.declared.reading.Two.{Two}
-use Rattle.bcn_util.specs.declared.stream.BitStream.{BitStream}
-use Rattle.line_parts.specs.declared.LinePart.{LinePart}
+use Rattle.bits.specs.declared.stream.BitStream.{BitStream}
+use Rattle.line.specs.declared.parts.LinePart.{LinePart}
 use Rattle.line_rules.specs.declared.Replacement.{Replacement}
-use Rattle.record_widths.specs.declared.ModeRow.{ModeRow}
+use Rattle.bc7_places.specs.declared.modes.ModeRow.{ModeRow}
 use Rattle.laws.specs.Tables.{pick, table}
-use Rattle.format.specs.Block.{field}
-use Rattle.bcn_util.specs.Stream.{held}
-use Rattle.bcn_indexes.specs.Indexes.{Rising, part}
-use Rattle.record_widths.specs.Rows.{OfMode}
-use Rattle.line_parts.specs.Parts.{maskOf, ownPixel}
-use Rattle.line_fields.specs.Fields.{fieldsAt, setBefore}
+use Rattle.bcn_format.specs.Block.{field}
+use Rattle.bits.specs.Stream.{held}
+use Rattle.bcn_format.specs.Indexes.{Rising, part}
+use Rattle.bc7_places.specs.Rows.{OfMode}
+use Rattle.line.specs.Parts.{maskOf, ownPixel}
+use Rattle.line.specs.Fields.{fieldsAt, setBefore}
 
 -- two values of w bits from bit a on
 abbrev pub twoAt : ℕ → ℕ → ℕ → Two

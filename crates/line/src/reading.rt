@@ -2,20 +2,20 @@
 ghost use mathlib.Core.Path.{_≡_};
 ghost use Prim.Native.Nat.{_≤_, _<_};
 ghost use Rattle.laws.specs.Tables.{pick, table};
-ghost use Rattle.bcn_util.specs.Stream.{held};
-ghost use Rattle.line_parts.specs.Parts.{ownPixel};
+ghost use Rattle.bits.specs.Stream.{held};
+ghost use Rattle.line.specs.Parts.{ownPixel};
 ghost use Rattle.line.specs.Reading.{PartSmall, ReadReady, SetThere, lineAt, psAt, setAt, twoAt, widthsIn};
-use bcn_util::stream::BitStream;
-use line_fields::fields_of;
-use line_fields::standing_at;
-use line_parts::LinePart;
-use line_parts::Pixels;
-use line_parts::at_own;
-use line_parts::mask_of;
+use crate::fields::fields_of;
+use crate::fields::standing_at;
+use crate::parts::LinePart;
+use crate::parts::Pixels;
+use crate::parts::at_own;
+use crate::parts::mask_of;
+use bc7_places::modes::ModeRow;
+use bits::stream::BitStream;
 use line_rules::Replacement;
-use record_reading::parts_of;
-use record_reading::read_indexes;
-use record_widths::ModeRow;
+use record::reading::parts_of;
+use record::reading::read_indexes;
 
 // What the first and the second endpoint have.
 pub struct Two {

@@ -8,17 +8,17 @@ use Prim.Native.Nat.{ℕ}
 use borrow.Author.Tests.{eqb-true, eqb-false, eq-eqb, ne-eqb, not-false}
 use lib.Dec.{T, eqb, ltb, ltb→lt, lt→ltb}
 use lib.ListN.{getD}
-use Rattle.format.specs.declared.Split.{Split}
+use Rattle.bc7_format.specs.declared.Split.{Split}
 use Rattle.laws.specs.Digits.{Fit}
 use Rattle.laws.specs.Refusals.{refuse, unless}
 use Rattle.laws.specs.Tables.{below, both}
 use Rattle.laws.proofs.Refusals.{Answers, Decided, Tests, answers, by-eqb, by-not, by-not-ltb, by-test, none, rule}
 use Rattle.laws.proofs.Tests.{T-true, at, below-intro, both-intro, both-true, true-T}
-use Rattle.format.specs.Block.{eights, modeOf}
-use Rattle.format.specs.Lines.{Line}
-use Rattle.format.specs.Modes.{lines}
-use Rattle.format.specs.Splits.{splitOf}
-use Rattle.format.proofs.Reserved.{reserved-mode, zero-byte}
+use Rattle.bcn_format.specs.Block.{eights}
+use Rattle.bc7_format.specs.Modes.{modeOf, lines}
+use Rattle.bc7_format.specs.Lines.{Line}
+use Rattle.bc7_format.specs.Splits.{splitOf}
+use Rattle.bc7_format.proofs.Reserved.{reserved-mode, zero-byte}
 use Rattle.line_rules.specs.Acceptable.{Acceptable, Within, callRules, lineRules}
 use Rattle.line_rules.specs.Replace.{Call, indexFits, lineFits, pFits, refusal, refusalIn, valueFits}
 

@@ -10,14 +10,14 @@ use Rattle.line_rules.specs.declared.Replaced.{Replaced}
 use Rattle.line_rules.specs.declared.LineRead.{LineRead}
 use Rattle.laws.specs.Refusals.{first}
 use Rattle.laws.specs.Tables.{table, tableFrom}
-use Rattle.calls.specs.Calls.{run}
-use Rattle.format.specs.Block.{bytesOf, modeOf, number, trailing}
-use Rattle.format.specs.Lines.{anchorOf, arrayOf, has, indexPlace, laid, lineBits, lineOf, own, pPlace, turned, valuePlace, withLine}
-use Rattle.format.specs.Modes.{endpointCount, kindOfMode, modeRow}
-use Rattle.format.specs.Partitions.{anchors2, anchors3, digits, marks, strings2, strings3, subset2, subset3}
-use Rattle.format.specs.Places.{atPlace, blockOf, listOf, opened, placeAt, pos, width, widths}
-use Rattle.format.specs.Splits.{splitAt, splitOf}
-use Rattle.format.proofs.Examples.{block4, block5, block7}
+use Rattle.laws.specs.Calls.{run}
+use Rattle.bcn_format.specs.Block.{bytesOf, number, trailing}
+use Rattle.bc7_format.specs.Modes.{modeOf, endpointCount, kindOfMode, modeRow}
+use Rattle.bc7_format.specs.Lines.{anchorOf, arrayOf, has, indexPlace, laid, lineBits, lineOf, own, pPlace, turned, valuePlace, withLine}
+use Rattle.bcn_format.specs.Partitions.{anchors2, anchors3, digits, marks, strings2, strings3, subset2, subset3}
+use Rattle.bc7_format.specs.Places.{atPlace, blockOf, listOf, opened, placeAt, pos, width, widths}
+use Rattle.bc7_format.specs.Splits.{splitAt, splitOf}
+use Rattle.bc7_format.proofs.Examples.{block4, block5, block7}
 use Rattle.line_rules.specs.Calls.{afterAll}
 use Rattle.line_rules.specs.Read.{givenAs, lineRead, readRefusal, widthsOf}
 use Rattle.line_rules.specs.Replace.{after, callOf, indexFits, lineFits, lineGiven, oriented, ownWidth, pFits, put, refusal, refusalIn, replaced, valueFits}

@@ -9,17 +9,18 @@ use native.Mathlib.Nat.{eq-or-lt-of-le}
 use native.Mathlib.Omega.{arith}
 use borrow.Author.Tests.{eqb-true, eq-eqb, ne-eqb}
 use lib.Dec.{T, eqb}
-use Rattle.format.specs.declared.Split.{Split}
+use Rattle.bc7_format.specs.declared.Split.{Split}
 use Rattle.laws.specs.Digits.{Fit}
 use Rattle.laws.specs.Refusals.{first}
 use Rattle.laws.specs.Tables.{pick}
-use Rattle.format.specs.Block.{eights, modeOf, trailing}
-use Rattle.format.specs.Lines.{draws, has, isDrawn, laid, meant, pixel, rotated, shown, withLine}
-use Rattle.format.specs.Places.{Place, blockOf, inside, opened}
-use Rattle.format.specs.Splits.{rotation, splitOf}
-use Rattle.format.specs.WellFormed.{WellFormed}
-use Rattle.format.proofs.Lens.{shown-ext, shown-none, shown-other}
-use Rattle.format.proofs.Opening.{block-ext, block-fits, block-opened, mode-block, opened-block, opened-good, split-block}
+use Rattle.bcn_format.specs.Block.{eights, trailing}
+use Rattle.bc7_format.specs.Modes.{modeOf}
+use Rattle.bc7_format.specs.Lines.{draws, has, isDrawn, laid, meant, pixel, rotated, shown, withLine}
+use Rattle.bc7_format.specs.Places.{Place, blockOf, inside, opened}
+use Rattle.bc7_format.specs.Splits.{rotation, splitOf}
+use Rattle.bc7_format.specs.WellFormed.{WellFormed}
+use Rattle.bc7_format.proofs.Lens.{shown-ext, shown-none, shown-other}
+use Rattle.bc7_format.proofs.Opening.{block-ext, block-fits, block-opened, mode-block, opened-block, opened-good, split-block}
 use Rattle.line_rules.specs.Calls.{isAccepted}
 use Rattle.line_rules.specs.Replace.{Call, after, oriented, put, refusal, refusalIn}
 use Rattle.line_rules.proofs.Draws.{drawn-by, no-alpha, no-rotation, not-drawn-by}

@@ -7,15 +7,15 @@ use Prim.Native.Nat.{ℕ, _^_, _<_}
 use native.Mathlib.Omega.{arith}
 use borrow.Author.Tests.{eqb-true, eqb-false, eq-eqb}
 use lib.Dec.{T, eqb, eqb→eq}
-use Rattle.format.specs.declared.Split.{Split}
+use Rattle.bc7_format.specs.declared.Split.{Split}
 use Rattle.laws.specs.Tables.{both}
 use Rattle.laws.proofs.Tests.{at, both-left, both-right, both-true}
-use Rattle.format.specs.Lines.{draws, isDrawn, lineAt, rotated}
-use Rattle.format.specs.Modes.{alphaBits, modeRow, rotationBits}
-use Rattle.format.specs.Places.{Place, head, width}
-use Rattle.format.specs.Splits.{rotation}
-use Rattle.format.specs.WellFormed.{WellFormed}
-use Rattle.format.proofs.Modes.{good-parts}
+use Rattle.bc7_format.specs.Lines.{draws, isDrawn, lineAt, rotated}
+use Rattle.bc7_format.specs.Modes.{alphaBits, modeRow, rotationBits}
+use Rattle.bc7_format.specs.Places.{Place, head, width}
+use Rattle.bc7_format.specs.Splits.{rotation}
+use Rattle.bc7_format.specs.WellFormed.{WellFormed}
+use Rattle.bc7_format.proofs.Modes.{good-parts}
 
 module _ (m : ℕ) (s : Split) where
   pub drawn-by : (l q ch : ℕ) → draws m s l q ch ≡ true → (isDrawn m (rotated (rotation s) ch) ≡ true) × (lineAt s q (rotated (rotation s) ch) ≡ l)

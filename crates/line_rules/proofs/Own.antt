@@ -7,12 +7,12 @@ use mathlib.Core.List.{[]}
 use Prim.Native.Nat.{ℕ}
 use borrow.Author.Tests.{eq-eqb, eqb-true, ne-eqb}
 use lib.Dec.{T, eqb}
-use Rattle.format.specs.declared.Split.{Split}
+use Rattle.bc7_format.specs.declared.Split.{Split}
 use Rattle.laws.specs.Tables.{both, pick}
 use Rattle.laws.proofs.Tests.{T-true, not-so}
-use Rattle.format.specs.Lines.{has, lineOfPlace}
-use Rattle.format.specs.Places.{Place, inside, width}
-use Rattle.format.proofs.Lens.{has-parts}
+use Rattle.bc7_format.specs.Lines.{has, lineOfPlace}
+use Rattle.bc7_format.specs.Places.{Place, inside, width}
+use Rattle.bc7_format.proofs.Lens.{has-parts}
 use Rattle.line_rules.specs.Replace.{ownWidth}
 
 -- a place of another line has none, and one of the line itself has all its bits

@@ -8,18 +8,18 @@ use Prim.Native.Nat.{ℕ, _+_, _*_, _/_, _<_}
 use native.Mathlib.Omega.{arith}
 use borrow.Author.Tests.{eqb-false, eqb-true, lt-ltb, le-ltb}
 use lib.Dec.{eqb, ltb}
-use Rattle.format.specs.declared.Split.{Split}
+use Rattle.bc7_format.specs.declared.Split.{Split}
 use Rattle.laws.specs.Tables.{pick}
 use Rattle.laws.proofs.Cases.{pick-lt}
 use Rattle.laws.proofs.Tests.{no-both}
-use Rattle.format.specs.Lines.{arrayOf, has, indexPlace, lineBits, lineOfPlace, pPlace, valuePlace}
-use Rattle.format.specs.Modes.{channelBits, endpointCount, indexBits, lines, pCount}
-use Rattle.format.specs.Places.{Place, index, pbit, value, width}
-use Rattle.format.specs.Splits.{isVector, subset}
-use Rattle.format.specs.WellFormed.{WellFormed}
-use Rattle.format.proofs.Meaning.{has-index}
-use Rattle.format.proofs.Modes.{good-subset, good-vector, lines-le, p-count}
-use Rattle.format.proofs.Places.{inside-pbit, inside-value}
+use Rattle.bc7_format.specs.Lines.{arrayOf, has, indexPlace, lineBits, lineOfPlace, pPlace, valuePlace}
+use Rattle.bc7_format.specs.Modes.{channelBits, endpointCount, indexBits, lines, pCount}
+use Rattle.bc7_format.specs.Places.{Place, index, pbit, value, width}
+use Rattle.bc7_format.specs.Splits.{isVector, subset}
+use Rattle.bc7_format.specs.WellFormed.{WellFormed}
+use Rattle.bc7_format.proofs.Meaning.{has-index}
+use Rattle.bc7_format.proofs.Modes.{good-subset, good-vector, lines-le, p-count}
+use Rattle.bc7_format.proofs.Places.{inside-pbit, inside-value}
 use Rattle.line_rules.specs.Acceptable.{OwnWidths}
 use Rattle.line_rules.specs.Replace.{ownWidth}
 use Rattle.line_rules.proofs.Own.{own-is, own-not}

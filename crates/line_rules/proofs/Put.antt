@@ -10,17 +10,17 @@ use native.Mathlib.Omega.{arith}
 use borrow.Author.Tests.{eqb-true, eqb-false, eq-eqb, ne-eqb, leb-true, leb-false, ltb-true}
 use lib.Dec.{T, eqb, ltb, ltb→lt, lit<}
 use lib.Pow.{pow-mono, pow-pos, ones-sub-lt}
-use Rattle.format.specs.declared.Split.{Split}
+use Rattle.bc7_format.specs.declared.Split.{Split}
 use Rattle.laws.specs.Tables.{pick}
 use Rattle.laws.proofs.Tests.{both-left, both-right, no-both, true-T}
-use Rattle.format.specs.Lines.{Line, anchorOf, arrayOf, has, indexPlace, laid, lineBits, lineOfPlace, pPlace, turned, valuePlace, withLine}
-use Rattle.format.specs.Modes.{channelBits, endpointCount, indexBits, pCount, secondBits}
-use Rattle.format.specs.Partitions.{among}
-use Rattle.format.specs.Places.{Place, head, index, inside, pbit, value, width}
-use Rattle.format.specs.Splits.{anchors, indexMode, isVector, subset}
-use Rattle.format.specs.WellFormed.{WellFormed}
-use Rattle.format.proofs.Lens.{has-head, has-parts}
-use Rattle.format.proofs.Modes.{good-64, good-index-mode, good-subset, good-vector, lines-le, the-anchor}
+use Rattle.bc7_format.specs.Lines.{Line, anchorOf, arrayOf, has, indexPlace, laid, lineBits, lineOfPlace, pPlace, turned, valuePlace, withLine}
+use Rattle.bc7_format.specs.Modes.{channelBits, endpointCount, indexBits, pCount, secondBits}
+use Rattle.bcn_format.specs.Partitions.{among}
+use Rattle.bc7_format.specs.Places.{Place, head, index, inside, pbit, value, width}
+use Rattle.bc7_format.specs.Splits.{anchors, indexMode, isVector, subset}
+use Rattle.bc7_format.specs.WellFormed.{WellFormed}
+use Rattle.bc7_format.proofs.Lens.{has-head, has-parts}
+use Rattle.bc7_format.proofs.Modes.{good-64, good-index-mode, good-subset, good-vector, lines-le, the-anchor}
 use Rattle.line_rules.specs.Acceptable.{Acceptable, Within}
 use Rattle.line_rules.specs.Replace.{oriented, ownWidth, put, refusalIn, topSet}
 use Rattle.line_rules.proofs.Accepting.{accepted-is}

@@ -13,7 +13,7 @@ use lib.ListN.{length, getD}
 use lib.Pow.{pow-mono, pow-pos}
 use Rattle.line_rules.specs.declared.Replacement.{Replacement}
 use Rattle.line_rules.specs.declared.LineRead.{LineRead}
-use Rattle.format.specs.declared.Split.{Split}
+use Rattle.bc7_format.specs.declared.Split.{Split}
 use Rattle.laws.specs.Digits.{Fit}
 use Rattle.laws.specs.Tables.{pick, table}
 use Rattle.laws.proofs.Cases.{pick-lt}
@@ -21,19 +21,19 @@ use Rattle.laws.proofs.Joining.{table-same}
 use Rattle.laws.proofs.Part.{getD-table, part-all}
 use Rattle.laws.proofs.Refusals.{Answers, accepted-when, answers, by-not-ltb, none, rule}
 use Rattle.laws.proofs.Tests.{T-true, both-left, both-right, no-both, not-so}
-use Rattle.format.specs.Block.{eights, modeOf}
-use Rattle.format.specs.Lines.{Line, anchorOf, draws, has, indexPlace, laid, lineBits, lineOf, meant, own, pPlace, pixel, rotated, shown, turned, valuePlace, withLine}
-use Rattle.format.specs.Modes.{lines}
-use Rattle.format.specs.Partitions.{among}
-use Rattle.format.specs.Places.{Place, head, index, inside, opened, pbit, value, width}
-use Rattle.format.specs.Splits.{anchors, rotation, splitOf}
-use Rattle.format.specs.WellFormed.{WellFormed}
-use Rattle.format.proofs.Lens.{has-head, has-one, has-parts, line-from}
-use Rattle.format.proofs.Meaning.{good-rotation, laid-index, laid-p, laid-value, means-ext, rotated-lt}
-use Rattle.format.proofs.Modes.{anchor-is, anchor-lt, good-64, lines-le}
-use Rattle.format.proofs.Opening.{block-ext, block-opened, opened-good}
-use Rattle.format.proofs.Places.{width-le}
-use Rattle.format.proofs.Reserved.{open-mode, reserved-mode}
+use Rattle.bcn_format.specs.Block.{eights}
+use Rattle.bc7_format.specs.Modes.{modeOf, lines}
+use Rattle.bc7_format.specs.Lines.{Line, anchorOf, draws, has, indexPlace, laid, lineBits, lineOf, meant, own, pPlace, pixel, rotated, shown, turned, valuePlace, withLine}
+use Rattle.bcn_format.specs.Partitions.{among}
+use Rattle.bc7_format.specs.Places.{Place, head, index, inside, opened, pbit, value, width}
+use Rattle.bc7_format.specs.Splits.{anchors, rotation, splitOf}
+use Rattle.bc7_format.specs.WellFormed.{WellFormed}
+use Rattle.bc7_format.proofs.Lens.{has-head, has-one, has-parts, line-from}
+use Rattle.bc7_format.proofs.Meaning.{good-rotation, laid-index, laid-p, laid-value, means-ext, rotated-lt}
+use Rattle.bc7_format.proofs.Modes.{anchor-is, anchor-lt, good-64, lines-le}
+use Rattle.bc7_format.proofs.Opening.{block-ext, block-opened, opened-good}
+use Rattle.bc7_format.proofs.Places.{width-le}
+use Rattle.bc7_format.proofs.Reserved.{open-mode, reserved-mode}
 use Rattle.line_rules.specs.Acceptable.{Acceptable, OwnWidths}
 use Rattle.line_rules.specs.Read.{givenAs, lineRead, readAs, readRefusal, readRules, turnedIn, widthsOf}
 use Rattle.line_rules.specs.Replace.{Call, after, callOf, lineGiven, oriented, ownWidth, put, refusal, replaced, replacedAs, topSet}

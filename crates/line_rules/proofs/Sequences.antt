@@ -8,21 +8,21 @@ use Prim.Native.Nat.{ℕ, _<_}
 use native.Mathlib.Omega.{arith}
 use borrow.Author.Tests.{eqb-true, eqb-false, eq-eqb, lt-ltb, ltb-true}
 use lib.Dec.{T, eqb, ltb}
-use Rattle.format.specs.declared.Split.{Split}
+use Rattle.bc7_format.specs.declared.Split.{Split}
 use Rattle.laws.specs.Digits.{Fit}
 use Rattle.laws.specs.Tables.{pick}
 use Rattle.laws.proofs.Tests.{both-true, no-both, not-so}
-use Rattle.calls.specs.Calls as calls
-use Rattle.calls.proofs.Slots.{Store, last-calls, last-seen, same-last, trade}
-use Rattle.calls.proofs.Trading.{Trade, run-good}
-use Rattle.format.specs.Block.{eights, modeOf}
-use Rattle.format.specs.Lines.{draws, has, laid, lineOfPlace, meant, pixel}
-use Rattle.format.specs.Modes.{lines}
-use Rattle.format.specs.Partitions.{among, or}
-use Rattle.format.specs.Places.{Place, blockOf, inside as insideBlock, opened}
-use Rattle.format.specs.Splits.{splitOf}
-use Rattle.format.proofs.Lens.{has-parts}
-use Rattle.format.proofs.Opening.{block-ext, block-opened}
+use Rattle.laws.specs.Calls as calls
+use Rattle.laws.proofs.calls.Slots.{Store, last-calls, last-seen, same-last, trade}
+use Rattle.laws.proofs.calls.Trading.{Trade, run-good}
+use Rattle.bcn_format.specs.Block.{eights}
+use Rattle.bc7_format.specs.Modes.{modeOf, lines}
+use Rattle.bc7_format.specs.Lines.{draws, has, laid, lineOfPlace, meant, pixel}
+use Rattle.bcn_format.specs.Partitions.{among, or}
+use Rattle.bc7_format.specs.Places.{Place, blockOf, inside as insideBlock, opened}
+use Rattle.bc7_format.specs.Splits.{splitOf}
+use Rattle.bc7_format.proofs.Lens.{has-parts}
+use Rattle.bc7_format.proofs.Opening.{block-ext, block-opened}
 use Rattle.line_rules.specs.Calls.{afterAll, isAccepted, isOf, last, lastOfEach, seen}
 use Rattle.line_rules.specs.Replace.{Call, after, oriented, refusal}
 use Rattle.line_rules.proofs.Accepting.{accepted-is}

@@ -13,15 +13,15 @@ use Rattle.line_rules.specs.declared.LineRead.{LineRead}
 use Rattle.laws.specs.Digits.{Fit}
 use Rattle.laws.specs.Refusals.{Given}
 use Rattle.laws.proofs.Refusals.{accepted-when as met-when, exactly}
-use Rattle.calls.proofs.Trading.{inside as inside-list}
-use Rattle.format.specs.Block.{eights, modeOf}
-use Rattle.format.specs.Lines.{draws, has, laid, meant, pixel, pixels}
-use Rattle.format.specs.Modes.{lines}
-use Rattle.format.specs.Partitions.{among}
-use Rattle.format.specs.Places.{Place, inside, opened}
-use Rattle.format.specs.Splits.{splitOf}
-use Rattle.format.proofs.Opening.{opened-good}
-use Rattle.format.proofs.Reserved.{open-mode, reserved-mode, zero-byte}
+use Rattle.laws.proofs.calls.Trading.{inside as inside-list}
+use Rattle.bcn_format.specs.Block.{eights}
+use Rattle.bc7_format.specs.Modes.{modeOf, lines}
+use Rattle.bc7_format.specs.Lines.{draws, has, laid, meant, pixel, pixels}
+use Rattle.bcn_format.specs.Partitions.{among}
+use Rattle.bc7_format.specs.Places.{Place, inside, opened}
+use Rattle.bc7_format.specs.Splits.{splitOf}
+use Rattle.bc7_format.proofs.Opening.{opened-good}
+use Rattle.bc7_format.proofs.Reserved.{open-mode, reserved-mode, zero-byte}
 use Rattle.line_rules.specs.Acceptable.{Acceptable, OwnWidths, callRules}
 use Rattle.line_rules.specs.Calls.{afterAll, last, lastOfEach, seen}
 use Rattle.line_rules.specs.Read.{TooWide, givenAs, lineRead, readRules, turnedIn}

@@ -12,16 +12,15 @@ use lib.Dec.{eqb, ltb, ltb→lt, lit<}
 use lib.ListN.{getD}
 use Rattle.line_rules.specs.declared.Replacement.{Replacement}
 use Rattle.line_rules.specs.declared.LineRead.{LineRead}
-use Rattle.format.specs.declared.Split.{Split}
+use Rattle.bc7_format.specs.declared.Split.{Split}
 use Rattle.laws.specs.Refusals.{first, refuse}
 use Rattle.laws.specs.Tables.{below, both}
 use Rattle.laws.proofs.Cases.{lt-or}
 use Rattle.laws.proofs.Scan.{scan-found}
 use Rattle.laws.proofs.Tests.{at, no-both, not-so, true-T}
-use Rattle.format.specs.Block.{modeOf}
-use Rattle.format.specs.Lines.{Line}
-use Rattle.format.specs.Modes.{lines}
-use Rattle.format.specs.Splits.{splitOf}
+use Rattle.bc7_format.specs.Modes.{modeOf, lines}
+use Rattle.bc7_format.specs.Lines.{Line}
+use Rattle.bc7_format.specs.Splits.{splitOf}
 use Rattle.line_rules.specs.Acceptable.{Within}
 use Rattle.line_rules.specs.Read.{TooWide, givenAs, lineRead, readRefusal, valueAt, widthsOf}
 use Rattle.line_rules.specs.Replace.{callOf, lineFits, lineGiven, refusal, refusalIn}

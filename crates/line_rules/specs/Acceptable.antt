@@ -6,13 +6,12 @@ use mathlib.Core.List.{List, [], _∷_}
 use Prim.Native.Nat.{ℕ, _^_, _<_}
 use lib.Dec.{eqb}
 use lib.ListN.{getD}
-use Rattle.format.specs.declared.Split.{Split}
+use Rattle.bc7_format.specs.declared.Split.{Split}
 use Rattle.laws.specs.Refusals.{Rule, unless}
 use Rattle.laws.specs.Tables.{pick}
-use Rattle.format.specs.Block.{modeOf}
-use Rattle.format.specs.Lines.{Line, indexPlace, lineBits, pPlace, valuePlace}
-use Rattle.format.specs.Modes.{channelBits, lines, pCount}
-use Rattle.format.specs.Splits.{isVector, splitOf, subset}
+use Rattle.bc7_format.specs.Modes.{modeOf, channelBits, lines, pCount}
+use Rattle.bc7_format.specs.Lines.{Line, indexPlace, lineBits, pPlace, valuePlace}
+use Rattle.bc7_format.specs.Splits.{isVector, splitOf, subset}
 use Rattle.line_rules.specs.Replace.{Call, ownWidth}
 
 -- every value is within the width that it has in line l

@@ -4,10 +4,10 @@ use Prim.Native.Nat.{ℕ}
 use mathlib.Core.Bool.{Bool}
 use mathlib.Core.List.{List}
 use lib.Dec.{eqb}
-use Rattle.format.specs.declared.Split.{Split}
+use Rattle.bc7_format.specs.declared.Split.{Split}
 use Rattle.laws.specs.Tables.{both}
-use Rattle.calls.specs.Calls as calls
-use Rattle.format.specs.Lines.{meant}
+use Rattle.laws.specs.Calls as calls
+use Rattle.bc7_format.specs.Lines.{meant}
 use Rattle.line_rules.specs.Replace.{Call, after, refusalIn}
 
 -- the block after a list of calls

@@ -8,14 +8,13 @@ use lib.Dec.{eqb, ltb}
 use lib.ListN.{getD}
 use Rattle.line_rules.specs.declared.Replacement.{Replacement}
 use Rattle.line_rules.specs.declared.LineRead.{LineRead}
-use Rattle.format.specs.declared.Split.{Split}
+use Rattle.bc7_format.specs.declared.Split.{Split}
 use Rattle.laws.specs.Refusals.{Rule, first, refuse, unless}
 use Rattle.laws.specs.Tables.{pick, table}
-use Rattle.format.specs.Block.{modeOf}
-use Rattle.format.specs.Lines.{Line, has, indexPlace, lineBits, lineOf, pPlace, turned, valuePlace}
-use Rattle.format.specs.Modes.{lines}
-use Rattle.format.specs.Places.{opened}
-use Rattle.format.specs.Splits.{splitOf}
+use Rattle.bc7_format.specs.Modes.{modeOf, lines}
+use Rattle.bc7_format.specs.Lines.{Line, has, indexPlace, lineBits, lineOf, pPlace, turned, valuePlace}
+use Rattle.bc7_format.specs.Places.{opened}
+use Rattle.bc7_format.specs.Splits.{splitOf}
 use Rattle.line_rules.specs.Replace.{ownWidth}
 
 -- a line as a replacement gives it

@@ -7,14 +7,13 @@ use lib.Dec.{eqb, ltb, leb}
 use lib.ListN.{getD}
 use Rattle.line_rules.specs.declared.Replacement.{Replacement}
 use Rattle.line_rules.specs.declared.Replaced.{Replaced}
-use Rattle.format.specs.declared.Split.{Split}
+use Rattle.bc7_format.specs.declared.Split.{Split}
 use Rattle.laws.specs.Refusals.{first, refuse}
 use Rattle.laws.specs.Tables.{below, both, pick}
-use Rattle.format.specs.Block.{modeOf}
-use Rattle.format.specs.Lines.{Line, anchorOf, has, indexPlace, lineBits, pPlace, turned, valuePlace, withLine}
-use Rattle.format.specs.Modes.{lines}
-use Rattle.format.specs.Places.{Place, blockOf, opened, width}
-use Rattle.format.specs.Splits.{splitOf}
+use Rattle.bc7_format.specs.Modes.{modeOf, lines}
+use Rattle.bc7_format.specs.Lines.{Line, anchorOf, has, indexPlace, lineBits, pPlace, turned, valuePlace, withLine}
+use Rattle.bc7_format.specs.Places.{Place, blockOf, opened, width}
+use Rattle.bc7_format.specs.Splits.{splitOf}
 
 -- a given line
 unfoldable pub lineGiven : Replacement → Line

@@ -7,20 +7,22 @@ ghost use Prim.Native.Nat.{_+_, _-_, _*_, _/_, _^_, _≤_, _<_};
 ghost use lib.Dec.{eqb};
 ghost use lib.ListN.{length, take};
 ghost use Rattle.laws.specs.Tables.{pick};
-ghost use Rattle.head.specs.Heads.{Sized, limit, readHead};
+ghost use Rattle.sheet_head.specs.Heads.{Sized, limit, readHead};
 ghost use Rattle.laws.specs.Padding.{Written};
 ghost use Rattle.sheet_rules.specs.Rows.{across};
 ghost use Rattle.listing_rules.specs.Listing.{blockText, listed, listing, unlessExact};
 ghost use Rattle.listing_rules.specs.Machine.{InRows, NextEnd, Ready, atHead, atStart, begun, ended, headText, inRows, nextAtHead, nextInRows, nextOf, spareOf, takenOf, textAtHead, textInRows, textOf, turnsOf, wantedOf};
 ghost use Rattle.listing_rules.specs.Taking.{fresh, goesOn, headTaken, withByte};
 use bc7::decode_bc7_block;
-use head::Head;
 use listing_rules::HeadReader;
 use listing_rules::Machine;
 use listing_rules::Phase;
 use listing_rules::Taken;
-use record_reading::mode_of;
-use sheet_blocks::load;
+use record::reading::mode_of;
+use sheet::blocks::load;
+use sheet_head::Head;
+
+pub mod text;
 
 // A reader that has taken nothing.
 fn fresh_reader() -> HeadReader
@@ -70,7 +72,7 @@ fn head_in(bytes: [u8; 9], count: usize) -> Head
     requires { ⌜ count ≤ 9 ⌝ }
     ensures { λ r. ⌜ r ≡ readHead (take count bytes) ⌝ }
 {
-    head::read_head(&bytes[..count])
+    sheet_head::read_head(&bytes[..count])
 }
 
 // The head that was taken. An accepted one has a width and a height.
@@ -118,7 +120,7 @@ fn list_block(block: [u8; 16], number: u32, at: usize, out: &mut [u8]) -> usize
 {
     let pixels = decode_bc7_block(block);
     let first = pixels[0];
-    text::block_line(number, mode_of(block), first, at, out)
+    crate::text::block_line(number, mode_of(block), first, at, out)
 }
 
 // The lines of the whole blocks among these bytes, numbered from `from` on, to a place of the output; the place behind them.
@@ -276,7 +278,7 @@ fn refuse_unless(exact: bool, at: usize, out: &mut [u8]) -> usize
     if exact {
         return at;
     }
-    text::refused_line(10, at, out)
+    crate::text::refused_line(10, at, out)
 }
 
 // What is said of a head.
@@ -286,9 +288,9 @@ fn list_head(head: Head, at: usize, out: &mut [u8]) -> usize
     ensures { λ r. ⌜ r ≤ at + 40 ⌝ }
 {
     if head.refusal != 0 {
-        return text::refused_line(head.refusal, at, out);
+        return crate::text::refused_line(head.refusal, at, out);
     }
-    text::sheet_line(head.width, head.height, at, out)
+    crate::text::sheet_line(head.width, head.height, at, out)
 }
 
 fn list_at_head(reader: HeadReader, came: &[u8], at: usize, out: &mut [u8]) -> usize

@@ -6,3 +6,4 @@ pub mod Rows
 pub mod Turns
 pub mod Room
 pub mod Theorems
+pub mod text

@@ -18,7 +18,7 @@ use Rattle.laws.specs.Tables.{pick}
 use Rattle.laws.proofs.Cases.{lt-or}
 use Rattle.laws.proofs.Padding.{stored-zeros}
 use Rattle.laws.proofs.Tests.{both-true, no-both}
-use Rattle.head.specs.Heads.{readHead}
+use Rattle.sheet_head.specs.Heads.{readHead}
 use Rattle.listing_rules.specs.Taking.{fed, fresh, goesOn, headLength, headTaken, reach, withByte}
 use Rattle.listing_rules.proofs.Taking.{head-bytes-decide, reach-none}
 

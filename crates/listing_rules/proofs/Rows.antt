@@ -13,8 +13,8 @@ use lib.Seq.{drop-append-add, drop-append-le, length-take-le, take-add, take-all
 use borrow.Author.Tests.{eq-eqb, eqb-false, eqb-true, le-leb, lt-leb, ne-eqb}
 use Rattle.laws.specs.Tables.{pick}
 use Rattle.laws.proofs.Cases.{lt-or}
-use Rattle.head.specs.Heads.{readHead}
-use Rattle.text.specs.Lines.{refusedLine, sheetLine}
+use Rattle.sheet_head.specs.Heads.{readHead}
+use Rattle.listing_rules.specs.Text.{refusedLine, sheetLine}
 use Rattle.sheet_rules.specs.Rows.{across, blockAt}
 use Rattle.sheet_rules.specs.Sheets.{blocksOf}
 use Rattle.listing_rules.specs.Listing.{blockText, blocksListing, blocksText, listed, listing, rowsListing}

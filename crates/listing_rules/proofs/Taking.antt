@@ -12,14 +12,14 @@ use lib.Dec.{ltb}
 use lib.ListN.{take, drop}
 use lib.Seq.{drop-drop, take-nil}
 use borrow.Author.Tests.{le-ltb, lt-ltb}
-use Rattle.head.specs.declared.Head.{Head}
-use Rattle.head.specs.declared.Number.{Number}
+use Rattle.sheet_head.specs.declared.Head.{Head}
+use Rattle.sheet_head.specs.declared.Number.{Number}
 use Rattle.laws.specs.Tables.{pick}
-use Rattle.head.specs.Heads.{formIn, headRefusal, heightIn, readHead, widthIn}
-use Rattle.head.specs.Numbers.{found, noNumber, raised, readGroups, readNumber}
-use Rattle.head.proofs.Heading.{accepted}
-use Rattle.head.proofs.Reading.{every-number}
-use Rattle.head.proofs.Theorems.{parts, refusal-is}
+use Rattle.sheet_head.specs.Heads.{formIn, headRefusal, heightIn, readHead, widthIn}
+use Rattle.sheet_head.specs.Numbers.{found, noNumber, raised, readGroups, readNumber}
+use Rattle.sheet_head.proofs.Heading.{accepted}
+use Rattle.sheet_head.proofs.Reading.{every-number}
+use Rattle.sheet_head.proofs.Theorems.{parts, refusal-is}
 use Rattle.listing_rules.specs.Taking.{headLength, reach}
 
 -- a number is read from the bytes that are taken as it is from all of them

@@ -14,12 +14,12 @@ use Rattle.listing_rules.specs.declared.HeadReader.{HeadReader}
 use Rattle.listing_rules.specs.declared.Machine.{Machine}
 use Rattle.listing_rules.specs.declared.Phase.{Phase}
 use Rattle.listing_rules.specs.declared.Phase.the-variants.{Head, Row, End, Listed, Refused}
-use Rattle.head.specs.declared.Head.{Head as SheetHead}
+use Rattle.sheet_head.specs.declared.Head.{Head as SheetHead}
 use Rattle.laws.specs.Tables.{pick}
 use Rattle.laws.proofs.Cases.{pick-either}
-use Rattle.head.specs.Heads.{Sized, readHead}
-use Rattle.head.proofs.Theorems.{head-sized}
-use Rattle.text.specs.Lines.{refusedLine, sheetLine}
+use Rattle.sheet_head.specs.Heads.{Sized, readHead}
+use Rattle.sheet_head.proofs.Theorems.{head-sized}
+use Rattle.listing_rules.specs.Text.{refusedLine, sheetLine}
 use Rattle.sheet_rules.specs.Rows.{across}
 use Rattle.listing_rules.specs.Taking.{fed, fresh, goesOn, headLength, headTaken, reach, withByte}
 use Rattle.listing_rules.specs.Listing.{listed, listing, rowsListing, unlessExact}

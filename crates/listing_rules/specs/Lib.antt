@@ -2,3 +2,4 @@
 pub mod Taking
 pub mod Listing
 pub mod Machine
+pub mod Text

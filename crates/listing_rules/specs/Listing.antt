@@ -6,10 +6,10 @@ use mathlib.Core.List.{List, [], _++_}
 use lib.Dec.{eqb, leb}
 use lib.ListN.{length, getD, take, drop}
 use Rattle.laws.specs.Tables.{pick}
-use Rattle.format.specs.Block.{modeOf}
-use Rattle.format.specs.Lines.{pixels}
-use Rattle.head.specs.Heads.{readHead}
-use Rattle.text.specs.Lines.{blockLine, refusedLine, sheetLine}
+use Rattle.bc7_format.specs.Modes.{modeOf}
+use Rattle.bc7_format.specs.Lines.{pixels}
+use Rattle.sheet_head.specs.Heads.{readHead}
+use Rattle.listing_rules.specs.Text.{blockLine, refusedLine, sheetLine}
 use Rattle.sheet_rules.specs.Rows.{blockAt}
 use Rattle.sheet_rules.specs.Sheets.{blocksOf}
 

@@ -11,9 +11,9 @@ use Rattle.listing_rules.specs.declared.Taken.{Taken}
 use Rattle.listing_rules.specs.declared.Machine.{Machine}
 use Rattle.listing_rules.specs.declared.Phase.{Phase}
 use Rattle.listing_rules.specs.declared.Phase.the-variants.{Head, Row, End, Listed, Refused}
-use Rattle.head.specs.declared.Head.{Head as SheetHead}
+use Rattle.sheet_head.specs.declared.Head.{Head as SheetHead}
 use Rattle.laws.specs.Tables.{pick}
-use Rattle.text.specs.Lines.{refusedLine, sheetLine}
+use Rattle.listing_rules.specs.Text.{refusedLine, sheetLine}
 use Rattle.sheet_rules.specs.Rows.{across}
 use Rattle.listing_rules.specs.Listing.{listed, unlessExact}
 use Rattle.listing_rules.specs.Taking.{fresh, goesOn, headTaken, withByte}

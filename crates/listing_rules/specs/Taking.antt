@@ -6,9 +6,9 @@ use mathlib.Core.List.{List, [], _∷_}
 use lib.Dec.{ltb}
 use lib.ListN.{replicate, set, take}
 use Rattle.listing_rules.specs.declared.HeadReader.{HeadReader}
-use Rattle.head.specs.declared.Head.{Head}
+use Rattle.sheet_head.specs.declared.Head.{Head}
 use Rattle.laws.specs.Tables.{both, pick}
-use Rattle.head.specs.Heads.{readHead}
+use Rattle.sheet_head.specs.Heads.{readHead}
 
 -- how many bytes there are up to the one that ends the last of n numbers, and `room` at the most; a byte below 128 ends a number
 unfoldable pub reach : ℕ → ℕ → List ℕ → ℕ

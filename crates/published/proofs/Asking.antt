@@ -6,8 +6,8 @@ use Prim.Native.Nat.{ℕ, _*_, _≤_, _<_}
 use native.Mathlib.Omega.{arith}
 use lib.Dec.{T, eqb}
 use Rattle.laws.specs.Tables.{pick}
-use Rattle.format.specs.Partitions.{among}
-use Rattle.bcn_indexes.proofs.Anchors.{times-width}
+use Rattle.bcn_format.specs.Partitions.{among}
+use Rattle.bcn_format.proofs.Expanding.{times-width}
 use Rattle.published.specs.Asserts.{ConsumeBits, DecompressSingleIndex, ExtractPartitionSetId, GetEndPoints2, GetEndPoints4, GetEndPoints6, GetIndex, NewP1, NewP2, NewP3}
 
 pub reads : (k : ℕ) → 0 < k → k ≤ 8 → ConsumeBits k

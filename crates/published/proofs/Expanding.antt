@@ -8,11 +8,11 @@ use native.Mathlib.Omega.{arith}
 use lib.Bits.{and-high, and-mask, bitAnd, bitOr, or-shifted}
 use lib.Pow.{field, pow-mono, pow-pos, shl-exact, shl-shr, shr-le, shr-lt, shr-mod, shr-shr}
 use Rattle.laws.specs.Digits.{inserted}
-use Rattle.format.specs.Block.{field as fieldOf}
-use Rattle.bcn_util.proofs.On.{field-lt}
-use Rattle.bcn_indexes.specs.Indexes.{expanded, part}
-use Rattle.bcn_indexes.proofs.Anchors.{after-1, after-2, one-anchor, spare-bit, three-anchors, times-width, two-anchors}
-use Rattle.bcn_indexes.proofs.Insert.{inserted-high, inserted-low, inserted-lt}
+use Rattle.bcn_format.specs.Block.{field as fieldOf}
+use Rattle.bits.proofs.On.{field-lt}
+use Rattle.bcn_format.specs.Indexes.{expanded, part}
+use Rattle.bcn_format.proofs.Expanding.{after-1, after-2, one-anchor, spare-bit, three-anchors, times-width, two-anchors}
+use Rattle.bcn_format.proofs.Insert.{inserted-high, inserted-low, inserted-lt}
 use Rattle.published.specs.Machine.{flip, mul, shl, shr, sub}
 use Rattle.published.specs.BcnUtil.{Indexes, decompress-single-index, from-compressed-p1, from-compressed-p2, from-compressed-p3, get-index, get-mask, new-p1, new-p2, new-p3}
 use Rattle.published.proofs.Reading.{consume-bits-64-is, mask-64}

@@ -10,24 +10,25 @@ use lib.Arith.{digits-lt}
 use lib.Dec.{T, eqb, leb, leb→le, lit<}
 use lib.ListN.{getD}
 use lib.Pow.{pow-add, pow-pos, shl-lt, shr-lt}
-use Rattle.format.specs.declared.Split.{Split}
+use Rattle.bc7_format.specs.declared.Split.{Split}
 use Rattle.laws.specs.Digits.{total}
 use Rattle.laws.specs.Tables.{below, pick}
 use Rattle.laws.proofs.Tests.{at}
-use Rattle.format.specs.Block.{field}
-use Rattle.format.specs.Drawing.{drawn, eight, promoted, weightOf, weightOf256, weights256}
-use Rattle.format.specs.Lines.{isDrawn}
-use Rattle.format.specs.Modes.{channelBits, indexBits, modeRow, pCount}
-use Rattle.format.specs.Places.{atPlace, index}
-use Rattle.format.specs.Splits.{anchors}
-use Rattle.format.proofs.Drawing.{mean, weight-le}
-use Rattle.format.proofs.Starts.{start}
-use Rattle.format.proofs.Theorems.{drawn-by-256, weight-is-four-times}
-use Rattle.bcn_util.proofs.On.{field-lt}
-use Rattle.bcn_indexes.specs.Indexes.{expanded, indexWidths, part}
-use Rattle.bcn_indexes.proofs.Anchors.{size-1}
-use Rattle.bc7_fields.specs.Fields.{endByte, four, pStart, valueStart}
-use Rattle.bc7_fields.proofs.Pictures.{indexes-at}
+use Rattle.bcn_format.specs.Block.{field}
+use Rattle.bcn_format.specs.Drawing.{drawn, promoted, weightOf}
+use Rattle.bc7_format.specs.Lines.{eight, isDrawn}
+use Rattle.bcn_format.proofs.Drawing.{weightOf256, weights256, mean, weight-le}
+use Rattle.bc7_format.specs.Modes.{channelBits, indexBits, modeRow, pCount}
+use Rattle.bc7_format.specs.Places.{atPlace, index}
+use Rattle.bc7_format.specs.Splits.{anchors}
+use Rattle.bc7_format.proofs.Starts.{start}
+use Rattle.bcn_format.proofs.Theorems.{drawn-by-256, weight-is-four-times}
+use Rattle.bits.proofs.On.{field-lt}
+use Rattle.bcn_format.specs.Indexes.{expanded, indexWidths, part}
+use Rattle.bcn_format.proofs.Expanding.{size-1}
+use Rattle.bc7_format.specs.Fields.{endByte, pStart, valueStart}
+use Rattle.bcn_format.specs.Painting.{four}
+use Rattle.bc7_format.proofs.Pictures.{indexes-at}
 use Rattle.published.specs.Asserts.{Interpolate2Or3, InterpolateColors, InterpolateColorsAlpha, Mixed}
 use Rattle.published.specs.BcnUtil.{get-index}
 use Rattle.published.specs.Machine.{sub}

@@ -8,16 +8,16 @@ use Prim.Native.Nat.{_≤_}
 use native.Mathlib.Omega.{arith}
 use mathlib.Core.Bool.{true, false}
 use Rattle.record_rules.specs.declared.Record.{Record}
-use Rattle.record_widths.specs.declared.ModeRow.{ModeRow}
+use Rattle.bc7_places.specs.declared.modes.ModeRow.{ModeRow}
 use Rattle.laws.proofs.Tests.{no-both}
-use Rattle.format.specs.Places.{blockOf}
-use Rattle.format.specs.Splits.{anchors}
+use Rattle.bc7_format.specs.Places.{blockOf}
+use Rattle.bc7_format.specs.Splits.{anchors}
 use Rattle.record_rules.specs.Answers.{TopsClear}
 use Rattle.record_rules.proofs.Answering.{clear-stored, fits-at, fits-of, packed-as, stored-clear}
-use Rattle.record_fits.specs.Fitting.{Full, storedFit}
-use Rattle.record_writing.specs.Writing.{Packs}
-use Rattle.format.specs.Block.{modeOf}
-use Rattle.format.proofs.Trailing.{mode-le-8}
+use Rattle.record.specs.Fitting.{Full, storedFit}
+use Rattle.record.specs.Writing.{Packs}
+use Rattle.bc7_format.specs.Modes.{modeOf}
+use Rattle.bc7_format.proofs.Modes.{mode-le-8}
 use Rattle.record_rules.specs.Records.{packed, packedAs, recordOf, says, taken, unpackedAs, zeroRecord}
 use Rattle.record_rules.proofs.Packing.{taken-open, taken-reserved}
 

@@ -3,18 +3,22 @@
 ghost use mathlib.Core.Path.{_≡_};
 ghost use lib.ListN.{replicate};
 ghost use Rattle.record_rules.specs.Records.{packed, packedAs, taken, zeroRecord};
-use format::Split;
-use record_fits::anchors_fit;
-use record_fits::record_fits;
-use record_reading::mode_of;
-use record_reading::read_record;
+use crate::fits::anchors_fit;
+use crate::fits::record_fits;
+use crate::reading::mode_of;
+use crate::reading::read_record;
+use crate::writing::write_record;
+use bc7_format::Split;
+use bc7_places::modes::anchors_of;
+use bc7_places::modes::mode_row;
+use bc7_places::splits::kind_of;
 use record_rules::Packed;
 use record_rules::Record;
 use record_rules::Unpacked;
-use record_splits::kind_of;
-use record_widths::anchors_of;
-use record_widths::mode_row;
-use record_writing::write_record;
+
+pub mod fits;
+pub mod reading;
+pub mod writing;
 
 // What a refused block answers.
 fn zero_record() -> Record

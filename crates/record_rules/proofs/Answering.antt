@@ -8,16 +8,16 @@ use lib.Dec.{T, ltb, ltb→lt, lt→ltb}
 use lib.ListN.{replicate}
 use Rattle.record_rules.specs.declared.Record.{Record}
 use Rattle.record_rules.specs.declared.Packed.{Packed}
-use Rattle.format.specs.declared.Split.{Split}
+use Rattle.bc7_format.specs.declared.Split.{Split}
 use Rattle.laws.specs.Refusals.{Given}
 use Rattle.laws.specs.Tables.{pick}
 use Rattle.laws.proofs.Refusals.{Answers, Met, accepted-when, answer-0, answer-not-0, answers, by-ltb, by-not, by-not-eqb, exactly, none, rule}
 use Rattle.laws.proofs.Tests.{T-true, at, below-intro, true-T}
-use Rattle.format.specs.Modes.{indexBits, kindOfMode}
-use Rattle.format.specs.Partitions.{among}
-use Rattle.format.specs.Places.{Place, blockOf, head, index, inside, pbit, placeAt, pos, value, width}
-use Rattle.format.specs.Splits.{anchors, kindOf}
-use Rattle.format.proofs.Places.{inside-placeAt, placeAt-pos, pos-lt}
+use Rattle.bc7_format.specs.Modes.{indexBits, kindOfMode}
+use Rattle.bcn_format.specs.Partitions.{among}
+use Rattle.bc7_format.specs.Places.{Place, blockOf, head, index, inside, pbit, placeAt, pos, value, width}
+use Rattle.bc7_format.specs.Splits.{anchors, kindOf}
+use Rattle.bc7_format.proofs.Places.{inside-placeAt, placeAt-pos, pos-lt}
 use Rattle.record_rules.specs.Answers.{TopsClear, Within, packRules}
 use Rattle.record_rules.specs.Records.{fits, packRefusal, packed, packedAs, says}
 

@@ -6,16 +6,16 @@ use Prim.Native.Nat.{ℕ}
 use Rattle.record_rules.specs.declared.Record.{Record}
 use Rattle.record_rules.specs.declared.Unpacked.{Unpacked}
 use Rattle.record_rules.specs.declared.Packed.{Packed}
-use Rattle.format.specs.declared.Split.{Split}
-use Rattle.format.specs.declared.Split.the-variants.{Whole, Two, Vector}
+use Rattle.bc7_format.specs.declared.Split.{Split}
+use Rattle.bc7_format.specs.declared.Split.the-variants.{Whole, Two, Vector}
 use Rattle.laws.specs.Refusals.{first}
 use Rattle.laws.specs.Tables.{table, tableFrom}
-use Rattle.format.specs.Block.{bytesOf, modeOf, number, trailing}
-use Rattle.format.specs.Modes.{endpointCount, kindOfMode, modeRow}
-use Rattle.format.specs.Partitions.{anchors2, anchors3, digits, marks, strings2, strings3}
-use Rattle.format.specs.Places.{atPlace, blockOf, listOf, opened, placeAt, pos, width, widths}
-use Rattle.format.specs.Splits.{splitAt, splitOf}
-use Rattle.format.proofs.Examples.{block4, block7}
+use Rattle.bcn_format.specs.Block.{bytesOf, number, trailing}
+use Rattle.bc7_format.specs.Modes.{modeOf, endpointCount, kindOfMode, modeRow}
+use Rattle.bcn_format.specs.Partitions.{anchors2, anchors3, digits, marks, strings2, strings3}
+use Rattle.bc7_format.specs.Places.{atPlace, blockOf, listOf, opened, placeAt, pos, width, widths}
+use Rattle.bc7_format.specs.Splits.{splitAt, splitOf}
+use Rattle.bc7_format.proofs.Examples.{block4, block7}
 use Rattle.record_rules.specs.Records.{fits, made, packRefusal, packed, recordOf, says, taken}
 
 abbrev sixteenZeros : List ℕ

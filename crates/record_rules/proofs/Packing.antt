@@ -12,7 +12,7 @@ use lib.ListN.{getD}
 use lib.Pow.{pow-mono}
 use Rattle.record_rules.specs.declared.Record.{Record}
 use Rattle.record_rules.specs.declared.Unpacked.{Unpacked}
-use Rattle.format.specs.declared.Split.{Split}
+use Rattle.bc7_format.specs.declared.Split.{Split}
 use Rattle.laws.specs.Digits.{Fit}
 use Rattle.laws.specs.Refusals.{first}
 use Rattle.laws.specs.Tables.{pick, table}
@@ -20,13 +20,14 @@ use Rattle.laws.proofs.Refusals.{Met, accepted-when}
 use Rattle.laws.proofs.Joining.{table-same}
 use Rattle.laws.proofs.Part.{getD-table, table-is}
 use Rattle.laws.proofs.Tests.{at, both-left, both-right}
-use Rattle.format.specs.Block.{eights, modeOf}
-use Rattle.format.specs.Places.{Place, blockOf, head, index, inside, opened, pbit, value, width}
-use Rattle.format.specs.Splits.{anchors, indexMode, ofKind, partition, rotation}
-use Rattle.format.specs.WellFormed.{WellFormed}
-use Rattle.format.proofs.Modes.{good-parts}
-use Rattle.format.proofs.Opening.{block-ext, good-kind, opened-good}
-use Rattle.format.proofs.Places.{inside-value, split-of-kind, width-le}
+use Rattle.bcn_format.specs.Block.{eights}
+use Rattle.bc7_format.specs.Modes.{modeOf}
+use Rattle.bc7_format.specs.Places.{Place, blockOf, head, index, inside, opened, pbit, value, width}
+use Rattle.bc7_format.specs.Splits.{anchors, indexMode, ofKind, partition, rotation}
+use Rattle.bc7_format.specs.WellFormed.{WellFormed}
+use Rattle.bc7_format.proofs.Modes.{good-parts}
+use Rattle.bc7_format.proofs.Opening.{block-ext, good-kind, opened-good}
+use Rattle.bc7_format.proofs.Places.{inside-value, split-of-kind, width-le}
 use Rattle.record_rules.specs.Answers.{packRules}
 use Rattle.record_rules.specs.Records.{Shaped, made, packRefusal, packed, packedAs, recordOf, says, taken, unpackedAs, zeroRecord}
 use Rattle.record_rules.proofs.Answering.{clear-stored, packed-as, packing, stored-clear}

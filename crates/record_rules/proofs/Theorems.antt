@@ -15,14 +15,15 @@ use Rattle.record_rules.specs.declared.Packed.{Packed}
 use Rattle.laws.specs.Digits.{Fit}
 use Rattle.laws.specs.Refusals.{Given}
 use Rattle.laws.proofs.Refusals.{exactly}
-use Rattle.format.specs.Block.{eights, modeOf}
-use Rattle.format.specs.Lines.{pixel, shown}
-use Rattle.format.specs.Places.{blockOf, opened}
-use Rattle.format.specs.Splits.{splitOf}
-use Rattle.format.specs.WellFormed.{WellFormed}
-use Rattle.format.proofs.Lens.{shown-ext}
-use Rattle.format.proofs.Opening.{block-opened, mode-block, opened-block, opened-good, split-block}
-use Rattle.format.proofs.Reserved.{open-mode, reserved-mode}
+use Rattle.bcn_format.specs.Block.{eights}
+use Rattle.bc7_format.specs.Modes.{modeOf}
+use Rattle.bc7_format.specs.Lines.{pixel, shown}
+use Rattle.bc7_format.specs.Places.{blockOf, opened}
+use Rattle.bc7_format.specs.Splits.{splitOf}
+use Rattle.bc7_format.specs.WellFormed.{WellFormed}
+use Rattle.bc7_format.proofs.Lens.{shown-ext}
+use Rattle.bc7_format.proofs.Opening.{block-opened, mode-block, opened-block, opened-good, split-block}
+use Rattle.bc7_format.proofs.Reserved.{open-mode, reserved-mode}
 use Rattle.record_rules.specs.Answers.{packRules}
 use Rattle.record_rules.specs.Records.{Shaped, made, packed, packedAs, recordOf, says, taken, unpackedAs, zeroRecord}
 use Rattle.record_rules.proofs.Answering.{packing}

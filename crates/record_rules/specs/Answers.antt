@@ -6,10 +6,10 @@ use Prim.Native.Nat.{ℕ, _-_, _^_, _<_, _≤_}
 use lib.Dec.{T}
 use Rattle.record_rules.specs.declared.Record.{Record}
 use Rattle.laws.specs.Refusals.{Rule, unless}
-use Rattle.format.specs.Modes.{indexBits, kindOfMode}
-use Rattle.format.specs.Partitions.{among}
-use Rattle.format.specs.Places.{Place, index, inside, width}
-use Rattle.format.specs.Splits.{anchors, kindOf}
+use Rattle.bc7_format.specs.Modes.{indexBits, kindOfMode}
+use Rattle.bcn_format.specs.Partitions.{among}
+use Rattle.bc7_format.specs.Places.{Place, index, inside, width}
+use Rattle.bc7_format.specs.Splits.{anchors, kindOf}
 use Rattle.record_rules.specs.Records.{says}
 
 -- no value needs more than its width, an anchor's index being taken at its full width

@@ -9,14 +9,13 @@ use lib.ListN.{length, getD, replicate}
 use Rattle.record_rules.specs.declared.Record.{Record}
 use Rattle.record_rules.specs.declared.Unpacked.{Unpacked}
 use Rattle.record_rules.specs.declared.Packed.{Packed}
-use Rattle.format.specs.declared.Split.{Split}
-use Rattle.format.specs.declared.Split.the-variants.{Whole}
+use Rattle.bc7_format.specs.declared.Split.{Split}
+use Rattle.bc7_format.specs.declared.Split.the-variants.{Whole}
 use Rattle.laws.specs.Refusals.{first, refuse}
 use Rattle.laws.specs.Tables.{below, pick, table}
-use Rattle.format.specs.Block.{modeOf}
-use Rattle.format.specs.Modes.{kindOfMode}
-use Rattle.format.specs.Places.{Place, blockOf, head, index, opened, pbit, placeAt, value, width}
-use Rattle.format.specs.Splits.{anchors, indexMode, kindOf, partition, rotation, splitOf}
+use Rattle.bc7_format.specs.Modes.{modeOf, kindOfMode}
+use Rattle.bc7_format.specs.Places.{Place, blockOf, head, index, opened, pbit, placeAt, value, width}
+use Rattle.bc7_format.specs.Splits.{anchors, indexMode, kindOf, partition, rotation, splitOf}
 
 -- the record of what stands at the places
 unfoldable pub made : ℕ → Split → (Place → ℕ) → Record

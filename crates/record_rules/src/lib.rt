@@ -1,6 +1,6 @@
 // The record of a block as definitions (specs/) and their laws (proofs/), and no code. The record holds everything that a block
 // stores, in the order of document 01; demand 2 is proved here, of what taking apart and packing are.
-use format::Split;
+use bc7_format::Split;
 
 // Endpoint e has channel c (red, green, blue, alpha) at 4 * e + c. The index set that is stored first is the first.
 pub struct Record {

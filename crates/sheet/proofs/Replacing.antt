@@ -3,7 +3,7 @@
 use mathlib.Core.Path.{_≡_, _∙_, ap, ap₂, sym}
 use mathlib.Core.List.{List}
 use Prim.Native.Nat.{ℕ}
-use Rattle.sheet_blocks.specs.declared.Found.{Found}
+use Rattle.sheet.specs.declared.blocks.Found.{Found}
 use Rattle.line_rules.specs.declared.Replacement.{Replacement}
 use Rattle.line_rules.specs.declared.Replaced.{Replaced}
 use Rattle.laws.specs.Refusals.{here, then}
@@ -12,8 +12,8 @@ use Rattle.line_rules.specs.Replace.{replaced}
 use Rattle.sheet_rules.specs.Rows.{blockAt}
 use Rattle.sheet_rules.specs.Sheets.{blockIn, putBlock, replacedIn, sheetAfter, sheetRefusal}
 use Rattle.sheet_rules.proofs.Replacing.{accepted-is, handing, refused-is}
-use Rattle.sheet_blocks.specs.Found.{findBlock}
-use Rattle.sheet_blocks.proofs.Finding.{at-is, refusal-is, told}
+use Rattle.sheet.specs.Found.{findBlock}
+use Rattle.sheet.proofs.blocks.Finding.{at-is, refusal-is, told}
 
 module _ (s : List ℕ) (b l : ℕ) (new : Replacement) where
   refused : {r : ℕ} → sheetRefusal s b l new ≡ r → (r ≡ 0 → ⊥) → (r ≡ sheetRefusal s b l new) × (s ≡ sheetAfter s b l new)

@@ -4,12 +4,16 @@ ghost use mathlib.Core.Path.{_≡_};
 ghost use lib.ListN.{length};
 ghost use Rattle.sheet_rules.specs.Rows.{rowOut, rowRefusal};
 ghost use Rattle.sheet_rules.specs.Sheets.{sheetAfter, sheetRefusal};
-use sheet_blocks::find_block;
-use sheet_blocks::load;
-use sheet_blocks::store;
-use sheet_rows::lines_shown;
-use sheet_rows::put_row;
-use sheet_rows::row_refusal;
+use crate::blocks::find_block;
+use crate::blocks::load;
+use crate::blocks::store;
+use crate::rows::lines_shown;
+use crate::rows::put_row;
+use crate::rows::row_refusal;
+
+pub mod blocks;
+pub mod output;
+pub mod rows;
 
 // One row of blocks as lines of pixels, top first. A refused call leaves the output as it was.
 pub fn decode_row(width: u32, height: u32, row: u32, blocks: &[u8], out: &mut [u8]) -> u8

@@ -7,14 +7,14 @@ use lib.ListN.{drop, length, replicate}
 use Rattle.line_rules.specs.declared.Replacement.{Replacement}
 use Rattle.laws.specs.Refusals.{first}
 use Rattle.laws.specs.Tables.{over, table, tableFrom}
-use Rattle.format.specs.Block.{bytesOf, modeOf, number, trailing}
-use Rattle.format.specs.Drawing.{drawn, eight, promoted, weightOf, weights}
-use Rattle.format.specs.Lines.{anchorOf, arrayOf, has, indexPlace, laid, lineAt, lineBits, lineOf, means, own, pPlace, pixel, pixels, rotated, shown, turned, valuePlace, withLine}
-use Rattle.format.specs.Modes.{endpointCount, kindOfMode, modeRow}
-use Rattle.format.specs.Places.{atPlace, blockOf, listOf, opened, placeAt, pos, width, widths}
-use Rattle.format.specs.Splits.{splitAt, splitOf}
-use Rattle.head.specs.Heads.{formIn, headRefusal, heightIn, readHead, sizeRefusal, widthIn}
-use Rattle.head.specs.Numbers.{raised, readGroups, readNumber}
+use Rattle.bcn_format.specs.Block.{bytesOf, number, trailing}
+use Rattle.bc7_format.specs.Modes.{modeOf, endpointCount, kindOfMode, modeRow}
+use Rattle.bcn_format.specs.Drawing.{drawn, promoted, weightOf, weights}
+use Rattle.bc7_format.specs.Lines.{eight, anchorOf, arrayOf, has, indexPlace, laid, lineAt, lineBits, lineOf, means, own, pPlace, pixel, pixels, rotated, shown, turned, valuePlace, withLine}
+use Rattle.bc7_format.specs.Places.{atPlace, blockOf, listOf, opened, placeAt, pos, width, widths}
+use Rattle.bc7_format.specs.Splits.{splitAt, splitOf}
+use Rattle.sheet_head.specs.Heads.{formIn, headRefusal, heightIn, readHead, sizeRefusal, widthIn}
+use Rattle.sheet_head.specs.Numbers.{raised, readGroups, readNumber}
 use Rattle.line_rules.specs.Replace.{after, indexFits, lineFits, lineGiven, oriented, ownWidth, pFits, put, refusal, refusalIn, replaced, valueFits}
 use Rattle.sheet_rules.specs.Pictures.{picture, pictureByte}
 use Rattle.sheet_rules.specs.Rows.{across, blockAt, channel, rowByte, rowBytes, rowOut, rowRefusal, shown as linesShown}

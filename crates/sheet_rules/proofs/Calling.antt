@@ -16,14 +16,14 @@ use Rattle.laws.specs.Refusals.{here, then}
 use Rattle.laws.proofs.Cases.{lt-or}
 use Rattle.laws.proofs.Fitting.{fit-get, fit-length}
 use Rattle.laws.proofs.Refusals.{Answers, accepted-when, answers, exactly, handed-last, none, rules}
-use Rattle.calls.specs.Calls as calls
-use Rattle.calls.proofs.Parts.{Parts, part-run}
-use Rattle.calls.proofs.Trading.{run-good}
-use Rattle.format.specs.Block.{eights}
-use Rattle.format.proofs.Subsets.{sixteen-bytes}
-use Rattle.head.specs.Heads.{readHead}
-use Rattle.head.specs.Numbers.{Bytes}
-use Rattle.head.proofs.Theorems.{head-answers}
+use Rattle.laws.specs.Calls as calls
+use Rattle.laws.proofs.calls.Parts.{Parts, part-run}
+use Rattle.laws.proofs.calls.Trading.{run-good}
+use Rattle.bcn_format.specs.Block.{eights}
+use Rattle.bc7_format.proofs.Subsets.{sixteen-bytes}
+use Rattle.sheet_head.specs.Heads.{readHead}
+use Rattle.sheet_head.specs.Numbers.{Bytes}
+use Rattle.sheet_head.proofs.Theorems.{head-answers}
 use Rattle.line_rules.specs.Calls.{afterAll}
 use Rattle.line_rules.specs.Replace.{after, callOf, refusal, replaced}
 use Rattle.line_rules.proofs.Accepting.{on-block}

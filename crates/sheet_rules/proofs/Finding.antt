@@ -6,8 +6,8 @@ use Prim.Native.Nat.{ℕ, _+_, _*_, _<_, _≤_}
 use native.Mathlib.Omega.{arith}
 use lib.ListN.{length}
 use Rattle.laws.proofs.Refusals.{Answers, answers, by-answer, by-leb, by-not-eqb, none, rule, rules}
-use Rattle.head.specs.Heads.{formIn, headRules, heightIn, readHead, widthIn}
-use Rattle.head.proofs.Theorems.{head-answers}
+use Rattle.sheet_head.specs.Heads.{formIn, headRules, heightIn, readHead, widthIn}
+use Rattle.sheet_head.proofs.Theorems.{head-answers}
 use Rattle.sheet_rules.specs.Sheets.{behindHead, blocksOf, findRefusal, findRules, placeOf}
 
 pub finding : (s : List ℕ) (b : ℕ) → Answers (findRefusal s b) (findRules (readHead s) s b)

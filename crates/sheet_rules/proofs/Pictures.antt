@@ -11,8 +11,8 @@ use lib.Seq.{drop-drop, getD-take, getD-drop, ext-getD}
 use Rattle.laws.specs.Tables.{table, tableFrom}
 use Rattle.laws.proofs.Joining.{table-append, table-same}
 use Rattle.laws.proofs.Part.{getD-table, length-table}
-use Rattle.format.specs.Lines.{pixel, pixels}
-use Rattle.head.specs.Heads.{Sized, readHead}
+use Rattle.bc7_format.specs.Lines.{pixel, pixels}
+use Rattle.sheet_head.specs.Heads.{Sized, readHead}
 use Rattle.laws.proofs.Refusals.{accepted-when}
 use Rattle.sheet_rules.specs.Pictures.{blockShowing, decodedRows, picture, pictureByte, pixelIn, rowOf}
 use Rattle.sheet_rules.specs.Rows.{across, blockAt, channel, rowByte, rowBytes, rowOut, rowRefusal, shown}

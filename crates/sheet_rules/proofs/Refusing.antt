@@ -6,8 +6,8 @@ use Prim.Native.Nat.{ℕ, _*_, _<_}
 use borrow.Author.Tests.{ne-eqb}
 use lib.ListN.{length}
 use Rattle.laws.proofs.Refusals.{Answers, answer-0, answers, by-leb, by-not-eqb, none, rule}
-use Rattle.head.specs.Heads.{Sized}
-use Rattle.head.proofs.Heading.{size-test}
+use Rattle.sheet_head.specs.Heads.{Sized}
+use Rattle.sheet_head.proofs.Heading.{size-test}
 use Rattle.sheet_rules.specs.Rows.{across, rowBytes, rowOut, rowRefusal, rowRules, shown}
 
 module _ (w h row given room : ℕ) where

@@ -15,15 +15,15 @@ use Rattle.laws.specs.Digits.{Fit}
 use Rattle.laws.specs.Refusals.{Given}
 use Rattle.laws.proofs.Cases.{lt-or}
 use Rattle.laws.proofs.Refusals.{exactly}
-use Rattle.calls.specs.Calls as calls
-use Rattle.calls.proofs.Parts.{alike as parts-alike, trade}
-use Rattle.calls.proofs.Trading.{Trade, inside, woven, woven-told}
-use Rattle.format.specs.Block.{eights, modeOf}
-use Rattle.format.specs.Lines.{draws, meant, pixel}
-use Rattle.format.specs.Modes.{lines}
-use Rattle.format.specs.Splits.{splitOf}
-use Rattle.head.specs.Heads.{readHead}
-use Rattle.head.specs.Numbers.{Bytes}
+use Rattle.laws.specs.Calls as calls
+use Rattle.laws.proofs.calls.Parts.{alike as parts-alike, trade}
+use Rattle.laws.proofs.calls.Trading.{Trade, inside, woven, woven-told}
+use Rattle.bcn_format.specs.Block.{eights}
+use Rattle.bc7_format.specs.Modes.{modeOf, lines}
+use Rattle.bc7_format.specs.Lines.{draws, meant, pixel}
+use Rattle.bc7_format.specs.Splits.{splitOf}
+use Rattle.sheet_head.specs.Heads.{readHead}
+use Rattle.sheet_head.specs.Numbers.{Bytes}
 use Rattle.line_rules.specs.Calls.{afterAll, last, seen}
 use Rattle.line_rules.specs.Replace.{after, refusal}
 use Rattle.line_rules.proofs.Draws.{drawn-by-one}

@@ -5,9 +5,9 @@ use mathlib.Core.Path.{_≡_}
 use mathlib.Core.List.{List}
 use lib.ListN.{length}
 use Rattle.line_rules.specs.declared.Replacement.{Replacement}
-use Rattle.calls.specs.Calls as calls
-use Rattle.head.specs.Heads.{readHead}
-use Rattle.head.specs.Numbers.{Bytes}
+use Rattle.laws.specs.Calls as calls
+use Rattle.sheet_head.specs.Heads.{readHead}
+use Rattle.sheet_head.specs.Numbers.{Bytes}
 use Rattle.line_rules.specs.Replace.{Call, callOf}
 use Rattle.sheet_rules.specs.Sheets.{blocksOf, sheetAfter, sheetRefusal}
 

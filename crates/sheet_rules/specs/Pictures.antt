@@ -4,7 +4,7 @@ use Prim.Native.Nat.{ℕ, zero, suc, _+_, _*_, _/_, _%_}
 use mathlib.Core.List.{List, [], _++_}
 use lib.ListN.{take, drop}
 use Rattle.laws.specs.Tables.{table}
-use Rattle.format.specs.Lines.{pixels}
+use Rattle.bc7_format.specs.Lines.{pixels}
 use Rattle.sheet_rules.specs.Rows.{across, blockAt, channel, rowOut}
 
 -- the block that shows pixel x, y, and the number of the pixel in it; `all` is the bytes of all blocks

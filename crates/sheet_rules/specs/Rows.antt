@@ -8,8 +8,8 @@ use lib.Dec.{eqb, leb}
 use lib.ListN.{length, getD, take, drop}
 use Rattle.laws.specs.Refusals.{Rule, first, refuse, unless}
 use Rattle.laws.specs.Tables.{pick, table}
-use Rattle.format.specs.Lines.{pixels}
-use Rattle.head.specs.Heads.{Sized, sizeRefusal}
+use Rattle.bc7_format.specs.Lines.{pixels}
+use Rattle.sheet_head.specs.Heads.{Sized, sizeRefusal}
 
 -- columns of blocks in a width, rows of blocks in a height
 abbrev pub across : ℕ → ℕ

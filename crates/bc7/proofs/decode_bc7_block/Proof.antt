@@ -8,10 +8,10 @@ use borrow.Author.Needs.{needs}
 use lib.ListN.{getD, length}
 use mir.Syntax.{w8}
 use mir.Val.{Fits}
-use Rattle.format.specs.Lines.{pixels}
-use Rattle.bcn_util.specs.declared.stream.BitStream.{BitStream}
-use Rattle.bcn_util.specs.Stream.{held, skipped}
-use Rattle.bc7_fields.specs.Fields.{directPixels}
+use Rattle.bc7_format.specs.Lines.{pixels}
+use Rattle.bits.specs.declared.stream.BitStream.{BitStream}
+use Rattle.bits.specs.Stream.{held, skipped}
+use Rattle.bc7_format.specs.Fields.{directPixels}
 use Rattle.bc7.proofs.Laws.{by-mode, by-none, eight, mode-8}
 use Rattle.bc7.proofs.decode_bc7_block.Statement.{statement}
 use Rattle.bc7.proofs.decode_bc7_block.Tie as tie

@@ -1,7 +1,7 @@
 -- The mode, from the low byte.
 -- Assumes nothing.
 use borrow.Author.Needs.{needs}
-use Rattle.format.proofs.Trailing.{trailing-count}
+use Rattle.bcn_format.proofs.Trailing.{trailing-count}
 use Rattle.bc7.proofs.extract_mode.Statement.{statement}
 use Rattle.bc7.proofs.extract_mode.Tie as tie
 

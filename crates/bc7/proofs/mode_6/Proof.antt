@@ -6,19 +6,19 @@ use Prim.Native.Nat.{ℕ, _+_, _*_, _<_}
 use native.Mathlib.Omega.{arith}
 use borrow.Author.Needs.{needs}
 use Rattle.laws.specs.Tables.{table}
-use Rattle.format.specs.Block.{field}
-use Rattle.format.specs.Modes.{endpointCount, kindOfMode, modeRow}
-use Rattle.format.specs.Splits.{splitAt}
-use Rattle.bcn_util.specs.Stream.{held}
-use Rattle.bcn_util.proofs.On.{On, got-on, got-v, next-is}
-use Rattle.bcn_indexes.specs.Indexes.{expanded, part}
-use Rattle.bc7_fields.specs.Fields.{endByte, four, headEnd, pStart, valueStart}
-use Rattle.bc7_fields.specs.Painting.{between, painted}
-use Rattle.bc7_fields.proofs.Pictures.{drawn-each, four-ext, one-palette}
-use Rattle.bc7_color.specs.Words.{endpoint, withP}
-use Rattle.bc7_color.proofs.Words.{endpoint-one}
-use Rattle.bc7_palette.proofs.Reading.{clear-p-shown, two-ps}
-use Rattle.bc7_parts.proofs.Laws.{whole-keys}
+use Rattle.bcn_format.specs.Block.{field}
+use Rattle.bc7_format.specs.Modes.{endpointCount, kindOfMode, modeRow}
+use Rattle.bc7_format.specs.Splits.{splitAt}
+use Rattle.bits.specs.Stream.{held}
+use Rattle.bits.proofs.On.{On, got-on, got-v, next-is}
+use Rattle.bcn_format.specs.Indexes.{expanded, part}
+use Rattle.bc7_format.specs.Fields.{endByte, headEnd, pStart, valueStart}
+use Rattle.bcn_format.specs.Painting.{four, between, painted}
+use Rattle.bc7_format.proofs.Pictures.{drawn-each, four-ext, one-palette}
+use Rattle.drawing.specs.Words.{endpoint, withP}
+use Rattle.drawing.proofs.color.Words.{endpoint-one}
+use Rattle.bc7_reads.proofs.Reading.{clear-p-shown, two-ps}
+use Rattle.bc7_reads.proofs.Whole.{whole-keys}
 use Rattle.bc7.proofs.mode_6.Statement.{statement}
 use Rattle.bc7.proofs.mode_6.Tie as tie
 

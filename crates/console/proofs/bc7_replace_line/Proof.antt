@@ -4,7 +4,7 @@ use mathlib.Core.Path.{_≡_, sym, ap, _∙_}
 use Rattle.line_rules.specs.declared.Replaced.{Replaced}
 use Rattle.line_rules.specs.Replace.{callOf, replaced}
 use Rattle.line_rules.proofs.Theorems.{refused-same}
-use Rattle.wire.specs.Wire.{replacementOf}
+use Rattle.record_bytes.specs.Wire.{replacementOf}
 use borrow.Author.Needs.{needs}
 use Rattle.console.proofs.bc7_replace_line.Statement.{statement}
 use Rattle.console.proofs.bc7_replace_line.Tie as tie

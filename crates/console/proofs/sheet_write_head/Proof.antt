@@ -2,7 +2,7 @@
 -- Assumes nothing.
 use mathlib.Core.Path.{sym, ap, _∙_}
 use borrow.Author.Tests.{eq-eqb, ne-eqb}
-use Rattle.head.specs.declared.HeadBytes.{HeadBytes}
+use Rattle.sheet_head.specs.declared.HeadBytes.{HeadBytes}
 use borrow.Author.Needs.{needs}
 use Rattle.console.proofs.sheet_write_head.Statement.{statement}
 use Rattle.console.proofs.sheet_write_head.Tie as tie

@@ -1,7 +1,7 @@
 -- `bytes_of` meets its contract.
 -- Assumes nothing.
-use Rattle.bcn_util.specs.Stream.{held}
-use Rattle.bcn_util.specs.Writer.{written}
+use Rattle.bits.specs.Stream.{held}
+use Rattle.bits.specs.Writer.{written}
 use borrow.Author.Needs.{needs}
 use Rattle.line.proofs.bytes_of.Statement.{statement}
 use Rattle.line.proofs.bytes_of.Tie as tie

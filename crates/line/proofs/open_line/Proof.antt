@@ -7,8 +7,8 @@ use mir.Syntax.{w8}
 use mir.Val.{Fits}
 use lib.ListN.{length, getD}
 use Rattle.laws.specs.Digits.{Fit}
-use Rattle.format.specs.Block.{eights}
-use Rattle.format.proofs.Subsets.{sixteen-bytes}
+use Rattle.bcn_format.specs.Block.{eights}
+use Rattle.bc7_format.proofs.Subsets.{sixteen-bytes}
 use Rattle.line.proofs.Opening.{asks, is-opened, stands-low}
 use Rattle.line.proofs.open_line.Statement.{statement}
 use Rattle.line.proofs.open_line.Tie as tie

@@ -8,11 +8,11 @@ use mir.Syntax.{w8}
 use mir.Val.{Fits}
 use lib.ListN.{length, getD}
 use Rattle.laws.specs.Digits.{Fit}
-use Rattle.format.specs.Block.{eights, modeOf}
-use Rattle.format.specs.Modes.{lines}
-use Rattle.format.proofs.Subsets.{sixteen-bytes}
-use Rattle.format.proofs.Trailing.{mode-le-8}
-use Rattle.record_widths.specs.Rows.{rowOf}
+use Rattle.bcn_format.specs.Block.{eights}
+use Rattle.bc7_format.specs.Modes.{modeOf, lines}
+use Rattle.bc7_format.proofs.Subsets.{sixteen-bytes}
+use Rattle.bc7_format.proofs.Modes.{mode-le-8}
+use Rattle.bc7_places.specs.Rows.{rowOf}
 use Rattle.line.proofs.Opening.{read-0, read-1, read-2, ready-part, ready-read}
 use Rattle.line.proofs.read_line.Statement.{statement}
 use Rattle.line.proofs.read_line.Tie as tie

@@ -13,15 +13,15 @@ use lib.Dec.{eqb}
 use lib.ListN.{length, getD}
 use Rattle.laws.specs.Digits.{Fit}
 use Rattle.laws.specs.Tables.{both}
-use Rattle.format.specs.Block.{eights, modeOf}
-use Rattle.format.specs.Modes.{lines}
-use Rattle.format.specs.Splits.{splitOf}
-use Rattle.format.proofs.Subsets.{sixteen-bytes}
-use Rattle.format.proofs.Trailing.{mode-le-8}
-use Rattle.record_widths.specs.Rows.{rowOf}
+use Rattle.bcn_format.specs.Block.{eights}
+use Rattle.bc7_format.specs.Modes.{modeOf, lines}
+use Rattle.bc7_format.specs.Splits.{splitOf}
+use Rattle.bc7_format.proofs.Subsets.{sixteen-bytes}
+use Rattle.bc7_format.proofs.Modes.{mode-le-8}
+use Rattle.bc7_places.specs.Rows.{rowOf}
 use Rattle.line_rules.specs.Replace.{replacedAs}
-use Rattle.line_parts.specs.Parts.{partsFit}
-use Rattle.line_parts.proofs.Parts.{IsPart}
+use Rattle.line.specs.Parts.{partsFit}
+use Rattle.line.proofs.parts.Parts.{IsPart}
 use Rattle.line.proofs.Ways.{below-mask, indexes-fit, is, ready, way-0, way-1, way-2, way-3, way-3-others, way-4}
 use Rattle.line.proofs.replace_line.Statement.{statement}
 use Rattle.line.proofs.replace_line.Tie as tie

@@ -2,9 +2,9 @@
 -- Assumes nothing.
 use mathlib.Core.Path.{_∙_, ap, sym, subst}
 use borrow.Author.Needs.{needs}
-use Rattle.head.specs.declared.Head.{Head}
-use Rattle.head.specs.Heads.{Sized}
-use Rattle.head.proofs.Theorems.{head-sized}
+use Rattle.sheet_head.specs.declared.Head.{Head}
+use Rattle.sheet_head.specs.Heads.{Sized}
+use Rattle.sheet_head.proofs.Theorems.{head-sized}
 use Rattle.listing_rules.specs.Taking.{headTaken}
 use Rattle.listing.proofs.head_of.Statement.{statement}
 use Rattle.listing.proofs.head_of.Tie as tie

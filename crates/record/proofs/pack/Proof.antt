@@ -5,12 +5,12 @@ use native.Mathlib.Omega.{arith}
 use borrow.Author.Tests.{not-true, not-false}
 use Rattle.laws.specs.Refusals.{here, then}
 use Rattle.laws.proofs.Tests.{no-both}
-use Rattle.format.specs.Modes.{kindOfMode}
-use Rattle.format.specs.Splits.{kindOf}
+use Rattle.bc7_format.specs.Modes.{kindOfMode}
+use Rattle.bc7_format.specs.Splits.{kindOf}
 use Rattle.record_rules.proofs.Answering.{fits-at, fits-of, refused-as}
-use Rattle.record_widths.specs.declared.ModeRow.{ModeRow}
-use Rattle.record_fits.specs.Fitting.{Full}
-use Rattle.record_fits.proofs.Fits.{part-64}
+use Rattle.bc7_places.specs.declared.modes.ModeRow.{ModeRow}
+use Rattle.record.specs.Fitting.{Full}
+use Rattle.record.proofs.fits.Fits.{part-64}
 use Rattle.record.proofs.Steps.{packs, tops-set, written}
 use borrow.Author.Needs.{needs}
 use Rattle.record.proofs.pack.Statement.{statement}

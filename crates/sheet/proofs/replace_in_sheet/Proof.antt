@@ -1,7 +1,7 @@
 -- `sheet::replace_in_sheet` meets its contract.
 -- Assumes nothing.
 use borrow.Author.Needs.{needs}
-use Rattle.sheet_blocks.proofs.Finding.{has-room}
+use Rattle.sheet.proofs.blocks.Finding.{has-room}
 use Rattle.sheet.proofs.Replacing.{not-found, not-replaced, replaced-stored}
 use Rattle.sheet.proofs.replace_in_sheet.Statement.{statement}
 use Rattle.sheet.proofs.replace_in_sheet.Tie as tie

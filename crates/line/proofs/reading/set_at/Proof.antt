@@ -2,7 +2,7 @@
 -- Assumes nothing.
 use mathlib.Core.Path.{_∙_}
 use borrow.Author.Needs.{needs}
-use Rattle.line_fields.proofs.Sets.{before-is}
+use Rattle.line.proofs.fields.Sets.{before-is}
 use Rattle.line.specs.Reading.{setAt}
 use Rattle.line.proofs.reading.set_at.Statement.{statement}
 use Rattle.line.proofs.reading.set_at.Tie as tie

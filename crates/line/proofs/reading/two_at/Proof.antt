@@ -3,9 +3,9 @@
 use borrow.Author.Needs.{needs}
 use mathlib.Core.Path.{ap}
 use native.Mathlib.Omega.{arith}
-use Rattle.bcn_util.specs.declared.stream.Values2.{Values2}
-use Rattle.bcn_util.specs.Stream.{held}
-use Rattle.bcn_util.proofs.On.{field-below}
+use Rattle.bits.specs.declared.stream.Values2.{Values2}
+use Rattle.bits.specs.Stream.{held}
+use Rattle.bits.proofs.On.{field-below}
 use Rattle.line.proofs.reading.two_at.Statement.{statement}
 use Rattle.line.proofs.reading.two_at.Tie as tie
 

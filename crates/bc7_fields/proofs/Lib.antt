@@ -1,4 +1,0 @@
-pub mod Places
-pub mod Showing
-pub mod Making
-pub mod Pictures

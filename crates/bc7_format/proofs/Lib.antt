@@ -1,0 +1,16 @@
+pub mod Fields
+pub mod Showing
+pub mod Pictures
+pub mod Examples
+pub mod Attested
+pub mod Chart
+pub mod Places
+pub mod Opening
+pub mod Reserved
+pub mod Modes
+pub mod Starts
+pub mod Lens
+pub mod Subsets
+pub mod Meaning
+pub mod Direct
+pub mod Theorems

@@ -1,0 +1,68 @@
+-- What stands in a block, in stored order, and how many bits each has. What a mode hasn't got has width 0.
+-- Assumes nothing.
+use Prim.Native.Nat.{ℕ, _+_, _-_, _*_, _/_, _%_}
+use mathlib.Core.Bool.{Bool}
+use mathlib.Core.List.{List}
+use lib.Dec.{ltb}
+use lib.ListN.{getD}
+use Rattle.bc7_format.specs.declared.Split.{Split}
+use Rattle.laws.specs.Digits.{join, split}
+use Rattle.laws.specs.Tables.{both, pick, table}
+use Rattle.bcn_format.specs.Block.{bytesOf, number}
+use Rattle.bc7_format.specs.Modes.{modeOf, channelBits, endpointCount, indexBits, pCount}
+use Rattle.bcn_format.specs.Partitions.{among}
+use Rattle.bc7_format.specs.Splits.{anchors, headBits, splitOf}
+
+-- head 0 is the marker, 1 the partition, 2 the rotation, 3 the index mode; a value is of a channel and an endpoint, an index
+-- of a set (0 or 1) and a pixel
+pub data Place : Type 0 where
+  head : ℕ → Place
+  value : ℕ → ℕ → Place
+  pbit : ℕ → Place
+  index : ℕ → ℕ → Place
+
+-- the places there are
+abbrev pub inside : Place → Bool
+inside (head k) = ltb k 4
+inside (value c e) = both (ltb c 4) (ltb e 6)
+inside (pbit k) = ltb k 6
+inside (index a q) = both (ltb a 2) (ltb q 16)
+
+-- the stored order: red of the endpoints 0 to 5, green, blue, alpha, the p bits, the first and the second indexes; and back
+unfoldable pub placeAt : ℕ → Place
+placeAt i =
+    pick (ltb i 4) (head i)
+    (pick (ltb i 28) (value ((i - 4) / 6) ((i - 4) % 6))
+    (pick (ltb i 34) (pbit (i - 28))
+    (index ((i - 34) / 16) ((i - 34) % 16))))
+
+unfoldable pub pos : Place → ℕ
+pos (head k) = k
+pos (value c e) = 4 + (6 * c + e)
+pos (pbit k) = 28 + k
+pos (index a q) = 34 + (16 * a + q)
+
+-- how many bits a place has in a mode, where the pixels of `an` are anchors: an anchor's index has one bit less
+unfoldable pub width : ℕ → List ℕ → Place → ℕ
+width m an (head k) = getD (headBits m) k 0
+width m an (value c e) = pick (ltb e (endpointCount m)) (channelBits m c) 0
+width m an (pbit k) = pick (ltb k (pCount m)) 1 0
+width m an (index a q) = pick (among q an) (indexBits m a - 1) (indexBits m a)
+
+-- all widths, and what stands at all places, in stored order
+unfoldable pub widths : ℕ → Split → List ℕ
+widths m s = table 66 (λ i. width m (anchors s) (placeAt i))
+
+unfoldable pub listOf : (Place → ℕ) → List ℕ
+listOf f = table 66 (λ i. f (placeAt i))
+
+-- what stands at a place of a number, in a mode and a split; and of a block
+unfoldable pub atPlace : ℕ → Split → ℕ → Place → ℕ
+atPlace m s n x = getD (split (widths m s) n) (pos x) 0
+
+unfoldable pub opened : List ℕ → Place → ℕ
+opened bs x = atPlace (modeOf bs) (splitOf bs) (number bs) x
+
+-- the block in which f stands at the places
+unfoldable pub blockOf : ℕ → Split → (Place → ℕ) → List ℕ
+blockOf m s f = bytesOf (join (widths m s) (listOf f))

@@ -1,4 +1,0 @@
-pub mod Weights
-pub mod Keyed
-pub mod Reading
-pub mod Weighing

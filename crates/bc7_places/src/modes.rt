@@ -1,0 +1,109 @@
+// The table of modes by rows, and the anchors of a split.
+ghost use mathlib.Core.Path.{_≡_};
+ghost use Prim.Native.Nat.{_<_};
+ghost use Rattle.bc7_format.specs.Splits.{partition};
+ghost use Rattle.bc7_places.specs.Rows.{anchorsOf, rowAs, rowOf};
+use bc7_format::Split;
+use partitions::fixup_index_2;
+use partitions::fixup_indexes_3;
+
+// A row of the table. The kind of split: 0 whole, 1 two subsets, 2 three subsets, 3 vector and scalar.
+pub struct ModeRow {
+    pub lines: u32,
+    pub kind: u8,
+    pub endpoints: usize,
+    pub partition: u32,
+    pub rotation: u32,
+    pub index_mode: u32,
+    pub colour: u32,
+    pub alpha: u32,
+    pub p: usize,
+    pub first: u32,
+    pub second: u32,
+}
+
+// The pixels that are anchors, as three numbers: pixel 0 again where a split has fewer.
+pub struct Anchors {
+    pub a: usize,
+    pub b: usize,
+    pub c: usize,
+}
+
+// A row, its columns in the order of the struct.
+fn row(
+    lines: u32,
+    kind: u8,
+    endpoints: usize,
+    partition: u32,
+    rotation: u32,
+    index_mode: u32,
+    colour: u32,
+    alpha: u32,
+    p: usize,
+    first: u32,
+    second: u32,
+) -> ModeRow
+    ensures { λ r. ⌜ r ≡ rowAs lines kind endpoints «partition» rotation «index_mode» colour alpha p first second ⌝ }
+{
+    ModeRow {
+        lines: lines,
+        kind: kind,
+        endpoints: endpoints,
+        partition: partition,
+        rotation: rotation,
+        index_mode: index_mode,
+        colour: colour,
+        alpha: alpha,
+        p: p,
+        first: first,
+        second: second,
+    }
+}
+
+// The row of a mode. A `match` becomes a table in the program, where a constant array would be laid on the stack at each call.
+pub fn mode_row(mode: u8) -> ModeRow
+    requires { ⌜ mode < 8 ⌝ }
+    ensures { λ r. ⌜ r ≡ rowOf mode ⌝ }
+{
+    match mode {
+        // lines, kind, endpoints | partition, rotation, index mode | colour, alpha | p bits | index widths
+        0 => row(3, 2, 6, 4, 0, 0, 4, 0, 6, 3, 0),
+        1 => row(2, 1, 4, 6, 0, 0, 6, 0, 2, 3, 0),
+        2 => row(3, 2, 6, 6, 0, 0, 5, 0, 0, 2, 0),
+        3 => row(2, 1, 4, 6, 0, 0, 7, 0, 4, 2, 0),
+        4 => row(2, 3, 2, 0, 2, 1, 5, 6, 0, 2, 3),
+        5 => row(2, 3, 2, 0, 2, 0, 7, 8, 0, 2, 2),
+        6 => row(1, 0, 2, 0, 0, 0, 7, 7, 2, 4, 0),
+        _ => row(2, 1, 4, 6, 0, 0, 5, 5, 4, 2, 0),
+    }
+}
+
+// Pixel 0 is always an anchor; the partition tables have the others.
+pub fn anchors_of(split: Split) -> Anchors
+    requires { ⌜ partition split < 64 ⌝ }
+    ensures { λ r. ⌜ r ≡ anchorsOf split ⌝ }
+{
+    match split {
+        Split::Whole => Anchors { a: 0, b: 0, c: 0 },
+        Split::Two(partition) => {
+            let fixup = fixup_index_2(partition);
+            Anchors {
+                a: 0,
+                b: fixup as usize,
+                c: 0,
+            }
+        }
+        Split::Three(partition) => {
+            let fixups = fixup_indexes_3(partition);
+            Anchors {
+                a: 0,
+                b: fixups.fixup_index_2 as usize,
+                c: fixups.fixup_index_3 as usize,
+            }
+        }
+        Split::Vector {
+            rotation: _,
+            index_mode: _,
+        } => Anchors { a: 0, b: 0, c: 0 },
+    }
+}

@@ -1,0 +1,101 @@
+-- One law for each kind of split with subsets: from what a mode reads and paints to what its number shows.
+-- Assumes nothing.
+use mathlib.Core.Path.{_≡_, refl, sym, ap, _∙_}
+use mathlib.Core.Bool.{false}
+use mathlib.Core.List.{List, [], _∷_}
+use Prim.Native.Nat.{ℕ, _+_, _-_, _*_, _/_, _%_, _^_, _≤_, _<_}
+use native.Mathlib.Nat.{lt-of-lt-of-le}
+use native.Mathlib.Omega.{arith}
+use Rattle.bc7_format.specs.declared.Split.{Split}
+use Rattle.bc7_format.specs.declared.Split.the-variants.{Three, Two}
+use Rattle.laws.specs.Digits.{total}
+use Rattle.bcn_format.specs.Block.{field}
+use Rattle.bc7_format.specs.Modes.{firstBits}
+use Rattle.bcn_format.specs.Partitions.{anchors2, anchors3, subset2, subset3}
+use Rattle.bc7_format.specs.Splits.{anchors, isVector, splitAt, subset}
+use Rattle.bc7_format.proofs.Starts.{index-start, start}
+use Rattle.bc7_format.proofs.Subsets.{subset-below}
+use Rattle.bits.specs.declared.stream.BitStream.{BitStream}
+use Rattle.bits.specs.Stream.{nextBits}
+use Rattle.bits.proofs.On.{On, next-is}
+use Rattle.bcn_format.specs.Indexes.{expanded, indexWidths, part}
+use Rattle.bcn_format.proofs.Expanding.{size-2, size-3}
+use Rattle.bc7_format.specs.Fields.{directPixels}
+use Rattle.bcn_format.specs.Painting.{painted}
+use Rattle.bc7_format.proofs.Pictures.{Palette, indexes-at, keyed-law}
+use Rattle.partitions.specs.Sets.{set2, set3}
+use Rattle.partitions.proofs.Maps.{anchors-in2, anchors-in3}
+use Rattle.partitions.proofs.SetWords.{anchor-of2, second-of3, subset-of2, subset-of3, third-of3}
+use Rattle.drawing.specs.declared.keys.Keys.{Keys}
+use Rattle.drawing.specs.Keys.{keyAt, keysOf}
+use Rattle.drawing.proofs.keys.KeyWords.{key-at}
+use Rattle.bc7_reads.proofs.Whole.{indexStart}
+
+-- a word that has w bits for the subset of each pixel
+pub record Maps (w : ℕ) (of : ℕ → ℕ) (word : ℕ) : Type 0 where
+  pub at : (q : ℕ) → q < 16 → part word w q ≡ of q
+
+-- the anchors after pixel 0, in pixel order
+pub record Fixes2 (id a : ℕ) : Type 0 where
+  pub are : anchors2 id ≡ 0 ∷ a ∷ []
+  pub above : 0 < a
+  pub last : a < 16
+
+pub record Fixes3 (id a b : ℕ) : Type 0 where
+  pub are : anchors3 id ≡ 0 ∷ a ∷ b ∷ []
+  pub above : 0 < a
+  pub next : a < b
+  pub last : b < 16
+
+-- the word of a partition: its map, and its anchors behind pixel 0
+module _ {w id set : ℕ} (hid : id < 64) (most : w ≤ 3) where
+  module _ (least : 1 ≤ w) (e : set ≡ set2 w id) where
+    pub maps-2 : Maps w (subset2 id) set
+    unfolding part
+    maps-2 = record { at = λ q hq. rw e (subset-of2 w id hid most least q hq) }
+
+    pub fixes-2 : Fixes2 id (set / 2 ^ 48)
+    fixes-2 =
+        let a = anchors-in2 id hid in
+        rw (e, anchor-of2 w id hid most least) (record { are = a .are; above = a .above; last = a .last })
+
+  module _ (least : 2 ≤ w) (e : set ≡ set3 w id) where
+    pub maps-3 : Maps w (subset3 id) set
+    unfolding part
+    maps-3 = record { at = λ q hq. rw e (subset-of3 w id hid most least q hq) }
+
+    pub fixes-3 : Fixes3 id (set / 2 ^ 48 % 16) (set / 2 ^ 52)
+    fixes-3 =
+        let a = anchors-in3 id hid in
+        rw (e, second-of3 w id hid most least, third-of3 w id hid most least)
+        (record { are = a .are; above = a .above; next = a .next; last = a .last })
+
+-- a mode with subsets: the indexes are read where they start, and pixels looked up by their keys
+module _ (m n b : ℕ) (hm : m < 8) (eb : firstBits m ≡ b) (least : 2 ≤ b) (most : b ≤ 3) {id set : ℕ} (hid : id < 64)
+    {stream : BitStream} (on : On n (indexStart m) stream) {x : ℕ} {keys : Keys} {p picture : List (List ℕ)} where
+  by-keys : (s : Split) (k t c : ℕ) (an : List ℕ) → splitAt m n ≡ s → isVector s ≡ false → ((q : ℕ) → q < 16 → subset s q < k) → k ≤ 2 ^ t → t ≤ b
+      → anchors s ≡ an → total (indexWidths b an) ≡ c → Maps b (subset s) set → x ≡ expanded b an (nextBits stream c) → keys ≡ keysOf b t x set
+      → Palette m n b k t p → picture ≡ painted (keyAt b t keys) p → picture ≡ directPixels m n
+  by-keys s k t c an es flat subsets room narrow ea et maps ex ek palette drawn =
+      let small : (q : ℕ) → q < 16 → part set b q < 2 ^ t = λ q hq. rw (maps .at q hq) (lt-of-lt-of-le (subsets q hq) room) in
+      let first : expanded b an (nextBits stream c) ≡ expanded b an (field n (start m s (34 + (16 * 0 + 0))) c) =
+      ap (expanded b an) (next-is on c ∙ ap (λ (a : ℕ). field n a c) (sym (index-start m s hm))) in
+      drawn
+      ∙ keyed-law m n b k t s eb es flat subsets palette x _
+      (λ q hq. ap (λ (keys : Keys). keyAt b t keys q) ek ∙ key-at b t x set narrow small q hq ∙ ap (λ (l : ℕ). part x b q * 2 ^ t + l) (maps .at q hq))
+      (indexes-at m s 0 n b c an (omega arith) eb ea et (ex ∙ first))
+
+  pub two-keys : splitAt m n ≡ Two id → set ≡ set2 b id → x ≡ expanded b (0 ∷ set / 2 ^ 48 ∷ []) (nextBits stream (16 * b - 2))
+      → keys ≡ keysOf b 1 x set → Palette m n b 2 1 p → picture ≡ painted (keyAt b 1 keys) p → picture ≡ directPixels m n
+  two-keys es e =
+      let fixes : Fixes2 id (set / 2 ^ 48) = fixes-2 hid most (omega arith) e in
+      by-keys (Two id) 2 1 (16 * b - 2) (0 ∷ set / 2 ^ 48 ∷ []) es refl (λ q. subset-below (Two id) q hid) (omega arith) (omega arith)
+      (fixes .are) (size-2 b (set / 2 ^ 48) (omega arith) (fixes .above) (fixes .last)) (maps-2 hid most (omega arith) e)
+
+  pub three-keys : splitAt m n ≡ Three id → set ≡ set3 b id
+      → x ≡ expanded b (0 ∷ set / 2 ^ 48 % 16 ∷ set / 2 ^ 52 ∷ []) (nextBits stream (16 * b - 3))
+      → keys ≡ keysOf b 2 x set → Palette m n b 3 2 p → picture ≡ painted (keyAt b 2 keys) p → picture ≡ directPixels m n
+  three-keys es e =
+      let fixes : Fixes3 id (set / 2 ^ 48 % 16) (set / 2 ^ 52) = fixes-3 hid most least e in
+      by-keys (Three id) 3 2 (16 * b - 3) (0 ∷ set / 2 ^ 48 % 16 ∷ set / 2 ^ 52 ∷ []) es refl (λ q. subset-below (Three id) q hid) (omega arith) least
+      (fixes .are) (size-3 b (set / 2 ^ 48 % 16) (set / 2 ^ 52) (omega arith) (fixes .above) (fixes .next) (fixes .last)) (maps-3 hid most least e)

@@ -1,0 +1,159 @@
+-- Mode 4: a vector and its scalar, and the index mode.
+-- Assumes nothing.
+use mathlib.Core.Path.{_≡_, refl, ap, ap₂, _∙_}
+use mathlib.Core.List.{List, [], _∷_}
+use Prim.Native.Nat.{ℕ, _+_, _*_, _<_}
+use native.Mathlib.Omega.{arith}
+use borrow.Author.Needs.{needs}
+use lib.Dec.{eqb}
+use Rattle.laws.specs.Tables.{pick, table}
+use Rattle.bcn_format.specs.Block.{field}
+use Rattle.bc7_format.specs.Modes.{endpointCount, kindOfMode, modeRow}
+use Rattle.bc7_format.specs.Splits.{splitAt}
+use Rattle.bc7_format.proofs.Starts.{index-start}
+use Rattle.bits.specs.Stream.{held}
+use Rattle.bits.proofs.On.{On, field-lt, got-8, got-on, got-v, next-is, on-8, on-skipped}
+use Rattle.bcn_format.specs.Indexes.{expanded, part}
+use Rattle.bc7_format.specs.Fields.{endByte, headEnd, valueStart}
+use Rattle.bcn_format.specs.Painting.{four, between}
+use Rattle.bc7_format.specs.Rotating.{swapped}
+use Rattle.bc7_format.proofs.Pictures.{four-ext}
+use Rattle.bc7_format.proofs.Fields.{second-4, split-4}
+use Rattle.drawing.specs.declared.color.Stored.{Stored}
+use Rattle.drawing.specs.Words.{endpoint, withAlpha}
+use Rattle.drawing.proofs.color.Words.{endpoint-one}
+use Rattle.bc7_reads.proofs.Reading.{clear-shown}
+use Rattle.bc7_unsplit.specs.Crossing.{crossed}
+use Rattle.bc7_unsplit.proofs.Laws.{by-set, vector-either, words-apart, words-summed}
+use Rattle.bc7_unsplit.proofs.mode_4.Statement.{statement}
+use Rattle.bc7_unsplit.proofs.mode_4.Tie as tie
+
+value-requires : tie.Need-value-requires
+value-requires c κs = search needs
+
+value-requires-2 : tie.Need-value-requires-2
+value-requires-2 c κs = search needs
+
+values-1-requires : tie.Need-values-1-requires
+values-1-requires c κs = search needs
+
+values-1-requires-2 : tie.Need-values-1-requires-2
+values-1-requires-2 c κs = search needs
+
+values-1-requires-3 : tie.Need-values-1-requires-3
+values-1-requires-3 c κs = search needs
+
+values-1-requires-4 : tie.Need-values-1-requires-4
+values-1-requires-4 c κs = search needs
+
+alone-requires : tie.Need-alone-requires
+alone-requires c κs = search needs
+
+indexes-1-requires : tie.Need-indexes-1-requires
+indexes-1-requires c κs = search needs
+
+skip-requires : tie.Need-skip-requires
+skip-requires c κs = search needs
+
+indexes-1-requires-2 : tie.Need-indexes-1-requires-2
+indexes-1-requires-2 c κs = rw (c .skip .ensures) (let a = c .before .before .before in omega (arith, a, a .before .before .before))
+
+words-2-requires : tie.Need-words-2-requires
+words-2-requires c κs = search needs
+
+words-3-requires : tie.Need-words-3-requires
+words-3-requires c κs = search needs
+
+paint-2-and-3-requires : tie.Need-paint-2-and-3-requires
+paint-2-and-3-requires c κs =
+    let first = c .before .before in
+    let ends = first .before .before .before .before .before in
+    words-apart _ (ends .alone .result) (ends .alone .ensures .one) (first .words-2 .ensures) (c .words-3 .ensures)
+
+swap-channels-requires : tie.Need-swap-channels-requires
+swap-channels-requires c κs =
+    let rotation =
+    c .before .before .before .before .before .before .before .before .before .before .before .before .before .before .value .ensures in
+    omega (arith, rotation .small)
+
+returns : tie.Need-returns
+unfolding splitAt kindOfMode modeRow endpointCount field valueStart headEnd
+returns c =
+    let third = c .before .before in
+    let first = third .before .before in
+    let y = first .before .before in
+    let x = y .before .before in
+    let ends = x .before in
+    let a = ends .before in
+    let b = a .before in
+    let g = b .before in
+    let r = g .before in
+    let index-mode = r .before in
+    let rotation = index-mode .before in
+    let s = rotation .before in
+    let n = held (s .args .stream) in
+    let small = field-lt n 5 2 in
+    let on-rotation : On n 5 (s .args .stream) = record { of = refl; stands = s .pre } in
+    let on-mode = on-8 on-rotation 2 (rotation .value .ensures .same) in
+    let on-r = on-8 on-mode 1 (index-mode .value2 .ensures .same) in
+    let on-g = got-on on-r 10 (r .values-1 .ensures .same) in
+    let on-b = got-on on-g 10 (g .values-12 .ensures .same) in
+    let on-a = got-on on-b 10 (b .values-13 .ensures .same) in
+    let on-x = got-on on-a 12 (a .values-14 .ensures .same) in
+    let e = ends .alone .result in
+    let stored : Stored =
+    record {
+      r = r .values-1 .result .value;
+      g = g .values-12 .result .value;
+      b = b .values-13 .result .value;
+      a = a .values-14 .result .value;
+      p = 0;
+    } in
+    let shown =
+    clear-shown 4 n {l = 0} {x = stored} refl
+    (record {
+      red = got-v on-r 10 (r .values-1 .ensures .same);
+      green = got-v on-g 10 (g .values-12 .ensures .same);
+      blue = got-v on-b 10
+          (b .values-13 .ensures .same);
+    })
+    refl (got-v on-a 12 (a .values-14 .ensures .same)) refl in
+    let end : (k : ℕ) → k < 2 → endpoint e 0 k ≡ four (endByte 4 n (2 * 0 + k)) =
+    λ k hk. endpoint-one (withAlpha 5 6 stored) (ends .alone .ensures .each) (ends .alone .ensures .same) k hk
+    ∙ four-ext _ _ (λ c hc. shown k c hk hc) in
+    let first-is : x .indexes-1 .result ≡ expanded 2 (0 ∷ []) (field n 50 31) = x .indexes-1 .ensures ∙ ap (expanded 2 (0 ∷ [])) (next-is on-x 31) in
+    let on-y : On n 81 (y .before .skip .result) = rw (y .before .skip .ensures) (on-skipped on-x 31) in
+    let second-is : y .indexes-12 .result ≡ expanded 3 (0 ∷ []) (field n 81 47) =
+    y .indexes-12 .ensures ∙ ap (expanded 3 (0 ∷ [])) (next-is on-y 47) in
+    let f : ℕ → List ℕ = λ q. between 2 (endpoint e 0 0) (endpoint e 0 1) (part (x .indexes-1 .result) 2 q) in
+    let h : ℕ → List ℕ = λ q. between 3 (endpoint e 0 0) (endpoint e 0 1) (part (y .indexes-12 .result) 3 q) in
+    c .swap-channels .ensures
+    ∙ ap₂ swapped (got-8 on-rotation 2 (rotation .value .ensures .same))
+    (c .before .paint-2-and-3 .ensures ∙ words-summed _ e (ends .alone .ensures .one) (first .words-2 .ensures) (third .words-3 .ensures)
+    (x .indexes-1 .result) (y .indexes-12 .result)
+    ∙ ap (λ (i : ℕ). table 16 (λ q. pick (eqb i 0) (crossed (f q) (h q)) (crossed (h q) (f q))))
+    (got-8 on-mode 1 (index-mode .value2 .ensures .same)))
+    ∙ vector-either 4 n (field n 5 2) (field n 7 1) small (split-4 n) (field-lt n 7 1) f h
+    (by-set 4 n _ _ small (split-4 n) (end 0 (omega arith)) (end 1 (omega arith)) 0 2 50 (omega arith) refl (omega arith)
+    (index-start 4 _ (omega arith)) first-is)
+    (by-set 4 n _ _ small (split-4 n) (end 0 (omega arith)) (end 1 (omega arith)) 1 3 81 (omega arith) refl (omega arith) (second-4 _ _) second-is)
+
+pub mode-4-spec : {M : Type 1} → statement M
+mode-4-spec =
+    tie.close
+    (tie.spec
+    value-requires
+    value-requires-2
+    values-1-requires
+    values-1-requires-2
+    values-1-requires-3
+    values-1-requires-4
+    alone-requires
+    indexes-1-requires
+    skip-requires
+    indexes-1-requires-2
+    words-2-requires
+    words-3-requires
+    paint-2-and-3-requires
+    swap-channels-requires
+    returns)

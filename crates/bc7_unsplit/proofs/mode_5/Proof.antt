@@ -1,0 +1,143 @@
+-- Mode 5: a vector and its scalar.
+-- Assumes nothing.
+use mathlib.Core.Path.{_≡_, refl, ap, ap₂, _∙_}
+use mathlib.Core.List.{List, [], _∷_}
+use Prim.Native.Nat.{ℕ, _+_, _*_, _<_}
+use native.Mathlib.Omega.{arith}
+use borrow.Author.Needs.{needs}
+use Rattle.bcn_format.specs.Block.{field}
+use Rattle.bc7_format.specs.Modes.{endpointCount, kindOfMode, modeRow}
+use Rattle.bc7_format.specs.Splits.{splitAt}
+use Rattle.bc7_format.proofs.Starts.{index-start}
+use Rattle.bits.specs.Stream.{held}
+use Rattle.bits.proofs.On.{On, field-lt, got-8, got-on, got-v, next-is, on-8, on-skipped}
+use Rattle.bcn_format.specs.Indexes.{expanded}
+use Rattle.bc7_format.specs.Fields.{endByte, headEnd, valueStart}
+use Rattle.bcn_format.specs.Painting.{four, between, painted}
+use Rattle.bc7_format.specs.Rotating.{swapped}
+use Rattle.bc7_format.proofs.Pictures.{four-ext}
+use Rattle.bc7_format.proofs.Fields.{second-5, split-5}
+use Rattle.drawing.specs.declared.color.Stored.{Stored}
+use Rattle.drawing.specs.Words.{endpoint, withAlpha}
+use Rattle.drawing.proofs.color.Words.{endpoint-one}
+use Rattle.drawing.specs.declared.keys.Keys.{Keys}
+use Rattle.drawing.specs.Keys.{keyAt}
+use Rattle.bc7_reads.proofs.Reading.{clear-shown}
+use Rattle.bc7_unsplit.proofs.Laws.{by-set, paired, vector-either}
+use Rattle.bc7_unsplit.proofs.mode_5.Statement.{statement}
+use Rattle.bc7_unsplit.proofs.mode_5.Tie as tie
+
+value-requires : tie.Need-value-requires
+value-requires c κs = search needs
+
+values-1-requires : tie.Need-values-1-requires
+values-1-requires c κs = search needs
+
+values-1-requires-2 : tie.Need-values-1-requires-2
+values-1-requires-2 c κs = search needs
+
+values-1-requires-3 : tie.Need-values-1-requires-3
+values-1-requires-3 c κs = search needs
+
+values-1-requires-4 : tie.Need-values-1-requires-4
+values-1-requires-4 c κs = search needs
+
+alone-requires : tie.Need-alone-requires
+alone-requires c κs = search needs
+
+indexes-1-requires : tie.Need-indexes-1-requires
+indexes-1-requires c κs = search needs
+
+skip-requires : tie.Need-skip-requires
+skip-requires c κs = search needs
+
+indexes-1-requires-2 : tie.Need-indexes-1-requires-2
+indexes-1-requires-2 c κs = rw (c .skip .ensures) (omega arith)
+
+palette-2-and-2-requires : tie.Need-palette-2-and-2-requires
+palette-2-and-2-requires c κs = search needs
+
+keys-2-requires : tie.Need-keys-2-requires
+keys-2-requires c κs = search needs
+
+paint-4-requires : tie.Need-paint-4-requires
+paint-4-requires c κs = search needs
+
+swap-channels-requires : tie.Need-swap-channels-requires
+swap-channels-requires c κs =
+    let rotation = c .before .before .before .before .before .before .before .before .before .before .before .value .ensures in
+    omega (arith, rotation .small)
+
+returns : tie.Need-returns
+unfolding splitAt kindOfMode modeRow endpointCount field valueStart headEnd
+returns c =
+    let keys = c .before .before in
+    let palette = keys .before in
+    let y = palette .before in
+    let x = y .before .before in
+    let ends = x .before in
+    let a = ends .before in
+    let b = a .before in
+    let g = b .before in
+    let r = g .before in
+    let rotation = r .before in
+    let s = rotation .before in
+    let n = held (s .args .stream) in
+    let small = field-lt n 6 2 in
+    let on-rotation : On n 6 (s .args .stream) = record { of = refl; stands = s .pre } in
+    let on-r = on-8 on-rotation 2 (rotation .value .ensures .same) in
+    let on-g = got-on on-r 14 (r .values-1 .ensures .same) in
+    let on-b = got-on on-g 14 (g .values-12 .ensures .same) in
+    let on-a = got-on on-b 14 (b .values-13 .ensures .same) in
+    let on-x = got-on on-a 16 (a .values-14 .ensures .same) in
+    let e = ends .alone .result in
+    let stored : Stored =
+    record {
+      r = r .values-1 .result .value;
+      g = g .values-12 .result .value;
+      b = b .values-13 .result .value;
+      a = a .values-14 .result .value;
+      p = 0;
+    } in
+    let shown =
+    clear-shown 5 n {l = 0} {x = stored} refl
+    (record {
+      red = got-v on-r 14 (r .values-1 .ensures .same);
+      green = got-v on-g 14 (g .values-12 .ensures .same);
+      blue = got-v on-b 14
+          (b .values-13 .ensures .same);
+    })
+    refl (got-v on-a 16 (a .values-14 .ensures .same)) refl in
+    let end : (k : ℕ) → k < 2 → endpoint e 0 k ≡ four (endByte 5 n (2 * 0 + k)) =
+    λ k hk. endpoint-one (withAlpha 7 8 stored) (ends .alone .ensures .each) (ends .alone .ensures .same) k hk
+    ∙ four-ext _ _ (λ c hc. shown k c hk hc) in
+    let first : x .indexes-1 .result ≡ expanded 2 (0 ∷ []) (field n 66 31) = x .indexes-1 .ensures ∙ ap (expanded 2 (0 ∷ [])) (next-is on-x 31) in
+    let on-y : On n 97 (y .before .skip .result) = rw (y .before .skip .ensures) (on-skipped on-x 31) in
+    let second : y .indexes-12 .result ≡ expanded 2 (0 ∷ []) (field n 97 31) = y .indexes-12 .ensures ∙ ap (expanded 2 (0 ∷ [])) (next-is on-y 31) in
+    c .swap-channels .ensures
+    ∙ ap₂ swapped (got-8 on-rotation 2 (rotation .value .ensures .same))
+    (c .before .paint-4 .ensures ∙ ap₂ (λ (k : Keys) (p : List (List ℕ)). painted (keyAt 2 2 k) p) (keys .keys-2 .ensures)
+    (palette .palette-2-and-2 .ensures) ∙ paired (x .indexes-1 .result) (y .indexes-12 .result) (between 2 (endpoint e 0 0) (endpoint e 0 1)))
+    ∙ vector-either 5 n (field n 6 2) 0 small (split-5 n) (omega arith) _ _
+    (by-set 5 n _ 0 small (split-5 n) (end 0 (omega arith)) (end 1 (omega arith)) 0 2 66 (omega arith) refl (omega arith)
+    (index-start 5 _ (omega arith)) first)
+    (by-set 5 n _ 0 small (split-5 n) (end 0 (omega arith)) (end 1 (omega arith)) 1 2 97 (omega arith) refl (omega arith) (second-5 _ 0) second)
+
+pub mode-5-spec : {M : Type 1} → statement M
+mode-5-spec =
+    tie.close
+    (tie.spec
+    value-requires
+    values-1-requires
+    values-1-requires-2
+    values-1-requires-3
+    values-1-requires-4
+    alone-requires
+    indexes-1-requires
+    skip-requires
+    indexes-1-requires-2
+    palette-2-and-2-requires
+    keys-2-requires
+    paint-4-requires
+    swap-channels-requires
+    returns)

@@ -1,0 +1,230 @@
+// The modes with a vector and its scalar, 4 and 5. Each pixel takes red, green and blue by one index and alpha by the other, and
+// the rotation comes last.
+ghost use mathlib.Core.Path.{_≡_};
+ghost use mathlib.Core.List.{[], _∷_, _++_};
+ghost use Prim.Native.Nat.{_+_, _*_, _/_, _%_, _^_, _≤_, _<_};
+ghost use lib.ListN.{drop, getD, replicate, take};
+ghost use Rattle.laws.specs.Digits.{Fit, join};
+ghost use Rattle.laws.specs.Tables.{pick, table};
+ghost use Rattle.bc7_format.specs.Lines.{rotated};
+ghost use Rattle.bits.specs.Stream.{held};
+ghost use Rattle.bcn_format.specs.Indexes.{part};
+ghost use Rattle.bc7_format.specs.Fields.{directPixels};
+ghost use Rattle.bcn_format.specs.Painting.{four, between};
+ghost use Rattle.bc7_format.specs.Rotating.{swapped};
+ghost use Rattle.drawing.specs.Words.{Alone, endpoint, wordBytes};
+ghost use Rattle.bc7_unsplit.specs.Crossing.{Apart, crossed, kept, keptWord};
+use bc7_reads::indexes_1;
+use bc7_reads::value;
+use bc7_reads::values_1;
+use bits::stream::BitStream;
+use drawing::color::Ends;
+use drawing::color::Stored;
+use drawing::color::alone;
+use drawing::color::high_color;
+use drawing::color::low_color;
+use drawing::keys::keys_2;
+use drawing::keys::paint_4;
+use drawing::palette::get_weight_2;
+use drawing::palette::get_weight_3;
+use drawing::palette::two_shades;
+
+fn chosen(yes: bool, x: u8, y: u8) -> u8
+    ensures { λ r. ⌜ r ≡ pick yes x y ⌝ }
+{
+    if yes { x } else { y }
+}
+
+// One pixel's alpha exchanged with red, green or blue. Each channel is chosen by itself, so that no jump depends on the rotation.
+fn swap_channel(p: [u8; 4], rotation: u8) -> [u8; 4]
+    requires { ⌜ rotation < 4 ⌝ }
+    ensures { λ r. ⌜ r ≡ four (λ c. getD p (rotated rotation c) 0) ⌝ }
+{
+    let r = chosen(rotation == 1, p[3], p[0]);
+    let g = chosen(rotation == 2, p[3], p[1]);
+    let b = chosen(rotation == 3, p[3], p[2]);
+    let red_or_alpha = chosen(rotation == 1, p[0], p[3]);
+    let or_green = chosen(rotation == 2, p[1], red_or_alpha);
+    let a = chosen(rotation == 3, p[2], or_green);
+    [r, g, b, a]
+}
+
+// Rotation, from pixels to pixels.
+fn swap_channels(pixels: [[u8; 4]; 16], rotation: u8) -> [[u8; 4]; 16]
+    requires { ⌜ rotation < 4 ⌝ }
+    ensures { λ r. ⌜ r ≡ swapped rotation pixels ⌝ }
+{
+    let mut output = [[0u8; 4]; 16];
+    for i in 0..16usize {
+        output[i] = swap_channel(pixels[i], rotation);
+    }
+    output
+}
+
+// Two colours side by side, of which only red, green and blue stay, or only alpha.
+fn keep(x: u64, color: bool) -> u64
+    ensures { λ r. ⌜ wordBytes r ≡ kept color (take 4 (wordBytes x)) ++ kept color (drop 4 (wordBytes x)) ⌝ }
+{
+    if color {
+        return x & 0x00FF_FFFF_00FF_FFFF;
+    }
+    x & 0xFF00_0000_FF00_0000
+}
+
+// The colours of the indexes 2 * k and 2 * k + 1.
+fn shades_2(e: Ends, k: usize) -> u64
+    requires { ⌜ (k < 2) × Alone e ⌝ }
+    ensures { λ r. ⌜ wordBytes r ≡ between 2 (endpoint e 0 0) (endpoint e 0 1) (2 * k) ++ between 2 (endpoint e 0 0) (endpoint e 0 1) (2 * k + 1) ⌝ }
+{
+    two_shades(e, get_weight_2(2 * k) + (get_weight_2(2 * k + 1) << 32))
+}
+
+fn shades_3(e: Ends, k: usize) -> u64
+    requires { ⌜ (k < 4) × Alone e ⌝ }
+    ensures { λ r. ⌜ wordBytes r ≡ between 3 (endpoint e 0 0) (endpoint e 0 1) (2 * k) ++ between 3 (endpoint e 0 0) (endpoint e 0 1) (2 * k + 1) ⌝ }
+{
+    two_shades(e, get_weight_3(2 * k) + (get_weight_3(2 * k + 1) << 32))
+}
+
+fn low_word(x: u64) -> u32
+    ensures { λ r. ⌜ r ≡ join (replicate 4 8) (take 4 (wordBytes x)) ⌝ }
+{
+    (x % 0x0001_0000_0000) as u32
+}
+
+fn high_word(x: u64) -> u32
+    ensures { λ r. ⌜ r ≡ join (replicate 4 8) (drop 4 (wordBytes x)) ⌝ }
+{
+    (x >> 32) as u32
+}
+
+// All colours by an index of two bits, and by one of three, as words, in which red, green and blue stay or only alpha. One of
+// each kind makes a whole colour, by a sum.
+fn words_2(e: Ends, color: bool) -> [u32; 4]
+    requires { ⌜ Alone e ⌝ }
+    ensures { λ r. ⌜ r ≡ table 4 (λ k. keptWord color (between 2 (endpoint e 0 0) (endpoint e 0 1) k)) ⌝ }
+{
+    let mut q = [0u32; 4];
+    for k in 0..2usize {
+        let x = keep(shades_2(e, k), color);
+        q[2 * k] = low_word(x);
+        q[2 * k + 1] = high_word(x);
+    }
+    q
+}
+
+fn words_3(e: Ends, color: bool) -> [u32; 8]
+    requires { ⌜ Alone e ⌝ }
+    ensures { λ r. ⌜ r ≡ table 8 (λ k. keptWord color (between 3 (endpoint e 0 0) (endpoint e 0 1) k)) ⌝ }
+{
+    let mut q = [0u32; 8];
+    for k in 0..4usize {
+        let x = keep(shades_3(e, k), color);
+        q[2 * k] = low_word(x);
+        q[2 * k + 1] = high_word(x);
+    }
+    q
+}
+
+// The number of pixel i in a word of `bits` bits for each pixel.
+fn part_of(x: u64, bits: u32, i: usize) -> usize
+    requires { ⌜ (bits ≤ 4) × (i < 16) ⌝ }
+    ensures { λ r. ⌜ (r ≡ part x bits i) × (r < 2 ^ bits) ⌝ }
+{
+    ((x >> ((i as u32) * bits)) % (1u64 << bits)) as usize
+}
+
+// Each pixel is the sum of one word of either kind.
+fn paint_2_and_3(p: [u32; 4], q: [u32; 8], x: u64, y: u64) -> [[u8; 4]; 16]
+    requires { ⌜ Apart p q ⌝ }
+    ensures { λ r. ⌜ r ≡ table 16 (λ i. take 4 (wordBytes (getD p (part x 2 i) 0 + getD q (part y 3 i) 0))) ⌝ }
+{
+    let mut output = [[0u8; 4]; 16];
+    for i in 0..16usize {
+        let word = p[part_of(x, 2, i)] + q[part_of(y, 3, i)];
+        output[i] = low_color(word as u64);
+    }
+    output
+}
+
+// The alpha of a word in both of two colours that have none. Times 2^32 + 1 it stands in both halves, and where one of two bytes
+// is 0 their sum carries nothing.
+//
+//     colors                   | 00 B1 G1 R1 | 00 B0 G0 R0 |
+//     alpha                    |             | A  00 00 00 |
+//     alpha * (2^32 + 1)       | A  00 00 00 | A  00 00 00 |
+fn with_alphas(colors: u64, alpha: u32) -> u64
+    requires { ⌜ Fit (8 ∷ 8 ∷ 8 ∷ 0 ∷ 8 ∷ 8 ∷ 8 ∷ 0 ∷ []) (wordBytes colors) × Fit (0 ∷ 0 ∷ 0 ∷ 8 ∷ []) (take 4 (wordBytes alpha)) ⌝ }
+    ensures { λ r. ⌜ wordBytes r ≡ crossed (take 4 (wordBytes colors)) (take 4 (wordBytes alpha)) ++ crossed (drop 4 (wordBytes colors)) (take 4 (wordBytes alpha)) ⌝ }
+{
+    colors + (alpha as u64) * 0x0001_0000_0001
+}
+
+// All sixteen pairs of a colour and an alpha, by two bits each: that of colour k and alpha j is at 4 * j + k.
+fn palette_2_and_2(e: Ends) -> [[u8; 4]; 16]
+    requires { ⌜ Alone e ⌝ }
+    ensures { λ r. ⌜ r ≡ table 16 (λ i. crossed (between 2 (endpoint e 0 0) (endpoint e 0 1) (i % 4)) (between 2 (endpoint e 0 0) (endpoint e 0 1) (i / 4))) ⌝ }
+{
+    let alphas = words_2(e, false);
+    let low = keep(shades_2(e, 0), true);
+    let high = keep(shades_2(e, 1), true);
+    let mut q = [[0u8; 4]; 16];
+    for j in 0..4usize {
+        let x = with_alphas(low, alphas[j]);
+        let y = with_alphas(high, alphas[j]);
+        q[4 * j] = low_color(x);
+        q[4 * j + 1] = high_color(x);
+        q[4 * j + 2] = low_color(y);
+        q[4 * j + 3] = high_color(y);
+    }
+    q
+}
+
+// Two widths of index: the two-bit set is stored first, and the index mode says which of the two serves colour.
+pub fn mode_4(stream: BitStream) -> [[u8; 4]; 16]
+    requires { ⌜ stream .at ≡ 5 ⌝ }
+    ensures { λ r. ⌜ r ≡ directPixels 4 (held stream) ⌝ }
+{
+    let rotation = value(stream, 2);
+    let index_mode = value(rotation.stream, 1);
+    let r = values_1(index_mode.stream, 10);
+    let g = values_1(r.stream, 10);
+    let b = values_1(g.stream, 10);
+    let a = values_1(b.stream, 12);
+    let stored = Stored {
+        r: r.value,
+        g: g.value,
+        b: b.value,
+        a: a.value,
+        p: 0,
+    };
+    let e = alone(stored, 5, 6);
+    let x = indexes_1(2, a.stream);
+    let y = indexes_1(3, a.stream.skip(31));
+    let first = words_2(e, index_mode.value == 0);
+    let second = words_3(e, index_mode.value != 0);
+    swap_channels(paint_2_and_3(first, second, x, y), rotation.value)
+}
+
+// Both sets have two bits, the first serves colour.
+pub fn mode_5(stream: BitStream) -> [[u8; 4]; 16]
+    requires { ⌜ stream .at ≡ 6 ⌝ }
+    ensures { λ r. ⌜ r ≡ directPixels 5 (held stream) ⌝ }
+{
+    let rotation = value(stream, 2);
+    let r = values_1(rotation.stream, 14);
+    let g = values_1(r.stream, 14);
+    let b = values_1(g.stream, 14);
+    let a = values_1(b.stream, 16);
+    let stored = Stored {
+        r: r.value,
+        g: g.value,
+        b: b.value,
+        a: a.value,
+        p: 0,
+    };
+    let e = alone(stored, 7, 8);
+    let x = indexes_1(2, a.stream);
+    let y = indexes_1(2, a.stream.skip(31));
+    swap_channels(paint_4(palette_2_and_2(e), keys_2(y, 2, x)), rotation.value)
+}

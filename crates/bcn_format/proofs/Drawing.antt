@@ -1,0 +1,81 @@
+-- The laws of drawing.
+-- Assumes nothing.
+use mathlib.Core.Path.{_≡_, _∙_, ap}
+use mathlib.Core.Bool.{Bool}
+use mathlib.Core.List.{List, [], _∷_}
+use Prim.Native.Nat.{ℕ, zero, suc, _+_, _-_, _*_, _/_, _^_, _<_, _≤_}
+use native.Mathlib.Nat.{mul-le-mul-left, mul-assoc, le-of-suc-le-suc}
+use native.Mathlib.Omega.{arith}
+use lib.Dec.{T, eqb, eqb→eq}
+use lib.Arith.{sub-sub-self}
+use lib.ListN.{getD}
+use Rattle.laws.specs.Tables.{below}
+use Rattle.laws.proofs.Tests.{at}
+use Rattle.bcn_format.specs.Drawing.{drawn, weightOf, weights}
+
+-- a weighted mean of two bytes, not yet divided, fits sixteen bits
+pub mean : (a b x y : ℕ) → a + b ≡ 256 → x < 256 → y < 256 → a * x + b * y ≤ 65280
+mean a b x y e hx hy =
+    let p : a * x ≤ a * 255 = mul-le-mul-left a (le-of-suc-le-suc hx) in
+    let q : b * y ≤ b * 255 = mul-le-mul-left b (le-of-suc-le-suc hy) in
+    omega arith
+
+-- and divided it is a byte
+pub drawn-lt : (x y w : ℕ) → x < 2 ^ 8 → y < 2 ^ 8 → w ≤ 64 → drawn x y w < 2 ^ 8
+unfolding drawn
+drawn-lt x y w hx hy h =
+    let p : (64 - w) * x ≤ (64 - w) * 255 = mul-le-mul-left (64 - w) (le-of-suc-le-suc hx) in
+    let q : w * y ≤ w * 255 = mul-le-mul-left w (le-of-suc-le-suc hy) in
+    omega arith
+
+-- the Rust's numbers, four times the format's, give the format's channel
+pub scaled : (v e0 e1 : ℕ) → v ≤ 64 → ((256 - 4 * v) * e0 + 4 * v * e1 + 128) / 256 ≡ drawn e0 e1 v
+unfolding drawn
+scaled v e0 e1 h =
+    let p : (256 - 4 * v) * e0 ≡ 4 * ((64 - v) * e0) = ap (λ (n : ℕ). n * e0) (let z : 256 - 4 * v ≡ 4 * (64 - v) = omega arith in z) ∙ mul-assoc 4 (64 - v) e0 in
+    let q : 4 * v * e1 ≡ 4 * (v * e1) = mul-assoc 4 v e1 in
+    omega arith
+
+-- the endpoints exchanged and the weight turned draw the same
+turned-drawn : (v e0 e1 : ℕ) → v ≤ 64 → drawn e1 e0 (64 - v) ≡ drawn e0 e1 v
+unfolding drawn
+turned-drawn v e0 e1 h =
+    let p : (64 - (64 - v)) * e1 ≡ v * e1 = ap (λ (n : ℕ). n * e1) (sub-sub-self h) in
+    omega arith
+
+-- the weights of i and of last - i sum to 64, at each width
+sums : ℕ → Bool
+sums b = below (2 ^ b) (λ i. eqb (weightOf b i + weightOf b ((2 ^ b - 1) - i)) 64)
+
+sums-hold : (b : ℕ) → 2 ≤ b → b ≤ 4 → T (sums b)
+unfolding sums weightOf weights
+sums-hold zero h l = absurd (let z : ⊥ = omega arith in z)
+sums-hold (suc zero) h l = absurd (let z : ⊥ = omega arith in z)
+sums-hold (suc (suc zero)) h l = tt
+sums-hold (suc (suc (suc zero))) h l = tt
+sums-hold (suc (suc (suc (suc zero)))) h l = tt
+sums-hold (suc (suc (suc (suc (suc b))))) h l = absurd (let z : ⊥ = omega arith in z)
+
+pub opposite : (b i : ℕ) → 2 ≤ b → b ≤ 4 → i < 2 ^ b → weightOf b i + weightOf b ((2 ^ b - 1) - i) ≡ 64
+unfolding sums
+opposite b i h l p = eqb→eq _ 64 (at (2 ^ b) (λ i. eqb (weightOf b i + weightOf b ((2 ^ b - 1) - i)) 64) (sums-hold b h l) i p)
+
+pub weight-le : (b i : ℕ) → 2 ≤ b → b ≤ 4 → i < 2 ^ b → weightOf b i ≤ 64
+weight-le b i h l p = omega (arith, opposite b i h l p)
+
+-- the symmetric law: the endpoints exchanged and the index turned draw the same channel
+pub symmetric : (b i e0 e1 : ℕ) → 2 ≤ b → b ≤ 4 → i < 2 ^ b → drawn e1 e0 (weightOf b ((2 ^ b - 1) - i)) ≡ drawn e0 e1 (weightOf b i)
+symmetric b i e0 e1 h l p =
+    let e : weightOf b ((2 ^ b - 1) - i) ≡ 64 - weightOf b i = omega (arith, opposite b i h l p) in
+    ap (drawn e1 e0) e ∙ turned-drawn (weightOf b i) e0 e1 (weight-le b i h l p)
+
+-- the weights as the Rust has them, of 256
+unfoldable pub weights256 : ℕ → List ℕ
+weights256 zero = []
+weights256 (suc zero) = []
+weights256 (suc (suc zero)) = 0 ∷ 84 ∷ 172 ∷ 256 ∷ []
+weights256 (suc (suc (suc zero))) = 0 ∷ 36 ∷ 72 ∷ 108 ∷ 148 ∷ 184 ∷ 220 ∷ 256 ∷ []
+weights256 (suc (suc (suc (suc b)))) = 0 ∷ 16 ∷ 36 ∷ 52 ∷ 68 ∷ 84 ∷ 104 ∷ 120 ∷ 136 ∷ 152 ∷ 172 ∷ 188 ∷ 204 ∷ 220 ∷ 240 ∷ 256 ∷ []
+
+unfoldable pub weightOf256 : ℕ → ℕ → ℕ
+weightOf256 b i = getD (weights256 b) i 0

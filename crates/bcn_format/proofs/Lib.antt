@@ -1,0 +1,9 @@
+pub mod Making
+pub mod Insert
+pub mod Expanding
+pub mod Printed
+pub mod Drawing
+pub mod Anchors
+pub mod Trailing
+pub mod Theorems
+pub mod Attested

@@ -1,0 +1,39 @@
+-- Sixteen indexes of one width, and how they are stored where the anchors have a bit less.
+-- Assumes nothing.
+use mathlib.Core.Path.{_≡_}
+use mathlib.Core.List.{List, [], _∷_}
+use Prim.Native.Nat.{ℕ, zero, suc, _-_, _*_, _/_, _%_, _^_, _<_}
+use lib.ListN.{length}
+use Rattle.laws.specs.Digits.{join, split}
+use Rattle.laws.specs.Tables.{pick, table}
+use Rattle.bcn_format.specs.Partitions.{among}
+
+-- how many bits the index of pixel i has, of indexes of w bits with these anchors
+abbrev pub indexWidth : ℕ → List ℕ → ℕ → ℕ
+indexWidth w an i = pick (among i an) (w - 1) w
+
+unfoldable pub indexWidths : ℕ → List ℕ → List ℕ
+indexWidths w an = table 16 (indexWidth w an)
+
+-- the anchors of a kind of split with these fix-ups: kind 1 has two, kind 2 three, the others pixel 0 alone
+abbrev pub anchorsOfKind : ℕ → ℕ → ℕ → List ℕ
+anchorsOfKind zero p q = 0 ∷ []
+anchorsOfKind (suc zero) p q = 0 ∷ p ∷ []
+anchorsOfKind (suc (suc zero)) p q = 0 ∷ p ∷ q ∷ []
+anchorsOfKind (suc (suc (suc k))) p q = 0 ∷ []
+
+abbrev pub anchorCount : ℕ → ℕ
+anchorCount k = length (anchorsOfKind k 0 0)
+
+-- the fix-ups that a kind has are pixels, each above the one before
+pub record Rising (k p q : ℕ) : Type 0 where
+  pub two : k ≡ 1 → (0 < p) × (p < 16)
+  pub three : k ≡ 2 → (0 < p) × (p < q) × (q < 16)
+
+-- the indexes that stand in n at these widths, at w bits each: an anchor's top bit is zero
+unfoldable pub expanded : ℕ → List ℕ → ℕ → ℕ
+expanded w an n = join (indexWidths w []) (split (indexWidths w an) n)
+
+-- part i of a number of parts of w bits
+unfoldable pub part : ℕ → ℕ → ℕ → ℕ
+part x w i = x / 2 ^ (i * w) % 2 ^ w

@@ -1,3 +1,0 @@
-pub mod Insert
-pub mod Anchors
-pub mod Remove

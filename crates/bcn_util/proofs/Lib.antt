@@ -1,5 +1,0 @@
-pub mod Words
-pub mod Bytes
-pub mod On
-pub mod BitList
-pub mod Puts

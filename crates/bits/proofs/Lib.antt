@@ -1,0 +1,4 @@
+pub mod Bytes
+pub mod On
+pub mod BitList
+pub mod Puts

@@ -1,0 +1,63 @@
+// The writer, the reader's inverse: two halves and the position that the next value goes to.
+ghost use mathlib.Core.Path.{_≡_};
+ghost use Prim.Native.Nat.{_+_, _^_, _≤_, _<_};
+ghost use Rattle.bcn_format.specs.Block.{bytesOf};
+ghost use Rattle.bits.specs.Writer.{pushed, writerOf, written};
+use crate::stream::BitStream;
+
+pub struct BitWriter {
+    pub low: u64,
+    pub high: u64,
+    pub at: u32,
+}
+
+impl BitWriter {
+    pub fn new() -> Self
+        ensures { λ r. ⌜ r ≡ writerOf 0 0 ⌝ }
+    {
+        BitWriter {
+            low: 0,
+            high: 0,
+            at: 0,
+        }
+    }
+
+    // A value of `count` bits, put on top of what is written. The double shift is defined at position 0 too.
+    pub fn push(self, value: u64, count: u32) -> Self
+        requires { ⌜ (value < 2 ^ count) × (self .at + count ≤ 128) × (written self < 2 ^ self .at) ⌝ }
+        ensures { λ r. ⌜ r ≡ pushed self value count ⌝ }
+    {
+        let at = self.at;
+        if at < 64 {
+            BitWriter {
+                low: self.low | (value << at),
+                high: self.high | ((value >> 1) >> (63 - at)),
+                at: at + count,
+            }
+        } else if at < 128 {
+            BitWriter {
+                low: self.low,
+                high: self.high | (value << (at - 64)),
+                at: at + count,
+            }
+        } else {
+            self
+        }
+    }
+
+    // The bytes, each read by the reader.
+    pub fn finish(self) -> [u8; 16]
+        ensures { λ r. ⌜ r ≡ bytesOf (written self) ⌝ }
+    {
+        let mut bytes = [0u8; 16];
+        for i in 0..16usize {
+            let stream = BitStream {
+                low: self.low,
+                high: self.high,
+                at: 8 * (i as u32),
+            };
+            bytes[i] = stream.low_u8();
+        }
+        bytes
+    }
+}

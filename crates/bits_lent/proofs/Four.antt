@@ -1,0 +1,40 @@
+-- The four functions by value that have a lent form: what each answers, asks and gives.
+-- Assumes nothing.
+use Prim.Native.Nat.{_+_, _^_, _≤_, _<_}
+use Rattle.bits.specs.declared.stream.Bit.{Bit}
+use Rattle.bits.specs.declared.stream.Bits8.{Bits8}
+use Rattle.bits.specs.declared.stream.Bits64.{Bits64}
+use Rattle.bits.specs.Stream.{skipped, consumed1, consumed8, consumed64}
+use Rattle.bits.proofs.stream.Bit as R1
+use Rattle.bits.proofs.stream.Bits8 as R8
+use Rattle.bits.proofs.stream.Bits64 as R64
+use Rattle.bits_lent.proofs.Answers.{a-unit, a-bool, a-u8, a-u64, bare, valued}
+use Rattle.bits_lent.proofs.Through.{count, none}
+use Rattle.bits_lent.proofs.Lent.{Read}
+
+abbrev pub the-skip : Read count
+the-skip = record { b = a-unit; answer = bare; asks = λ s n. s .at + n < 2 ^ 32; gives = skipped }
+
+abbrev pub the-bit : Read none
+the-bit = record {
+  b = a-bool;
+  answer = valued a-bool (R1.struct .name) Bit (λ r. r .value) (λ r. r .stream) (R1.the-type .to-one);
+  asks = λ s _. s .at + 1 < 2 ^ 32;
+  gives = λ s _. consumed1 s;
+}
+
+abbrev pub the-bits : Read count
+the-bits = record {
+  b = a-u8;
+  answer = valued a-u8 (R8.struct .name) Bits8 (λ r. r .value) (λ r. r .stream) (R8.the-type .to-one);
+  asks = λ s n. (0 < n) × (n ≤ 8) × (s .at + n < 2 ^ 32);
+  gives = consumed8;
+}
+
+abbrev pub the-bits-64 : Read count
+the-bits-64 = record {
+  b = a-u64;
+  answer = valued a-u64 (R64.struct .name) Bits64 (λ r. r .value) (λ r. r .stream) (R64.the-type .to-one);
+  asks = λ s n. (0 < n) × (n ≤ 64) × (s .at + n < 2 ^ 32);
+  gives = consumed64;
+}

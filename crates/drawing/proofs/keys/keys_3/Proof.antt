@@ -1,0 +1,32 @@
+-- Keys of indexes of three bits.
+-- Assumes nothing.
+use mathlib.Core.Path.{sym, ap₂, _∙_}
+use Prim.Native.Nat.{ℕ, _+_, _*_, _^_}
+use native.Mathlib.Nat.{div-one}
+use borrow.Author.Needs.{needs}
+use lib.Bits.{bitAnd}
+use Rattle.laws.specs.Digits.{row}
+use Rattle.laws.specs.Tables.{table, tableFrom}
+use Rattle.drawing.proofs.keys.KeyWords.{evens, keys-word}
+use Rattle.drawing.proofs.keys.keys_3.Statement.{statement}
+use Rattle.drawing.proofs.keys.keys_3.Tie as tie
+
+above-requires : tie.Need-above-requires
+above-requires c κs = search needs
+
+above-requires-2 : tie.Need-above-requires-2
+above-requires-2 c κs = search needs
+
+returns : tie.Need-returns
+unfolding row table tableFrom
+returns c =
+    let s = c .before .before in
+    let word = keys-word 3 (s .args .shift) (s .args .x) (s .args .map) in
+    let merged : ℕ → ℕ → ℕ = λ x map. bitAnd x (evens 3) * 2 ^ s .args .shift + bitAnd map (evens 3) in
+    λ j. record {
+      even = (c .before .above .ensures ∙ ap₂ merged (sym (div-one (s .args .x))) (sym (div-one (s .args .map))) ∙ word 0) j;
+      odd = (c .above2 .ensures ∙ word 1) j;
+    }
+
+pub keys-3-spec : {M : Type 1} → statement M
+keys-3-spec = tie.close (tie.spec above-requires above-requires-2 returns)

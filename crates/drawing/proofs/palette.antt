@@ -1,0 +1,3 @@
+pub mod Weights
+pub mod Keyed
+pub mod Weighing

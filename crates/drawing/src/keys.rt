@@ -1,0 +1,109 @@
+// The index of a pixel and its subset as one key, and painting by keys: a key is the place of the pixel's colour among all colours
+// of the block. The Rust takes subset and index apart pixel by pixel; here eight keys are made at once.
+//     x            | x15 | x14 | .. | x3 | x2 | x1 | x0 |     sixteen indexes of w bits
+//     mask         |  0  | 1 1 | .. | 0  | 1 1| 0  | 1 1|     every other field
+//     x & mask     |    x14    | .. |    x2   |    x0   |     eight in 2 w bits each: there is room above each index
+// The map of the subsets has fields of w bits too, so the same mask takes those of the same pixels. An index moved up by as many
+// bits as a subset has, `shift`, is below 2^(w + shift), which is within the 2 w bits: so neighbours don't meet, and the subset
+// goes below it. The odd pixels come the same way, a field further down.
+ghost use mathlib.Core.Path.{_≡_};
+ghost use Prim.Native.Nat.{_+_, _*_, _/_, _%_, _^_, _≤_, _<_};
+ghost use lib.Bits.{bitAnd};
+ghost use Rattle.bcn_format.specs.Painting.{painted};
+ghost use Rattle.drawing.specs.Keys.{keysOf, keyAt};
+
+// Those of the eight even and of the eight odd pixels.
+pub struct Keys {
+    pub even: u64,
+    pub odd: u64,
+}
+
+const EVEN_2: u64 = 0x3333_3333;
+
+const EVEN_3: u64 = 0x0000_1C71_C71C_71C7;
+
+// The fields of the mask, indexes above subsets.
+fn above(x: u64, map: u64, mask: u64, shift: u32) -> u64
+    requires { ⌜ (mask < 2 ^ 48) × (shift ≤ 2) ⌝ }
+    ensures { λ r. ⌜ r ≡ bitAnd x mask * 2 ^ shift + bitAnd map mask ⌝ }
+{
+    ((x & mask) << shift) + (map & mask)
+}
+
+// Indexes and subsets of two bits a pixel.
+pub fn keys_2(x: u64, shift: u32, map: u64) -> Keys
+    requires { ⌜ shift ≤ 2 ⌝ }
+    ensures { λ r. ⌜ r ≡ keysOf 2 shift x map ⌝ }
+{
+    Keys {
+        even: above(x, map, EVEN_2, shift),
+        odd: above(x >> 2, map >> 2, EVEN_2, shift),
+    }
+}
+
+// Of three bits a pixel.
+pub fn keys_3(x: u64, shift: u32, map: u64) -> Keys
+    requires { ⌜ shift ≤ 2 ⌝ }
+    ensures { λ r. ⌜ r ≡ keysOf 3 shift x map ⌝ }
+{
+    Keys {
+        even: above(x, map, EVEN_3, shift),
+        odd: above(x >> 3, map >> 3, EVEN_3, shift),
+    }
+}
+
+// Key i of a word that has `step` bits for each, of which there are `many` different ones.
+fn key_of(keys: u64, step: u32, i: usize, many: u64) -> usize
+    requires { ⌜ (step ≤ 6) × (i < 8) × (0 < many) ⌝ }
+    ensures { λ r. ⌜ (r ≡ keys / 2 ^ (i * step) % many) × (r < many) ⌝ }
+{
+    ((keys >> ((i as u32) * step)) % many) as usize
+}
+
+// Two subsets, indexes of 2 bits.
+pub fn paint_2_2(p: [[u8; 4]; 8], keys: Keys) -> [[u8; 4]; 16]
+    ensures { λ r. ⌜ r ≡ painted (keyAt 2 1 keys) p ⌝ }
+{
+    let mut output = [[0u8; 4]; 16];
+    for i in 0..8usize {
+        output[2 * i] = p[key_of(keys.even, 4, i, 8)];
+        output[2 * i + 1] = p[key_of(keys.odd, 4, i, 8)];
+    }
+    output
+}
+
+// Two subsets, indexes of 3 bits.
+pub fn paint_2_3(p: [[u8; 4]; 16], keys: Keys) -> [[u8; 4]; 16]
+    ensures { λ r. ⌜ r ≡ painted (keyAt 3 1 keys) p ⌝ }
+{
+    let mut output = [[0u8; 4]; 16];
+    for i in 0..8usize {
+        output[2 * i] = p[key_of(keys.even, 6, i, 16)];
+        output[2 * i + 1] = p[key_of(keys.odd, 6, i, 16)];
+    }
+    output
+}
+
+// Three subsets, indexes of 2 bits; and vector and scalar with 2 bits each.
+pub fn paint_4(p: [[u8; 4]; 16], keys: Keys) -> [[u8; 4]; 16]
+    ensures { λ r. ⌜ r ≡ painted (keyAt 2 2 keys) p ⌝ }
+{
+    let mut output = [[0u8; 4]; 16];
+    for i in 0..8usize {
+        output[2 * i] = p[key_of(keys.even, 4, i, 16)];
+        output[2 * i + 1] = p[key_of(keys.odd, 4, i, 16)];
+    }
+    output
+}
+
+// Three subsets, indexes of 3 bits.
+pub fn paint_3_3(p: [[u8; 4]; 32], keys: Keys) -> [[u8; 4]; 16]
+    ensures { λ r. ⌜ r ≡ painted (keyAt 3 2 keys) p ⌝ }
+{
+    let mut output = [[0u8; 4]; 16];
+    for i in 0..8usize {
+        output[2 * i] = p[key_of(keys.even, 6, i, 32)];
+        output[2 * i + 1] = p[key_of(keys.odd, 6, i, 32)];
+    }
+    output
+}

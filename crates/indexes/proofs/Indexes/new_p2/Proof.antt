@@ -1,0 +1,33 @@
+-- `Indexes::new_p2` meets its contract.
+-- Assumes nothing.
+use borrow.Author.Needs.{needs}
+use Rattle.bits.proofs.On.{field-lt}
+use Rattle.indexes.proofs.Indexes.new_p2.Statement.{statement}
+use Rattle.indexes.proofs.Indexes.new_p2.Tie as tie
+
+mul-consume-bits-64 : tie.Need-mul-consume-bits-64
+mul-consume-bits-64 c = search needs
+
+sub-consume-bits-64 : tie.Need-sub-consume-bits-64
+sub-consume-bits-64 c = search needs
+
+consume-bits-64-requires : tie.Need-consume-bits-64-requires
+consume-bits-64-requires c κs = search needs
+
+from-compressed-p2-requires : tie.Need-from-compressed-p2-requires
+from-compressed-p2-requires c κs =
+    let s = c .before in
+    (s .pre .0, s .pre .1, rw (c .consume-bits-64 .ensures) (field-lt _ _ _), s .pre .2, s .pre .3)
+
+returns : tie.Need-returns
+returns c = rw (c .before .from-compressed-p2 .ensures, c .before .before .consume-bits-64 .ensures)
+
+pub new-p2-spec : {M : Type 1} → statement M
+new-p2-spec =
+    tie.close
+    (tie.spec
+    mul-consume-bits-64
+    sub-consume-bits-64
+    consume-bits-64-requires
+    from-compressed-p2-requires
+    returns)

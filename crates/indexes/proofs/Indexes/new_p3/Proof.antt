@@ -1,0 +1,33 @@
+-- `Indexes::new_p3` meets its contract.
+-- Assumes nothing.
+use borrow.Author.Needs.{needs}
+use Rattle.bits.proofs.On.{field-lt}
+use Rattle.indexes.proofs.Indexes.new_p3.Statement.{statement}
+use Rattle.indexes.proofs.Indexes.new_p3.Tie as tie
+
+mul-consume-bits-64 : tie.Need-mul-consume-bits-64
+mul-consume-bits-64 c = search needs
+
+sub-consume-bits-64 : tie.Need-sub-consume-bits-64
+sub-consume-bits-64 c = search needs
+
+consume-bits-64-requires : tie.Need-consume-bits-64-requires
+consume-bits-64-requires c κs = search needs
+
+from-compressed-p3-requires : tie.Need-from-compressed-p3-requires
+from-compressed-p3-requires c κs =
+    let s = c .before in
+    (s .pre .0, s .pre .1, rw (c .consume-bits-64 .ensures) (field-lt _ _ _), s .pre .2, s .pre .3, s .pre .4)
+
+returns : tie.Need-returns
+returns c = rw (c .before .from-compressed-p3 .ensures, c .before .before .consume-bits-64 .ensures)
+
+pub new-p3-spec : {M : Type 1} → statement M
+new-p3-spec =
+    tie.close
+    (tie.spec
+    mul-consume-bits-64
+    sub-consume-bits-64
+    consume-bits-64-requires
+    from-compressed-p3-requires
+    returns)

@@ -1,0 +1,16 @@
+-- The indexes that stand in a number, and in the next bits of a stream.
+-- Assumes nothing.
+use mathlib.Core.List.{List}
+use Prim.Native.Nat.{ℕ}
+use Rattle.indexes.specs.declared.Indexes.{Indexes}
+use Rattle.indexes.specs.declared.NewIndexes.{NewIndexes}
+use Rattle.bits.specs.declared.stream.BitStream.{BitStream}
+use Rattle.bits.specs.Stream.{nextBits, skipped}
+use Rattle.bcn_format.specs.Indexes.{expanded}
+
+abbrev pub indexesOf : ℕ → List ℕ → ℕ → Indexes
+indexesOf w an n = record { uncompressed = expanded w an n; bits = w }
+
+-- the indexes that stand in the next t bits of a stream
+abbrev pub newIndexes : ℕ → List ℕ → BitStream → ℕ → NewIndexes
+newIndexes w an s t = record { indexes = indexesOf w an (nextBits s t); stream = skipped s t }

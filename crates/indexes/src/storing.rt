@@ -1,0 +1,47 @@
+// Indexes as they are stored, of the word of sixteen: the expansion's inverse. It is ours; the Rust only reads.
+ghost use mathlib.Core.Path.{_≡_};
+ghost use mathlib.Core.List.{[]};
+ghost use Prim.Native.Nat.{_+_, _-_, _*_, _^_, _≤_, _<_};
+ghost use Rattle.laws.specs.Digits.{Fit, join, removed, split};
+ghost use Rattle.bcn_format.specs.Indexes.{Rising, anchorCount, anchorsOfKind, indexWidths};
+
+// The zero at the top of an index taken out: what is above moves down a bit.
+fn compress_single_index(bits: u32, word: u64, index: u32) -> u64
+    requires { ⌜ (0 < bits) × (bits ≤ 4) × (index < 16) ⌝ }
+    ensures { λ r. ⌜ r ≡ removed word (index * bits + (bits - 1)) ⌝ }
+{
+    let top = index * bits + (bits - 1);
+    (((word >> top) >> 1) << top) + (word % (1u64 << top))
+}
+
+// The indexes of a word at their stored widths. The highest anchor's zero goes first, so that the others stand where they were.
+// The kinds: 1 has two anchors, 2 has three, the others have pixel 0 alone.
+pub fn compressed(kind: u8, bits: u32, p2_fixup: u32, p3_fixup: u32, word: u64) -> u64
+    requires { ⌜ (0 < bits) × (bits ≤ 4) × Rising kind «p2_fixup» «p3_fixup» × (word < 2 ^ (16 * bits)) × Fit (indexWidths bits (anchorsOfKind kind «p2_fixup» «p3_fixup»)) (split (indexWidths bits []) word) ⌝ }
+    ensures { λ r. ⌜ r ≡ join (indexWidths bits (anchorsOfKind kind «p2_fixup» «p3_fixup»)) (split (indexWidths bits []) word) ⌝ }
+{
+    if kind == 1 {
+        let second = compress_single_index(bits, word, p2_fixup);
+        return compress_single_index(bits, second, 0);
+    }
+    if kind == 2 {
+        let third = compress_single_index(bits, word, p3_fixup);
+        let second = compress_single_index(bits, third, p2_fixup);
+        return compress_single_index(bits, second, 0);
+    }
+    compress_single_index(bits, word, 0)
+}
+
+// How many bits the stored indexes of a kind have together.
+pub fn stored_bits(kind: u8, bits: u32) -> u32
+    requires { ⌜ (0 < bits) × (bits ≤ 4) ⌝ }
+    ensures { λ r. ⌜ r ≡ 16 * bits - anchorCount kind ⌝ }
+{
+    if kind == 1 {
+        return 16 * bits - 2;
+    }
+    if kind == 2 {
+        return 16 * bits - 3;
+    }
+    16 * bits - 1
+}

@@ -1,0 +1,254 @@
+-- The groups of a line one after the other, up to the whole block.
+-- Assumes nothing.
+use mathlib.Core.Path.{_≡_, refl, sym, ap, _∙_, subst}
+use mathlib.Core.Logic.{_≢_, _⊎_, inl, inr, ⊎-elim}
+use mathlib.Core.Bool.{Bool, true, false}
+use mathlib.Core.List.{List}
+use Prim.Native.Nat.{ℕ, zero, suc, _+_, _-_, _*_, _/_, _%_, _^_, _≤_, _<_}
+use native.Mathlib.Nat.{div-one, mod-eq-of-lt, mod-lt}
+use native.Mathlib.Omega.{arith}
+use borrow.Author.Tests.{eq-eqb, ne-eqb}
+use lib.Dec.{T, eqb, lit<, ltb, ltb→lt}
+use lib.ListN.{getD}
+use Rattle.bc7_format.specs.declared.Split.{Split}
+use Rattle.laws.specs.Digits.{join, replacedAt, split, total}
+use Rattle.laws.specs.Tables.{pick, table}
+use Rattle.laws.proofs.Cases.{pick-lt}
+use Rattle.laws.proofs.Digits.{join-split}
+use Rattle.laws.proofs.Part.{getD-table}
+use Rattle.laws.proofs.Rows.{digit, length-split}
+use Rattle.laws.proofs.Tests.{both-left, both-right, not-so}
+use Rattle.bcn_format.specs.Block.{bytesOf}
+use Rattle.bc7_format.specs.Lines.{Line, arrayOf, has, indexPlace, laid, pPlace, valuePlace, withLine}
+use Rattle.bc7_format.specs.Modes.{indexBits, lines, pCount}
+use Rattle.bc7_format.specs.Places.{Place, atPlace, blockOf, head, index, inside, pbit, pos, value, width, widths}
+use Rattle.bc7_format.specs.Splits.{anchors, isVector}
+use Rattle.bc7_format.specs.WellFormed.{WellFormed}
+use Rattle.bc7_format.proofs.Lens.{has-head}
+use Rattle.bc7_format.proofs.Meaning.{array-lt, has-p, laid-p, laid-value}
+use Rattle.bc7_format.proofs.Modes.{good-index-mode, lines-le}
+use Rattle.bc7_format.proofs.Opening.{good-total}
+use Rattle.bc7_format.proofs.Places.{inside-index, inside-pbit, inside-value, length-widths, list-at, list-ext, placeAt-pos, pos-lt, pos-one}
+use Rattle.bc7_format.proofs.Starts.{start, start-next}
+use Rattle.bcn_format.specs.Indexes.{indexWidth, indexWidths}
+use Rattle.bc7_format.proofs.Fields.{begins}
+use Rattle.line_rules.specs.Acceptable.{OwnWidths}
+use Rattle.line_rules.specs.Replace.{ownWidth}
+use Rattle.line_rules.proofs.Own.{has-width}
+use Rattle.line_rules.proofs.OwnWidths.{own-widths}
+use Rattle.line_rules.proofs.Put.{has-array, own-pbit, own-value}
+use Rattle.line.proofs.fields.Groups.{own-laid, pair-put}
+use Rattle.line.proofs.fields.Runs.{Upto, begin, more, passed}
+
+-- in mode 1 one p bit serves both endpoints
+p-place-1 : (m l k : ℕ) → m ≡ 1 → pPlace m l k ≡ pbit l
+unfolding pPlace
+p-place-1 m l k e = rw (eq-eqb m 1 e)
+
+laid-p-1 : (m l : ℕ) (o : Line) → m ≡ 1 → laid m o (pPlace m l 0) ≡ o .p 0
+unfolding laid pPlace
+laid-p-1 m l o e = rw (eq-eqb m 1 e)
+
+-- the values and the p bits of a line are there, and stand side by side
+module _ {m : ℕ} {s : Split} {f : Place → ℕ} (g : WellFormed m s f) (l : ℕ) (hl : l < lines m) where
+  h3 : l < 3
+  h3 = omega (arith, lines-le m (g .mode))
+
+  ws : OwnWidths m s l
+  ws = own-widths g l hl
+
+  pub value-there : (k c : ℕ) → k < 2 → c < 4 → T (inside (valuePlace s l k c))
+  unfolding valuePlace
+  value-there k c hk hc =
+      inside-value {c = c} {e = pick (isVector s) k (2 * l + k)} hc (pick-lt (isVector s) k (2 * l + k) 6 (omega arith) (omega (arith, h3)))
+
+  pub value-next : (c : ℕ) → pos (valuePlace s l 1 c) ≡ suc (pos (valuePlace s l 0 c))
+  unfolding valuePlace pos
+  value-next c = go (isVector s)
+    where
+      go : (v : Bool) → 4 + (6 * c + pick v 1 (2 * l + 1)) ≡ suc (4 + (6 * c + pick v 0 (2 * l + 0)))
+      go true = omega arith
+      go false = omega arith
+
+  pub p-there : (k : ℕ) → k < 2 → T (inside (pPlace m l k))
+  unfolding pPlace
+  p-there k hk = inside-pbit (pick-lt (eqb m 1) l (2 * l + k) 6 (omega (arith, h3)) (omega (arith, h3)))
+
+  pub p-next : m ≢ 1 → pos (pPlace m l 1) ≡ suc (pos (pPlace m l 0))
+  unfolding pPlace pos
+  p-next n1 = rw (ne-eqb m 1 n1) (let z : 28 + (2 * l + 1) ≡ suc (28 + (2 * l + 0)) = omega arith in z)
+
+module _ {m : ℕ} {s : Split} {f : Place → ℕ} (g : WellFormed m s f) (l : ℕ) (hl : l < lines m) (o : Line) where
+  abbrev Until : ℕ → ℕ → Type 0
+  Until k n = Upto m s l o f k n
+
+  -- the head is no line's
+  pub after-head : (n : ℕ) → ((x : Place) → T (inside x) → atPlace m s n x ≡ f x) → Until 4 n
+  unfolding pos
+  after-head n e = passed m s l o f 4 (omega arith) (begin m s l o f n e) none
+    where
+      none : (x : Place) → T (inside x) → 0 ≤ pos x → pos x < 4 → has m s l x ≡ false
+      none (head k) i p q = has-head m s l k (omega (arith, h3 g l hl))
+      none (value c e) i p q = absurd (let y : ⊥ = omega arith in y)
+      none (pbit k) i p q = absurd (let y : ⊥ = omega arith in y)
+      none (index a q') i p q = absurd (let y : ⊥ = omega arith in y)
+
+  -- the pair of channel c
+  either : (x : Place) (j : ℕ) (at : ℕ → Place) → j < 2 → at j ≡ x → (x ≡ at 0) ⊎ (x ≡ at 1)
+  either x zero at h e = inl (sym e)
+  either x (suc zero) at h e = inr (sym e)
+  either x (suc (suc j)) at h e = absurd (let y : ⊥ = omega arith in y)
+
+  pub channel-put : (c w n n' : ℕ) → c < 4 → ownWidth m s l (valuePlace s l 0 c) ≡ w → o .value 0 c < 2 ^ w → o .value 1 c < 2 ^ w
+      → n' ≡ replacedAt n (start m s (pos (valuePlace s l 0 c))) (2 * w) (o .value 1 c * 2 ^ w + o .value 0 c) → Until (4 + 6 * c) n
+      → Until (10 + 6 * c) n'
+  unfolding valuePlace pos width
+  channel-put c w n n' hc hw h0 h1 e u =
+      pair-put m s l o f (valuePlace s l 0 c) (valuePlace s l 1 c) (4 + 6 * c) (10 + 6 * c) w (value-there g l hl 0 c (omega arith) hc)
+      (value-there g l hl 1 c (omega arith) hc) (value-next g l hl c) (omega arith) (room (isVector s)) (omega arith)
+      hw (ws g l hl .value 1 c (omega arith) hc ∙ sym (ws g l hl .value 0 c (omega arith) hc) ∙ hw) refl refl only
+      (o .value 0 c) (o .value 1 c) n n' h0 h1 (laid-value m s l o 0 c (omega arith)) (laid-value m s l o 1 c (omega arith)) e u
+    where
+      room : (v : Bool) → 4 + (6 * c + pick v 0 (2 * l + 0)) + 2 ≤ 10 + 6 * c
+      room true = omega arith
+      room false = omega (arith, h3 g l hl)
+
+      only : (x : Place) → T (inside x) → 4 + 6 * c ≤ pos x → pos x < 10 + 6 * c → has m s l x ≡ true
+          → (x ≡ valuePlace s l 0 c) ⊎ (x ≡ valuePlace s l 1 c)
+      only (head k) i p q h = absurd (let k4 : k < 4 = ltb→lt k 4 i in let y : ⊥ = omega arith in y)
+      only (value c' e) i p q h =
+          let he : e < 6 = ltb→lt e 6 (both-right (ltb c' 4) (ltb e 6) i) in
+          let ec : c' ≡ c = omega arith in
+          either (value c' e) (e % 2) (λ k. valuePlace s l k c) (mod-lt e (lit< tt)) (rw (← ec) (own-value g l c' e h))
+      only (pbit k) i p q h = absurd (let y : ⊥ = omega arith in y)
+      only (index a q') i p q h = absurd (let y : ⊥ = omega arith in y)
+
+  -- the p bits
+  p-only : (x : Place) → T (inside x) → 28 ≤ pos x → pos x < 34 → has m s l x ≡ true → (k : ℕ) × (x ≡ pbit k)
+  unfolding pos
+  p-only (head k) i p q h = absurd (let k4 : k < 4 = ltb→lt k 4 i in let y : ⊥ = omega arith in y)
+  p-only (value c e) i p q h =
+      absurd
+      (let c4 : c < 4 = ltb→lt c 4 (both-left (ltb c 4) (ltb e 6) i) in let e6 : e < 6 = ltb→lt e 6 (both-right (ltb c 4) (ltb e 6) i) in let y : ⊥ = omega arith in y)
+  p-only (pbit k) i p q h = (k, refl)
+  p-only (index a q') i p q h = absurd (let y : ⊥ = omega arith in y)
+
+  pub p-put : (w n n' : ℕ) → m ≢ 1 → pick (eqb (pCount m) 0) 0 1 ≡ w → o .p 0 < 2 ^ w → o .p 1 < 2 ^ w
+      → n' ≡ replacedAt n (start m s (pos (pPlace m l 0))) (2 * w) (o .p 1 * 2 ^ w + o .p 0) → Until 28 n → Until 34 n'
+  unfolding pPlace pos width
+  p-put w n n' n1 hw h0 h1 e u =
+      pair-put m s l o f (pPlace m l 0) (pPlace m l 1) 28 34 w (p-there g l hl 0 (omega arith)) (p-there g l hl 1 (omega arith)) (p-next g l hl n1)
+      (omega arith) room (omega arith)
+      (ws g l hl .p 0 (omega arith) ∙ hw) (ws g l hl .p 1 (omega arith) ∙ hw) refl refl only
+      (o .p 0) (o .p 1) n n' h0 h1 (laid-p m l o 0 (omega arith) (λ z. absurd (n1 z))) (laid-p m l o 1 (omega arith) (λ z. absurd (n1 z))) e u
+    where
+      not-1 : eqb m 1 ≡ false
+      not-1 = ne-eqb m 1 n1
+
+      room : pos (pPlace m l 0) + 2 ≤ 34
+      room = rw not-1 (omega (arith, h3 g l hl))
+
+      only : (x : Place) → T (inside x) → 28 ≤ pos x → pos x < 34 → has m s l x ≡ true → (x ≡ pPlace m l 0) ⊎ (x ≡ pPlace m l 1)
+      only x i p q h =
+          let (k, ex) = p-only x i p q h in
+          either x (k % 2) (pPlace m l) (mod-lt k (lit< tt))
+          (ap (λ (b : Bool). pPlace m l (pick b 0 (k % 2))) (sym not-1) ∙ own-pbit m s l k (rw ex at h) ∙ sym ex)
+
+  -- in mode 1 the line has one
+  pub p-put-1 : (n n' : ℕ) → m ≡ 1 → pCount m ≢ 0 → o .p 0 < 2 → n' ≡ replacedAt n (start m s (28 + l)) 1 (o .p 0) → Until 28 n → Until 34 n'
+  unfolding pos width
+  p-put-1 n n' e1 some h0 e u =
+      more m s l o f (28 + l) (28 + l + 1) 34 (o .p 0) n' (omega arith) (omega arith) (omega (arith, h3 g l hl)) (omega arith) (rw one h0)
+      (rw one e) u holds others
+    where
+      here : pPlace m l 0 ≡ pbit l
+      here = p-place-1 m l 0 e1
+
+      there : T (inside (pbit l))
+      there = inside-pbit {k = l} (omega (arith, h3 g l hl))
+
+      mine : has m s l (pbit l) ≡ true
+      mine = rw here at (has-p g l hl 0 (omega arith) some)
+
+      bit : width m (anchors s) (pbit l) ≡ 1
+      bit = sym (has-width m s l (pbit l) mine) ∙ (rw (here, ne-eqb (pCount m) 0 some) at (ws g l hl .p 0 (omega arith)))
+
+      one : start m s (28 + l + 1) - start m s (28 + l) ≡ 1
+      one =
+          let z : 28 + l + 1 ≡ suc (28 + l) = omega arith in
+          let n : start m s (28 + l + 1) ≡ start m s (28 + l) + 1 =
+          ap (start m s) z ∙ start-next m s (28 + l) (omega (arith, h3 g l hl))
+          ∙ ap (λ (c : ℕ). start m s (28 + l) + c) (ap (width m (anchors s)) (placeAt-pos (pbit l) there) ∙ bit) in
+          omega (arith, n)
+
+      holds : (x : Place) → T (inside x) → 28 + l ≤ pos x → pos x < 28 + l + 1
+          → o .p 0 / 2 ^ (start m s (pos x) - start m s (28 + l)) % 2 ^ width m (anchors s) x ≡ withLine m s l o f x
+      holds x i p q =
+          let ex : pbit l ≡ x = pos-one (pbit l) x there i (let z : 28 + l ≡ pos x = omega arith in z) in
+          subst (λ (x : Place). o .p 0 / 2 ^ (start m s (pos x) - start m s (28 + l)) % 2 ^ width m (anchors s) x ≡ withLine m s l o f x) ex
+          (let z : start m s (28 + l) - start m s (28 + l) ≡ 0 = omega arith in
+          rw (z, bit, own-laid m s l o f (pbit l) mine, ← here, laid-p-1 m l o e1) (ap (λ (c : ℕ). c % 2) (div-one (o .p 0)) ∙ mod-eq-of-lt h0))
+
+      others : (x : Place) → T (inside x) → 28 ≤ pos x → pos x < 34 → (pos x < 28 + l) ⊎ (28 + l + 1 ≤ pos x) → has m s l x ≡ false
+      others x i p q r =
+          not-so (has m s l x) (λ t.
+          let (k, ex) = p-only x i p q t in
+          let at : pos x ≡ 28 + l = ap pos (ex ∙ sym (own-pbit m s l k (rw ex at t)) ∙ p-place-1 m l _ e1) in
+          ⊎-elim {C = ⊥} (λ d. omega arith) (λ d. omega arith) r)
+
+  -- the set of indexes, as they are stored
+  pub indexes-put : (v n n' : ℕ) → v < 2 ^ total (indexWidths (indexBits m (arrayOf s l)) (anchors s))
+      → split (indexWidths (indexBits m (arrayOf s l)) (anchors s)) v ≡ table 16 (λ q. withLine m s l o f (indexPlace s l q))
+      → n' ≡ replacedAt n (start m s (34 + (16 * arrayOf s l + 0))) (total (indexWidths (indexBits m (arrayOf s l)) (anchors s))) v → Until 34 n
+      → Until 66 n'
+  unfolding indexWidths indexPlace pos width
+  indexes-put v n n' hv sv e u =
+      more m s l o f (34 + (16 * a + 0)) (34 + (16 * a + 16)) 66 v n' (omega arith) (omega arith) (omega (arith, ha)) (omega arith) (rw all hv)
+      (rw all e) u holds others
+    where
+      a : ℕ
+      a = arrayOf s l
+
+      ha : a < 2
+      ha = array-lt s l (good-index-mode g)
+
+      wide : ℕ → ℕ
+      wide q = indexWidth (indexBits m a) (anchors s) q
+
+      all : start m s (34 + (16 * a + 16)) - start m s (34 + (16 * a + 0)) ≡ total (table 16 wide)
+      all = omega (arith, begins m s a ha 16 (omega arith))
+
+      at-pixel : (q : ℕ) → q < 16
+          → v / 2 ^ (start m s (34 + (16 * a + q)) - start m s (34 + (16 * a + 0))) % 2 ^ wide q ≡ withLine m s l o f (index a q)
+      at-pixel q hq =
+          let z : start m s (34 + (16 * a + q)) - start m s (34 + (16 * a + 0)) ≡ total (table q wide) =
+          omega (arith, begins m s a ha q (omega arith)) in
+          rw z (sym (digit 16 wide v q hq) ∙ ap (λ (vs : List ℕ). getD vs q 0) sv ∙ getD-table 16 (λ q. withLine m s l o f (index a q)) 0 q hq)
+
+      holds : (x : Place) → T (inside x) → 34 + (16 * a + 0) ≤ pos x → pos x < 34 + (16 * a + 16)
+          → v / 2 ^ (start m s (pos x) - start m s (34 + (16 * a + 0))) % 2 ^ width m (anchors s) x ≡ withLine m s l o f x
+      holds x i p q =
+          let k : ℕ = pos x - (34 + 16 * a) in
+          let hk : k < 16 = omega arith in
+          subst (λ (x : Place). v / 2 ^ (start m s (pos x) - start m s (34 + (16 * a + 0))) % 2 ^ width m (anchors s) x ≡ withLine m s l o f x)
+          (pos-one (index a k) x (inside-index ha hk) i (let z : 34 + (16 * a + k) ≡ pos x = omega arith in z)) (at-pixel k hk)
+
+      others : (x : Place) → T (inside x) → 34 ≤ pos x → pos x < 66 → (pos x < 34 + (16 * a + 0)) ⊎ (34 + (16 * a + 16) ≤ pos x) → has m s l x ≡ false
+      others (head k) i p q r = absurd (let k4 : k < 4 = ltb→lt k 4 i in let y : ⊥ = omega arith in y)
+      others (value c e) i p q r =
+          absurd
+          (let c4 : c < 4 = ltb→lt c 4 (both-left (ltb c 4) (ltb e 6) i) in let e6 : e < 6 = ltb→lt e 6 (both-right (ltb c 4) (ltb e 6) i) in let y : ⊥ = omega arith in y)
+      others (pbit k) i p q r = absurd (let k6 : k < 6 = ltb→lt k 6 i in let y : ⊥ = omega arith in y)
+      others (index b k) i p q r =
+          not-so (has m s l (index b k)) (λ t.
+          let k16 : k < 16 = ltb→lt k 16 (both-right (ltb b 2) (ltb k 16) i) in
+          let eb : b ≡ a = has-array g l b k t in
+          ⊎-elim {C = ⊥} (λ d. omega arith) (λ d. omega arith) r)
+
+  -- the block that is left
+  pub put-whole : (n : ℕ) → n < 2 ^ 128 → Until 66 n → bytesOf n ≡ blockOf m s (withLine m s l o f)
+  unfolding blockOf atPlace
+  put-whole n hn u =
+      ap bytesOf
+      (sym (join-split (widths m s) n (rw (good-total g) hn)) ∙ ap (join (widths m s)) (sym (list-at (split (widths m s) n) (length-split (widths m s) n ∙ length-widths m s))
+      ∙ list-ext _ _ (λ x i. u .done x i (pos-lt x i))))

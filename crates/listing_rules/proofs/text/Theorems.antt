@@ -1,0 +1,11 @@
+-- Document 01's example of a listing.
+-- Assumes nothing.
+use mathlib.Core.Path.{_≡_, refl}
+use mathlib.Core.List.{List, [], _∷_, _++_}
+use Prim.Native.Nat.{ℕ}
+use Rattle.listing_rules.specs.Text.{ascii, blockLine, channels, decimal, digitsIn, newline, opacityMark, sheetLine}
+
+pub document-example : _≡_ {A = List (List ℕ)} (sheetLine 5 4 ∷ blockLine 0 5 (255 ∷ 0 ∷ 0 ∷ 0 ∷ []) ∷ blockLine 1 8 (0 ∷ 0 ∷ 0 ∷ 0 ∷ []) ∷ [])
+    ((ascii "sheet 5 4" ++ (newline ∷ [])) ∷ (ascii "0 5 255 0 0 0 -" ++ (newline ∷ [])) ∷ (ascii "1 8 0 0 0 0 -" ++ (newline ∷ [])) ∷ [])
+unfolding sheetLine blockLine channels opacityMark decimal digitsIn ascii
+document-example = refl

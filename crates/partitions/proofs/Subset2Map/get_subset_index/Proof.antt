@@ -1,0 +1,23 @@
+-- `Subset2Map::get_subset_index` meets its contract.
+-- Assumes nothing.
+use native.Mathlib.Nat.{lt-of-lt-of-le}
+use Prim.Native.Nat.{_/_, _^_}
+use lib.Bits.{and-mask, mask-lt}
+use lib.Dec.{lit≤}
+use borrow.Author.Needs.{needs}
+use Rattle.bcn_format.specs.Block.{field}
+use Rattle.partitions.proofs.Subset2Map.get_subset_index.Statement.{statement}
+use Rattle.partitions.proofs.Subset2Map.get_subset_index.Tie as tie
+
+shr-result : tie.Need-shr-result
+shr-result c = search needs
+
+cast-result : tie.Need-cast-result
+cast-result c = record { fits = lt-of-lt-of-le (mask-lt (c .before .args .self .«subset_indexes» / 2 ^ c .before .args .pixel-index) 1) (lit≤ tt) }
+
+returns : tie.Need-returns
+unfolding field
+returns c = and-mask (c .before .args .self .«subset_indexes» / 2 ^ c .before .args .pixel-index) 1
+
+pub get-subset-index-spec : {M : Type 1} → statement M
+get-subset-index-spec = tie.close (tie.spec shr-result cast-result returns)

@@ -1,0 +1,18 @@
+-- A partition in one word.
+-- Assumes nothing.
+use Prim.Native.Nat.{ℕ, _+_, _*_, _^_}
+use Prim.Native.String.{String}
+use mathlib.Core.List.{[], _∷_}
+use lib.ListN.{getD, replicate}
+use Rattle.laws.specs.Digits.{join}
+use Rattle.bcn_format.specs.Partitions.{digits, marks, strings2, strings3}
+
+-- what a string says, in one word: the subset of each pixel in w bits, and from bit 48 on the anchors behind pixel 0 in four
+unfoldable pub setOf : ℕ → String → ℕ
+setOf w s = join (4 ∷ 4 ∷ []) (marks 0 s) * 2 ^ 48 + join (replicate 16 w) (digits s)
+
+abbrev pub set2 : ℕ → ℕ → ℕ
+set2 w a = setOf w (getD strings2 a "")
+
+abbrev pub set3 : ℕ → ℕ → ℕ
+set3 w a = setOf w (getD strings3 a "")

@@ -1,0 +1,295 @@
+-- What is read of a block group by group is what stands at its places, and together its record.
+-- Assumes nothing.
+use mathlib.Core.Path.{_≡_, refl, sym, ap, ap₂, _∙_, subst}
+use mathlib.Core.Logic.{⊎-elim}
+use mathlib.Core.Bool.{Bool, true, false}
+use mathlib.Core.List.{List}
+use Prim.Native.Nat.{ℕ, zero, suc, _+_, _-_, _*_, _/_, _%_, _^_, _≤_, _<_}
+use native.Mathlib.Nat.{div-eq-of-lt, lt-of-lt-of-le, mod-one, mul-assoc, mul-comm, mul-add, mul-le-mul-right, mul-one}
+use native.Mathlib.Numerals.{add-one}
+use native.Mathlib.Omega.{arith}
+use borrow.Author.Tests.{eqb-false, eqb-true, le-ltb, lt-ltb}
+use lib.Arith.{le-zero}
+use lib.Dec.{T, eqb, ltb}
+use lib.ListN.{replicate}
+use lib.Pow.{field as part-of, mod-mod-pow, pow-mono, shr-shr}
+use Rattle.record.specs.declared.reading.ReadEndpoints.{ReadEndpoints}
+use Rattle.record.specs.declared.reading.ReadP.{ReadP}
+use Rattle.record.specs.declared.reading.ReadSplit.{ReadSplit}
+use Rattle.bc7_places.specs.declared.modes.Anchors.{Anchors}
+use Rattle.bc7_places.specs.declared.modes.ModeRow.{ModeRow}
+use Rattle.indexes.specs.declared.NewIndexes.{NewIndexes}
+use Rattle.bits.specs.declared.stream.BitStream.{BitStream}
+use Rattle.bc7_format.specs.declared.Split.{Split}
+use Rattle.laws.specs.Digits.{Fit, total}
+use Rattle.laws.specs.Tables.{pick, table, tableFrom}
+use Rattle.laws.proofs.Cases.{lt-or, pick-less}
+use Rattle.laws.proofs.Joining.{table-same}
+use Rattle.bcn_format.specs.Block.{eights, field, number}
+use Rattle.bc7_format.specs.Modes.{modeOf, alphaBits, channelBits, colourBits, endpointCount, firstBits, indexBits, kindOfMode, modeRow, pCount, secondBits}
+use Rattle.bcn_format.specs.Partitions.{among}
+use Rattle.bc7_format.specs.Places.{Place, atPlace, index, inside, opened, pbit, pos, value, width}
+use Rattle.bc7_format.specs.Splits.{anchors, kindOf, partition, splitAt, splitOf}
+use Rattle.bc7_format.proofs.Modes.{by-subset, good-64}
+use Rattle.bc7_format.proofs.Opening.{good-kind, opened-good}
+use Rattle.bc7_format.proofs.Places.{inside-index, inside-pbit, inside-value}
+use Rattle.bc7_format.proofs.Starts.{at-field, start}
+use Rattle.bcn_format.specs.Indexes.{Rising, anchorCount, anchorsOfKind, expanded, indexWidths, part}
+use Rattle.indexes.specs.Reading.{newIndexes}
+use Rattle.indexes.proofs.Remove.{size-kind}
+use Rattle.bits.specs.Stream.{skipped}
+use Rattle.bits.proofs.On.{On, field-lt, next-is, on-skipped}
+use Rattle.bc7_format.specs.Fields.{headEnd, valueStart}
+use Rattle.bc7_format.proofs.Fields.{begins, bit-at, first-start, index-at, value-at, valuesEnd}
+use Rattle.record_rules.specs.Records.{made, recordOf}
+use Rattle.bc7_places.specs.Rows.{OfMode, anchorsOf, rowOf}
+use Rattle.bc7_places.proofs.modes.Bounds.{second-bits, small}
+use Rattle.record.specs.Reading.{channelOf, channelsAt, endpointsOf, endpointsRead, pRead, secondRead, splitRead}
+use Rattle.record.proofs.reading.Heads.{split-is, split-on}
+use Rattle.bc7_places.proofs.modes.Pixels.{anchors-kind, anchors-rise}
+
+-- a part of a field is a field
+part-field : (n a t w i : ℕ) → i * w + w ≤ t → part (field n a t) w i ≡ field n (a + i * w) w
+unfolding part field
+part-field n a t w i h =
+    let k : ℕ = i * w in
+    let j : ℕ = t - k in
+    let e : j + k ≡ t = omega arith in
+    let f : j - w + w ≡ j = omega arith in
+    let x : ℕ = n / 2 ^ a in
+    ap (λ (y : ℕ). y % 2 ^ w) (ap (λ (y : ℕ). x % 2 ^ y / 2 ^ k) (sym e) ∙ part-of x j k)
+    ∙ ap (λ (y : ℕ). x / 2 ^ k % 2 ^ y % 2 ^ w) (sym f) ∙ mod-mod-pow (x / 2 ^ k) (j - w) w
+    ∙ ap (λ (y : ℕ). y % 2 ^ w) (shr-shr n a k)
+
+-- and past its end there is nothing
+part-past : (n a t i : ℕ) → t ≤ i → part (field n a t) 1 i ≡ 0
+unfolding part
+part-past n a t i h =
+    ap (λ (y : ℕ). y % 2 ^ 1) (div-eq-of-lt (lt-of-lt-of-le (field-lt n a t) (pow-mono {i = t} {j = i * 1} (rw (mul-one i) h))))
+
+-- the last group of each mode ends within the block
+pub record Room (m : ℕ) : Type 0 where
+  pub values : headEnd m ≤ 128
+  pub p : valuesEnd m ≤ 128
+  pub first : valuesEnd m + pCount m ≤ 128
+  pub second : valuesEnd m + pCount m + (16 * firstBits m - anchorCount (kindOfMode m)) ≤ 128
+
+pub in-block : (m : ℕ) → m < 8 → Room m
+unfolding headEnd modeRow kindOfMode endpointCount
+in-block zero h = omega arith
+in-block (suc zero) h = omega arith
+in-block (suc (suc zero)) h = omega arith
+in-block (suc (suc (suc zero))) h = omega arith
+in-block (suc (suc (suc (suc zero)))) h = omega arith
+in-block (suc (suc (suc (suc (suc zero))))) h = omega arith
+in-block (suc (suc (suc (suc (suc (suc zero)))))) h = omega arith
+in-block (suc (suc (suc (suc (suc (suc (suc zero))))))) h = omega arith
+in-block (suc (suc (suc (suc (suc (suc (suc (suc m)))))))) h = absurd (let z : ⊥ = omega arith in z)
+
+module _ (m : ℕ) (s : Split) (n : ℕ) (hm : m < 8) where
+  abbrev at : Place → ℕ
+  at x = atPlace m s n x
+
+  -- a place of no width
+  nothing : (x : Place) → T (inside x) → width m (anchors s) x ≡ 0 → at x ≡ 0
+  nothing x h e = at-field m s n x h ∙ ap (λ (w : ℕ). n / 2 ^ start m s (pos x) % 2 ^ w) e ∙ mod-one (n / 2 ^ start m s (pos x))
+
+  -- the values
+  module _ {row : ModeRow} {t : BitStream} (er : row ≡ rowOf m) (o : On n (headEnd m) t) where
+    channel-word : (c : ℕ) → channelsAt row t c ≡ field n (headEnd m + c * (endpointCount m * colourBits m)) (endpointCount m * channelBits m c)
+    channel-word c = rw er (next-is (on-skipped o (c * (endpointCount m * colourBits m))) (endpointCount m * channelBits m c))
+
+    one-of : (c : ℕ) → c < 4 → channelOf (channelsAt row t 0) (channelsAt row t 1) (channelsAt row t 2) (channelsAt row t 3) c ≡ channelsAt row t c
+    one-of zero h = refl
+    one-of (suc zero) h = refl
+    one-of (suc (suc zero)) h = refl
+    one-of (suc (suc (suc zero))) h = refl
+    one-of (suc (suc (suc (suc c)))) h = absurd (let z : ⊥ = omega arith in z)
+
+    value-there : (c e : ℕ) → c < 4 → e < endpointCount m → part (channelsAt row t c) (channelBits m c) e ≡ at (value c e)
+    unfolding valueStart
+    value-there c e hc he =
+        let k : ℕ = endpointCount m in
+        let b : ℕ = channelBits m c in
+        let room : e * b + b ≤ k * b = subst (λ (x : ℕ). x ≤ k * b) (let z : (e + 1) * b ≡ e * b + b = omega arith in z)
+        (mul-le-mul-right b (rw (add-one e) he)) in
+        let place : headEnd m + c * (k * colourBits m) + e * b ≡ headEnd m + k * (colourBits m * c) + b * e =
+        ap₂ (λ (x y : ℕ). headEnd m + x + y) (mul-comm c (k * colourBits m) ∙ mul-assoc k (colourBits m) c) (mul-comm e b) in
+        ap (λ (x : ℕ). part x b e) (channel-word c) ∙ part-field n _ (k * b) b e room
+        ∙ ap (λ (x : ℕ). field n x b) place ∙ sym (value-at m s n hm c e hc he)
+
+    pub values-stand : endpointsRead row t .endpoints ≡ table 24 (λ i. at (value (i % 4) (i / 4)))
+    unfolding endpointsRead endpointsOf width
+    values-stand = table-same 0 24 _ _ (λ i l. stands (i % 4) (i / 4) (omega arith) (omega arith))
+      where
+        stands : (c e : ℕ) → c < 4 → e < 6
+            → pick (ltb e (row .endpoints))
+            (part (channelOf (channelsAt row t 0) (channelsAt row t 1) (channelsAt row t 2) (channelsAt row t 3) c)
+            (pick (eqb c 3) (row .alpha) (row .colour)) e) 0
+            ≡ at (value c e)
+        stands c e hc he =
+            ⊎-elim
+            (λ l. rw (one-of c hc, er, lt-ltb e (endpointCount m) l) (rw er at (value-there c e hc l)))
+            (λ l. rw (er, le-ltb e (endpointCount m) l) (sym (nothing (value c e) (inside-value hc he) (rw (le-ltb e (endpointCount m) l)))))
+            (lt-or e (endpointCount m))
+
+    pub values-on : On n (valuesEnd m) (endpointsRead row t .stream)
+    unfolding endpointsRead
+    values-on =
+        let k : ℕ = endpointCount m in
+        let x : ℕ = 3 * (k * colourBits m) + k * alphaBits m in
+        let e : headEnd m + x ≡ valuesEnd m =
+        ap (λ (y : ℕ). headEnd m + (y + k * alphaBits m))
+        (sym (mul-assoc 3 k (colourBits m)) ∙ ap (λ (y : ℕ). y * colourBits m) (mul-comm 3 k) ∙ mul-assoc k 3 (colourBits m))
+        ∙ ap (λ (y : ℕ). headEnd m + y) (sym (mul-add k (3 * colourBits m) (alphaBits m))) in
+        rw er (subst (λ (a : ℕ). On n a (skipped t x)) e (on-skipped o x))
+
+  -- the p bits
+  module _ {row : ModeRow} {t : BitStream} (er : row ≡ rowOf m) (o : On n (valuesEnd m) t) where
+    pub ps-stand : pRead row t .p ≡ table 6 (λ k. at (pbit k))
+    unfolding pRead width
+    ps-stand = rw er (table-same 0 6 _ _ (λ k l. ap (λ (x : ℕ). part x 1 k) (next-is o (pCount m)) ∙ stands k l))
+      where
+        stands : (k : ℕ) → k < 6 → part (field n (valuesEnd m) (pCount m)) 1 k ≡ at (pbit k)
+        stands k h =
+            ⊎-elim
+            (λ (l : k < pCount m). part-field n (valuesEnd m) (pCount m) 1 k (rw (mul-one k) (omega arith))
+            ∙ ap (λ (x : ℕ). field n (valuesEnd m + x) 1) (mul-one k) ∙ sym (bit-at m s n hm k l))
+            (λ l. part-past n (valuesEnd m) (pCount m) k l ∙ sym (nothing (pbit k) (inside-pbit h) (rw (le-ltb k (pCount m) l))))
+            (lt-or k (pCount m))
+
+    pub ps-on : On n (start m s 34) (pRead row t .stream)
+    unfolding pRead
+    ps-on = rw (er, first-start m s hm) (on-skipped o (pCount m))
+
+  -- a set of indexes, read whole
+  pub set-stands : (a : ℕ) → a < 2 → {an : List ℕ} {t : BitStream} (b : ℕ) → an ≡ anchors s → b ≡ total (indexWidths (indexBits m a) (anchors s))
+      → On n (start m s (34 + (16 * a + 0))) t
+      → table 16 (part (newIndexes (indexBits m a) an t b .indexes .uncompressed) (indexBits m a)) ≡ table 16 (λ q. at (index a q))
+  set-stands a ha {an} {t} b ea eb o =
+      table-same 0 16 _ _ (λ q l.
+      ap₂ (λ (l : List ℕ) (x : ℕ). part (expanded (indexBits m a) l x) (indexBits m a) q) ea
+      (next-is o b ∙ ap (field n (start m s (34 + (16 * a + 0)))) eb)
+      ∙ index-at m s a ha n q l)
+
+  -- and one that the mode hasn't got
+  pub set-none : secondBits m ≡ 0 → replicate 16 0 ≡ table 16 (λ q. at (index 1 q))
+  unfolding table tableFrom width
+  set-none e =
+      table-same 0 16 (λ q. 0) (λ q. at (index 1 q))
+      (λ q l. sym (nothing (index 1 q) (inside-index {a = 1} (omega arith) l) (rw e (le-zero (pick-less (among q (anchors s)) 0)))))
+
+-- A BLOCK READ, of mode m, whose row is `row`
+module _ (bs : List ℕ) (sixteen : Fit eights bs) {m : ℕ} (em : m ≡ modeOf bs) (hm : m < 8) {row : ModeRow} (er : row ≡ rowOf m) where
+  abbrev n : ℕ
+  n = number bs
+
+  pub of-mode : OfMode row
+  of-mode = record { mode = m; low = hm; is = er }
+
+  module _ {s : Split} (es : s ≡ splitAt m n) where
+    is-split : s ≡ splitOf bs
+    unfolding splitOf
+    is-split = es ∙ ap (λ (m : ℕ). splitAt m n) em
+
+    low : modeOf bs < 8
+    low = subst (λ (m : ℕ). m < 8) em hm
+
+    pub partition-64 : partition s < 64
+    partition-64 = subst (λ (s : Split). partition s < 64) (sym is-split) (good-64 (opened-good bs sixteen low))
+
+    kind : row .kind ≡ kindOf s
+    kind = ap (λ (r : ModeRow). r .kind) er ∙ ap kindOfMode em ∙ sym (good-kind (opened-good bs sixteen low)) ∙ ap kindOf (sym is-split)
+
+    module _ {a : Anchors} (ea : a ≡ anchorsOf s) where
+      pub rise : Rising (row .kind) (a .b) (a .c)
+      rise = rw (kind, ea) (anchors-rise s partition-64)
+
+      anchors-are : anchorsOfKind (row .kind) (a .b) (a .c) ≡ anchors s
+      anchors-are = rw (kind, ea) (anchors-kind s partition-64)
+
+      set-size : (w : ℕ) → 0 < w → 16 * w - anchorCount (row .kind) ≡ total (indexWidths w (anchors s))
+      set-size w h = sym (size-kind (row .kind) w (a .b) (a .c) h rise) ∙ ap (λ (l : List ℕ). total (indexWidths w l)) anchors-are
+
+      second-on : {t : BitStream} {set : NewIndexes} → On n (start m s 34) t
+          → set ≡ newIndexes (row .first) (anchorsOfKind (row .kind) (a .b) (a .c)) t (16 * row .first - anchorCount (row .kind))
+          → On n (start m s 50) (set .stream)
+      unfolding indexWidths
+      second-on o e =
+          let w : 0 < row .first = omega (arith, small of-mode .least) in
+          let size : 16 * row .first - anchorCount (row .kind) ≡ total (indexWidths (firstBits m) (anchors s)) = set-size (row .first) w
+          ∙ ap (λ (r : ModeRow). total (indexWidths (r .first) (anchors s))) er in
+          rw (e, size, begins m s 0 (omega arith) 16 (omega arith)) (on-skipped o _)
+
+      second-stands : {t : BitStream} → On n (start m s 50) t → secondRead row a t ≡ table 16 (λ q. atPlace m s n (index 1 q))
+      unfolding secondRead
+      second-stands {t} o = go (eqb (row .kind) 3) refl
+        where
+          two : row .kind ≡ 3 → table 16
+              (part (newIndexes (row .second) (anchorsOfKind (row .kind) (a .b) (a .c)) t (16 * row .second - anchorCount (row .kind)) .indexes
+              .uncompressed) (row .second))
+              ≡ table 16 (λ q. atPlace m s n (index 1 q))
+          two k =
+              let e : row .second ≡ secondBits m = ap (λ (r : ModeRow). r .second) er in
+              rw e (set-stands m s n hm 1 (omega arith) _ anchors-are (rw e at (set-size (row .second) (second-bits of-mode k))) o)
+
+          go : (b : Bool) → eqb (row .kind) 3 ≡ b
+              → pick b (table 16 (part (newIndexes (row .second) (anchorsOfKind (row .kind) (a .b) (a .c)) t
+              (16 * row .second - anchorCount (row .kind)) .indexes .uncompressed) (row .second))) (replicate 16 0)
+              ≡ table 16 (λ q. atPlace m s n (index 1 q))
+          go true e = two (eqb-true (row .kind) 3 e)
+          go false e = set-none m s n hm (by-subset m hm (λ k. eqb-false (row .kind) 3 e (ap (λ (r : ModeRow). r .kind) er ∙ k)) .second)
+
+      first-stands : {t : BitStream} → On n (start m s 34) t
+          → table 16 (part (newIndexes (row .first) (anchorsOfKind (row .kind) (a .b) (a .c)) t (16 * row .first - anchorCount (row .kind)) .indexes
+          .uncompressed) (row .first))
+          ≡ table 16 (λ q. atPlace m s n (index 0 q))
+      first-stands o =
+          let e : row .first ≡ firstBits m = ap (λ (r : ModeRow). r .first) er in
+          rw e (set-stands m s n hm 0 (omega arith) _ anchors-are (rw e at (set-size (row .first) (omega (arith, small of-mode .least)))) o)
+
+  -- the reads one after the other
+  module _ {t : BitStream} (o : On n (m + 1) t) {h : ReadSplit} (eh : h ≡ splitRead row t) where
+    abbrev s : Split
+    s = h .split
+
+    pub the-split : h .split ≡ splitAt m n
+    the-split = split-is m er o eh
+
+    head-on : On n (headEnd m) (h .stream)
+    unfolding headEnd
+    head-on = subst (λ (a : ℕ). On n a (h .stream)) (rw er (omega arith)) (split-on row o eh)
+
+    pub values-room : h .stream .at ≤ 128
+    values-room = rw (head-on .stands) (in-block m hm .values)
+
+    module _ {v : ReadEndpoints} (ev : v ≡ endpointsRead row (h .stream)) where
+      values-behind : On n (valuesEnd m) (v .stream)
+      values-behind = rw ev (values-on m (h .split) n hm er head-on)
+
+      pub p-room : v .stream .at ≤ 128
+      p-room = rw (values-behind .stands) (in-block m hm .p)
+
+      module _ {p : ReadP} (ep : p ≡ pRead row (v .stream)) where
+        p-behind : On n (start m (h .split) 34) (p .stream)
+        p-behind = rw ep (ps-on m (h .split) n hm er values-behind)
+
+        pub first-room : p .stream .at ≤ 128
+        first-room = rw (p-behind .stands, first-start m (h .split) hm) (in-block m hm .first)
+
+        pub second-room : (l : List ℕ) {set : NewIndexes} → set ≡ newIndexes (row .first) l (p .stream) (16 * row .first - anchorCount (row .kind))
+            → set .stream .at ≤ 128
+        second-room l e = rw (e, p-behind .stands, first-start m (h .split) hm, er) (in-block m hm .second)
+
+        pub record-read : {a : Anchors} → a ≡ anchorsOf (h .split) → {set : NewIndexes}
+            → set ≡ newIndexes (row .first) (anchorsOfKind (row .kind) (a .b) (a .c)) (p .stream) (16 * row .first - anchorCount (row .kind))
+            → {first second : List ℕ} → first ≡ table 16 (part (set .indexes .uncompressed) (row .first)) → second ≡ secondRead row a (set .stream)
+            → record { mode = m; split = h .split; endpoints = v .endpoints; p = p .p; first = first; second = second } ≡ recordOf bs
+        unfolding recordOf made opened
+        record-read {a} ea {set} eset {first} {second} ef eg =
+            let s : Split = h .split in
+            let e1 : v .endpoints ≡ table 24 (λ i. atPlace m s n (value (i % 4) (i / 4))) = rw ev (values-stand m s n hm er head-on) in
+            let e2 : p .p ≡ table 6 (λ k. atPlace m s n (pbit k)) = rw ep (ps-stand m s n hm er values-behind) in
+            let e3 : first ≡ table 16 (λ q. atPlace m s n (index 0 q)) = ef ∙ rw eset (first-stands the-split ea p-behind) in
+            let e4 : second ≡ table 16 (λ q. atPlace m s n (index 1 q)) = eg ∙ second-stands the-split ea (second-on the-split ea p-behind eset) in
+            rw (e1, e2, e3, e4) (ap₂ (λ (m : ℕ) (s : Split). made m s (atPlace m s n)) em (is-split the-split))

@@ -1,0 +1,76 @@
+-- `read_endpoints` meets its contract.
+-- Assumes nothing.
+use native.Mathlib.Omega.{arith}
+use Rattle.bc7_places.proofs.modes.Bounds.{small}
+use Rattle.record.proofs.reading.Groups.{endpoints-read}
+use Rattle.record.proofs.reading.read_endpoints.Statement.{statement}
+use Rattle.record.proofs.reading.read_endpoints.Tie as tie
+
+cast-count : tie.Need-cast-count
+cast-count c = omega (arith, small (c .before .pre .0) .endpoints)
+
+mul-take : tie.Need-mul-take
+mul-take c = omega (arith, small (c .before .before .pre .0) .colours)
+
+take-requires : tie.Need-take-requires
+take-requires c κs = let b = small (c .before .before .pre .0) .colours in (omega (arith, b), omega (arith, b, c .before .before .pre .1))
+
+mul-take-2 : tie.Need-mul-take-2
+mul-take-2 c = omega (arith, small (c .before .before .before .before .before .pre .0) .colours)
+
+take-requires-2 : tie.Need-take-requires-2
+take-requires-2 c κs =
+    let b = small (c .before .before .before .before .before .pre .0) .colours in
+    (omega (arith, b), rw (c .before .before .take .ensures) (omega (arith, b, c .before .before .before .before .before .pre .1)))
+
+mul-take-3 : tie.Need-mul-take-3
+mul-take-3 c = omega (arith, small (c .before .before .before .before .before .before .before .before .pre .0) .colours)
+
+take-requires-3 : tie.Need-take-requires-3
+take-requires-3 c κs =
+    let b = small (c .before .before .before .before .before .before .before .before .pre .0) .colours in (
+      omega (arith, b),
+      rw (c .before .before .take2 .ensures, c .before .before .before .before .before .take .ensures)
+          (omega (arith, b, c .before .before .before .before .before .before .before .before .pre .1)),
+    )
+
+mul-take-4 : tie.Need-mul-take-4
+mul-take-4 c = omega (arith, small (c .before .before .before .before .before .before .before .before .before .before .before .pre .0) .alphas)
+
+take-requires-4 : tie.Need-take-requires-4
+take-requires-4 c κs =
+    let b = small (c .before .before .before .before .before .before .before .before .before .before .before .pre .0) in (
+      omega (arith, b .alphas),
+      rw (
+        c .before .before .take3 .ensures,
+        c .before .before .before .before .before .take2 .ensures,
+        c .before .before
+            .before .before .before .before .before .before .take .ensures,
+      )
+          (omega (arith, b .colours, b .alphas, c .before .before .before .before .before .before .before .before .before .before .before .pre .1)),
+    )
+
+endpoints-of-requires : tie.Need-endpoints-of-requires
+endpoints-of-requires c κs = c .before .before .before .before .before .before .before .before .before .before .before .before .before .pre .0
+
+returns : tie.Need-returns
+returns c =
+    endpoints-read _ _ (c .before .before .before .before .before .before .before .before .before .before .before .take .ensures)
+    (c .before .before .before .before .before .before .before .before .take2 .ensures) (c .before .before .before .before .before .take3 .ensures)
+    (c .before .before .take4 .ensures) (c .endpoints-of .ensures)
+
+pub read-endpoints-spec : {M : Type 1} → statement M
+read-endpoints-spec =
+    tie.close
+    (tie.spec
+    cast-count
+    mul-take
+    take-requires
+    mul-take-2
+    take-requires-2
+    mul-take-3
+    take-requires-3
+    mul-take-4
+    take-requires-4
+    endpoints-of-requires
+    returns)

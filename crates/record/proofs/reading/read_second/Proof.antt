@@ -1,0 +1,25 @@
+-- `read_second` meets its contract.
+-- Assumes nothing.
+use mathlib.Core.Path.{_∙_}
+use borrow.Author.Tests.{eq-eqb, ne-eqb}
+use Rattle.bc7_places.proofs.modes.Bounds.{second-bits, small}
+use Rattle.record.specs.Reading.{secondRead}
+use Rattle.record.proofs.reading.read_second.Statement.{statement}
+use Rattle.record.proofs.reading.read_second.Tie as tie
+
+returns : tie.Need-returns
+unfolding secondRead
+returns c = rw (ne-eqb _ _ (c .if1 .taken))
+
+read-indexes-requires : tie.Need-read-indexes-requires
+read-indexes-requires c κs = let s = c .before .before in (second-bits (s .pre .0) (c .if1 .left), small (s .pre .0) .second, s .pre .1, s .pre .2)
+
+parts-of-requires : tie.Need-parts-of-requires
+parts-of-requires c κs = small (c .before .before .before .before .pre .0) .second
+
+returns-2 : tie.Need-returns-2
+unfolding secondRead
+returns-2 c = c .parts-of .ensures ∙ rw (eq-eqb _ _ (c .before .before .before .if1 .left), c .before .before .read-indexes .ensures)
+
+pub read-second-spec : {M : Type 1} → statement M
+read-second-spec = tie.close (tie.spec returns read-indexes-requires parts-of-requires returns-2)

@@ -1,0 +1,76 @@
+-- `channel_word` meets its contract.
+-- Assumes nothing.
+use mathlib.Core.Path.{_≡_}
+use Prim.Native.Nat.{_+_, _*_, _≤_}
+use native.Mathlib.Omega.{arith}
+use lib.ListN.{getD}
+use Rattle.bcn_format.proofs.Expanding.{times-width}
+use Rattle.laws.proofs.Downwards.{Down, Step, down-all, down-next, down-none}
+use borrow.Author.Needs.{needs}
+use Rattle.record.proofs.writing.channel_word.Statement.{statement}
+use Rattle.record.proofs.writing.channel_word.Tie as tie
+
+abbrev Inv-loop : tie.InvT-loop
+Inv-loop count channel width e word₀ k₀ word k = (k ≤ count) × Down width count (λ i. getD e (4 * i + channel) 0) k word
+
+abbrev μ-loop : tie.MeasureT-loop
+μ-loop count channel width e word₀ k₀ word k = k
+
+step : (c : tie.In-loop Inv-loop μ-loop)
+    → Step (c .before .before .args .width) (c .before .before .args .count)
+    (λ i. getD (c .before .before .args .t1) (4 * i + c .before .before .args .channel) 0) (c .before .loop .k) (c .before .loop .word)
+step c =
+    let s = c .before .before in
+    down-next _ _ _ (s .pre .3) (omega (arith, times-width (s .args .width) (s .args .count) 6 (s .pre .0))) (c .before .loop .k)
+    (c .before .loop .word) (omega arith) (c .before .loop .inv .0) (c .before .loop .inv .1)
+
+loop-holds : tie.Need-loop-holds Inv-loop μ-loop
+loop-holds c = (omega arith, down-none _ _ _ (c .pre .3))
+
+sub-k : tie.Need-sub-k Inv-loop μ-loop
+sub-k c = omega arith
+
+shl-word : tie.Need-shl-word Inv-loop μ-loop
+shl-word c = omega arith
+
+mul-word : tie.Need-mul-word Inv-loop μ-loop
+mul-word c = omega arith
+
+add-word : tie.Need-add-word Inv-loop μ-loop
+add-word c = omega arith
+
+array-read-word : tie.Need-array-read-word Inv-loop μ-loop
+array-read-word c = omega arith
+
+cast-word : tie.Need-cast-word Inv-loop μ-loop
+cast-word c = search needs
+
+add-word-2 : tie.Need-add-word-2 Inv-loop μ-loop
+add-word-2 c = record { fits = step c .0 }
+
+loop-less : tie.Need-loop-less Inv-loop μ-loop
+loop-less c = omega arith
+
+loop-again : tie.Need-loop-again Inv-loop μ-loop
+loop-again c = (omega arith, step c .1)
+
+returns : tie.Need-returns Inv-loop μ-loop
+returns c = down-all _ _ _ (c .before .before .pre .3) _ (let z : c .before .loop .k ≡ 0 = omega arith in rw z at (c .before .loop .inv .1))
+
+pub channel-word-spec : {M : Type 1} → statement M
+channel-word-spec =
+    tie.close
+    (tie.spec
+    Inv-loop
+    μ-loop
+    loop-holds
+    sub-k
+    shl-word
+    mul-word
+    add-word
+    array-read-word
+    cast-word
+    add-word-2
+    loop-less
+    loop-again
+    returns)

@@ -1,0 +1,56 @@
+-- What is read of a block group by group, by the row of its mode.
+-- Assumes nothing.
+use Prim.Native.Nat.{ℕ, _+_, _-_, _*_, _/_, _%_}
+use mathlib.Core.List.{List, [], _∷_}
+use lib.Dec.{eqb, ltb}
+use lib.ListN.{getD, replicate}
+use Rattle.record.specs.declared.reading.ReadSplit.{ReadSplit}
+use Rattle.record.specs.declared.reading.ReadEndpoints.{ReadEndpoints}
+use Rattle.record.specs.declared.reading.ReadP.{ReadP}
+use Rattle.bc7_places.specs.declared.modes.Anchors.{Anchors}
+use Rattle.bc7_places.specs.declared.modes.ModeRow.{ModeRow}
+use Rattle.bits.specs.declared.stream.BitStream.{BitStream}
+use Rattle.laws.specs.Tables.{pick, table}
+use Rattle.bc7_format.specs.Splits.{ofKind}
+use Rattle.bcn_format.specs.Indexes.{anchorCount, anchorsOfKind, part}
+use Rattle.indexes.specs.Reading.{newIndexes}
+use Rattle.bits.specs.Stream.{nextBits, skipped}
+
+-- the split bits come next: partition, rotation, index mode
+abbrev pub splitRead : ModeRow → BitStream → ReadSplit
+splitRead row s = record {
+  split = ofKind (row .kind) (nextBits s (row .partition)) (nextBits (skipped s (row .partition)) (row .rotation))
+      (nextBits (skipped s (row .partition + row .rotation)) (row .«index_mode»));
+  stream = skipped s (row .partition + row .rotation + row .«index_mode»);
+}
+
+-- the endpoints of four words, one a channel: value e of a channel is part e of its word, and 0 where the mode has no endpoint e
+abbrev pub channelOf : ℕ → ℕ → ℕ → ℕ → ℕ → ℕ
+channelOf red green blue alpha c = getD (red ∷ green ∷ blue ∷ alpha ∷ []) c 0
+
+unfoldable pub endpointsOf : ModeRow → ℕ → ℕ → ℕ → ℕ → List ℕ
+endpointsOf row red green blue alpha =
+    table 24 (λ i. pick (ltb (i / 4) (row .endpoints))
+    (part (channelOf red green blue alpha (i % 4)) (pick (eqb (i % 4) 3) (row .alpha) (row .colour)) (i / 4)) 0)
+
+-- a word for each channel comes next
+abbrev pub channelsAt : ModeRow → BitStream → ℕ → ℕ
+channelsAt row s c = nextBits (skipped s (c * (row .endpoints * row .colour))) (row .endpoints * pick (eqb c 3) (row .alpha) (row .colour))
+
+unfoldable pub endpointsRead : ModeRow → BitStream → ReadEndpoints
+endpointsRead row s = record {
+  endpoints = endpointsOf row (channelsAt row s 0) (channelsAt row s 1) (channelsAt row s 2) (channelsAt row s 3);
+  stream = skipped s (3 * (row .endpoints * row .colour) + row .endpoints * row .alpha);
+}
+
+-- a word of p bits comes next
+unfoldable pub pRead : ModeRow → BitStream → ReadP
+pRead row s = record { p = table 6 (part (nextBits s (row .p)) 1); stream = skipped s (row .p) }
+
+-- the second set comes next, where the mode has one
+unfoldable pub secondRead : ModeRow → Anchors → BitStream → List ℕ
+secondRead row a s =
+    pick (eqb (row .kind) 3)
+    (table 16 (part (newIndexes (row .second) (anchorsOfKind (row .kind) (a .b) (a .c)) s (16 * row .second - anchorCount (row .kind)) .indexes
+    .uncompressed) (row .second)))
+    (replicate 16 0)

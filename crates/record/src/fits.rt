@@ -1,0 +1,192 @@
+// Does a record fit? Everything its full width (refusal 3), and the anchors' indexes their stored one (refusal 6): eight bytes at a
+// time under one mask, where they stand together.
+ghost use mathlib.Core.Path.{_≡_};
+ghost use mathlib.Core.List.{[]};
+ghost use Prim.Native.Nat.{_+_, _-_, _/_, _%_, _^_, _<_, _≤_};
+ghost use lib.Dec.{eqb, ltb};
+ghost use lib.ListN.{getD, replicate};
+ghost use Rattle.laws.specs.Digits.{join, split};
+ghost use Rattle.laws.specs.Tables.{below, pick, table};
+ghost use Rattle.record_rules.specs.Records.{fits, says};
+ghost use Rattle.bc7_places.specs.Rows.{OfMode, Pixels, anchorsOf, rowOf};
+ghost use Rattle.record.specs.Fitting.{Full, splitFits, storedFit, topsClear, valueBits};
+use bc7_format::Split;
+use bc7_places::modes::Anchors;
+use bc7_places::modes::ModeRow;
+use bc7_places::splits::index_mode_of;
+use bc7_places::splits::partition_of;
+use bc7_places::splits::rotation_of;
+use bits::stream::BitStream;
+use bits::stream::word;
+use record_rules::Record;
+
+// What a value has above its width: nothing, where it fits. A sum of these is 0 where all fit.
+pub fn above(value: u8, width: u32) -> u64
+    requires { ⌜ width < 64 ⌝ }
+    ensures { λ r. ⌜ r ≡ value / 2 ^ width ⌝ }
+{
+    (value as u64) >> width
+}
+
+// Does a value fit a width?
+fn value_fits(value: u8, width: u32) -> bool
+    requires { ⌜ width < 64 ⌝ }
+    ensures { λ r. ⌜ r ≡ ltb value (2 ^ width) ⌝ }
+{
+    let rest = above(value, width);
+    if rest == 0 {
+        return true;
+    }
+    false
+}
+
+// Do eight bytes, two endpoints of red, green, blue and alpha, fit these widths? One mask holds the bits that none may have: a
+// byte of width w may not have those of 256 - 2 ^ w, and the products lay that out at the bytes of either width.
+pub fn pair_fits(bytes: u64, colour: u32, alpha: u32) -> bool
+    requires { ⌜ (colour ≤ 8) × (alpha ≤ 8) ⌝ }
+    ensures { λ r. ⌜ r ≡ below 8 (λ i. ltb (getD (split (replicate 8 8) bytes) i 0) (2 ^ pick (eqb (i % 4) 3) alpha colour)) ⌝ }
+{
+    let over = (256 - (1u64 << colour)) * 0x0001_0101_0001_0101
+        + (256 - (1u64 << alpha)) * 0x0100_0000_0100_0000;
+    bytes & over == 0
+}
+
+// Do sixteen indexes fit a width?
+pub fn indexes_fit(indexes: [u8; 16], width: u32) -> bool
+    requires { ⌜ width ≤ 8 ⌝ }
+    ensures { λ r. ⌜ r ≡ below 16 (λ q. ltb (getD indexes q 0) (2 ^ width)) ⌝ }
+{
+    let bytes = BitStream::new(indexes);
+    if !pair_fits(bytes.low, width, width) {
+        return false;
+    }
+    pair_fits(bytes.high, width, width)
+}
+
+fn split_fits(split: Split, row: ModeRow) -> bool
+    requires { ⌜ OfMode row ⌝ }
+    ensures { λ r. ⌜ r ≡ splitFits split row ⌝ }
+{
+    if !value_fits(partition_of(split), row.partition) {
+        return false;
+    }
+    if !value_fits(rotation_of(split), row.rotation) {
+        return false;
+    }
+    value_fits(index_mode_of(split), row.index_mode)
+}
+
+// Two endpoints of a record, from a place on, as one word.
+fn pair(e: [u8; 24], at: usize) -> u64
+    requires { ⌜ at + 8 ≤ 24 ⌝ }
+    ensures { λ r. ⌜ r ≡ join (replicate 8 8) (table 8 (λ i. getD e (at + i) 0)) ⌝ }
+{
+    word(
+        e[at],
+        e[at + 1],
+        e[at + 2],
+        e[at + 3],
+        e[at + 4],
+        e[at + 5],
+        e[at + 6],
+        e[at + 7],
+    )
+}
+
+// A mode has its endpoints in pairs: a pair that it hasn't got fits no width.
+fn endpoints_fit_at(e: [u8; 24], row: ModeRow, at: usize) -> bool
+    requires { ⌜ OfMode row × (at + 8 ≤ 24) × (at % 8 ≡ 0) ⌝ }
+    ensures { λ r. ⌜ r ≡ below 8 (λ i. ltb (getD e (at + i) 0) (2 ^ valueBits row (at + i))) ⌝ }
+{
+    if 4 * row.endpoints <= at {
+        return pair_fits(pair(e, at), 0, 0);
+    }
+    pair_fits(pair(e, at), row.colour, row.alpha)
+}
+
+fn endpoints_fit(e: [u8; 24], row: ModeRow) -> bool
+    requires { ⌜ OfMode row ⌝ }
+    ensures { λ r. ⌜ r ≡ below 24 (λ i. ltb (getD e i 0) (2 ^ valueBits row i)) ⌝ }
+{
+    if !endpoints_fit_at(e, row, 0) {
+        return false;
+    }
+    if !endpoints_fit_at(e, row, 8) {
+        return false;
+    }
+    endpoints_fit_at(e, row, 16)
+}
+
+// A p bit that the mode hasn't got is 0.
+fn p_fits(p: [u8; 6], row: ModeRow) -> bool
+    ensures { λ r. ⌜ r ≡ below 6 (λ k. ltb (getD p k 0) (2 ^ pick (ltb k (row .p)) 1 0)) ⌝ }
+{
+    let mut k: usize = 0;
+    while k < 6 {
+        let width = if k < row.p { 1u32 } else { 0u32 };
+        if !value_fits(p[k], width) {
+            return false;
+        }
+        k += 1;
+    }
+    true
+}
+
+// Refusal 3: does everything fit its full width?
+pub fn record_fits(record: Record, row: ModeRow) -> bool
+    requires { ⌜ («record» .mode < 8) × (row ≡ rowOf («record» .mode)) ⌝ }
+    ensures { λ r. ⌜ r ≡ fits («record» .mode) [] (says «record») ⌝ }
+{
+    let split = record.split;
+    if !split_fits(split, row) {
+        return false;
+    }
+    let endpoints = record.endpoints;
+    if !endpoints_fit(endpoints, row) {
+        return false;
+    }
+    let p = record.p;
+    if !p_fits(p, row) {
+        return false;
+    }
+    let first = record.first;
+    if !indexes_fit(first, row.first) {
+        return false;
+    }
+    let second = record.second;
+    indexes_fit(second, row.second)
+}
+
+// Do the anchors' indexes of a set do without their top bits?
+fn tops_clear(indexes: [u8; 16], anchors: Anchors, width: u32) -> bool
+    requires { ⌜ (0 < width) × (width ≤ 4) × Pixels anchors ⌝ }
+    ensures { λ r. ⌜ r ≡ topsClear indexes anchors (width - 1) ⌝ }
+{
+    let a = anchors.a;
+    if !value_fits(indexes[a], width - 1) {
+        return false;
+    }
+    let b = anchors.b;
+    if !value_fits(indexes[b], width - 1) {
+        return false;
+    }
+    let c = anchors.c;
+    value_fits(indexes[c], width - 1)
+}
+
+// Refusal 6, where everything fits its full width: do the anchors' indexes fit as they are stored? A mode whose kind is a vector
+// and a scalar has two sets.
+pub fn anchors_fit(record: Record, row: ModeRow, anchors: Anchors) -> bool
+    requires { ⌜ Full «record» row × (anchors ≡ anchorsOf («record» .split)) ⌝ }
+    ensures { λ r. ⌜ r ≡ storedFit «record» ⌝ }
+{
+    let first = record.first;
+    if !tops_clear(first, anchors, row.first) {
+        return false;
+    }
+    if row.kind != 3 {
+        return true;
+    }
+    let second = record.second;
+    tops_clear(second, anchors, row.second)
+}

@@ -1,0 +1,193 @@
+// Reading a block group by group: the mode, the split, a word for each channel, a word of p bits, a word for each set of
+// indexes. A word is then taken apart into its parts.
+ghost use mathlib.Core.Path.{_≡_};
+ghost use Prim.Native.Nat.{_+_, _-_, _*_, _<_, _≤_};
+ghost use Rattle.laws.specs.Tables.{table};
+ghost use Rattle.bc7_format.specs.Modes.{modeOf};
+ghost use Rattle.bcn_format.specs.Indexes.{Rising, anchorCount, anchorsOfKind, part};
+ghost use Rattle.indexes.specs.Reading.{newIndexes};
+ghost use Rattle.record_rules.specs.Records.{recordOf};
+ghost use Rattle.bc7_places.specs.Rows.{OfMode, rowOf};
+ghost use Rattle.record.specs.Reading.{endpointsOf, endpointsRead, pRead, secondRead, splitRead};
+use bc7_format::Split;
+use bc7_places::modes::Anchors;
+use bc7_places::modes::ModeRow;
+use bc7_places::modes::anchors_of;
+use bc7_places::splits::split_of_kind;
+use bits::stream::BitStream;
+use indexes::Indexes;
+use indexes::NewIndexes;
+use record_rules::Record;
+
+// The mode is the count of zero bits that byte 0 ends in, and 8 is reserved.
+pub fn mode_of(block: [u8; 16]) -> u8
+    ensures { λ r. ⌜ r ≡ modeOf block ⌝ }
+{
+    u8::trailing_zeros(block[0]) as u8
+}
+
+// The split, and the stream past it.
+pub struct ReadSplit {
+    pub split: Split,
+    pub stream: BitStream,
+}
+
+// A mode has a partition, or a rotation (of two bits) with an index mode, or nothing: one read, of which the kind takes what it
+// has.
+pub fn read_split(row: ModeRow, stream: BitStream) -> ReadSplit
+    requires { ⌜ OfMode row × (stream .at ≤ 128) ⌝ }
+    ensures { λ r. ⌜ r ≡ splitRead row stream ⌝ }
+{
+    let bits = stream.take(row.partition + row.rotation + row.index_mode);
+    let rest = bits.stream;
+    let value = bits.value as u8;
+    let split = split_of_kind(row.kind, value, value % 4, value >> 2);
+    ReadSplit {
+        split: split,
+        stream: rest,
+    }
+}
+
+// The sixteen indexes of a set as one word of equal parts, the anchors' zeros put in.
+pub fn read_indexes(kind: u8, anchors: Anchors, width: u32, stream: BitStream) -> NewIndexes
+    requires { ⌜ (0 < width) × (width ≤ 4) × Rising kind (anchors .b) (anchors .c) × (stream .at ≤ 128) ⌝ }
+    ensures { λ r. ⌜ r ≡ newIndexes width (anchorsOfKind kind (anchors .b) (anchors .c)) stream (16 * width - anchorCount kind) ⌝ }
+{
+    if kind == 1 {
+        return Indexes::new_p2(width, stream, anchors.b as u32);
+    }
+    if kind == 2 {
+        return Indexes::new_p3(width, stream, anchors.b as u32, anchors.c as u32);
+    }
+    Indexes::new_p1(width, stream)
+}
+
+// The sixteen parts of a word.
+pub fn parts_of(word: u64, width: u32) -> [u8; 16]
+    requires { ⌜ width ≤ 4 ⌝ }
+    ensures { λ r. ⌜ r ≡ table 16 (part word width) ⌝ }
+{
+    let mut parts = [0u8; 16];
+    let mut rest = word;
+    for i in 0..16usize {
+        parts[i] = (rest % (1u64 << width)) as u8;
+        rest = rest >> width;
+    }
+    parts
+}
+
+// Part i of a word of parts of one width.
+fn part_of(word: u64, width: u32, i: usize) -> u8
+    requires { ⌜ (width ≤ 8) × (i < 6) ⌝ }
+    ensures { λ r. ⌜ r ≡ part word width i ⌝ }
+{
+    ((word >> (i as u32 * width)) % (1u64 << width)) as u8
+}
+
+// The values of the mode's endpoints, of four words, one a channel. Those that the mode hasn't got stay 0.
+fn endpoints_of(row: ModeRow, red: u64, green: u64, blue: u64, alpha: u64) -> [u8; 24]
+    requires { ⌜ OfMode row ⌝ }
+    ensures { λ r. ⌜ r ≡ endpointsOf row red green blue alpha ⌝ }
+{
+    let mut endpoints = [0u8; 24];
+    let mut e: usize = 0;
+    while e < row.endpoints {
+        endpoints[4 * e] = part_of(red, row.colour, e);
+        endpoints[4 * e + 1] = part_of(green, row.colour, e);
+        endpoints[4 * e + 2] = part_of(blue, row.colour, e);
+        endpoints[4 * e + 3] = part_of(alpha, row.alpha, e);
+        e += 1;
+    }
+    endpoints
+}
+
+pub struct ReadEndpoints {
+    pub endpoints: [u8; 24],
+    pub stream: BitStream,
+}
+
+// A channel's values stand side by side: one read for each channel.
+pub fn read_endpoints(row: ModeRow, stream: BitStream) -> ReadEndpoints
+    requires { ⌜ OfMode row × (stream .at ≤ 128) ⌝ }
+    ensures { λ r. ⌜ r ≡ endpointsRead row stream ⌝ }
+{
+    let count = row.endpoints as u32;
+    let red = stream.take(count * row.colour);
+    let s1 = red.stream;
+    let green = s1.take(count * row.colour);
+    let s2 = green.stream;
+    let blue = s2.take(count * row.colour);
+    let s3 = blue.stream;
+    let alpha = s3.take(count * row.alpha);
+    let rest = alpha.stream;
+    let endpoints = endpoints_of(row, red.value, green.value, blue.value, alpha.value);
+    ReadEndpoints {
+        endpoints: endpoints,
+        stream: rest,
+    }
+}
+
+pub struct ReadP {
+    pub p: [u8; 6],
+    pub stream: BitStream,
+}
+
+// What the mode hasn't got is 0, since a word of its p bits has no more.
+pub fn read_p(row: ModeRow, stream: BitStream) -> ReadP
+    requires { ⌜ OfMode row × (stream .at ≤ 128) ⌝ }
+    ensures { λ r. ⌜ r ≡ pRead row stream ⌝ }
+{
+    let bits = stream.take(row.p as u32);
+    let rest = bits.stream;
+    let word = bits.value;
+    ReadP {
+        p: [
+            part_of(word, 1, 0),
+            part_of(word, 1, 1),
+            part_of(word, 1, 2),
+            part_of(word, 1, 3),
+            part_of(word, 1, 4),
+            part_of(word, 1, 5),
+        ],
+        stream: rest,
+    }
+}
+
+// The second set of indexes, zeros where the mode has none.
+pub fn read_second(row: ModeRow, anchors: Anchors, stream: BitStream) -> [u8; 16]
+    requires { ⌜ OfMode row × Rising (row .kind) (anchors .b) (anchors .c) × (stream .at ≤ 128) ⌝ }
+    ensures { λ r. ⌜ r ≡ secondRead row anchors stream ⌝ }
+{
+    if row.kind != 3 {
+        return [0u8; 16];
+    }
+    let set = read_indexes(row.kind, anchors, row.second, stream);
+    let indexes = set.indexes;
+    parts_of(indexes.uncompressed, row.second)
+}
+
+// The record of a block that is not reserved, by its mode and the row of that mode.
+pub fn read_record(block: [u8; 16], mode: u8, row: ModeRow) -> Record
+    requires { ⌜ (mode ≡ modeOf block) × (mode < 8) × (row ≡ rowOf mode) ⌝ }
+    ensures { λ r. ⌜ r ≡ recordOf block ⌝ }
+{
+    let head = read_split(row, BitStream::new(block).skip(mode as u32 + 1));
+    let split = head.split;
+    let values = read_endpoints(row, head.stream);
+    let endpoints = values.endpoints;
+    let bits = read_p(row, values.stream);
+    let p = bits.p;
+    let anchors = anchors_of(split);
+    let set = read_indexes(row.kind, anchors, row.first, bits.stream);
+    let indexes = set.indexes;
+    let first = parts_of(indexes.uncompressed, row.first);
+    let second = read_second(row, anchors, set.stream);
+    Record {
+        mode: mode,
+        split: split,
+        endpoints: endpoints,
+        p: p,
+        first: first,
+        second: second,
+    }
+}

@@ -1,0 +1,162 @@
+// Writing a block group by group: the marker and the split, a word for each channel, a word of p bits, a word for each set of
+// indexes, each of them pushed at once.
+ghost use mathlib.Core.Path.{_≡_};
+ghost use mathlib.Core.List.{[]};
+ghost use Prim.Native.Nat.{ℕ, _+_, _-_, _*_, _^_, _<_, _≤_};
+ghost use lib.ListN.{getD};
+ghost use Rattle.laws.specs.Digits.{Fit, join, row};
+ghost use Rattle.bcn_format.specs.Block.{field};
+ghost use Rattle.bc7_format.specs.Modes.{channelBits};
+ghost use Rattle.bc7_format.specs.Places.{blockOf};
+ghost use Rattle.bcn_format.specs.Indexes.{Rising, anchorCount, anchorsOfKind, indexWidths};
+ghost use Rattle.bits.specs.Writer.{pushed, written};
+ghost use Rattle.record_rules.specs.Records.{says};
+ghost use Rattle.bc7_places.specs.Rows.{Pixels, anchorsOf};
+ghost use Rattle.record.specs.Writing.{Packs, upto};
+use bc7_places::modes::Anchors;
+use bc7_places::modes::ModeRow;
+use bc7_places::splits::index_mode_of;
+use bc7_places::splits::partition_of;
+use bc7_places::splits::rotation_of;
+use bits::writer::BitWriter;
+use indexes::storing::compressed;
+use indexes::storing::stored_bits;
+use record_rules::Record;
+
+// Sixteen indexes that fit a width as one word of equal parts.
+pub fn word_of(indexes: [u8; 16], width: u32) -> u64
+    requires { ⌜ (width ≤ 4) × Fit (indexWidths width []) indexes ⌝ }
+    ensures { λ r. ⌜ r ≡ join (indexWidths width []) indexes ⌝ }
+{
+    let mut word: u64 = 0;
+    let mut i: usize = 16;
+    while i > 0 {
+        i -= 1;
+        word = (word << width) + indexes[i] as u64;
+    }
+    word
+}
+
+// The top bit of an index in a word of parts of one width.
+pub fn top_of(word: u64, width: u32, index: usize) -> u64
+    requires { ⌜ (0 < width) × (width ≤ 4) × (index < 16) ⌝ }
+    ensures { λ r. ⌜ r ≡ field word (index * width + (width - 1)) 1 ⌝ }
+{
+    (word >> (index as u32 * width + (width - 1))) % 2
+}
+
+// The values of a channel as one word, endpoint 0 lowest.
+fn channel_word(e: [u8; 24], count: usize, channel: usize, width: u32) -> u64
+    requires { ⌜ (count ≤ 6) × (channel < 4) × (width ≤ 8) × ((k : ℕ) → k < count → getD e (4 * k + channel) 0 < 2 ^ width) ⌝ }
+    ensures { λ r. ⌜ r ≡ row count width (λ k. getD e (4 * k + channel) 0) ⌝ }
+{
+    let mut word: u64 = 0;
+    let mut k = count;
+    while k > 0 {
+        k -= 1;
+        word = (word << width) + e[4 * k + channel] as u64;
+    }
+    word
+}
+
+// The p bits as one word.
+fn p_word(p: [u8; 6], count: usize) -> u64
+    requires { ⌜ (count ≤ 6) × ((k : ℕ) → k < count → getD p k 0 < 2 ^ 1) ⌝ }
+    ensures { λ r. ⌜ r ≡ row count 1 (λ k. getD p k 0) ⌝ }
+{
+    let mut word: u64 = 0;
+    let mut k = count;
+    while k > 0 {
+        k -= 1;
+        word = (word << 1) + p[k] as u64;
+    }
+    word
+}
+
+// Marker and split.
+fn push_head(record: Record, row: ModeRow) -> BitWriter
+    requires { ⌜ Packs «record» row ⌝ }
+    ensures { λ r. ⌜ r ≡ upto «record» 4 ⌝ }
+{
+    let mode = record.mode;
+    let split = record.split;
+    BitWriter::new()
+        .push(1u64 << mode, mode as u32 + 1)
+        .push(partition_of(split) as u64, row.partition)
+        .push(rotation_of(split) as u64, row.rotation)
+        .push(index_mode_of(split) as u64, row.index_mode)
+}
+
+fn push_channel(
+    writer: BitWriter,
+    record: Record,
+    row: ModeRow,
+    channel: usize,
+    width: u32,
+) -> BitWriter
+    requires { ⌜ Packs «record» row × (channel < 4) × (width ≡ channelBits («record» .mode) channel) × (writer ≡ upto «record» (4 + 6 * channel)) ⌝ }
+    ensures { λ r. ⌜ r ≡ upto «record» (4 + 6 * channel + 6) ⌝ }
+{
+    let endpoints = record.endpoints;
+    let word = channel_word(endpoints, row.endpoints, channel, width);
+    writer.push(word, row.endpoints as u32 * width)
+}
+
+fn push_endpoints(writer: BitWriter, record: Record, row: ModeRow) -> BitWriter
+    requires { ⌜ Packs «record» row × (writer ≡ upto «record» 4) ⌝ }
+    ensures { λ r. ⌜ r ≡ upto «record» 28 ⌝ }
+{
+    let red = push_channel(writer, record, row, 0, row.colour);
+    let green = push_channel(red, record, row, 1, row.colour);
+    let blue = push_channel(green, record, row, 2, row.colour);
+    push_channel(blue, record, row, 3, row.alpha)
+}
+
+fn push_p(writer: BitWriter, record: Record, row: ModeRow) -> BitWriter
+    requires { ⌜ Packs «record» row × (writer ≡ upto «record» 28) ⌝ }
+    ensures { λ r. ⌜ r ≡ upto «record» 34 ⌝ }
+{
+    let p = record.p;
+    writer.push(p_word(p, row.p), row.p as u32)
+}
+
+// The indexes of a set, each at its stored width.
+fn push_set(
+    writer: BitWriter,
+    kind: u8,
+    anchors: Anchors,
+    width: u32,
+    indexes: [u8; 16],
+) -> BitWriter
+    requires { ⌜ (0 < width) × (width ≤ 4) × Pixels anchors × Rising kind (anchors .b) (anchors .c) × Fit (indexWidths width (anchorsOfKind kind (anchors .b) (anchors .c))) indexes × (writer .at + (16 * width - anchorCount kind) ≤ 128) × (written writer < 2 ^ writer .at) ⌝ }
+    ensures { λ r. ⌜ r ≡ pushed writer (join (indexWidths width (anchorsOfKind kind (anchors .b) (anchors .c))) indexes) (16 * width - anchorCount kind) ⌝ }
+{
+    let word = word_of(indexes, width);
+    let stored = compressed(kind, width, anchors.b as u32, anchors.c as u32, word);
+    writer.push(stored, stored_bits(kind, width))
+}
+
+// Both sets, where the mode has two.
+fn push_indexes(writer: BitWriter, record: Record, row: ModeRow, anchors: Anchors) -> BitWriter
+    requires { ⌜ Packs «record» row × (anchors ≡ anchorsOf («record» .split)) × (writer ≡ upto «record» 34) ⌝ }
+    ensures { λ r. ⌜ r ≡ upto «record» 66 ⌝ }
+{
+    let first = record.first;
+    let one = push_set(writer, row.kind, anchors, row.first, first);
+    if row.kind != 3 {
+        return one;
+    }
+    let second = record.second;
+    push_set(one, row.kind, anchors, row.second, second)
+}
+
+// The block of a record that packs.
+pub fn write_record(record: Record, row: ModeRow, anchors: Anchors) -> [u8; 16]
+    requires { ⌜ Packs «record» row × (anchors ≡ anchorsOf («record» .split)) ⌝ }
+    ensures { λ r. ⌜ r ≡ blockOf («record» .mode) («record» .split) (says «record») ⌝ }
+{
+    let head = push_head(record, row);
+    let values = push_endpoints(head, record, row);
+    let p = push_p(values, record, row);
+    push_indexes(p, record, row, anchors).finish()
+}

@@ -1,0 +1,70 @@
+-- Rows of bytes made of arrays laid one behind the other.
+-- Assumes nothing.
+use mathlib.Core.Path.{_≡_, refl, ap, subst, sym}
+use mathlib.Core.List.{List}
+use Prim.Native.Nat.{ℕ, _+_, _-_, _<_, _≤_}
+use native.Mathlib.Nat.{zero-add}
+use native.Mathlib.Omega.{arith}
+use borrow.Author.Tests.{lt-ltb, le-ltb}
+use lib.Dec.{lit<}
+use lib.ListN.{length, getD, set}
+use Rattle.line_rules.specs.declared.Replacement.{Replacement}
+use Rattle.record_rules.specs.declared.Record.{Record}
+use Rattle.laws.specs.Tables.{over}
+use Rattle.laws.proofs.Filled.{Filled, filled-next, filled-none}
+use Rattle.laws.proofs.Over.{filled-run}
+use Rattle.bc7_format.specs.Splits.{indexMode, kindOf}
+use Rattle.line_rules.specs.Read.{valueAt}
+use Rattle.record_bytes.specs.Wire.{recordByte, splitByte}
+
+-- i places behind o
+pub behind : (o i : ℕ) (xs : List ℕ) → getD xs (o + i - o) 0 ≡ getD xs i 0
+behind o i xs = ap (λ (k : ℕ). getD xs k 0) (let z : o + i - o ≡ i = omega arith in z)
+
+-- an array of k bytes laid behind o bytes that stand
+pub laid : {N : ℕ} {F : ℕ → ℕ} {out next : List ℕ} (o k : ℕ) (vs : List ℕ) → length vs ≡ k → next ≡ over out o (length vs) (λ i. getD vs i 0)
+    → Filled N 0 F o out → o + k ≤ N → ((j : ℕ) → j < k → F (o + j) ≡ getD vs j 0) → Filled N 0 F (o + k) next
+laid {N} {F} {out} o k vs long e h l is =
+    subst (Filled N 0 F (o + k)) (sym e) (subst (λ (n : ℕ). Filled N 0 F (o + k) (over out o n (λ i. getD vs i 0))) (sym long) (filled-run o k (λ i. getD vs i 0) h l (λ j b. sym (is j b))))
+
+-- where the values of a replacement stand
+module _ (g : Replacement) (j : ℕ) where
+  pub endpoint-at : j < 8 → valueAt g (0 + j) ≡ getD (g .endpoints) j 0
+  unfolding valueAt
+  endpoint-at h = rw (zero-add j, lt-ltb j 8 h)
+
+  pub p-at : j < 2 → valueAt g (8 + j) ≡ getD (g .p) j 0
+  unfolding valueAt
+  p-at h = rw (le-ltb (8 + j) 8 (omega arith), lt-ltb (8 + j) 10 (omega arith)) (behind 8 j (g .p))
+
+  pub index-at : j < 16 → valueAt g (10 + j) ≡ getD (g .indexes) j 0
+  unfolding valueAt
+  index-at h = rw (le-ltb (10 + j) 8 (omega arith), le-ltb (10 + j) 10 (omega arith)) (behind 10 j (g .indexes))
+
+-- the four bytes before them
+pub head-laid : (r : Record) (k s i : ℕ) (out : List ℕ) → length out ≡ 66 → k ≡ kindOf (r .split) → s ≡ splitByte (r .split) → i ≡ indexMode (r .split)
+    → Filled 66 0 (recordByte r) 4 (set (set (set (set out 0 (r .mode)) 1 k) 2 s) 3 i)
+unfolding recordByte
+head-laid r k s i out long ek es ei =
+    filled-next 3 i (filled-next 2 s (filled-next 1 k (filled-next {out = out} 0 (r .mode) (filled-none long) (lit< tt) refl) (lit< tt) ek) (lit< tt) es) (lit< tt) ei
+
+-- where the values of a record stand
+module _ (r : Record) (i : ℕ) where
+  pub value-at : i < 24 → recordByte r (4 + i) ≡ getD (r .endpoints) i 0
+  unfolding recordByte
+  value-at h = rw (le-ltb (4 + i) 4 (omega arith), lt-ltb (4 + i) 28 (omega arith)) (behind 4 i (r .endpoints))
+
+  pub p-bit-at : i < 6 → recordByte r (28 + i) ≡ getD (r .p) i 0
+  unfolding recordByte
+  p-bit-at h =
+      rw (le-ltb (28 + i) 4 (omega arith), le-ltb (28 + i) 28 (omega arith), lt-ltb (28 + i) 34 (omega arith)) (behind 28 i (r .p))
+
+  pub first-at : i < 16 → recordByte r (34 + i) ≡ getD (r .first) i 0
+  unfolding recordByte
+  first-at h =
+      rw (le-ltb (34 + i) 4 (omega arith), le-ltb (34 + i) 28 (omega arith), le-ltb (34 + i) 34 (omega arith), lt-ltb (34 + i) 50 (omega arith)) (behind 34 i (r .first))
+
+  pub second-at : i < 16 → recordByte r (50 + i) ≡ getD (r .second) i 0
+  unfolding recordByte
+  second-at h =
+      rw (le-ltb (50 + i) 4 (omega arith), le-ltb (50 + i) 28 (omega arith), le-ltb (50 + i) 34 (omega arith), le-ltb (50 + i) 50 (omega arith)) (behind 50 i (r .second))

@@ -1,0 +1,15 @@
+-- What `find_block` answers.
+-- Assumes nothing.
+use Prim.Native.Nat.{ℕ}
+use mathlib.Core.List.{List}
+use lib.Dec.{eqb}
+use Rattle.sheet.specs.declared.blocks.Found.{Found}
+use Rattle.laws.specs.Tables.{pick}
+use Rattle.sheet_head.specs.Heads.{readHead}
+use Rattle.sheet_rules.specs.Sheets.{findRefusal, placeOf}
+
+abbrev pub foundAt : ℕ → ℕ → Found
+foundAt r at = record { refusal = r; at = at }
+
+unfoldable pub findBlock : List ℕ → ℕ → Found
+findBlock s b = pick (eqb (findRefusal s b) 0) (foundAt 0 (placeOf (readHead s) b)) (foundAt (findRefusal s b) 0)

@@ -1,0 +1,70 @@
+// Blocks of a sheet: found by their number, loaded and stored. Where a block stands in a sheet is found by one function,
+// `find_block`.
+ghost use mathlib.Core.Path.{_≡_};
+ghost use Prim.Native.Nat.{_+_, _≤_};
+ghost use lib.ListN.{length};
+ghost use Rattle.sheet_rules.specs.Rows.{blockAt};
+ghost use Rattle.sheet_rules.specs.Sheets.{putBlock};
+ghost use Rattle.sheet.specs.Found.{findBlock, foundAt};
+
+// The block at a place.
+pub fn load(s: &[u8], at: usize) -> [u8; 16]
+    requires { ⌜ at + 16 ≤ length (now s) ⌝ }
+    ensures { λ r. ⌜ r ≡ blockAt (now (s .entry)) at ⌝ }
+{
+    let mut block = [0u8; 16];
+    for i in 0..16usize {
+        block[i] = s[at + i];
+    }
+    block
+}
+
+// A block to a place.
+pub fn store(s: &mut [u8], at: usize, block: [u8; 16])
+    requires { ⌜ at + 16 ≤ length (now s) ⌝ }
+    ensures { λ _. ⌜ now (s .exit) ≡ putBlock (now (s .entry)) at block ⌝ }
+{
+    for i in 0..16usize {
+        s[at + i] = block[i];
+    }
+}
+
+// The place of a block, or why it has none.
+pub struct Found {
+    pub refusal: u8,
+    pub at: usize,
+}
+
+fn not_found(refusal: u8) -> Found
+    ensures { λ r. ⌜ r ≡ foundAt refusal 0 ⌝ }
+{
+    Found {
+        refusal: refusal,
+        at: 0,
+    }
+}
+
+// Where block `block` stands, or the first refusal that applies: the head's, 10, 12.
+pub fn find_block(sheet: &[u8], block: u32) -> Found
+    ensures { λ r. ⌜ r ≡ findBlock (now (sheet .entry)) block ⌝ }
+{
+    let head = sheet_head::read_head(sheet);
+    if head.refusal != 0 {
+        return not_found(head.refusal);
+    }
+    let w = head.width as usize;
+    let h = head.height as usize;
+    let start = head.start as usize;
+    let blocks = ((h + 3) / 4) * ((w + 3) / 4);
+    if sheet.len() != start + 16 * blocks {
+        return not_found(10);
+    }
+    let number = block as usize;
+    if number >= blocks {
+        return not_found(12);
+    }
+    Found {
+        refusal: 0,
+        at: start + 16 * number,
+    }
+}

@@ -1,0 +1,63 @@
+// The pixels of a block, laid line by line into their column of a row of blocks. A block at the right edge shows only some of
+// its columns, a block at the lower edge only some of its lines.
+ghost use mathlib.Core.Path.{_≡_};
+ghost use Prim.Native.Nat.{_+_, _-_, _*_, _≤_, _<_, min};
+ghost use lib.ListN.{length, getD};
+ghost use Rattle.laws.specs.Tables.{over};
+ghost use Rattle.sheet.specs.Columns.{lineByte, withColumn};
+
+fn put_pixel(pixel: [u8; 4], at: usize, out: &mut [u8])
+    requires { ⌜ at + 4 ≤ length (now out) ⌝ }
+    ensures { λ _. ⌜ now (out .exit) ≡ over (now (out .entry)) at 4 (λ j. getD pixel j 0) ⌝ }
+{
+    out[at] = pixel[0];
+    out[at + 1] = pixel[1];
+    out[at + 2] = pixel[2];
+    out[at + 3] = pixel[3];
+}
+
+// The first n pixels of line y of a block.
+fn put_line(px: [[u8; 4]; 16], y: usize, n: usize, at: usize, out: &mut [u8])
+    requires { ⌜ (y < 4) × (n ≤ 4) × (at + 4 * n ≤ length (now out)) ⌝ }
+    ensures { λ _. ⌜ now (out .exit) ≡ over (now (out .entry)) at (4 * n) (lineByte px y) ⌝ }
+{
+    for k in 0..n {
+        let pixel = px[4 * y + k];
+        put_pixel(pixel, at + 4 * k, out);
+    }
+}
+
+pub fn min4(n: usize) -> usize
+    ensures { λ r. ⌜ r ≡ min 4 n ⌝ }
+{
+    if n < 4 { n } else { 4 }
+}
+
+// The lines of a block, into its column c of a row of blocks that is w pixels wide; n pixels of each are shown.
+fn put_lines(px: [[u8; 4]; 16], c: usize, w: usize, n: usize, lines: usize, out: &mut [u8])
+    requires { ⌜ (lines ≤ 4) × (4 * c < w) × (w ≤ 65536) × (n ≡ min 4 (w - 4 * c)) × (length (now out) ≡ lines * (4 * w)) ⌝ }
+    ensures { λ _. ⌜ now (out .exit) ≡ withColumn w px c (now (out .entry)) ⌝ }
+{
+    let line = 4 * w;
+    for y in 0..lines {
+        put_line(px, y, n, y * line + 16 * c, out);
+    }
+}
+
+// All that is shown of a block, into its column. Nearly every block is shown whole: its loops then have constant bounds, which
+// is what makes rows fast.
+pub fn put_block(px: [[u8; 4]; 16], c: usize, w: usize, lines: usize, out: &mut [u8])
+    requires { ⌜ (lines ≤ 4) × (4 * c < w) × (w ≤ 65536) × (length (now out) ≡ lines * (4 * w)) ⌝ }
+    ensures { λ _. ⌜ now (out .exit) ≡ withColumn w px c (now (out .entry)) ⌝ }
+{
+    let n = min4(w - 4 * c);
+    if n < 4 {
+        put_lines(px, c, w, n, lines, out);
+        return;
+    }
+    if lines < 4 {
+        put_lines(px, c, w, 4, lines, out);
+        return;
+    }
+    put_lines(px, c, w, 4, 4, out);
+}

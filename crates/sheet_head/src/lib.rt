@@ -1,0 +1,230 @@
+// The head of a sheet: numbers in groups of seven bits, and the form, width and height that they spell. The form and the
+// largest side of a sheet are named here, and nowhere else in the code.
+ghost use mathlib.Core.Path.{_≡_};
+ghost use mathlib.Core.List.{[], _∷_};
+ghost use Prim.Native.Nat.{_+_, _≤_, _<_};
+ghost use lib.ListN.{drop};
+ghost use Rattle.sheet_head.specs.Numbers.{found, noNumber, numberBytes, numbersEnd, raised, readGroups, readNumber};
+ghost use Rattle.sheet_head.specs.Heads.{headOf, noBytes, readHead, sizeRefusal, withBytes, writeHead};
+
+// The form of a sheet whose blocks stand row by row.
+const FORM: u32 = 1;
+
+// The largest width and height.
+const LIMIT: u32 = 4096;
+
+// A number, and the place behind its last byte; zeros where it is refused.
+pub struct Number {
+    pub refusal: u8,
+    pub value: u32,
+    pub next: usize,
+}
+
+// Width and height in pixels, and the place of the first block; zeros where the head is refused.
+pub struct Head {
+    pub refusal: u8,
+    pub width: u32,
+    pub height: u32,
+    pub start: u32,
+}
+
+// The bytes of a head and their count, with zeros behind; zeros where the head is refused.
+pub struct HeadBytes {
+    pub refusal: u8,
+    pub bytes: [u8; 7],
+    pub count: u8,
+}
+
+fn wide(x: u8) -> u32
+    ensures { λ r. ⌜ r ≡ x ⌝ }
+{
+    x as u32
+}
+
+fn number_of(value: u32, next: usize) -> Number
+    ensures { λ r. ⌜ r ≡ found value next ⌝ }
+{
+    Number {
+        refusal: 0,
+        value: value,
+        next: next,
+    }
+}
+
+fn no_number() -> Number
+    ensures { λ r. ⌜ r ≡ noNumber ⌝ }
+{
+    Number {
+        refusal: 7,
+        value: 0,
+        next: 0,
+    }
+}
+
+// A byte's seven bits below the number that the next bytes spell. That reads as 0 where it is refused, and where its only group
+// is empty, so that the form is not the shortest.
+fn raise(byte: u8, above: Number) -> Number
+    requires { ⌜ above .value < 16384 ⌝ }
+    ensures { λ r. ⌜ r ≡ raised byte above ⌝ }
+{
+    if above.value == 0 {
+        return no_number();
+    }
+    number_of(above.value * 128 + wide(byte % 128), above.next)
+}
+
+// The number at a place, in one group, in at most two, in at most three. Written out, for a function that calls itself is not
+// inlined.
+fn one_group(s: &[u8], at: usize) -> Number
+    ensures { λ r. ⌜ r ≡ readGroups 1 at (drop at (now (s .entry))) ⌝ }
+{
+    if at >= s.len() {
+        return no_number();
+    }
+    let byte = s[at];
+    if byte < 128 {
+        return number_of(wide(byte), at + 1);
+    }
+    no_number()
+}
+
+fn two_groups(s: &[u8], at: usize) -> Number
+    ensures { λ r. ⌜ r ≡ readGroups 2 at (drop at (now (s .entry))) ⌝ }
+{
+    if at >= s.len() {
+        return no_number();
+    }
+    let byte = s[at];
+    if byte < 128 {
+        return number_of(wide(byte), at + 1);
+    }
+    raise(byte, one_group(s, at + 1))
+}
+
+fn read_number(s: &[u8], at: usize) -> Number
+    ensures { λ r. ⌜ r ≡ readNumber (now (s .entry)) at ⌝ }
+{
+    if at >= s.len() {
+        return no_number();
+    }
+    let byte = s[at];
+    if byte < 128 {
+        return number_of(wide(byte), at + 1);
+    }
+    raise(byte, two_groups(s, at + 1))
+}
+
+// 9, where the width or the height is none.
+pub fn size_refusal(width: u32, height: u32) -> u8
+    ensures { λ r. ⌜ r ≡ sizeRefusal width height ⌝ }
+{
+    if width < 1 {
+        return 9;
+    }
+    if width > LIMIT {
+        return 9;
+    }
+    if height < 1 {
+        return 9;
+    }
+    if height > LIMIT {
+        return 9;
+    }
+    0
+}
+
+fn refused_head(refusal: u8) -> Head
+    ensures { λ r. ⌜ r ≡ headOf refusal 0 0 0 ⌝ }
+{
+    Head {
+        refusal: refusal,
+        width: 0,
+        height: 0,
+        start: 0,
+    }
+}
+
+// The head that the bytes of a sheet start with.
+pub fn read_head(sheet: &[u8]) -> Head
+    ensures { λ r. ⌜ r ≡ readHead (now (sheet .entry)) ⌝ }
+{
+    let form = read_number(sheet, 0);
+    if form.refusal != 0 {
+        return refused_head(form.refusal);
+    }
+    if form.value != FORM {
+        return refused_head(8);
+    }
+    let width = read_number(sheet, form.next);
+    if width.refusal != 0 {
+        return refused_head(width.refusal);
+    }
+    let height = read_number(sheet, width.next);
+    if height.refusal != 0 {
+        return refused_head(height.refusal);
+    }
+    let refusal = size_refusal(width.value, height.value);
+    if refusal != 0 {
+        return refused_head(refusal);
+    }
+    Head {
+        refusal: 0,
+        width: width.value,
+        height: height.value,
+        start: height.next as u32,
+    }
+}
+
+fn no_bytes(refusal: u8) -> HeadBytes
+    ensures { λ r. ⌜ r ≡ noBytes refusal ⌝ }
+{
+    HeadBytes {
+        refusal: refusal,
+        bytes: [0u8; 7],
+        count: 0,
+    }
+}
+
+// One byte more.
+fn push(h: HeadBytes, byte: u8) -> HeadBytes
+    requires { ⌜ h .count < 7 ⌝ }
+    ensures { λ r. ⌜ r ≡ withBytes h (byte ∷ []) ⌝ }
+    ensures { λ r. ⌜ r .count ≡ h .count + 1 ⌝ }
+{
+    let mut bytes = h.bytes;
+    let at = h.count as usize;
+    bytes[at] = byte;
+    HeadBytes {
+        refusal: h.refusal,
+        bytes: bytes,
+        count: h.count + 1,
+    }
+}
+
+// A number's bytes more.
+fn write_number(h: HeadBytes, n: u32) -> HeadBytes
+    requires { ⌜ (h .count ≤ 4) × (n < numbersEnd) ⌝ }
+    ensures { λ r. ⌜ r ≡ withBytes h (numberBytes n) ⌝ }
+{
+    if n < 128 {
+        return push(h, n as u8);
+    }
+    let one = push(h, (n % 128 + 128) as u8);
+    let above = n / 128;
+    if above < 128 {
+        return push(one, above as u8);
+    }
+    let two = push(one, (above % 128 + 128) as u8);
+    push(two, (above / 128) as u8)
+}
+
+// The head of a sheet, to be written before its blocks.
+pub fn write_head(width: u32, height: u32) -> HeadBytes
+    ensures { λ r. ⌜ r ≡ writeHead width height ⌝ }
+{
+    let refusal = size_refusal(width, height);
+    if refusal != 0 {
+        return no_bytes(refusal);
+    }
+    write_number(write_number(write_number(no_bytes(0), FORM), width), height)
+}
