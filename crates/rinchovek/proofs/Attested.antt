@@ -2,7 +2,7 @@
 -- Assumes nothing.
 use mathlib.Core.Path.{_≡_, refl}
 use mathlib.Core.List.{List, [], _∷_, _++_}
-use Prim.Native.Nat.{ℕ}
+use Prim.Native.Nat.{ℕ, _+_, _*_}
 use lib.ListN.{replicate}
 use Rattle.laws.specs.Padding.{padded}
 use Rattle.laws.specs.Refusals.{first}
@@ -26,7 +26,7 @@ use Rattle.head.specs.Numbers.{groups, raised, readGroups, readNumber}
 use Rattle.sheet_rules.specs.Rows.{blockAt, channel, rowByte, rowBytes, rowOut, rowRefusal}
 use Rattle.sheet_rules.specs.Sheets.{blockIn, blocksOf, findRefusal, placeOf, putBlock, replacedIn, sheetAfter, sheetRefusal}
 use Rattle.sheet_rules.proofs.Attested.{lower, lowerLines, small, smallReplaced}
-use Rattle.console.specs.Promises.{Decodes, DecodesRow, Packs, ReadsHead, ReadsLine, Replaces, ReplacesIn, Unpacks, WritesHead}
+use Rattle.rinchovek.specs.Promises.{Decodes, DecodesRow, Packs, ReadsHead, ReadsLine, Replaces, ReplacesIn, Unpacks, Versions, WritesHead}
 
 abbrev zeros : ℕ → List ℕ
 zeros n = replicate n 0
@@ -56,6 +56,7 @@ abbrev bytesGiven6 : List ℕ
 bytesGiven6 = 1 ∷ 2 ∷ 3 ∷ 4 ∷ 5 ∷ 6 ∷ 7 ∷ 8 ∷ 1 ∷ 0 ∷ 8 ∷ replicate 15 1
 
 pub record Calls : Type 0 where
+  pub version : Versions (10000 * 1 + 100 * 0 + 0)
   pub decodes : Decodes block4 (half4 ++ half4)
   pub decodes-reserved : Decodes (zeros 16) (replicate 16 (rgba 0 0 0 0))
   pub unpacks : Unpacks block4 (nines 66) 0 (bytes4 3)
@@ -78,6 +79,7 @@ pub record Calls : Type 0 where
 pub calls-hold : Calls
 unfolding padded first over table tableFrom weights weightOf drawn promoted eight modeRow kindOfMode endpointCount placeAt pos width widths trailing number modeOf splitAt splitOf atPlace opened has valuePlace pPlace arrayOf indexPlace own lineOf lineBits means rotated lineAt shown pixel pixels digits marks strings2 strings3 subset2 subset3 anchors2 anchors3 taken recordOf made packed packRefusal fits says blockOf listOf bytesOf replaced after refusal refusalIn lineFits valueFits pFits indexFits ownWidth lineGiven put oriented withLine laid turned anchorOf lineRead readRefusal givenAs widthsOf valueAt recordByte recordBytes recordOfBytes replacementOf replacementBytes packedBytes bytesRefusal spelt readHead headRefusal formIn widthIn heightIn readNumber readGroups raised sizeRefusal writeHead headBytes groups blockAt channel rowByte rowBytes rowOut rowRefusal blockIn blocksOf findRefusal placeOf putBlock replacedIn sheetAfter sheetRefusal
 calls-hold = record {
+  version = refl;
   decodes = refl;
   decodes-reserved = refl;
   unpacks = (refl, refl);

@@ -1,11 +1,11 @@
--- `sheet_read_head`: what `read_head` answers.
+-- `rinchovek_sheet_read_head`: what `read_head` answers.
 -- Assumes nothing.
 use mathlib.Core.Path.{sym, ap, _∙_}
 use borrow.Author.Tests.{eq-eqb, ne-eqb}
 use Rattle.head.specs.declared.Head.{Head}
 use borrow.Author.Needs.{needs}
-use Rattle.console.proofs.sheet_read_head.Statement.{statement}
-use Rattle.console.proofs.sheet_read_head.Tie as tie
+use Rattle.rinchovek.proofs.rinchovek_sheet_read_head.Statement.{statement}
+use Rattle.rinchovek.proofs.rinchovek_sheet_read_head.Tie as tie
 
 read-head-requires : tie.Need-read-head-requires
 read-head-requires c κs = search needs
@@ -24,5 +24,5 @@ returns-2 c =
     let zero = c .before .if1 .left in
     (sym zero ∙ ap (λ (h : Head). h .refusal) e, rw (← e, eq-eqb _ 0 zero))
 
-pub sheet-read-head-spec : {M : Type 1} → statement M
-sheet-read-head-spec = tie.close (tie.spec read-head-requires cast-result returns returns-2)
+pub rinchovek-sheet-read-head-spec : {M : Type 1} → statement M
+rinchovek-sheet-read-head-spec = tie.close (tie.spec read-head-requires cast-result returns returns-2)

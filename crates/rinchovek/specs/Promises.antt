@@ -24,6 +24,10 @@ Gives refusal left answer after = (answer ≡ refusal) × (after ≡ left)
 abbrev pub Writes : {A : Type 0} → ℕ → A → A → ℕ → A → Type 0
 Writes refusal value before = Gives refusal (pick (eqb refusal 0) value before)
 
+-- version 1.0.0: major, minor and patch, with two digits for each of the last two
+abbrev pub Versions : ℕ → Type 0
+Versions answer = answer ≡ 10000
+
 abbrev pub Decodes : List ℕ → List (List ℕ) → Type 0
 Decodes block after = after ≡ pixels block
 

@@ -1,11 +1,11 @@
--- `sheet_write_head`: what `write_head` answers.
+-- `rinchovek_sheet_write_head`: what `write_head` answers.
 -- Assumes nothing.
 use mathlib.Core.Path.{sym, ap, _∙_}
 use borrow.Author.Tests.{eq-eqb, ne-eqb}
 use Rattle.head.specs.declared.HeadBytes.{HeadBytes}
 use borrow.Author.Needs.{needs}
-use Rattle.console.proofs.sheet_write_head.Statement.{statement}
-use Rattle.console.proofs.sheet_write_head.Tie as tie
+use Rattle.rinchovek.proofs.rinchovek_sheet_write_head.Statement.{statement}
+use Rattle.rinchovek.proofs.rinchovek_sheet_write_head.Tie as tie
 
 write-head-requires : tie.Need-write-head-requires
 write-head-requires c κs = search needs
@@ -27,6 +27,6 @@ returns-2 c =
     let zero = c .before .before .if1 .left in
     (sym zero ∙ ap (λ (h : HeadBytes). h .refusal) e, rw (← e, eq-eqb _ 0 zero))
 
-pub sheet-write-head-spec : {M : Type 1} → statement M
-sheet-write-head-spec =
+pub rinchovek-sheet-write-head-spec : {M : Type 1} → statement M
+rinchovek-sheet-write-head-spec =
     tie.close (tie.spec write-head-requires cast-result returns cast-count returns-2)

@@ -9,10 +9,13 @@ use Rattle.line_rules.specs.Replace.{callOf, replaced}
 use Rattle.line_rules.proofs.Theorems.{refused-same}
 use Rattle.wire.specs.Wire.{replacementOf}
 use Rattle.sheet_rules.proofs.Theorems.{refused-row-leaves, refused-sheet-leaves}
-use Rattle.console.specs.Promises.{Decodes, DecodesRow, Determined, Gives, Packs, ReadsHead, ReadsLine, Replaces, ReplacesIn, Unpacks, Writes, WritesHead}
+use Rattle.rinchovek.specs.Promises.{Decodes, DecodesRow, Determined, Gives, Packs, ReadsHead, ReadsLine, Replaces, ReplacesIn, Unpacks, Versions, Writes, WritesHead}
 
 one-given : {A : Type 0} (refusal : ℕ) (left : A) → Determined (Gives refusal left)
 one-given refusal left a b x y p q = (p .0 ∙ sym (q .0), p .1 ∙ sym (q .1))
+
+pub determined-version : (a b : ℕ) → Versions a → Versions b → a ≡ b
+determined-version a b p q = p ∙ sym q
 
 pub determined-bc7-decode-block : (block : List ℕ) (x y : List (List ℕ)) → Decodes block x → Decodes block y → x ≡ y
 determined-bc7-decode-block block x y p q = p ∙ sym q

@@ -1,4 +1,4 @@
--- `bc7_read_line`: what `read_line` answers, in bytes.
+-- `rinchovek_bc7_read_line`: what `read_line` answers, in bytes.
 -- Assumes nothing.
 use mathlib.Core.Path.{sym, ap, ap₂, _∙_}
 use mathlib.Core.List.{List}
@@ -6,8 +6,8 @@ use Prim.Native.Nat.{ℕ}
 use borrow.Author.Tests.{eq-eqb, ne-eqb}
 use borrow.Author.Needs.{needs}
 use Rattle.line_rules.specs.declared.LineRead.{LineRead}
-use Rattle.console.proofs.bc7_read_line.Statement.{statement}
-use Rattle.console.proofs.bc7_read_line.Tie as tie
+use Rattle.rinchovek.proofs.rinchovek_bc7_read_line.Statement.{statement}
+use Rattle.rinchovek.proofs.rinchovek_bc7_read_line.Tie as tie
 
 read-line-requires : tie.Need-read-line-requires
 read-line-requires c κs = search needs
@@ -34,6 +34,6 @@ returns-2 c =
       rw (← e, eq-eqb _ 0 zero) (ap₂ {C = List ℕ × List ℕ} (λ x y. (x, y)) (c .before .replacement-bytes .ensures) (c .replacement-bytes2 .ensures)),
     )
 
-pub bc7-read-line-spec : {M : Type 1} → statement M
-bc7-read-line-spec =
+pub rinchovek-bc7-read-line-spec : {M : Type 1} → statement M
+rinchovek-bc7-read-line-spec =
     tie.close (tie.spec read-line-requires cast-result returns replacement-bytes-requires replacement-bytes-requires-2 returns-2)
