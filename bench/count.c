@@ -349,6 +349,7 @@ typedef u32 replace_one(u8 *block, u32 line, const u8 *replacement);
 typedef u32 replace_in(u8 *sheet, u64 length, u32 block, u32 line, const u8 *replacement);
 typedef u32 read_head(const u8 *sheet, u64 length, u32 *head);
 typedef u32 write_head(u32 width, u32 height, u8 *head, u32 *count);
+typedef u32 version(void);
 
 two_buffers rinchovek_bc7_unpack, rinchovek_bc7_pack;
 read_one rinchovek_bc7_read_line;
@@ -356,6 +357,7 @@ replace_one rinchovek_bc7_replace_line;
 replace_in rinchovek_sheet_replace_line;
 read_head rinchovek_sheet_read_head;
 write_head rinchovek_sheet_write_head;
+version rinchovek_version;
 
 enum { RECORD = 66, LINE = 26, VALUES = 8, FIRST_INDEX = 10, HEAD = 4 };
 
@@ -372,6 +374,7 @@ static replace_one *volatile replace_call;
 static replace_in *volatile replace_in_call;
 static read_head *volatile read_head_call;
 static write_head *volatile write_head_call;
+static version *volatile version_call;
 
 static u32 no_two_buffers(const u8 *from, u8 *to) {
     __asm__ volatile("" ::"r"(from), "r"(to) : "memory");
@@ -403,6 +406,8 @@ static u32 no_write_head(u32 width, u32 height, u8 *bytes, u32 *count) {
     return 0;
 }
 
+static u32 no_version(void) { return 0; }
+
 typedef u32 one_call(u32 i);
 
 static u32 unpack_one(u32 i) { return two_buffers_call(sheet_blocks + 16 * i, records + RECORD * i); }
@@ -417,7 +422,14 @@ static u32 head_numbers[3];
 static u32 read_a_head(u32 i) { return read_head_call(sheet, sizeof sheet - i % 2, head_numbers); }
 static u32 write_a_head(u32 i) { return write_head_call(128 + i, 4, out, head_numbers); }
 
+static u32 ask_version(u32 i) {
+    (void)i;
+    version_call();
+    return 0;
+}
+
 static void point_at_calls(int at_none) {
+    version_call = at_none ? no_version : rinchovek_version;
     read_head_call = at_none ? no_read_head : rinchovek_sheet_read_head;
     write_head_call = at_none ? no_write_head : rinchovek_sheet_write_head;
     read_call = at_none ? no_read : rinchovek_bc7_read_line;
@@ -515,6 +527,7 @@ static void count_writing(void) {
 
     say_call("rinchovek_sheet_read_head, 256 by 4", read_a_head, 0);
     say_call("rinchovek_sheet_write_head, 128 to 191 by 4", write_a_head, 0);
+    say_call("rinchovek_version", ask_version, 0);
     say_call("rinchovek_bc7_read_line", read_a_line, 0);
     say_call("rinchovek_bc7_replace_line, kept", replace_a_line, 0);
     say_call("rinchovek_sheet_replace_line, kept", replace_in_sheet, 0);
@@ -532,14 +545,15 @@ static void count_writing(void) {
     say_call("rinchovek_bc7_read_line, refused with 1", read_a_line, 1);
     say_call("rinchovek_bc7_replace_line, refused with 1", replace_a_line, 1);
 
-    say("\nThe same by mode\nmode            ");
+    say("\nThe same by mode\nmode                        ");
     for (int mode = 0; mode < 8; mode++) say_right(column_names[mode], 7);
     one_call *const calls[] = {unpack_one, pack_one, read_a_line, replace_a_line};
     two_buffers *const functions[] = {rinchovek_bc7_unpack, rinchovek_bc7_pack, 0, 0};
-    const char *const names[] = {"rinchovek_bc7_unpack", "rinchovek_bc7_pack", "rinchovek_bc7_read_line", "rinchovek_bc7_replace_line"};
+    const char *const names[] = {"rinchovek_bc7_unpack", "rinchovek_bc7_pack", "rinchovek_bc7_read_line",
+                                 "rinchovek_bc7_replace_line"};
     for (int k = 0; k < 4; k++) {
         say("\n");
-        say_left(names[k], 16);
+        say_left(names[k], 28);
         for (int mode = 0; mode < 8; mode++) {
             make_sheet(mode);
             make_lines();

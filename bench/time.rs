@@ -118,7 +118,7 @@ mod writing {
             assert_eq!(every(), 0, "{name} refuses a call");
             start.elapsed().as_secs_f64()
         });
-        println!("{name:28} {:7.1}", 1e9 * median(times.collect()) / count as f64);
+        println!("{name:38} {:7.1}", 1e9 * median(times.collect()) / count as f64);
     }
 
     pub fn time() {
@@ -135,10 +135,18 @@ mod writing {
             let mut pixels = [[0; 4]; 16];
             every(&mut |i| unsafe { rinchovek_bc7_decode_block(black_box(&blocks[i]), black_box(&mut pixels)); 0 })
         });
-        nanoseconds("rinchovek_bc7_unpack", SMALL, || every(&mut |i| unsafe { rinchovek_bc7_unpack(&blocks[i], &mut records[i]) }));
-        nanoseconds("rinchovek_bc7_pack", SMALL, || every(&mut |i| unsafe { rinchovek_bc7_pack(&records[i], &mut out[i]) }));
-        nanoseconds("rinchovek_bc7_read_line", SMALL, || every(&mut |i| unsafe { rinchovek_bc7_read_line(&blocks[i], 0, &mut lines[i], &mut widths) }));
-        let replaced = |lines: &[Line], out: &mut [Block]| every(&mut |i| unsafe { rinchovek_bc7_replace_line(&mut out[i], 0, &lines[i]) });
+        nanoseconds("rinchovek_bc7_unpack", SMALL, || {
+            every(&mut |i| unsafe { rinchovek_bc7_unpack(&blocks[i], &mut records[i]) })
+        });
+        nanoseconds("rinchovek_bc7_pack", SMALL, || {
+            every(&mut |i| unsafe { rinchovek_bc7_pack(&records[i], &mut out[i]) })
+        });
+        nanoseconds("rinchovek_bc7_read_line", SMALL, || {
+            every(&mut |i| unsafe { rinchovek_bc7_read_line(&blocks[i], 0, &mut lines[i], &mut widths) })
+        });
+        let replaced = |lines: &[Line], out: &mut [Block]| {
+            every(&mut |i| unsafe { rinchovek_bc7_replace_line(&mut out[i], 0, &lines[i]) })
+        };
         nanoseconds("rinchovek_bc7_replace_line, kept", SMALL, || replaced(&lines, &mut out));
         nanoseconds("rinchovek_sheet_replace_line, kept", SMALL, || {
             every(&mut |i| unsafe { rinchovek_sheet_replace_line(sheet.as_mut_ptr(), sheet.len(), i as u32, 0, &lines[i]) })

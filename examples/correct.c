@@ -44,7 +44,7 @@ static void show_pixel(const uint8_t block[RINCHOVEK_BLOCK_BYTES]) {
 
 int main(void) {
     const uint32_t version = rinchovek_version();
-    if (version != RINCHOVEK_VERSION) return 1; /* the archive isn't the header's */
+    if (version / 10000 != RINCHOVEK_VERSION_MAJOR || version < RINCHOVEK_VERSION) return 1; /* an archive of another header */
     printf("version %u.%u.%u\n", version / 10000, version / 100 % 100, version % 100);
 
     uint8_t alone[RINCHOVEK_BLOCK_BYTES];
@@ -100,7 +100,7 @@ int main(void) {
     show_bytes("head", head, count);
     show_refusal("head", rinchovek_sheet_write_head(RINCHOVEK_LARGEST_SIDE + 1, 5, head, &count));
 
-    for (uint32_t number = RINCHOVEK_RESERVED; number <= RINCHOVEK_BEYOND; number++)
+    for (uint32_t number = RINCHOVEK_RESERVED_BLOCK; number <= RINCHOVEK_BEYOND_SHEET; number++)
         printf("%u: %s\n", number, rinchovek_refusal_text(number));
     return 0;
 }

@@ -98,7 +98,7 @@ static void show_pixel(const Block &block) {
 
 int main() {
     const uint32_t version = rinchovek_version();
-    if (version != RINCHOVEK_VERSION) return 1;
+    if (version / 10000 != RINCHOVEK_VERSION_MAJOR || version < RINCHOVEK_VERSION) return 1;
     std::printf("version %u.%u.%u\n", version / 10000, version / 100 % 100, version % 100);
 
     Block alone = {0x40, 0xC0, 0x1F, 0, 0, 0, 0, 0, 0x0E};
@@ -148,6 +148,6 @@ int main() {
     show_bytes("head", head.data(), head.size());
     show_refusal("head", write_head(RINCHOVEK_LARGEST_SIDE + 1, 5, head));
 
-    for (uint32_t number = RINCHOVEK_RESERVED; number <= RINCHOVEK_BEYOND; number++)
+    for (uint32_t number = RINCHOVEK_RESERVED_BLOCK; number <= RINCHOVEK_BEYOND_SHEET; number++)
         std::printf("%u: %s\n", number, rinchovek_refusal_text(number));
 }

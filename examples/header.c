@@ -1,5 +1,5 @@
-/* Holds the archive against what include/rinchovek.h says and no proof does: the lengths of a row, NULL where a length is 0, and how
- * much stack a call takes. Exit status 1 where something isn't so. */
+/* Holds the archive against what include/rinchovek.h says and no proof does: the version, the lengths of a row, NULL where a length
+ * is 0, and how much stack a call takes. Exit status 1 where something isn't so. */
 #include "rinchovek.h"
 
 int printf(const char *format, ...);
@@ -24,9 +24,9 @@ static void try_rows(void) {
                 expect("a row", rinchovek_sheet_decode_row(width, height, row, blocks, given, out, room), RINCHOVEK_ACCEPTED);
                 for (size_t off = 0; off <= 2; off += 2) {
                     expect("block bytes", rinchovek_sheet_decode_row(width, height, row, blocks, given - 1 + off, out, room),
-                           RINCHOVEK_BLOCK_LENGTH);
+                           RINCHOVEK_WRONG_BLOCK_BYTES);
                     expect("output", rinchovek_sheet_decode_row(width, height, row, blocks, given, out, room - 1 + off),
-                           RINCHOVEK_OUTPUT_LENGTH);
+                           RINCHOVEK_WRONG_OUTPUT_LENGTH);
                 }
             }
 }
@@ -34,10 +34,10 @@ static void try_rows(void) {
 static void try_null(void) {
     uint32_t head[RINCHOVEK_HEAD_NUMBERS];
     static const uint8_t replacement[RINCHOVEK_LINE_BYTES];
-    expect("no sheet", rinchovek_sheet_read_head(NULL, 0, head), RINCHOVEK_NUMBER);
-    expect("no sheet", rinchovek_sheet_replace_line(NULL, 0, 0, 0, replacement), RINCHOVEK_NUMBER);
-    expect("no blocks", rinchovek_sheet_decode_row(4, 4, 0, NULL, 0, out, 64), RINCHOVEK_BLOCK_LENGTH);
-    expect("no output", rinchovek_sheet_decode_row(4, 4, 0, blocks, 16, NULL, 0), RINCHOVEK_OUTPUT_LENGTH);
+    expect("no sheet", rinchovek_sheet_read_head(NULL, 0, head), RINCHOVEK_BAD_NUMBER);
+    expect("no sheet", rinchovek_sheet_replace_line(NULL, 0, 0, 0, replacement), RINCHOVEK_BAD_NUMBER);
+    expect("no blocks", rinchovek_sheet_decode_row(4, 4, 0, NULL, 0, out, 64), RINCHOVEK_WRONG_BLOCK_BYTES);
+    expect("no output", rinchovek_sheet_decode_row(4, 4, 0, blocks, 16, NULL, 0), RINCHOVEK_WRONG_OUTPUT_LENGTH);
 }
 
 /* ---- the stack */
@@ -76,6 +76,7 @@ static __attribute__((noinline)) uint32_t deepest(void) {
 }
 
 int main(void) {
+    expect("version", rinchovek_version(), RINCHOVEK_VERSION);
     try_rows();
     try_null();
     const uint32_t deep = deepest();

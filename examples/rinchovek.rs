@@ -37,34 +37,34 @@ extern "C" {
 #[derive(Clone, Copy, Debug, PartialEq, Eq)]
 #[repr(u32)]
 pub enum Refusal {
-    Reserved = 1,
-    NoLine = 2,
-    TooWide = 3,
+    ReservedBlock = 1,
+    NoSuchLine = 2,
+    ValueTooWide = 3,
     PBitsDiffer = 4,
-    NoKind = 5,
-    Anchor = 6,
-    Number = 7,
-    Form = 8,
-    Side = 9,
-    BlockLength = 10,
-    OutputLength = 11,
-    Beyond = 12,
+    WrongKind = 5,
+    AnchorBitSet = 6,
+    BadNumber = 7,
+    UnknownForm = 8,
+    BadSide = 9,
+    WrongBlockBytes = 10,
+    WrongOutputLength = 11,
+    BeyondSheet = 12,
 }
 
 impl Refusal {
     pub const ALL: [Refusal; 12] = [
-        Refusal::Reserved,
-        Refusal::NoLine,
-        Refusal::TooWide,
+        Refusal::ReservedBlock,
+        Refusal::NoSuchLine,
+        Refusal::ValueTooWide,
         Refusal::PBitsDiffer,
-        Refusal::NoKind,
-        Refusal::Anchor,
-        Refusal::Number,
-        Refusal::Form,
-        Refusal::Side,
-        Refusal::BlockLength,
-        Refusal::OutputLength,
-        Refusal::Beyond,
+        Refusal::WrongKind,
+        Refusal::AnchorBitSet,
+        Refusal::BadNumber,
+        Refusal::UnknownForm,
+        Refusal::BadSide,
+        Refusal::WrongBlockBytes,
+        Refusal::WrongOutputLength,
+        Refusal::BeyondSheet,
     ];
 
     pub fn number(self) -> u32 {
@@ -75,18 +75,18 @@ impl Refusal {
 impl fmt::Display for Refusal {
     fn fmt(&self, f: &mut fmt::Formatter) -> fmt::Result {
         f.write_str(match self {
-            Refusal::Reserved => "the block is reserved",
-            Refusal::NoLine => "the block has no such line",
-            Refusal::TooWide => "a value needs more bits than it has",
+            Refusal::ReservedBlock => "the block is reserved",
+            Refusal::NoSuchLine => "the block has no such line",
+            Refusal::ValueTooWide => "a value needs more bits than it has",
             Refusal::PBitsDiffer => "the p bits differ, and mode 1 has one for both endpoints",
-            Refusal::NoKind => "no such mode, or a kind of split that is not the mode's",
-            Refusal::Anchor => "the index at an anchor has its top bit set",
-            Refusal::Number => "a number of the head is cut off, too long or not in its shortest form",
-            Refusal::Form => "the form of the sheet is not 1",
-            Refusal::Side => "the width or the height is 0 or too large",
-            Refusal::BlockLength => "too few or too many bytes of blocks",
-            Refusal::OutputLength => "the output is too short or too long",
-            Refusal::Beyond => "the row or the block is beyond the sheet",
+            Refusal::WrongKind => "no such mode, or a kind of split that is not the mode's",
+            Refusal::AnchorBitSet => "the index at an anchor has its top bit set",
+            Refusal::BadNumber => "a number of the head is cut off, too long or not in its shortest form",
+            Refusal::UnknownForm => "the form of the sheet is not 1",
+            Refusal::BadSide => "the width or the height is 0 or too large",
+            Refusal::WrongBlockBytes => "too few or too many bytes of blocks",
+            Refusal::WrongOutputLength => "the output is too short or too long",
+            Refusal::BeyondSheet => "the row or the block is beyond the sheet",
         })
     }
 }

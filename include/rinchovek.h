@@ -7,8 +7,10 @@
  * A line of a block is a pair of endpoints, their p bits, and the indexes by which its pixels choose between the two. It is a
  * subset of the pixels, except in the modes 4 and 5: there line 0 is the vector (red, green and blue before rotation) and line 1
  * the scalar (alpha before rotation), both with all sixteen pixels.
- * A sheet is a head (form, width, height) and behind it the blocks of a picture, row by row from 0. There are (width + 3) / 4
- * columns and (height + 3) / 4 rows of blocks; what they draw beyond the edge of the picture is not shown.
+ * A sheet is a head and behind it the blocks of a picture, row by row from 0. There are (width + 3) / 4 columns and (height + 3) / 4
+ * rows of blocks; what they draw beyond the edge of the picture is not shown. The head has three numbers: the form, which is 1, the
+ * width and the height in pixels. A number is written in groups of seven bits, the low group first, a byte each, whose high bit is
+ * set in all but the last; in its shortest form, and in at most three groups: 127 is 7F, 128 is 80 01, 4,096 is 80 20.
  *
  * HOW TO LINK
  * librinchovek.a is for x86-64 with the System V calling convention (Linux) and needs no processor extension. It wants memcpy, and
@@ -19,8 +21,7 @@
  * - It answers 0, RINCHOVEK_ACCEPTED, or the number of a refusal: of those that its comment lists, the first that applies, in that
  *   order. Two calls refuse nothing: rinchovek_version answers the version, rinchovek_bc7_decode_block answers nothing.
  * - A refused call writes nothing at all. An accepted one writes what its comment says, all of it, and no other byte.
- * - Arguments: what is read, or changed in place, stands first, then numbers that say where, then what is written or put there. A
- *   length stands behind its pointer.
+ * - Of the arguments an input stands before an output, what is changed in place stands first of all, and a length behind its pointer.
  * - An array has the length that is shown, also where the call is refused. A pointer has the length that is given behind it. Where
  *   that must be exact the comment says so, and any other length is refused.
  * - NULL is allowed where the length behind it is 0, and nowhere else.
@@ -35,8 +36,8 @@
 #include <stddef.h>
 #include <stdint.h>
 
-/* The version of this file. The major number is raised where a call goes, or answers otherwise than before, the minor one where a
- * call comes, the patch where neither is so. */
+/* The version of this file. The major number is raised where a call goes, or answers otherwise what it accepted before; the minor
+ * one where a call comes, or accepts what it refused before; the patch where neither is so. */
 #define RINCHOVEK_VERSION_MAJOR 1
 #define RINCHOVEK_VERSION_MINOR 0
 #define RINCHOVEK_VERSION_PATCH 0
@@ -52,7 +53,7 @@
 #define RINCHOVEK_HEAD_BYTES 7 /* the most that a head has */
 #define RINCHOVEK_HEAD_NUMBERS 3 /* uint32_t */
 #define RINCHOVEK_LARGEST_SIDE 4096 /* pixels, of a sheet */
-#define RINCHOVEK_STACK_BYTES 2048 /* 1,064 and the 128 below the stack pointer were found, in rinchovek_sheet_replace_line */
+#define RINCHOVEK_STACK_BYTES 2048 /* found: 1,064 and the 128 below the stack pointer, in rinchovek_sheet_replace_line */
 
 /* A channel in a pixel and in an endpoint. */
 enum rinchovek_channel { RINCHOVEK_RED = 0, RINCHOVEK_GREEN = 1, RINCHOVEK_BLUE = 2, RINCHOVEK_ALPHA = 3 };
@@ -115,25 +116,26 @@ enum rinchovek_head_number {
 /* What a call answers. */
 enum rinchovek_refusal {
     RINCHOVEK_ACCEPTED = 0,
-    RINCHOVEK_RESERVED = 1,        /* the block is reserved, and a record or a line is asked for */
-    RINCHOVEK_NO_LINE = 2,         /* the line number is not below the count of the block's mode */
-    RINCHOVEK_TOO_WIDE = 3,        /* a value needs more bits than it has; what a mode or a line hasn't got has none */
-    RINCHOVEK_P_BITS_DIFFER = 4,   /* mode 1, and the two p bits of the replacement differ */
-    RINCHOVEK_NO_KIND = 5,         /* the record's mode is above 7, or its kind is none, or not the mode's */
-    RINCHOVEK_ANCHOR = 6,          /* the index at an anchor of the record has its top bit set */
-    RINCHOVEK_NUMBER = 7,          /* a number of the head is cut off, not in its shortest form, or has more than three groups */
-    RINCHOVEK_FORM = 8,            /* the form isn't 1 */
-    RINCHOVEK_SIDE = 9,            /* the width or the height is 0 or above RINCHOVEK_LARGEST_SIDE */
-    RINCHOVEK_BLOCK_LENGTH = 10,   /* there are not exactly as many bytes of blocks as the sheet or the row needs */
-    RINCHOVEK_OUTPUT_LENGTH = 11,  /* the output isn't exactly as long as the row needs */
-    RINCHOVEK_BEYOND = 12          /* the row or the block number is beyond the sheet */
+    RINCHOVEK_RESERVED_BLOCK = 1,       /* the block is reserved, and a record or a line is asked for */
+    RINCHOVEK_NO_SUCH_LINE = 2,         /* the line number is not below the count of the block's mode */
+    RINCHOVEK_VALUE_TOO_WIDE = 3,       /* a value needs more bits than it has; what a mode or a line hasn't got has none */
+    RINCHOVEK_P_BITS_DIFFER = 4,        /* mode 1, and the two p bits of the replacement differ */
+    RINCHOVEK_WRONG_KIND = 5,           /* the record's mode is above 7, or its kind is none, or not the mode's */
+    RINCHOVEK_ANCHOR_BIT_SET = 6,       /* the index at an anchor of the record has its top bit set */
+    RINCHOVEK_BAD_NUMBER = 7,           /* a number of the head is cut off, not in its shortest form, or has over three groups */
+    RINCHOVEK_UNKNOWN_FORM = 8,         /* the form isn't 1 */
+    RINCHOVEK_BAD_SIDE = 9,             /* the width or the height is 0 or above RINCHOVEK_LARGEST_SIDE */
+    RINCHOVEK_WRONG_BLOCK_BYTES = 10,   /* there are not exactly as many bytes of blocks as the sheet or the row needs */
+    RINCHOVEK_WRONG_OUTPUT_LENGTH = 11, /* the output isn't exactly as long as the row needs */
+    RINCHOVEK_BEYOND_SHEET = 12         /* the row or the block number is beyond the sheet */
 };
 
 #ifdef __cplusplus
 extern "C" {
 #endif
 
-/* The version of the archive, to be held against RINCHOVEK_VERSION. */
+/* The version of the archive, as RINCHOVEK_VERSION is put together. One of the same major number that isn't below RINCHOVEK_VERSION
+ * does what this file says. */
 uint32_t rinchovek_version(void);
 
 /* Writes the sixteen pixels of a block: pixel p in pixels[4 * p ..], red, green, blue, alpha. */
@@ -202,18 +204,18 @@ static inline size_t rinchovek_row_pixels(uint32_t width, uint32_t height, uint3
 static inline const char *rinchovek_refusal_text(uint32_t refusal) {
     switch (refusal) {
     case RINCHOVEK_ACCEPTED: return "accepted";
-    case RINCHOVEK_RESERVED: return "the block is reserved";
-    case RINCHOVEK_NO_LINE: return "the block has no such line";
-    case RINCHOVEK_TOO_WIDE: return "a value needs more bits than it has";
+    case RINCHOVEK_RESERVED_BLOCK: return "the block is reserved";
+    case RINCHOVEK_NO_SUCH_LINE: return "the block has no such line";
+    case RINCHOVEK_VALUE_TOO_WIDE: return "a value needs more bits than it has";
     case RINCHOVEK_P_BITS_DIFFER: return "the p bits differ, and mode 1 has one for both endpoints";
-    case RINCHOVEK_NO_KIND: return "no such mode, or a kind of split that is not the mode's";
-    case RINCHOVEK_ANCHOR: return "the index at an anchor has its top bit set";
-    case RINCHOVEK_NUMBER: return "a number of the head is cut off, too long or not in its shortest form";
-    case RINCHOVEK_FORM: return "the form of the sheet is not 1";
-    case RINCHOVEK_SIDE: return "the width or the height is 0 or too large";
-    case RINCHOVEK_BLOCK_LENGTH: return "too few or too many bytes of blocks";
-    case RINCHOVEK_OUTPUT_LENGTH: return "the output is too short or too long";
-    case RINCHOVEK_BEYOND: return "the row or the block is beyond the sheet";
+    case RINCHOVEK_WRONG_KIND: return "no such mode, or a kind of split that is not the mode's";
+    case RINCHOVEK_ANCHOR_BIT_SET: return "the index at an anchor has its top bit set";
+    case RINCHOVEK_BAD_NUMBER: return "a number of the head is cut off, too long or not in its shortest form";
+    case RINCHOVEK_UNKNOWN_FORM: return "the form of the sheet is not 1";
+    case RINCHOVEK_BAD_SIDE: return "the width or the height is 0 or too large";
+    case RINCHOVEK_WRONG_BLOCK_BYTES: return "too few or too many bytes of blocks";
+    case RINCHOVEK_WRONG_OUTPUT_LENGTH: return "the output is too short or too long";
+    case RINCHOVEK_BEYOND_SHEET: return "the row or the block is beyond the sheet";
     default: return "no refusal of this version";
     }
 }
