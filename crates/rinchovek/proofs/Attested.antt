@@ -9,7 +9,8 @@ use Rattle.laws.specs.Refusals.{first}
 use Rattle.laws.specs.Tables.{over, table, tableFrom}
 use Rattle.format.specs.Block.{bytesOf, modeOf, number, trailing}
 use Rattle.format.specs.Drawing.{drawn, eight, promoted, weightOf, weights}
-use Rattle.format.specs.Lines.{anchorOf, arrayOf, has, indexPlace, laid, lineAt, lineBits, lineOf, means, own, pPlace, pixel, pixels, rotated, shown, turned, valuePlace, withLine}
+use Rattle.format.specs.Lines.{anchorOf, arrayOf, has, indexPlace, laid, lineAt, lineBits, lineOf, means, own, pPlace}
+use Rattle.format.specs.Lines.{pixel, pixels, rotated, shown, turned, valuePlace, withLine}
 use Rattle.format.specs.Modes.{endpointCount, kindOfMode, modeRow}
 use Rattle.format.specs.Partitions.{anchors2, anchors3, digits, marks, strings2, strings3, subset2, subset3}
 use Rattle.format.specs.Places.{atPlace, blockOf, listOf, opened, placeAt, pos, width, widths}
@@ -26,7 +27,8 @@ use Rattle.head.specs.Numbers.{groups, raised, readGroups, readNumber}
 use Rattle.sheet_rules.specs.Rows.{blockAt, channel, rowByte, rowBytes, rowOut, rowRefusal}
 use Rattle.sheet_rules.specs.Sheets.{blockIn, blocksOf, findRefusal, placeOf, putBlock, replacedIn, sheetAfter, sheetRefusal}
 use Rattle.sheet_rules.proofs.Attested.{lower, lowerLines, small, smallReplaced}
-use Rattle.rinchovek.specs.Promises.{Decodes, DecodesRow, Packs, ReadsHead, ReadsLine, Replaces, ReplacesIn, Unpacks, Versions, WritesHead}
+use Rattle.rinchovek.specs.Promises.{Decodes, Gives, Packs, ReadsLine, Replaces, Unpacks, Versions}
+use Rattle.rinchovek.specs.Promises.{DecodesRow, ReadsHead, ReplacesIn, WritesHead}
 
 abbrev zeros : ℕ → List ℕ
 zeros n = replicate n 0
@@ -55,6 +57,10 @@ widths7 = replicate 8 5 ++ (1 ∷ 1 ∷ zeros 8) ++ replicate 8 2
 abbrev bytesGiven6 : List ℕ
 bytesGiven6 = 1 ∷ 2 ∷ 3 ∷ 4 ∷ 5 ∷ 6 ∷ 7 ∷ 8 ∷ 1 ∷ 0 ∷ 8 ∷ replicate 15 1
 
+-- both sides of each clause compute to the same
+computed : {A : Type 0} {refusal : ℕ} {left : A} → Gives refusal left refusal left
+computed = record { answers = refl; leaves = refl }
+
 pub record Calls : Type 0 where
   pub version : Versions (10000 * 1 + 100 * 0 + 0)
   pub decodes : Decodes block4 (half4 ++ half4)
@@ -77,25 +83,32 @@ pub record Calls : Type 0 where
   pub replaces-in-not : ReplacesIn small 0 2 bytesGiven6 2 small
 
 pub calls-hold : Calls
-unfolding padded first over table tableFrom weights weightOf drawn promoted eight modeRow kindOfMode endpointCount placeAt pos width widths trailing number modeOf splitAt splitOf atPlace opened has valuePlace pPlace arrayOf indexPlace own lineOf lineBits means rotated lineAt shown pixel pixels digits marks strings2 strings3 subset2 subset3 anchors2 anchors3 taken recordOf made packed packRefusal fits says blockOf listOf bytesOf replaced after refusal refusalIn lineFits valueFits pFits indexFits ownWidth lineGiven put oriented withLine laid turned anchorOf lineRead readRefusal givenAs widthsOf valueAt recordByte recordBytes recordOfBytes replacementOf replacementBytes packedBytes bytesRefusal spelt readHead headRefusal formIn widthIn heightIn readNumber readGroups raised sizeRefusal writeHead headBytes groups blockAt channel rowByte rowBytes rowOut rowRefusal blockIn blocksOf findRefusal placeOf putBlock replacedIn sheetAfter sheetRefusal
+unfolding padded first over table tableFrom weights weightOf drawn promoted eight modeRow kindOfMode endpointCount placeAt pos
+    width widths trailing number modeOf splitAt splitOf atPlace opened has valuePlace pPlace arrayOf indexPlace own lineOf
+    lineBits means rotated lineAt shown pixel pixels digits marks strings2 strings3 subset2 subset3 anchors2 anchors3 taken
+    recordOf made packed packRefusal fits says blockOf listOf bytesOf replaced after refusal refusalIn lineFits valueFits pFits
+    indexFits ownWidth lineGiven put oriented withLine laid turned anchorOf lineRead readRefusal givenAs widthsOf valueAt
+    recordByte recordBytes recordOfBytes replacementOf replacementBytes packedBytes bytesRefusal spelt readHead headRefusal formIn
+    widthIn heightIn readNumber readGroups raised sizeRefusal writeHead headBytes groups blockAt channel rowByte rowBytes rowOut
+    rowRefusal blockIn blocksOf findRefusal placeOf putBlock replacedIn sheetAfter sheetRefusal
 calls-hold = record {
   version = refl;
   decodes = refl;
   decodes-reserved = refl;
-  unpacks = (refl, refl);
-  unpacks-not = (refl, refl);
-  packs = (refl, refl);
-  packs-not = (refl, refl);
-  reads-line = (refl, refl);
-  reads-line-not = (refl, refl);
-  replaces = (refl, refl);
-  replaces-not = (refl, refl);
-  reads-head = (refl, refl);
-  reads-head-not = (refl, refl);
-  writes-head = (refl, refl);
-  writes-head-not = (refl, refl);
-  decodes-row = (refl, refl);
-  decodes-row-not = (refl, refl);
-  replaces-in = (refl, refl);
-  replaces-in-not = (refl, refl);
+  unpacks = computed;
+  unpacks-not = computed;
+  packs = computed;
+  packs-not = computed;
+  reads-line = computed;
+  reads-line-not = computed;
+  replaces = computed;
+  replaces-not = computed;
+  reads-head = computed;
+  reads-head-not = computed;
+  writes-head = computed;
+  writes-head-not = computed;
+  decodes-row = computed;
+  decodes-row-not = computed;
+  replaces-in = computed;
+  replaces-in-not = computed;
 }

@@ -1,7 +1,8 @@
 // The C face: the public calls of blocks and sheets, for the consoles' display code. A refused call changes nothing that it
 // was lent. What a call promises has one name, in specs/Promises. include/rinchovek.h declares these functions and says what a
 // C caller has to know; `rt staticlib rinchovek` writes the archive.
-ghost use Rattle.rinchovek.specs.Promises.{Decodes, DecodesRow, Packs, ReadsHead, ReadsLine, Replaces, ReplacesIn, Unpacks, Versions, WritesHead};
+ghost use Rattle.rinchovek.specs.Promises.{Decodes, Packs, ReadsLine, Replaces, Unpacks, Versions};
+ghost use Rattle.rinchovek.specs.Promises.{DecodesRow, ReadsHead, ReplacesIn, WritesHead};
 use bc7::decode_bc7_block;
 use head::read_head;
 use head::write_head;
@@ -70,7 +71,8 @@ pub extern "C" fn rinchovek_bc7_read_line(
     replacement: &mut [u8; 26],
     widths: &mut [u8; 26],
 ) -> u32
-    ensures { λ r. ⌜ ReadsLine (now (block .entry)) line (now (replacement .entry), now (widths .entry)) r (now (replacement .exit), now (widths .exit)) ⌝ }
+    ensures { λ r. ⌜ ReadsLine (now (block .entry)) line (now (replacement .entry), now (widths .entry)) r
+        (now (replacement .exit), now (widths .exit)) ⌝ }
 {
     let read = read_line(*block, line);
     if read.refusal != 0 {

@@ -18,7 +18,7 @@ cast-result c = search needs
 returns : tie.Need-returns
 returns c =
     let e = c .before .before .before .read-line .ensures in
-    (ap (λ (h : LineRead). h .refusal) e, rw (← e, ne-eqb _ 0 (c .before .if1 .taken)))
+    record { answers = ap (λ (h : LineRead). h .refusal) e; leaves = rw (← e, ne-eqb _ 0 (c .before .if1 .taken)) }
 
 replacement-bytes-requires : tie.Need-replacement-bytes-requires
 replacement-bytes-requires c κs = search needs
@@ -29,10 +29,9 @@ replacement-bytes-requires-2 c κs = search needs
 returns-2 : tie.Need-returns-2
 returns-2 c =
     let e = c .before .before .before .before .before .before .read-line .ensures in
-    let zero = c .before .before .before .before .if1 .left in (
-      sym zero ∙ ap (λ (h : LineRead). h .refusal) e,
-      rw (← e, eq-eqb _ 0 zero) (ap₂ {C = List ℕ × List ℕ} (λ x y. (x, y)) (c .before .replacement-bytes .ensures) (c .replacement-bytes2 .ensures)),
-    )
+    let zero = c .before .before .before .before .if1 .left in
+    let written = ap₂ {C = List ℕ × List ℕ} (λ x y. (x, y)) (c .before .replacement-bytes .ensures) (c .replacement-bytes2 .ensures) in
+    record { answers = sym zero ∙ ap (λ (h : LineRead). h .refusal) e; leaves = rw (← e, eq-eqb _ 0 zero) written }
 
 pub rinchovek-bc7-read-line-spec : {M : Type 1} → statement M
 rinchovek-bc7-read-line-spec =

@@ -23,12 +23,12 @@ unfolding replaced
 returns c =
     let e = c .before .before .before .replace-line .ensures ∙ ap (replaced _ _) (c .before .before .before .before .replacement-of .ensures) in
     let r = ap (λ (a : Replaced). a .refusal) e in
-    (r, sym (refused-same _ (callOf _ (replacementOf _)) (λ z. c .before .if1 .taken (r ∙ z))))
+    record { answers = r; leaves = sym (refused-same _ (callOf _ (replacementOf _)) (λ z. c .before .if1 .taken (r ∙ z))) }
 
 returns-2 : tie.Need-returns-2
 returns-2 c =
     let e = c .before .before .before .replace-line .ensures ∙ ap (replaced _ _) (c .before .before .before .before .replacement-of .ensures) in
-    (sym (c .before .if1 .left) ∙ ap (λ (a : Replaced). a .refusal) e, ap (λ (a : Replaced). a .block) e)
+    record { answers = sym (c .before .if1 .left) ∙ ap (λ (a : Replaced). a .refusal) e; leaves = ap (λ (a : Replaced). a .block) e }
 
 pub rinchovek-bc7-replace-line-spec : {M : Type 1} → statement M
 rinchovek-bc7-replace-line-spec =

@@ -16,7 +16,7 @@ cast-result c = search needs
 returns : tie.Need-returns
 returns c =
     let e = c .before .before .before .unpack .ensures in
-    (ap (λ (u : Unpacked). u .refusal) e, rw (← e, ne-eqb _ 0 (c .before .if1 .taken)))
+    record { answers = ap (λ (u : Unpacked). u .refusal) e; leaves = rw (← e, ne-eqb _ 0 (c .before .if1 .taken)) }
 
 record-bytes-requires : tie.Need-record-bytes-requires
 record-bytes-requires c κs = search needs
@@ -25,7 +25,7 @@ returns-2 : tie.Need-returns-2
 returns-2 c =
     let e = c .before .before .before .before .unpack .ensures in
     let zero = c .before .before .if1 .left in
-    (sym zero ∙ ap (λ (u : Unpacked). u .refusal) e, rw (← e, eq-eqb _ 0 zero) (c .record-bytes .ensures))
+    record { answers = sym zero ∙ ap (λ (u : Unpacked). u .refusal) e; leaves = rw (← e, eq-eqb _ 0 zero) (c .record-bytes .ensures) }
 
 pub rinchovek-bc7-unpack-spec : {M : Type 1} → statement M
 rinchovek-bc7-unpack-spec =

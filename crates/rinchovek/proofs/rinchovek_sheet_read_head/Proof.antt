@@ -16,13 +16,13 @@ cast-result c = search needs
 returns : tie.Need-returns
 returns c =
     let e = c .before .before .before .read-head .ensures in
-    (ap (λ (h : Head). h .refusal) e, rw (← e, ne-eqb _ 0 (c .before .if1 .taken)))
+    record { answers = ap (λ (h : Head). h .refusal) e; leaves = rw (← e, ne-eqb _ 0 (c .before .if1 .taken)) }
 
 returns-2 : tie.Need-returns-2
 returns-2 c =
     let e = c .before .before .before .read-head .ensures in
     let zero = c .before .if1 .left in
-    (sym zero ∙ ap (λ (h : Head). h .refusal) e, rw (← e, eq-eqb _ 0 zero))
+    record { answers = sym zero ∙ ap (λ (h : Head). h .refusal) e; leaves = rw (← e, eq-eqb _ 0 zero) }
 
 pub rinchovek-sheet-read-head-spec : {M : Type 1} → statement M
 rinchovek-sheet-read-head-spec = tie.close (tie.spec read-head-requires cast-result returns returns-2)

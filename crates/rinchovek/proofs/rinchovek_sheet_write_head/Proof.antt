@@ -16,7 +16,7 @@ cast-result c = search needs
 returns : tie.Need-returns
 returns c =
     let e = c .before .before .before .write-head .ensures in
-    (ap (λ (h : HeadBytes). h .refusal) e, rw (← e, ne-eqb _ 0 (c .before .if1 .taken)))
+    record { answers = ap (λ (h : HeadBytes). h .refusal) e; leaves = rw (← e, ne-eqb _ 0 (c .before .if1 .taken)) }
 
 cast-count : tie.Need-cast-count
 cast-count c = search needs
@@ -25,7 +25,7 @@ returns-2 : tie.Need-returns-2
 returns-2 c =
     let e = c .before .before .before .before .write-head .ensures in
     let zero = c .before .before .if1 .left in
-    (sym zero ∙ ap (λ (h : HeadBytes). h .refusal) e, rw (← e, eq-eqb _ 0 zero))
+    record { answers = sym zero ∙ ap (λ (h : HeadBytes). h .refusal) e; leaves = rw (← e, eq-eqb _ 0 zero) }
 
 pub rinchovek-sheet-write-head-spec : {M : Type 1} → statement M
 rinchovek-sheet-write-head-spec =
