@@ -11,8 +11,8 @@ typedef unsigned long u64;
 typedef void decode_block(const u8 *block, u8 *pixels);
 typedef u32 decode_row(u32 width, u32 height, u32 row, const u8 *blocks, u64 blocks_length, u8 *out, u64 out_length);
 
-decode_block rust_decode_block, bc7_decode_block;
-decode_row rust_decode_row, sheet_decode_row;
+decode_block rust_decode_block, rinchovek_bc7_decode_block;
+decode_row rust_decode_row, rinchovek_sheet_decode_row;
 
 /* ---- what compilers may call, where there is no C library; byte by byte, so a side that leans on it shows */
 
@@ -205,7 +205,7 @@ static void compare_blocks(void) {
             memset(out, 1, 64);
             memset(expected, 2, 64);
             rust_decode_block(blocks, expected);
-            bc7_decode_block(blocks, out);
+            rinchovek_bc7_decode_block(blocks, out);
             if (memcmp(expected, out, 64)) {
                 say("DIFFERENT pixels from a block of mode ");
                 say_number((u64)mode, 0);
@@ -223,7 +223,7 @@ static void count_blocks(void) {
     for (int mode = 0; mode < COLUMNS; mode++) {
         make_blocks(blocks, COUNTED, mode);
         rust[mode] = block_cost(rust_decode_block, COUNTED, blocks, out) / COUNTED;
-        here[mode] = block_cost(bc7_decode_block, COUNTED, blocks, out) / COUNTED;
+        here[mode] = block_cost(rinchovek_bc7_decode_block, COUNTED, blocks, out) / COUNTED;
     }
     say("\nInstructions a block, over ");
     say_number(COUNTED, 0);
@@ -251,7 +251,7 @@ static void compare_row(u32 width, u32 height, u32 row) {
     memset(out, 7, length + GUARD);
     memset(expected, 7, length + GUARD);
     u32 refused = rust_decode_row(width, height, row, blocks, 16 * blocks_of_row(width), expected, length) |
-                  sheet_decode_row(width, height, row, blocks, 16 * blocks_of_row(width), out, length);
+                  rinchovek_sheet_decode_row(width, height, row, blocks, 16 * blocks_of_row(width), out, length);
     if (refused || memcmp(expected, out, length + GUARD)) {
         say(refused ? "REFUSED: row " : "DIFFERENT pixels: row ");
         say_number(row, 0);
@@ -294,9 +294,9 @@ static u64 row_cost(decode_row *decode, u32 width, u32 height, u32 row) {
 static void say_row(const char *name, u32 width, u32 height, u32 row) {
     u32 count = blocks_of_row(width);
     u64 rust = row_cost(rust_decode_row, width, height, row);
-    u64 here = row_cost(sheet_decode_row, width, height, row);
+    u64 here = row_cost(rinchovek_sheet_decode_row, width, height, row);
     u64 rust_alone = block_cost(rust_decode_block, count, blocks, out);
-    u64 here_alone = block_cost(bc7_decode_block, count, blocks, out);
+    u64 here_alone = block_cost(rinchovek_bc7_decode_block, count, blocks, out);
     say_left(name, 40);
     say_number(rust / count, 6);
     say_number(here / count, 6);
@@ -316,7 +316,7 @@ static void count_growth(void) {
     say("blocks   Rust  here  ratio\n");
     for (u32 count = REPEATED; count <= MOST_BLOCKS; count *= 4) {
         u64 rust = row_cost(rust_decode_row, 4 * count, 4, 0);
-        u64 here = row_cost(sheet_decode_row, 4 * count, 4, 0);
+        u64 here = row_cost(rinchovek_sheet_decode_row, 4 * count, 4, 0);
         say_number(count, 6);
         say_number(rust / count, 7);
         say_number(here / count, 6);
@@ -349,13 +349,15 @@ typedef u32 replace_one(u8 *block, u32 line, const u8 *replacement);
 typedef u32 replace_in(u8 *sheet, u64 length, u32 block, u32 line, const u8 *replacement);
 typedef u32 read_head(const u8 *sheet, u64 length, u32 *head);
 typedef u32 write_head(u32 width, u32 height, u8 *head, u32 *count);
+typedef u32 version(void);
 
-two_buffers bc7_unpack, bc7_pack;
-read_one bc7_read_line;
-replace_one bc7_replace_line;
-replace_in sheet_replace_line;
-read_head sheet_read_head;
-write_head sheet_write_head;
+two_buffers rinchovek_bc7_unpack, rinchovek_bc7_pack;
+read_one rinchovek_bc7_read_line;
+replace_one rinchovek_bc7_replace_line;
+replace_in rinchovek_sheet_replace_line;
+read_head rinchovek_sheet_read_head;
+write_head rinchovek_sheet_write_head;
+version rinchovek_version;
 
 enum { RECORD = 66, LINE = 26, VALUES = 8, FIRST_INDEX = 10, HEAD = 4 };
 
@@ -372,6 +374,7 @@ static replace_one *volatile replace_call;
 static replace_in *volatile replace_in_call;
 static read_head *volatile read_head_call;
 static write_head *volatile write_head_call;
+static version *volatile version_call;
 
 static u32 no_two_buffers(const u8 *from, u8 *to) {
     __asm__ volatile("" ::"r"(from), "r"(to) : "memory");
@@ -403,6 +406,8 @@ static u32 no_write_head(u32 width, u32 height, u8 *bytes, u32 *count) {
     return 0;
 }
 
+static u32 no_version(void) { return 0; }
+
 typedef u32 one_call(u32 i);
 
 static u32 unpack_one(u32 i) { return two_buffers_call(sheet_blocks + 16 * i, records + RECORD * i); }
@@ -417,12 +422,19 @@ static u32 head_numbers[3];
 static u32 read_a_head(u32 i) { return read_head_call(sheet, sizeof sheet - i % 2, head_numbers); }
 static u32 write_a_head(u32 i) { return write_head_call(128 + i, 4, out, head_numbers); }
 
+static u32 ask_version(u32 i) {
+    (void)i;
+    version_call();
+    return 0;
+}
+
 static void point_at_calls(int at_none) {
-    read_head_call = at_none ? no_read_head : sheet_read_head;
-    write_head_call = at_none ? no_write_head : sheet_write_head;
-    read_call = at_none ? no_read : bc7_read_line;
-    replace_call = at_none ? no_replace : bc7_replace_line;
-    replace_in_call = at_none ? no_replace_in : sheet_replace_line;
+    version_call = at_none ? no_version : rinchovek_version;
+    read_head_call = at_none ? no_read_head : rinchovek_sheet_read_head;
+    write_head_call = at_none ? no_write_head : rinchovek_sheet_write_head;
+    read_call = at_none ? no_read : rinchovek_bc7_read_line;
+    replace_call = at_none ? no_replace : rinchovek_bc7_replace_line;
+    replace_in_call = at_none ? no_replace_in : rinchovek_sheet_replace_line;
 }
 
 static __attribute__((noinline)) u64 steps_of_calls(one_call *call) {
@@ -475,9 +487,9 @@ static void make_lines(void) {
         const u8 *block = sheet_blocks + 16 * i;
         u8 *line = lines + LINE * i;
         u32 count = 0;
-        while (!bc7_read_line(block, count, line, widths)) count++;
+        while (!rinchovek_bc7_read_line(block, count, line, widths)) count++;
         line_numbers[i] = count ? (u32)(random_number() % count) : 0;
-        bc7_read_line(block, line_numbers[i], line, widths);
+        rinchovek_bc7_read_line(block, line_numbers[i], line, widths);
         for (int v = 0; v < VALUES; v++) line[v] = (u8)(random_number() % (1ul << widths[v]));
     }
 }
@@ -485,7 +497,7 @@ static void make_lines(void) {
 /* Each index i as last - i: the anchor's top bit is set, and the pair has to be turned. */
 static void turn_lines(void) {
     for (u32 i = 0; i < COUNTED; i++) {
-        bc7_read_line(sheet_blocks + 16 * i, line_numbers[i], out, widths);
+        rinchovek_bc7_read_line(sheet_blocks + 16 * i, line_numbers[i], out, widths);
         for (int v = FIRST_INDEX; v < LINE; v++) lines[LINE * i + v] = (u8)((1u << widths[v]) - 1 - lines[LINE * i + v]);
     }
 }
@@ -498,54 +510,56 @@ static void count_writing(void) {
     make_sheet(MIXED);
     make_lines();
     point_at_calls(0);
-    decoded = block_cost(bc7_decode_block, COUNTED, sheet_blocks, out);
+    decoded = block_cost(rinchovek_bc7_decode_block, COUNTED, sheet_blocks, out);
     say("\nInstructions a call, and in decoded blocks, over ");
     say_number(COUNTED, 0);
     say(" mixed blocks\n");
 
-    two_buffers_call = bc7_unpack;
-    say_call("bc7_unpack", unpack_one, 0);
-    two_buffers_call = bc7_pack;
-    say_call("bc7_pack", pack_one, 0);
+    two_buffers_call = rinchovek_bc7_unpack;
+    say_call("rinchovek_bc7_unpack", unpack_one, 0);
+    two_buffers_call = rinchovek_bc7_pack;
+    say_call("rinchovek_bc7_pack", pack_one, 0);
     enum { MODE = 0, PIXEL_0 = 34 };
     set_in_each(records, RECORD, PIXEL_0 + 15, 16);
-    say_call("bc7_pack, refused with 3: an index of 16", pack_one, 3);
+    say_call("rinchovek_bc7_pack, refused with 3: an index of 16", pack_one, 3);
     set_in_each(records, RECORD, MODE, 9);
-    say_call("bc7_pack, refused with 5: mode 9", pack_one, 5);
+    say_call("rinchovek_bc7_pack, refused with 5: mode 9", pack_one, 5);
 
-    say_call("sheet_read_head, 256 by 4", read_a_head, 0);
-    say_call("sheet_write_head, 128 to 191 by 4", write_a_head, 0);
-    say_call("bc7_read_line", read_a_line, 0);
-    say_call("bc7_replace_line, kept", replace_a_line, 0);
-    say_call("sheet_replace_line, kept", replace_in_sheet, 0);
+    say_call("rinchovek_sheet_read_head, 256 by 4", read_a_head, 0);
+    say_call("rinchovek_sheet_write_head, 128 to 191 by 4", write_a_head, 0);
+    say_call("rinchovek_version", ask_version, 0);
+    say_call("rinchovek_bc7_read_line", read_a_line, 0);
+    say_call("rinchovek_bc7_replace_line, kept", replace_a_line, 0);
+    say_call("rinchovek_sheet_replace_line, kept", replace_in_sheet, 0);
     turn_lines();
-    say_call("bc7_replace_line, turned", replace_a_line, 0);
-    say_call("sheet_replace_line, turned", replace_in_sheet, 0);
+    say_call("rinchovek_bc7_replace_line, turned", replace_a_line, 0);
+    say_call("rinchovek_sheet_replace_line, turned", replace_in_sheet, 0);
     set_in_each(lines, LINE, LINE - 1, 16);
-    say_call("bc7_replace_line, refused with 3: an index of 16", replace_a_line, 3);
+    say_call("rinchovek_bc7_replace_line, refused with 3: an index of 16", replace_a_line, 3);
     for (u32 i = 0; i < COUNTED; i++) line_numbers[i] = 3;
-    say_call("bc7_read_line, refused with 2", read_a_line, 2);
-    say_call("bc7_replace_line, refused with 2", replace_a_line, 2);
+    say_call("rinchovek_bc7_read_line, refused with 2", read_a_line, 2);
+    say_call("rinchovek_bc7_replace_line, refused with 2", replace_a_line, 2);
     make_sheet(8);
-    two_buffers_call = bc7_unpack;
-    say_call("bc7_unpack, refused with 1", unpack_one, 1);
-    say_call("bc7_read_line, refused with 1", read_a_line, 1);
-    say_call("bc7_replace_line, refused with 1", replace_a_line, 1);
+    two_buffers_call = rinchovek_bc7_unpack;
+    say_call("rinchovek_bc7_unpack, refused with 1", unpack_one, 1);
+    say_call("rinchovek_bc7_read_line, refused with 1", read_a_line, 1);
+    say_call("rinchovek_bc7_replace_line, refused with 1", replace_a_line, 1);
 
-    say("\nThe same by mode\nmode            ");
+    say("\nThe same by mode\nmode                        ");
     for (int mode = 0; mode < 8; mode++) say_right(column_names[mode], 7);
     one_call *const calls[] = {unpack_one, pack_one, read_a_line, replace_a_line};
-    two_buffers *const functions[] = {bc7_unpack, bc7_pack, 0, 0};
-    const char *const names[] = {"bc7_unpack", "bc7_pack", "bc7_read_line", "bc7_replace_line"};
+    two_buffers *const functions[] = {rinchovek_bc7_unpack, rinchovek_bc7_pack, 0, 0};
+    const char *const names[] = {"rinchovek_bc7_unpack", "rinchovek_bc7_pack", "rinchovek_bc7_read_line",
+                                 "rinchovek_bc7_replace_line"};
     for (int k = 0; k < 4; k++) {
         say("\n");
-        say_left(names[k], 16);
+        say_left(names[k], 28);
         for (int mode = 0; mode < 8; mode++) {
             make_sheet(mode);
             make_lines();
             two_buffers_call = functions[k];
             if (calls[k] == pack_one)
-                for (u32 i = 0; i < COUNTED; i++) bc7_unpack(sheet_blocks + 16 * i, records + RECORD * i);
+                for (u32 i = 0; i < COUNTED; i++) rinchovek_bc7_unpack(sheet_blocks + 16 * i, records + RECORD * i);
             say_number(call_cost(calls[k], 0) / COUNTED, 7);
         }
     }
@@ -563,12 +577,12 @@ void run(void) {
     count_rows();
     count_growth();
 #else
-    say("\nno rows: the archive has no sheet_decode_row\n");
+    say("\nno rows: the archive has no rinchovek_sheet_decode_row\n");
 #endif
 #ifdef WRITING
     count_writing();
 #else
-    say("\nnothing that writes: the archive has no bc7_read_line\n");
+    say("\nnothing that writes: the archive has no rinchovek_bc7_read_line\n");
 #endif
     leave(0);
 }

@@ -2,8 +2,8 @@
 #
 #     prepare [ARCHIVE] [PUBLISHED]
 # sets  archive    the static library that is measured
-#       has_rows   yes where the archive has sheet_decode_row, else empty
-#       has_lines  yes where it has bc7_read_line, with which the calls that write are prepared, else empty
+#       has_rows   yes where the archive has rinchovek_sheet_decode_row, else empty
+#       has_lines  yes where it has rinchovek_bc7_read_line, with which the calls that write are prepared, else empty
 #       kit        the folder of the kit's clang and linker for this machine
 #       work       a fresh folder, removed at exit, with the published sources and reference.rs in it
 
@@ -14,18 +14,18 @@ prepare() {
     bench=$(cd "$(dirname "${BASH_SOURCE[0]}")" && pwd)
     repository=$(dirname "$bench")
 
-    archive=${1:-$repository/target/staticlib/libconsole.a}
-    [ -f "$archive" ] || die "no archive $archive: 'rt staticlib console' at the repository's root writes it"
+    archive=${1:-$repository/target/staticlib/librinchovek.a}
+    [ -f "$archive" ] || die "no archive $archive: 'rt staticlib rinchovek' at the repository's root writes it"
     archive=$(readlink -f "$archive")
     if [ -z "${1:-}" ] && [ -n "$(find "$repository/crates" -name '*.rt' -newer "$archive" -print -quit)" ]; then
-        echo "${0##*/}: a source is newer than the archive: 'rt staticlib console' writes it again" >&2
+        echo "${0##*/}: a source is newer than the archive: 'rt staticlib rinchovek' writes it again" >&2
     fi
     # an archive's index has the exported names as plain text
-    grep -qaw bc7_decode_block "$archive" || die "$archive has no bc7_decode_block"
+    grep -qaw rinchovek_bc7_decode_block "$archive" || die "$archive has no rinchovek_bc7_decode_block"
     has_rows=
-    if grep -qaw sheet_decode_row "$archive"; then has_rows=yes; fi
+    if grep -qaw rinchovek_sheet_decode_row "$archive"; then has_rows=yes; fi
     has_lines=
-    if grep -qaw bc7_read_line "$archive"; then has_lines=yes; fi
+    if grep -qaw rinchovek_bc7_read_line "$archive"; then has_lines=yes; fi
 
     place=${2:-$repository/../shared}
     for published in "$place/docs/src/src" "$place/src" "$place"; do

@@ -9,9 +9,9 @@ type DecodeBlock = unsafe extern "C" fn(&Block, &mut Pixels);
 
 // the archive's; the linker finds them
 extern "C" {
-    fn bc7_decode_block(block: &Block, pixels: &mut Pixels);
+    fn rinchovek_bc7_decode_block(block: &Block, pixels: &mut Pixels);
     #[cfg(rows)]
-    fn sheet_decode_row(
+    fn rinchovek_sheet_decode_row(
         width: u32,
         height: u32,
         row: u32,
@@ -64,7 +64,7 @@ fn rust_blocks(picture: &Picture, out: &mut [Pixels]) {
 }
 
 fn our_blocks(picture: &Picture, out: &mut [Pixels]) {
-    every_block(black_box(bc7_decode_block as DecodeBlock), picture, out)
+    every_block(black_box(rinchovek_bc7_decode_block as DecodeBlock), picture, out)
 }
 
 #[cfg(rows)]
@@ -92,7 +92,7 @@ mod rows {
     }
 
     pub fn our_rows(picture: &Picture, out: &mut [Pixels]) {
-        every_row(black_box(sheet_decode_row as DecodeRow), picture, out)
+        every_row(black_box(rinchovek_sheet_decode_row as DecodeRow), picture, out)
     }
 }
 
@@ -105,11 +105,11 @@ mod writing {
     type Line = [u8; 26];
 
     extern "C" {
-        fn bc7_unpack(block: &Block, record: &mut Record) -> u32;
-        fn bc7_pack(record: &Record, block: &mut Block) -> u32;
-        fn bc7_read_line(block: &Block, line: u32, replacement: &mut Line, widths: &mut Line) -> u32;
-        fn bc7_replace_line(block: &mut Block, line: u32, replacement: &Line) -> u32;
-        fn sheet_replace_line(sheet: *mut u8, length: usize, block: u32, line: u32, replacement: &Line) -> u32;
+        fn rinchovek_bc7_unpack(block: &Block, record: &mut Record) -> u32;
+        fn rinchovek_bc7_pack(record: &Record, block: &mut Block) -> u32;
+        fn rinchovek_bc7_read_line(block: &Block, line: u32, replacement: &mut Line, widths: &mut Line) -> u32;
+        fn rinchovek_bc7_replace_line(block: &mut Block, line: u32, replacement: &Line) -> u32;
+        fn rinchovek_sheet_replace_line(sheet: *mut u8, length: usize, block: u32, line: u32, replacement: &Line) -> u32;
     }
 
     fn nanoseconds(name: &str, count: usize, mut every: impl FnMut() -> u32) {
@@ -118,7 +118,7 @@ mod writing {
             assert_eq!(every(), 0, "{name} refuses a call");
             start.elapsed().as_secs_f64()
         });
-        println!("{name:28} {:7.1}", 1e9 * median(times.collect()) / count as f64);
+        println!("{name:38} {:7.1}", 1e9 * median(times.collect()) / count as f64);
     }
 
     pub fn time() {
@@ -131,39 +131,47 @@ mod writing {
         let mut sheet = [&head[..], blocks.as_flattened()].concat();
 
         let every = |call: &mut dyn FnMut(usize) -> u32| (0..SMALL).fold(0, |refused, i| refused | call(i));
-        nanoseconds("bc7_decode_block", SMALL, || {
+        nanoseconds("rinchovek_bc7_decode_block", SMALL, || {
             let mut pixels = [[0; 4]; 16];
-            every(&mut |i| unsafe { bc7_decode_block(black_box(&blocks[i]), black_box(&mut pixels)); 0 })
+            every(&mut |i| unsafe { rinchovek_bc7_decode_block(black_box(&blocks[i]), black_box(&mut pixels)); 0 })
         });
-        nanoseconds("bc7_unpack", SMALL, || every(&mut |i| unsafe { bc7_unpack(&blocks[i], &mut records[i]) }));
-        nanoseconds("bc7_pack", SMALL, || every(&mut |i| unsafe { bc7_pack(&records[i], &mut out[i]) }));
-        nanoseconds("bc7_read_line", SMALL, || every(&mut |i| unsafe { bc7_read_line(&blocks[i], 0, &mut lines[i], &mut widths) }));
-        let replaced = |lines: &[Line], out: &mut [Block]| every(&mut |i| unsafe { bc7_replace_line(&mut out[i], 0, &lines[i]) });
-        nanoseconds("bc7_replace_line, kept", SMALL, || replaced(&lines, &mut out));
-        nanoseconds("sheet_replace_line, kept", SMALL, || {
-            every(&mut |i| unsafe { sheet_replace_line(sheet.as_mut_ptr(), sheet.len(), i as u32, 0, &lines[i]) })
+        nanoseconds("rinchovek_bc7_unpack", SMALL, || {
+            every(&mut |i| unsafe { rinchovek_bc7_unpack(&blocks[i], &mut records[i]) })
+        });
+        nanoseconds("rinchovek_bc7_pack", SMALL, || {
+            every(&mut |i| unsafe { rinchovek_bc7_pack(&records[i], &mut out[i]) })
+        });
+        nanoseconds("rinchovek_bc7_read_line", SMALL, || {
+            every(&mut |i| unsafe { rinchovek_bc7_read_line(&blocks[i], 0, &mut lines[i], &mut widths) })
+        });
+        let replaced = |lines: &[Line], out: &mut [Block]| {
+            every(&mut |i| unsafe { rinchovek_bc7_replace_line(&mut out[i], 0, &lines[i]) })
+        };
+        nanoseconds("rinchovek_bc7_replace_line, kept", SMALL, || replaced(&lines, &mut out));
+        nanoseconds("rinchovek_sheet_replace_line, kept", SMALL, || {
+            every(&mut |i| unsafe { rinchovek_sheet_replace_line(sheet.as_mut_ptr(), sheet.len(), i as u32, 0, &lines[i]) })
         });
         for (block, line) in blocks.iter().zip(&mut lines) {
-            unsafe { bc7_read_line(block, 0, line, &mut widths) };
+            unsafe { rinchovek_bc7_read_line(block, 0, line, &mut widths) };
             for v in 10..26 {
                 line[v] = ((1 << widths[v]) - 1) - line[v];
             }
         }
-        nanoseconds("bc7_replace_line, turned", SMALL, || replaced(&lines, &mut out));
+        nanoseconds("rinchovek_bc7_replace_line, turned", SMALL, || replaced(&lines, &mut out));
         // no mode has a line 3; an index of 16 is above every width
         let all_refused = |number: u32, line: u32, lines: &[Line], out: &mut [Block]| {
             let mut right = 0;
             every(&mut |i| {
-                right += u32::from(unsafe { bc7_replace_line(&mut out[i], line, &lines[i]) } == number);
+                right += u32::from(unsafe { rinchovek_bc7_replace_line(&mut out[i], line, &lines[i]) } == number);
                 0
             });
             SMALL as u32 - right
         };
-        nanoseconds("bc7_replace_line, refused 2", SMALL, || all_refused(2, 3, &lines, &mut out));
+        nanoseconds("rinchovek_bc7_replace_line, refused 2", SMALL, || all_refused(2, 3, &lines, &mut out));
         for line in &mut lines {
             line[25] = 16;
         }
-        nanoseconds("bc7_replace_line, refused 3", SMALL, || all_refused(3, 0, &lines, &mut out));
+        nanoseconds("rinchovek_bc7_replace_line, refused 3", SMALL, || all_refused(3, 0, &lines, &mut out));
     }
 }
 
@@ -281,5 +289,5 @@ fn main() {
         line("mixed", count, compare(*sides, &Picture { blocks: &blocks, columns: *columns }, &mut out, LARGE_ROUNDS));
     }
     #[cfg(not(rows))]
-    println!("\nno rows: the archive has no sheet_decode_row");
+    println!("\nno rows: the archive has no rinchovek_sheet_decode_row");
 }

@@ -5,80 +5,102 @@
 int printf(const char *format, ...);
 
 /* A sheet of 8 by 4 pixels: the block of the README's worked correction, then a reserved block. */
-static uint8_t sheet[3 + 32] = {
-    0x01, 0x08, 0x04,
+enum { WIDTH = 8, HEIGHT = 4, HEAD = 3 };
+static uint8_t sheet[HEAD + 2 * RINCHOVEK_BLOCK_BYTES] = {
+    0x01, WIDTH, HEIGHT,
     0x40, 0xC0, 0x1F, 0, 0, 0, 0, 0, 0x0E, 0, 0, 0, 0, 0, 0, 0,
 };
 
-static void show_bytes(const char *what, const uint8_t *bytes, int count) {
+static void show_bytes(const char *what, const uint8_t *bytes, uint32_t count) {
     printf("%s", what);
-    for (int i = 0; i < count; i++) printf(" %02X", bytes[i]);
+    for (uint32_t i = 0; i < count; i++) printf(" %02X", bytes[i]);
     printf("\n");
+}
+
+static void show_refusal(const char *what, uint32_t refusal) {
+    printf("%s: %u, %s\n", what, refusal, rinchovek_refusal_text(refusal));
 }
 
 /* The first pixel of the row, and the first of its second block. */
 static void show_row(void) {
-    uint32_t head[3] = {0};
-    uint8_t pixels[4 * 8 * 4] = {0};
-    uint32_t refusal = sheet_read_head(sheet, sizeof sheet, head);
-    if (refusal == 0)
-        refusal = sheet_decode_row(head[0], head[1], 0, sheet + head[2], sizeof sheet - head[2], pixels, sizeof pixels);
-    printf("row refused %u, pixel 0: %u %u %u %u, pixel 4: %u %u %u %u\n", refusal, pixels[0], pixels[1], pixels[2], pixels[3],
+    uint32_t head[RINCHOVEK_HEAD_NUMBERS] = {0};
+    uint8_t pixels[WIDTH * HEIGHT * RINCHOVEK_PIXEL_BYTES] = {0};
+    uint32_t refusal = rinchovek_sheet_read_head(sheet, sizeof sheet, head);
+    if (refusal == RINCHOVEK_ACCEPTED) {
+        const uint32_t width = head[RINCHOVEK_HEAD_WIDTH], height = head[RINCHOVEK_HEAD_HEIGHT], row = 0;
+        const uint8_t *blocks = sheet + head[RINCHOVEK_HEAD_START] + row * rinchovek_row_blocks(width);
+        refusal = rinchovek_sheet_decode_row(width, height, row, blocks, rinchovek_row_blocks(width), pixels,
+                                             rinchovek_row_pixels(width, height, row));
+    }
+    printf("row: %u, pixel 0: %u %u %u %u, pixel 4: %u %u %u %u\n", refusal, pixels[0], pixels[1], pixels[2], pixels[3],
            pixels[16], pixels[17], pixels[18], pixels[19]);
 }
 
-static void show_pixel(const uint8_t block[16]) {
-    uint8_t pixels[64];
-    bc7_decode_block(block, pixels);
-    printf("pixel 0: %u %u %u %u\n", pixels[0], pixels[1], pixels[2], pixels[3]);
+static void show_pixel(const uint8_t block[RINCHOVEK_BLOCK_BYTES]) {
+    uint8_t pixels[RINCHOVEK_PIXELS_BYTES];
+    rinchovek_bc7_decode_block(block, pixels);
+    printf("pixel 0: %u %u %u %u\n", pixels[RINCHOVEK_RED], pixels[RINCHOVEK_GREEN], pixels[RINCHOVEK_BLUE], pixels[RINCHOVEK_ALPHA]);
 }
 
 int main(void) {
-    uint8_t alone[16];
-    for (int i = 0; i < 16; i++) alone[i] = sheet[3 + i];
+    const uint32_t version = rinchovek_version();
+    if (version / 10000 != RINCHOVEK_VERSION_MAJOR || version < RINCHOVEK_VERSION) return 1; /* an archive of another header */
+    printf("version %u.%u.%u\n", version / 10000, version / 100 % 100, version % 100);
+
+    uint8_t alone[RINCHOVEK_BLOCK_BYTES];
+    for (int i = 0; i < RINCHOVEK_BLOCK_BYTES; i++) alone[i] = sheet[HEAD + i];
 
     /* Red from 0 to 127, index 8 at pixel 0 and 0 elsewhere. */
-    uint8_t replacement[26] = {0};
-    replacement[4] = 127;
-    replacement[10] = 8;
+    uint8_t replacement[RINCHOVEK_LINE_BYTES] = {0};
+    replacement[RINCHOVEK_LINE_SECOND_ENDPOINT + RINCHOVEK_RED] = 127;
+    replacement[RINCHOVEK_LINE_INDEXES + 0] = 8;
+    /* Both are uint32_t and stand side by side in the call: with their names nobody exchanges them. */
+    uint32_t block = 0, line = 0;
     show_row();
-    printf("replaced: refused %u\n", sheet_replace_line(sheet, sizeof sheet, 0, 0, replacement));
-    show_bytes("block", sheet + 3, 16);
+    show_refusal("replaced in the sheet", rinchovek_sheet_replace_line(sheet, sizeof sheet, block, line, replacement));
+    show_bytes("block", sheet + HEAD, RINCHOVEK_BLOCK_BYTES);
     show_row();
 
     show_pixel(alone);
-    printf("replaced: refused %u\n", bc7_replace_line(alone, 0, replacement));
-    show_bytes("block", alone, 16);
+    show_refusal("replaced", rinchovek_bc7_replace_line(alone, line, replacement));
+    show_bytes("block", alone, RINCHOVEK_BLOCK_BYTES);
     show_pixel(alone);
 
-    /* 128 needs eight bits where the line has seven; the second block is reserved; mode 6 has no line 1. */
-    replacement[4] = 128;
-    printf("red 128: refused %u\n", sheet_replace_line(sheet, sizeof sheet, 0, 0, replacement));
-    printf("block 1: refused %u\n", sheet_replace_line(sheet, sizeof sheet, 1, 0, replacement));
-    printf("line 1: refused %u\n", bc7_replace_line(alone, 1, replacement));
-    show_bytes("block", alone, 16);
+    /* 128 needs eight bits where the line has seven; block 1 is reserved; mode 6 has no line 1. */
+    replacement[RINCHOVEK_LINE_SECOND_ENDPOINT + RINCHOVEK_RED] = 128;
+    show_refusal("red 128", rinchovek_sheet_replace_line(sheet, sizeof sheet, block, line, replacement));
+    block = 1;
+    show_refusal("block 1", rinchovek_sheet_replace_line(sheet, sizeof sheet, block, line, replacement));
+    line = 1;
+    show_refusal("line 1", rinchovek_bc7_replace_line(alone, line, replacement));
+    show_bytes("block", alone, RINCHOVEK_BLOCK_BYTES);
 
-    /* The record of the block, packed again; and a kind that there isn't. */
-    uint8_t record[66] = {0}, block[16] = {0};
-    uint32_t refusal = bc7_unpack(alone, record);
-    printf("unpacked: refused %u, mode %u\n", refusal, record[0]);
-    printf("packed: refused %u\n", bc7_pack(record, block));
-    show_bytes("block", block, 16);
-    record[1] = 4;
-    printf("kind 4: refused %u\n", bc7_pack(record, block));
+    /* The record of the block, packed again; and a kind that isn't the mode's. */
+    uint8_t record[RINCHOVEK_RECORD_BYTES] = {0}, packed[RINCHOVEK_BLOCK_BYTES] = {0};
+    uint32_t refusal = rinchovek_bc7_unpack(alone, record);
+    printf("unpacked: %u, mode %u, red %u and %u\n", refusal, record[RINCHOVEK_RECORD_MODE],
+           record[RINCHOVEK_RECORD_ENDPOINTS + RINCHOVEK_RED], record[RINCHOVEK_RECORD_ENDPOINTS + 4 + RINCHOVEK_RED]);
+    show_refusal("packed", rinchovek_bc7_pack(record, packed));
+    show_bytes("block", packed, RINCHOVEK_BLOCK_BYTES);
+    record[RINCHOVEK_RECORD_KIND] = RINCHOVEK_TWO_SUBSETS;
+    show_refusal("two subsets", rinchovek_bc7_pack(record, packed));
 
     /* The line as it stands, for the pair was stored turned; one index of it changed. */
-    uint8_t line[26] = {0}, widths[26] = {0};
-    refusal = bc7_read_line(alone, 0, line, widths);
-    printf("line 0: refused %u, pixel 0 has index %u of %u bits\n", refusal, line[10], widths[10]);
-    line[10] = 3;
-    printf("index 3: refused %u\n", bc7_replace_line(alone, 0, line));
+    uint8_t held[RINCHOVEK_LINE_BYTES] = {0}, widths[RINCHOVEK_LINE_BYTES] = {0};
+    line = 0;
+    refusal = rinchovek_bc7_read_line(alone, line, held, widths);
+    printf("line 0: %u, pixel 0 has index %u of %u bits\n", refusal, held[RINCHOVEK_LINE_INDEXES], widths[RINCHOVEK_LINE_INDEXES]);
+    held[RINCHOVEK_LINE_INDEXES + 0] = 3;
+    show_refusal("index 3", rinchovek_bc7_replace_line(alone, line, held));
     show_pixel(alone);
 
-    uint8_t head[7] = {0};
+    uint8_t head[RINCHOVEK_HEAD_BYTES] = {0};
     uint32_t count = 0;
-    printf("head: refused %u\n", sheet_write_head(4096, 5, head, &count));
-    show_bytes("head", head, (int)count);
-    printf("head: refused %u\n", sheet_write_head(4097, 5, head, &count));
+    show_refusal("head", rinchovek_sheet_write_head(RINCHOVEK_LARGEST_SIDE, 5, head, &count));
+    show_bytes("head", head, count);
+    show_refusal("head", rinchovek_sheet_write_head(RINCHOVEK_LARGEST_SIDE + 1, 5, head, &count));
+
+    for (uint32_t number = RINCHOVEK_RESERVED_BLOCK; number <= RINCHOVEK_BEYOND_SHEET; number++)
+        printf("%u: %s\n", number, rinchovek_refusal_text(number));
     return 0;
 }

@@ -1,17 +1,22 @@
-// Every call of include/rinchovek.h, from C++, through wrappers whose types have the lengths that C would only promise. It prints
-// what correct.c prints.
+// Every call of include/rinchovek.h, from C++, through wrappers whose types have the lengths that C would only promise, and tell a
+// block's number from a line's. It prints what correct.c prints.
 #include "rinchovek.h"
 
+#include <algorithm>
 #include <array>
 #include <cstdio>
 #include <vector>
 
 namespace rinchovek {
 
-using Block = std::array<uint8_t, 16>;
-using Record = std::array<uint8_t, 66>;
-using Replacement = std::array<uint8_t, 26>;
-using Pixels = std::array<std::array<uint8_t, 4>, 16>;
+using Block = std::array<uint8_t, RINCHOVEK_BLOCK_BYTES>;
+using Record = std::array<uint8_t, RINCHOVEK_RECORD_BYTES>;
+using Replacement = std::array<uint8_t, RINCHOVEK_LINE_BYTES>;
+using Pixels = std::array<std::array<uint8_t, RINCHOVEK_PIXEL_BYTES>, RINCHOVEK_BLOCK_PIXELS>;
+
+// In C both are uint32_t, side by side in one call; here they can't be exchanged.
+enum class BlockNumber : uint32_t {};
+enum class LineNumber : uint32_t {};
 
 struct Head {
     uint32_t width = 0, height = 0, start = 0;
@@ -19,43 +24,48 @@ struct Head {
 
 Pixels decode_block(const Block &block) {
     Pixels pixels;
-    bc7_decode_block(block.data(), pixels[0].data());
+    rinchovek_bc7_decode_block(block.data(), pixels[0].data());
     return pixels;
 }
 
-// Each of these answers 0, or the number of the refusal (docs/REFUSALS.md), and then what was handed over is as it was.
-uint32_t unpack(const Block &block, Record &record) { return bc7_unpack(block.data(), record.data()); }
-uint32_t pack(const Record &record, Block &block) { return bc7_pack(record.data(), block.data()); }
+// Each of these answers 0, or the number of the refusal, and then what was handed over is as it was.
+uint32_t unpack(const Block &block, Record &record) { return rinchovek_bc7_unpack(block.data(), record.data()); }
+uint32_t pack(const Record &record, Block &block) { return rinchovek_bc7_pack(record.data(), block.data()); }
 
-uint32_t read_line(const Block &block, uint32_t line, Replacement &replacement, Replacement &widths) {
-    return bc7_read_line(block.data(), line, replacement.data(), widths.data());
+uint32_t read_line(const Block &block, LineNumber line, Replacement &replacement, Replacement &widths) {
+    return rinchovek_bc7_read_line(block.data(), uint32_t(line), replacement.data(), widths.data());
 }
 
-uint32_t replace_line(Block &block, uint32_t line, const Replacement &replacement) {
-    return bc7_replace_line(block.data(), line, replacement.data());
+uint32_t replace_line(Block &block, LineNumber line, const Replacement &replacement) {
+    return rinchovek_bc7_replace_line(block.data(), uint32_t(line), replacement.data());
 }
 
-uint32_t replace_line(std::vector<uint8_t> &sheet, uint32_t block, uint32_t line, const Replacement &replacement) {
-    return sheet_replace_line(sheet.data(), sheet.size(), block, line, replacement.data());
+uint32_t replace_line(std::vector<uint8_t> &sheet, BlockNumber block, LineNumber line, const Replacement &replacement) {
+    return rinchovek_sheet_replace_line(sheet.data(), sheet.size(), uint32_t(block), uint32_t(line), replacement.data());
 }
 
 uint32_t read_head(const std::vector<uint8_t> &sheet, Head &head) {
-    uint32_t numbers[3] = {};
-    uint32_t refusal = sheet_read_head(sheet.data(), sheet.size(), numbers);
-    if (refusal == 0) head = {numbers[0], numbers[1], numbers[2]};
+    uint32_t numbers[RINCHOVEK_HEAD_NUMBERS] = {};
+    uint32_t refusal = rinchovek_sheet_read_head(sheet.data(), sheet.size(), numbers);
+    if (refusal == RINCHOVEK_ACCEPTED)
+        head = {numbers[RINCHOVEK_HEAD_WIDTH], numbers[RINCHOVEK_HEAD_HEIGHT], numbers[RINCHOVEK_HEAD_START]};
     return refusal;
 }
 
 uint32_t write_head(uint32_t width, uint32_t height, std::vector<uint8_t> &head) {
-    uint8_t bytes[7] = {};
+    uint8_t bytes[RINCHOVEK_HEAD_BYTES] = {};
     uint32_t count = 0;
-    uint32_t refusal = sheet_write_head(width, height, bytes, &count);
-    if (refusal == 0) head.assign(bytes, bytes + count);
+    uint32_t refusal = rinchovek_sheet_write_head(width, height, bytes, &count);
+    if (refusal == RINCHOVEK_ACCEPTED) head.assign(bytes, bytes + count);
     return refusal;
 }
 
-uint32_t decode_row(const Head &head, uint32_t row, const std::vector<uint8_t> &blocks, std::vector<uint8_t> &pixels) {
-    return sheet_decode_row(head.width, head.height, row, blocks.data(), blocks.size(), pixels.data(), pixels.size());
+// A row of a sheet whose head was read. Where the sheet is too short for it, what there is of the row is handed over, and refused.
+uint32_t decode_row(const Head &head, uint32_t row, const std::vector<uint8_t> &sheet, std::vector<uint8_t> &pixels) {
+    const size_t length = rinchovek_row_blocks(head.width);
+    const size_t from = std::min(head.start + row * length, sheet.size()), count = std::min(length, sheet.size() - from);
+    pixels.resize(rinchovek_row_pixels(head.width, head.height, row));
+    return rinchovek_sheet_decode_row(head.width, head.height, row, sheet.data() + from, count, pixels.data(), pixels.size());
 }
 
 } // namespace rinchovek
@@ -68,63 +78,76 @@ static void show_bytes(const char *what, const uint8_t *bytes, size_t count) {
     std::printf("\n");
 }
 
+static void show_refusal(const char *what, uint32_t refusal) {
+    std::printf("%s: %u, %s\n", what, refusal, rinchovek_refusal_text(refusal));
+}
+
 static void show_row(const std::vector<uint8_t> &sheet) {
     Head head;
-    std::vector<uint8_t> pixels(4 * 8 * 4);
+    std::vector<uint8_t> pixels(32);
     uint32_t refusal = read_head(sheet, head);
-    if (refusal == 0) refusal = decode_row(head, 0, std::vector<uint8_t>(sheet.begin() + head.start, sheet.end()), pixels);
-    std::printf("row refused %u, pixel 0: %u %u %u %u, pixel 4: %u %u %u %u\n", refusal, pixels[0], pixels[1], pixels[2], pixels[3],
+    if (refusal == RINCHOVEK_ACCEPTED) refusal = decode_row(head, 0, sheet, pixels);
+    std::printf("row: %u, pixel 0: %u %u %u %u, pixel 4: %u %u %u %u\n", refusal, pixels[0], pixels[1], pixels[2], pixels[3],
                 pixels[16], pixels[17], pixels[18], pixels[19]);
 }
 
 static void show_pixel(const Block &block) {
     auto pixel = decode_block(block)[0];
-    std::printf("pixel 0: %u %u %u %u\n", pixel[0], pixel[1], pixel[2], pixel[3]);
+    std::printf("pixel 0: %u %u %u %u\n", pixel[RINCHOVEK_RED], pixel[RINCHOVEK_GREEN], pixel[RINCHOVEK_BLUE], pixel[RINCHOVEK_ALPHA]);
 }
 
 int main() {
+    const uint32_t version = rinchovek_version();
+    if (version / 10000 != RINCHOVEK_VERSION_MAJOR || version < RINCHOVEK_VERSION) return 1;
+    std::printf("version %u.%u.%u\n", version / 10000, version / 100 % 100, version % 100);
+
     Block alone = {0x40, 0xC0, 0x1F, 0, 0, 0, 0, 0, 0x0E};
     std::vector<uint8_t> sheet = {0x01, 0x08, 0x04};
+    const size_t start = sheet.size();
     sheet.insert(sheet.end(), alone.begin(), alone.end());
-    sheet.resize(3 + 32);
+    sheet.resize(start + 2 * RINCHOVEK_BLOCK_BYTES);
 
     Replacement replacement = {};
-    replacement[4] = 127;
-    replacement[10] = 8;
+    replacement[RINCHOVEK_LINE_SECOND_ENDPOINT + RINCHOVEK_RED] = 127;
+    replacement[RINCHOVEK_LINE_INDEXES + 0] = 8;
     show_row(sheet);
-    std::printf("replaced: refused %u\n", replace_line(sheet, 0, 0, replacement));
-    show_bytes("block", sheet.data() + 3, 16);
+    show_refusal("replaced in the sheet", replace_line(sheet, BlockNumber(0), LineNumber(0), replacement));
+    show_bytes("block", sheet.data() + start, RINCHOVEK_BLOCK_BYTES);
     show_row(sheet);
 
     show_pixel(alone);
-    std::printf("replaced: refused %u\n", replace_line(alone, 0, replacement));
+    show_refusal("replaced", replace_line(alone, LineNumber(0), replacement));
     show_bytes("block", alone.data(), alone.size());
     show_pixel(alone);
 
-    replacement[4] = 128;
-    std::printf("red 128: refused %u\n", replace_line(sheet, 0, 0, replacement));
-    std::printf("block 1: refused %u\n", replace_line(sheet, 1, 0, replacement));
-    std::printf("line 1: refused %u\n", replace_line(alone, 1, replacement));
+    replacement[RINCHOVEK_LINE_SECOND_ENDPOINT + RINCHOVEK_RED] = 128;
+    show_refusal("red 128", replace_line(sheet, BlockNumber(0), LineNumber(0), replacement));
+    show_refusal("block 1", replace_line(sheet, BlockNumber(1), LineNumber(0), replacement));
+    show_refusal("line 1", replace_line(alone, LineNumber(1), replacement));
     show_bytes("block", alone.data(), alone.size());
 
     Record record = {};
-    Block block = {};
+    Block packed = {};
     uint32_t refusal = unpack(alone, record);
-    std::printf("unpacked: refused %u, mode %u\n", refusal, record[0]);
-    std::printf("packed: refused %u\n", pack(record, block));
-    show_bytes("block", block.data(), block.size());
-    record[1] = 4;
-    std::printf("kind 4: refused %u\n", pack(record, block));
+    std::printf("unpacked: %u, mode %u, red %u and %u\n", refusal, record[RINCHOVEK_RECORD_MODE],
+                record[RINCHOVEK_RECORD_ENDPOINTS + RINCHOVEK_RED], record[RINCHOVEK_RECORD_ENDPOINTS + 4 + RINCHOVEK_RED]);
+    show_refusal("packed", pack(record, packed));
+    show_bytes("block", packed.data(), packed.size());
+    record[RINCHOVEK_RECORD_KIND] = RINCHOVEK_TWO_SUBSETS;
+    show_refusal("two subsets", pack(record, packed));
 
-    Replacement line = {}, widths = {};
-    refusal = read_line(alone, 0, line, widths);
-    std::printf("line 0: refused %u, pixel 0 has index %u of %u bits\n", refusal, line[10], widths[10]);
-    line[10] = 3;
-    std::printf("index 3: refused %u\n", replace_line(alone, 0, line));
+    Replacement held = {}, widths = {};
+    refusal = read_line(alone, LineNumber(0), held, widths);
+    std::printf("line 0: %u, pixel 0 has index %u of %u bits\n", refusal, held[RINCHOVEK_LINE_INDEXES], widths[RINCHOVEK_LINE_INDEXES]);
+    held[RINCHOVEK_LINE_INDEXES + 0] = 3;
+    show_refusal("index 3", replace_line(alone, LineNumber(0), held));
     show_pixel(alone);
 
     std::vector<uint8_t> head;
-    std::printf("head: refused %u\n", write_head(4096, 5, head));
+    show_refusal("head", write_head(RINCHOVEK_LARGEST_SIDE, 5, head));
     show_bytes("head", head.data(), head.size());
-    std::printf("head: refused %u\n", write_head(4097, 5, head));
+    show_refusal("head", write_head(RINCHOVEK_LARGEST_SIDE + 1, 5, head));
+
+    for (uint32_t number = RINCHOVEK_RESERVED_BLOCK; number <= RINCHOVEK_BEYOND_SHEET; number++)
+        std::printf("%u: %s\n", number, rinchovek_refusal_text(number));
 }

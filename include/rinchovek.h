@@ -1,9 +1,34 @@
-/* The C face of Rinchovek: BC7 blocks and sheets of them, decoded and corrected. Link target/staticlib/libconsole.a, which
- * `rt staticlib console` writes for x86-64.
+/* rinchovek.h: BC7 blocks, and sheets of them, decoded, taken apart, packed and corrected.
  *
- * No call asks anything of its caller beyond valid pointers to the lengths that are shown, none of which overlap. Each but
- * bc7_decode_block, which refuses nothing, answers 0, or a refusal number (docs/REFUSALS.md); where it refuses, nothing that was lent has changed. docs/REPLAY.md has the bytes of a
- * record and of a replacement.
+ * WORDS
+ * A block is 16 bytes that draw 4 by 4 pixels. A pixel is 4 bytes: red, green, blue, alpha. The pixel in column x and row y of a
+ * block has the number 4 * y + x, row 0 at the top. Any 16 bytes are a block. A block whose first byte is 0 is reserved: it draws
+ * sixteen times 0 0 0 0, and has neither a record nor lines.
+ * A line of a block is a pair of endpoints, their p bits, and the indexes by which its pixels choose between the two. It is a
+ * subset of the pixels, except in the modes 4 and 5: there line 0 is the vector (red, green and blue before rotation) and line 1
+ * the scalar (alpha before rotation), both with all sixteen pixels.
+ * A sheet is a head and behind it the blocks of a picture, row by row from 0. There are (width + 3) / 4 columns and (height + 3) / 4
+ * rows of blocks; what they draw beyond the edge of the picture is not shown. The head has three numbers: the form, which is 1, the
+ * width and the height in pixels. A number is written in groups of seven bits, the low group first, a byte each, whose high bit is
+ * set in all but the last; in its shortest form, and in at most three groups: 127 is 7F, 128 is 80 01, 4,096 is 80 20.
+ *
+ * HOW TO LINK
+ * librinchovek.a is for x86-64 with the System V calling convention (Linux) and needs no processor extension. It wants memcpy, and
+ * nothing else. It exports the functions that are declared here and no other name. `./install PREFIX` puts it there with this file,
+ * a shared library, and a file for pkg-config.
+ *
+ * WHAT HOLDS FOR EVERY CALL
+ * - It answers 0, RINCHOVEK_ACCEPTED, or the number of a refusal: of those that its comment lists, the first that applies, in that
+ *   order. Two calls refuse nothing: rinchovek_version answers the version, rinchovek_bc7_decode_block answers nothing.
+ * - A refused call writes nothing at all. An accepted one writes what its comment says, all of it, and no other byte.
+ * - Of the arguments an input stands before an output, what is changed in place stands first of all, and a length behind its pointer.
+ * - An array has the length that is shown, also where the call is refused. A pointer has the length that is given behind it. Where
+ *   that must be exact the comment says so, and any other length is refused.
+ * - NULL is allowed where the length behind it is 0, and nowhere else.
+ * - What one call is lent must not overlap. Bytes need no alignment, uint32_t the usual one. No pointer is kept.
+ * - There is no state: no variable outside the stack, no heap, no lock, no file, no errno. Any number of threads may call, and signal
+ *   handlers too, as long as what one call writes no other reads or writes at the same time.
+ * - A call takes less than RINCHOVEK_STACK_BYTES of stack, whatever it is given, and what memcpy takes.
  */
 #ifndef RINCHOVEK_H
 #define RINCHOVEK_H
@@ -11,38 +36,188 @@
 #include <stddef.h>
 #include <stdint.h>
 
+/* The version of this file. The major number is raised where a call goes, or answers otherwise what it accepted before; the minor
+ * one where a call comes, or accepts what it refused before; the patch where neither is so. */
+#define RINCHOVEK_VERSION_MAJOR 1
+#define RINCHOVEK_VERSION_MINOR 0
+#define RINCHOVEK_VERSION_PATCH 0
+#define RINCHOVEK_VERSION (10000 * RINCHOVEK_VERSION_MAJOR + 100 * RINCHOVEK_VERSION_MINOR + RINCHOVEK_VERSION_PATCH)
+
+/* Sizes, in bytes where nothing else is said. */
+#define RINCHOVEK_BLOCK_BYTES 16
+#define RINCHOVEK_PIXEL_BYTES 4
+#define RINCHOVEK_BLOCK_PIXELS 16 /* pixels */
+#define RINCHOVEK_PIXELS_BYTES 64
+#define RINCHOVEK_RECORD_BYTES 66
+#define RINCHOVEK_LINE_BYTES 26
+#define RINCHOVEK_HEAD_BYTES 7 /* the most that a head has */
+#define RINCHOVEK_HEAD_NUMBERS 3 /* uint32_t */
+#define RINCHOVEK_LARGEST_SIDE 4096 /* pixels, of a sheet */
+#define RINCHOVEK_STACK_BYTES 2048 /* found: 1,064 and the 128 below the stack pointer, in rinchovek_sheet_replace_line */
+
+/* A channel in a pixel and in an endpoint. */
+enum rinchovek_channel { RINCHOVEK_RED = 0, RINCHOVEK_GREEN = 1, RINCHOVEK_BLUE = 2, RINCHOVEK_ALPHA = 3 };
+
+/* How a block is split, by its mode. */
+enum rinchovek_kind {
+    RINCHOVEK_WHOLE = 0,            /* mode 6 */
+    RINCHOVEK_TWO_SUBSETS = 1,      /* modes 1, 3, 7 */
+    RINCHOVEK_THREE_SUBSETS = 2,    /* modes 0, 2 */
+    RINCHOVEK_VECTOR_AND_SCALAR = 3 /* modes 4, 5 */
+};
+
+/* The 66 bytes of a record: where each part starts. A part that the mode hasn't got has width 0: it is 0 in an answer, and refused
+ * with 3 where it is anything else. Widths in bits, anchors' indexes at their full width:
+ *
+ *   mode                              0   1   2   3   4   5   6   7
+ *   lines                             3   2   3   2   2   2   1   2
+ *   partition                         4   6   6   6               6
+ *   rotation, index mode                              2,1 2,0
+ *   endpoints                         6   4   6   4   2   2   2   4
+ *   red, green, blue                  4   6   5   7   5   7   7   5
+ *   alpha                                             6   8   7   5
+ *   p bits (how many)                 6   2       4           2   4
+ *   first indexes                     3   3   2   2   2   2   4   2
+ *   second indexes                                    3   2
+ *
+ * Endpoint 2 * s is the first of subset s, 2 * s + 1 the second. Mode 1 has one p bit for each subset, the other modes with p
+ * bits one for each endpoint. A mode without alpha draws 255. An anchor's index has its top bit clear: pixel 0 is an anchor, and so is
+ * one pixel of each further subset, by the partition. In mode 4 the first indexes serve red, green and blue where the index mode is
+ * 0, and alpha where it is 1; in mode 5 they serve red, green and blue. */
+enum rinchovek_record_offset {
+    RINCHOVEK_RECORD_MODE = 0,            /* 0 to 7 */
+    RINCHOVEK_RECORD_KIND = 1,            /* enum rinchovek_kind */
+    RINCHOVEK_RECORD_PARTITION = 2,       /* with two or three subsets */
+    RINCHOVEK_RECORD_ROTATION = 2,        /* with vector and scalar: 1, 2, 3 exchange alpha with red, green, blue, last of all */
+    RINCHOVEK_RECORD_INDEX_MODE = 3,      /* mode 4 */
+    RINCHOVEK_RECORD_ENDPOINTS = 4,       /* + 4 * endpoint + channel: 24 values as stored */
+    RINCHOVEK_RECORD_P_BITS = 28,         /* + 0 to 5, in stored order */
+    RINCHOVEK_RECORD_FIRST_INDEXES = 34,  /* + pixel: the set that is stored first */
+    RINCHOVEK_RECORD_SECOND_INDEXES = 50  /* + pixel */
+};
+
+/* The 26 bytes of a line, as it is read and as its replacement is given: where each part starts. What the line hasn't got has width
+ * 0 and must be 0: channels, p bits, and the indexes of pixels that are in another line. Indexes are at their full width, an
+ * anchor's too. */
+enum rinchovek_line_offset {
+    RINCHOVEK_LINE_FIRST_ENDPOINT = 0,  /* + channel: 4 values as stored */
+    RINCHOVEK_LINE_SECOND_ENDPOINT = 4, /* + channel */
+    RINCHOVEK_LINE_P_BITS = 8,          /* the first endpoint's, the second's; in mode 1 both are the subset's one */
+    RINCHOVEK_LINE_INDEXES = 10         /* + pixel */
+};
+
+/* The three numbers of a head that was read. */
+enum rinchovek_head_number {
+    RINCHOVEK_HEAD_WIDTH = 0,  /* pixels */
+    RINCHOVEK_HEAD_HEIGHT = 1, /* pixels */
+    RINCHOVEK_HEAD_START = 2   /* where the first block starts in the sheet */
+};
+
+/* What a call answers. */
+enum rinchovek_refusal {
+    RINCHOVEK_ACCEPTED = 0,
+    RINCHOVEK_RESERVED_BLOCK = 1,       /* the block is reserved, and a record or a line is asked for */
+    RINCHOVEK_NO_SUCH_LINE = 2,         /* the line number is not below the count of the block's mode */
+    RINCHOVEK_VALUE_TOO_WIDE = 3,       /* a value needs more bits than it has; what a mode or a line hasn't got has none */
+    RINCHOVEK_P_BITS_DIFFER = 4,        /* mode 1, and the two p bits of the replacement differ */
+    RINCHOVEK_WRONG_KIND = 5,           /* the record's mode is above 7, or its kind is none, or not the mode's */
+    RINCHOVEK_ANCHOR_BIT_SET = 6,       /* the index at an anchor of the record has its top bit set */
+    RINCHOVEK_BAD_NUMBER = 7,           /* a number of the head is cut off, not in its shortest form, or has over three groups */
+    RINCHOVEK_UNKNOWN_FORM = 8,         /* the form isn't 1 */
+    RINCHOVEK_BAD_SIDE = 9,             /* the width or the height is 0 or above RINCHOVEK_LARGEST_SIDE */
+    RINCHOVEK_WRONG_BLOCK_BYTES = 10,   /* there are not exactly as many bytes of blocks as the sheet or the row needs */
+    RINCHOVEK_WRONG_OUTPUT_LENGTH = 11, /* the output isn't exactly as long as the row needs */
+    RINCHOVEK_BEYOND_SHEET = 12         /* the row or the block number is beyond the sheet */
+};
+
 #ifdef __cplusplus
 extern "C" {
 #endif
 
-/* Sixteen pixels of red, green, blue, alpha, row by row. Any sixteen bytes are a block, and none is refused. */
-void bc7_decode_block(const uint8_t block[16], uint8_t pixels[64]);
+/* The version of the archive, as RINCHOVEK_VERSION is put together. One of the same major number that isn't below RINCHOVEK_VERSION
+ * does what this file says. */
+uint32_t rinchovek_version(void);
 
-/* A block taken apart, and packed again. A record byte that names no kind is refused with 5. */
-uint32_t bc7_unpack(const uint8_t block[16], uint8_t record[66]);
-uint32_t bc7_pack(const uint8_t record[66], uint8_t block[16]);
+/* Writes the sixteen pixels of a block: pixel p in pixels[4 * p ..], red, green, blue, alpha. */
+void rinchovek_bc7_decode_block(const uint8_t block[RINCHOVEK_BLOCK_BYTES], uint8_t pixels[RINCHOVEK_PIXELS_BYTES]);
 
-/* One line of a block as it stands, in the bytes of a replacement, and how many bits each of the 26 values has: 0 where the line
- * hasn't got it, so that the widths of the indexes tell the line's pixels. To change one index, read the line, set
- * replacement[10 + pixel], and replace it. */
-uint32_t bc7_read_line(const uint8_t block[16], uint32_t line, uint8_t replacement[26], uint8_t widths[26]);
+/* Takes a block apart: writes the 66 bytes of its record. Packing them again gives the block.
+ * Refusals: 1. */
+uint32_t rinchovek_bc7_unpack(const uint8_t block[RINCHOVEK_BLOCK_BYTES], uint8_t record[RINCHOVEK_RECORD_BYTES]);
 
-/* One line of a block replaced: two endpoints, two p bits, sixteen full indexes. */
-uint32_t bc7_replace_line(uint8_t block[16], uint32_t line, const uint8_t replacement[26]);
+/* Packs a record: writes the 16 bytes of its block. Taking them apart gives the record.
+ * Refusals: 5, 3, 6. */
+uint32_t rinchovek_bc7_pack(const uint8_t record[RINCHOVEK_RECORD_BYTES], uint8_t block[RINCHOVEK_BLOCK_BYTES]);
 
-/* The head of a sheet: width, height, and the place of its first block. Writing answers the bytes and their count. */
-uint32_t sheet_read_head(const uint8_t *sheet, size_t length, uint32_t head[3]);
-uint32_t sheet_write_head(uint32_t width, uint32_t height, uint8_t head[7], uint32_t *count);
+/* Reads one line of a block: writes its 26 bytes, and how many bits each of them has, 0 where the line hasn't got it. So a pixel is in
+ * the line where widths[RINCHOVEK_LINE_INDEXES + pixel] isn't 0, and its index may be anything below 1 << that. To change an
+ * index, read the line, set replacement[RINCHOVEK_LINE_INDEXES + pixel], and replace the line.
+ * Refusals: 1, 2. */
+uint32_t rinchovek_bc7_read_line(const uint8_t block[RINCHOVEK_BLOCK_BYTES], uint32_t line, uint8_t replacement[RINCHOVEK_LINE_BYTES],
+                                 uint8_t widths[RINCHOVEK_LINE_BYTES]);
 
-/* One row of blocks to at most four lines of width * 4 bytes, the top one first. */
-uint32_t sheet_decode_row(uint32_t width, uint32_t height, uint32_t row, const uint8_t *blocks, size_t blocks_length,
-                          uint8_t *out, size_t out_length);
+/* Replaces one line of a block by these 26 bytes. The block then draws them, and its other lines as before, whether or not the pair
+ * had to be stored turned (where the index that is given at the line's anchor has its top bit set): read again, the line may
+ * have its endpoints exchanged and its indexes counted from the other end, which draws the same.
+ * Refusals: 1, 2, 3, 4. */
+uint32_t rinchovek_bc7_replace_line(uint8_t block[RINCHOVEK_BLOCK_BYTES], uint32_t line, const uint8_t replacement[RINCHOVEK_LINE_BYTES]);
 
-/* One line of one block of a sheet replaced. Block numbers count row by row from 0. */
-uint32_t sheet_replace_line(uint8_t *sheet, size_t length, uint32_t block, uint32_t line, const uint8_t replacement[26]);
+/* Reads the head of a sheet: writes width, height and start (enum rinchovek_head_number). What stands behind the head isn't looked
+ * at: the first RINCHOVEK_HEAD_BYTES bytes of a sheet are enough. An empty sheet is refused with 7.
+ * Refusals: 7 and 8 on the form, 7 on width and height, 9. */
+uint32_t rinchovek_sheet_read_head(const uint8_t *sheet, size_t length, uint32_t head[RINCHOVEK_HEAD_NUMBERS]);
+
+/* Writes the head of a sheet of this size, zeros behind it to all 7 bytes, and how many of them are the head's.
+ * Refusals: 9. */
+uint32_t rinchovek_sheet_write_head(uint32_t width, uint32_t height, uint8_t head[RINCHOVEK_HEAD_BYTES], uint32_t *count);
+
+/* Decodes one row of blocks: writes its lines of pixels, the top one first, each width * 4 bytes, pixel by pixel from the left, red,
+ * green, blue, alpha. Rows count from 0. Both lengths are exact: blocks_length is rinchovek_row_blocks(width), which is 16 for each
+ * block of the row, and out_length rinchovek_row_pixels(width, height, row), which is width * 4 for each line that is shown: 4 lines,
+ * or in the last row as many as are left.
+ * Refusals: 9, 12, 10, 11. */
+uint32_t rinchovek_sheet_decode_row(uint32_t width, uint32_t height, uint32_t row, const uint8_t *blocks, size_t blocks_length,
+                                    uint8_t *out, size_t out_length);
+
+/* Replaces one line of one block in a whole sheet, as rinchovek_bc7_replace_line does; only that block's 16 bytes are written. The
+ * length is exact: the head and 16 bytes for each block of the sheet. BEWARE: block and line stand side by side and have one
+ * type, so that no compiler sees them exchanged. Hand them over in variables of these names.
+ * Refusals: 7 and 8 on the form, 7 on width and height, 9, 10, 12; then the block's 1, 2, 3, 4. */
+uint32_t rinchovek_sheet_replace_line(uint8_t *sheet, size_t length, uint32_t block, uint32_t line,
+                                      const uint8_t replacement[RINCHOVEK_LINE_BYTES]);
 
 #ifdef __cplusplus
 }
 #endif
+
+/* What follows is plain C, beside the archive and not proved. */
+
+/* The lengths of a row, for sides from 1 to RINCHOVEK_LARGEST_SIDE and a row below (height + 3) / 4. */
+static inline size_t rinchovek_row_blocks(uint32_t width) { return (size_t)RINCHOVEK_BLOCK_BYTES * ((width + 3) / 4); }
+
+static inline size_t rinchovek_row_pixels(uint32_t width, uint32_t height, uint32_t row) {
+    uint32_t left = height - 4 * row;
+    return (size_t)RINCHOVEK_PIXEL_BYTES * width * (left < 4 ? left : 4);
+}
+
+/* What a refusal means, in a few words that last as long as the program. */
+static inline const char *rinchovek_refusal_text(uint32_t refusal) {
+    switch (refusal) {
+    case RINCHOVEK_ACCEPTED: return "accepted";
+    case RINCHOVEK_RESERVED_BLOCK: return "the block is reserved";
+    case RINCHOVEK_NO_SUCH_LINE: return "the block has no such line";
+    case RINCHOVEK_VALUE_TOO_WIDE: return "a value needs more bits than it has";
+    case RINCHOVEK_P_BITS_DIFFER: return "the p bits differ, and mode 1 has one for both endpoints";
+    case RINCHOVEK_WRONG_KIND: return "no such mode, or a kind of split that is not the mode's";
+    case RINCHOVEK_ANCHOR_BIT_SET: return "the index at an anchor has its top bit set";
+    case RINCHOVEK_BAD_NUMBER: return "a number of the head is cut off, too long or not in its shortest form";
+    case RINCHOVEK_UNKNOWN_FORM: return "the form of the sheet is not 1";
+    case RINCHOVEK_BAD_SIDE: return "the width or the height is 0 or too large";
+    case RINCHOVEK_WRONG_BLOCK_BYTES: return "too few or too many bytes of blocks";
+    case RINCHOVEK_WRONG_OUTPUT_LENGTH: return "the output is too short or too long";
+    case RINCHOVEK_BEYOND_SHEET: return "the row or the block is beyond the sheet";
+    default: return "no refusal of this version";
+    }
+}
 
 #endif

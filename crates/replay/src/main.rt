@@ -3,18 +3,18 @@
 // is what is shipped; the listing goes through its machine. Here only lengths and kinds that end the run are looked at.
 ghost use Prim.Native.Nat.{_+_, _≤_, _<_};
 ghost use lib.ListN.{length};
-use console::bc7_decode_block;
-use console::bc7_pack;
-use console::bc7_read_line;
-use console::bc7_replace_line;
-use console::bc7_unpack;
-use console::sheet_decode_row;
-use console::sheet_read_head;
-use console::sheet_replace_line;
-use console::sheet_write_head;
 use libc::STDIN_FILENO;
 use libc::STDOUT_FILENO;
 use listing::list_sheet;
+use rinchovek::rinchovek_bc7_decode_block;
+use rinchovek::rinchovek_bc7_pack;
+use rinchovek::rinchovek_bc7_read_line;
+use rinchovek::rinchovek_bc7_replace_line;
+use rinchovek::rinchovek_bc7_unpack;
+use rinchovek::rinchovek_sheet_decode_row;
+use rinchovek::rinchovek_sheet_read_head;
+use rinchovek::rinchovek_sheet_replace_line;
+use rinchovek::rinchovek_sheet_write_head;
 
 // The longest input or output that a call may name.
 const MOST: u32 = 65536;
@@ -88,7 +88,7 @@ fn decode_call() -> bool {
         return false;
     }
     let mut pixels = [[0u8; 4]; 16];
-    bc7_decode_block(&block, &mut pixels);
+    rinchovek_bc7_decode_block(&block, &mut pixels);
     let bytes = flat(pixels);
     io::write_all(STDOUT_FILENO, &bytes)
 }
@@ -99,7 +99,7 @@ fn unpack_call() -> bool {
         return false;
     }
     let mut record = [0u8; 66];
-    write_refusal(bc7_unpack(&block, &mut record));
+    write_refusal(rinchovek_bc7_unpack(&block, &mut record));
     write_record(&record)
 }
 
@@ -112,7 +112,7 @@ fn pack_call() -> bool {
         return false;
     }
     let mut block = [0u8; 16];
-    write_refusal(bc7_pack(&record, &mut block));
+    write_refusal(rinchovek_bc7_pack(&record, &mut block));
     write_block(&block)
 }
 
@@ -127,7 +127,7 @@ fn read_line_call() -> bool {
     }
     let mut held = [0u8; 26];
     let mut widths = [0u8; 26];
-    write_refusal(bc7_read_line(&block, number(&line, 0), &mut held, &mut widths));
+    write_refusal(rinchovek_bc7_read_line(&block, number(&line, 0), &mut held, &mut widths));
     write_line(&held);
     write_line(&widths)
 }
@@ -145,7 +145,7 @@ fn replace_call() -> bool {
     if !filled(&mut given) {
         return false;
     }
-    write_refusal(bc7_replace_line(&mut block, number(&line, 0), &given));
+    write_refusal(rinchovek_bc7_replace_line(&mut block, number(&line, 0), &given));
     write_block(&block)
 }
 
@@ -154,7 +154,7 @@ fn read_head_of(sheet: &mut [u8]) -> bool {
         return false;
     }
     let mut head = [0u32; 3];
-    write_refusal(sheet_read_head(sheet, &mut head));
+    write_refusal(rinchovek_sheet_read_head(sheet, &mut head));
     write_u32(head[0]);
     write_u32(head[1]);
     write_u32(head[2]);
@@ -178,7 +178,12 @@ fn write_head_call() -> bool {
     }
     let mut head = [0u8; 7];
     let mut count: u32 = 0;
-    write_refusal(sheet_write_head(number(&size, 0), number(&size, 4), &mut head, &mut count));
+    write_refusal(rinchovek_sheet_write_head(
+        number(&size, 0),
+        number(&size, 4),
+        &mut head,
+        &mut count,
+    ));
     write_u8(if count < 255 { count as u8 } else { 255 });
     write_head_bytes(&head)
 }
@@ -191,7 +196,7 @@ fn row_call_of(width: u32, height: u32, row: u32, blocks: &mut [u8], out: &mut [
     if !filled(out) {
         return false;
     }
-    write_refusal(sheet_decode_row(width, height, row, blocks, out));
+    write_refusal(rinchovek_sheet_decode_row(width, height, row, blocks, out));
     io::write_all(STDOUT_FILENO, out)
 }
 
@@ -238,7 +243,12 @@ fn sheet_call_of(sheet: &mut [u8]) -> bool {
     if !filled(&mut given) {
         return false;
     }
-    write_refusal(sheet_replace_line(sheet, number(&place, 0), number(&place, 4), &given));
+    write_refusal(rinchovek_sheet_replace_line(
+        sheet,
+        number(&place, 0),
+        number(&place, 4),
+        &given,
+    ));
     io::write_all(STDOUT_FILENO, sheet)
 }
 

@@ -1,4 +1,4 @@
--- `bc7_replace_line`: what `replace_line` answers; where it refuses, the block that was lent is the one that it hands back.
+-- `rinchovek_bc7_replace_line`: what `replace_line` answers; where it refuses, the block that was lent is the one that it hands back.
 -- Assumes nothing.
 use mathlib.Core.Path.{_≡_, sym, ap, _∙_}
 use Rattle.line_rules.specs.declared.Replaced.{Replaced}
@@ -6,8 +6,8 @@ use Rattle.line_rules.specs.Replace.{callOf, replaced}
 use Rattle.line_rules.proofs.Theorems.{refused-same}
 use Rattle.record_bytes.specs.Wire.{replacementOf}
 use borrow.Author.Needs.{needs}
-use Rattle.console.proofs.bc7_replace_line.Statement.{statement}
-use Rattle.console.proofs.bc7_replace_line.Tie as tie
+use Rattle.rinchovek.proofs.rinchovek_bc7_replace_line.Statement.{statement}
+use Rattle.rinchovek.proofs.rinchovek_bc7_replace_line.Tie as tie
 
 replacement-of-requires : tie.Need-replacement-of-requires
 replacement-of-requires c κs = search needs
@@ -23,13 +23,13 @@ unfolding replaced
 returns c =
     let e = c .before .before .before .replace-line .ensures ∙ ap (replaced _ _) (c .before .before .before .before .replacement-of .ensures) in
     let r = ap (λ (a : Replaced). a .refusal) e in
-    (r, sym (refused-same _ (callOf _ (replacementOf _)) (λ z. c .before .if1 .taken (r ∙ z))))
+    record { answers = r; leaves = sym (refused-same _ (callOf _ (replacementOf _)) (λ z. c .before .if1 .taken (r ∙ z))) }
 
 returns-2 : tie.Need-returns-2
 returns-2 c =
     let e = c .before .before .before .replace-line .ensures ∙ ap (replaced _ _) (c .before .before .before .before .replacement-of .ensures) in
-    (sym (c .before .if1 .left) ∙ ap (λ (a : Replaced). a .refusal) e, ap (λ (a : Replaced). a .block) e)
+    record { answers = sym (c .before .if1 .left) ∙ ap (λ (a : Replaced). a .refusal) e; leaves = ap (λ (a : Replaced). a .block) e }
 
-pub bc7-replace-line-spec : {M : Type 1} → statement M
-bc7-replace-line-spec =
+pub rinchovek-bc7-replace-line-spec : {M : Type 1} → statement M
+rinchovek-bc7-replace-line-spec =
     tie.close (tie.spec replacement-of-requires replace-line-requires cast-result returns returns-2)

@@ -1,10 +1,10 @@
--- `sheet_replace_line`: what `replace_in_sheet` answers and leaves.
+-- `rinchovek_sheet_replace_line`: what `replace_in_sheet` answers and leaves.
 -- Assumes nothing.
 use mathlib.Core.Path.{ap, _∙_}
 use Rattle.sheet_rules.specs.Sheets.{sheetAfter, sheetRefusal}
 use borrow.Author.Needs.{needs}
-use Rattle.console.proofs.sheet_replace_line.Statement.{statement}
-use Rattle.console.proofs.sheet_replace_line.Tie as tie
+use Rattle.rinchovek.proofs.rinchovek_sheet_replace_line.Statement.{statement}
+use Rattle.rinchovek.proofs.rinchovek_sheet_replace_line.Tie as tie
 
 replacement-of-requires : tie.Need-replacement-of-requires
 replacement-of-requires c κs = search needs
@@ -22,9 +22,9 @@ returns : tie.Need-returns
 returns c =
     let e = c .before .before .replace-in-sheet .ensures in
     let given = c .before .before .before .replacement-of .ensures in
-    (e .0 ∙ ap (sheetRefusal _ _ _) given, e .1 ∙ ap (sheetAfter _ _ _) given)
+    record { answers = e .0 ∙ ap (sheetRefusal _ _ _) given; leaves = e .1 ∙ ap (sheetAfter _ _ _) given }
 
-pub sheet-replace-line-spec : {M : Type 1} → statement M
-sheet-replace-line-spec =
+pub rinchovek-sheet-replace-line-spec : {M : Type 1} → statement M
+rinchovek-sheet-replace-line-spec =
     tie.close
     (tie.spec replacement-of-requires replace-in-sheet-requires cast-result same-length returns)

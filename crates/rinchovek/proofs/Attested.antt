@@ -2,7 +2,7 @@
 -- Assumes nothing.
 use mathlib.Core.Path.{_≡_, refl}
 use mathlib.Core.List.{List, [], _∷_, _++_}
-use Prim.Native.Nat.{ℕ}
+use Prim.Native.Nat.{ℕ, _+_, _*_}
 use lib.ListN.{replicate}
 use Rattle.laws.specs.Padding.{padded}
 use Rattle.laws.specs.Refusals.{first}
@@ -26,7 +26,7 @@ use Rattle.sheet_head.specs.Numbers.{groups, raised, readGroups, readNumber}
 use Rattle.sheet_rules.specs.Rows.{blockAt, channel, rowByte, rowBytes, rowOut, rowRefusal}
 use Rattle.sheet_rules.specs.Sheets.{blockIn, blocksOf, findRefusal, placeOf, putBlock, replacedIn, sheetAfter, sheetRefusal}
 use Rattle.sheet_rules.proofs.Attested.{lower, lowerLines, small, smallReplaced}
-use Rattle.console.specs.Promises.{Decodes, DecodesRow, Packs, ReadsHead, ReadsLine, Replaces, ReplacesIn, Unpacks, WritesHead}
+use Rattle.rinchovek.specs.Promises.{Decodes, Gives, Packs, ReadsLine, Replaces, Unpacks, Versions, DecodesRow, ReadsHead, ReplacesIn, WritesHead}
 
 abbrev zeros : ℕ → List ℕ
 zeros n = replicate n 0
@@ -55,7 +55,12 @@ widths7 = replicate 8 5 ++ (1 ∷ 1 ∷ zeros 8) ++ replicate 8 2
 abbrev bytesGiven6 : List ℕ
 bytesGiven6 = 1 ∷ 2 ∷ 3 ∷ 4 ∷ 5 ∷ 6 ∷ 7 ∷ 8 ∷ 1 ∷ 0 ∷ 8 ∷ replicate 15 1
 
+-- both sides of each clause compute to the same
+computed : {A : Type 0} {refusal : ℕ} {left : A} → Gives refusal left refusal left
+computed = record { answers = refl; leaves = refl }
+
 pub record Calls : Type 0 where
+  pub version : Versions (10000 * 1 + 100 * 0 + 0)
   pub decodes : Decodes block4 (half4 ++ half4)
   pub decodes-reserved : Decodes (zeros 16) (replicate 16 (rgba 0 0 0 0))
   pub unpacks : Unpacks block4 (nines 66) 0 (bytes4 3)
@@ -76,24 +81,32 @@ pub record Calls : Type 0 where
   pub replaces-in-not : ReplacesIn small 0 2 bytesGiven6 2 small
 
 pub calls-hold : Calls
-unfolding padded first over table tableFrom weights weightOf drawn promoted eight modeRow kindOfMode endpointCount placeAt pos width widths trailing number modeOf splitAt splitOf atPlace opened has valuePlace pPlace arrayOf indexPlace own lineOf lineBits means rotated lineAt shown pixel pixels digits marks strings2 strings3 subset2 subset3 anchors2 anchors3 taken recordOf made packed packRefusal fits says blockOf listOf bytesOf replaced after refusal refusalIn lineFits valueFits pFits indexFits ownWidth lineGiven put oriented withLine laid turned anchorOf lineRead readRefusal givenAs widthsOf valueAt recordByte recordBytes recordOfBytes replacementOf replacementBytes packedBytes bytesRefusal spelt readHead headRefusal formIn widthIn heightIn readNumber readGroups raised sizeRefusal writeHead headBytes groups blockAt channel rowByte rowBytes rowOut rowRefusal blockIn blocksOf findRefusal placeOf putBlock replacedIn sheetAfter sheetRefusal
+unfolding padded first over table tableFrom weights weightOf drawn promoted eight modeRow kindOfMode endpointCount placeAt pos
+    width widths trailing number modeOf splitAt splitOf atPlace opened has valuePlace pPlace arrayOf indexPlace own lineOf
+    lineBits means rotated lineAt shown pixel pixels digits marks strings2 strings3 subset2 subset3 anchors2 anchors3 taken
+    recordOf made packed packRefusal fits says blockOf listOf bytesOf replaced after refusal refusalIn lineFits valueFits pFits
+    indexFits ownWidth lineGiven put oriented withLine laid turned anchorOf lineRead readRefusal givenAs widthsOf valueAt
+    recordByte recordBytes recordOfBytes replacementOf replacementBytes packedBytes bytesRefusal spelt readHead headRefusal formIn
+    widthIn heightIn readNumber readGroups raised sizeRefusal writeHead headBytes groups blockAt channel rowByte rowBytes rowOut
+    rowRefusal blockIn blocksOf findRefusal placeOf putBlock replacedIn sheetAfter sheetRefusal
 calls-hold = record {
+  version = refl;
   decodes = refl;
   decodes-reserved = refl;
-  unpacks = (refl, refl);
-  unpacks-not = (refl, refl);
-  packs = (refl, refl);
-  packs-not = (refl, refl);
-  reads-line = (refl, refl);
-  reads-line-not = (refl, refl);
-  replaces = (refl, refl);
-  replaces-not = (refl, refl);
-  reads-head = (refl, refl);
-  reads-head-not = (refl, refl);
-  writes-head = (refl, refl);
-  writes-head-not = (refl, refl);
-  decodes-row = (refl, refl);
-  decodes-row-not = (refl, refl);
-  replaces-in = (refl, refl);
-  replaces-in-not = (refl, refl);
+  unpacks = computed;
+  unpacks-not = computed;
+  packs = computed;
+  packs-not = computed;
+  reads-line = computed;
+  reads-line-not = computed;
+  replaces = computed;
+  replaces-not = computed;
+  reads-head = computed;
+  reads-head-not = computed;
+  writes-head = computed;
+  writes-head-not = computed;
+  decodes-row = computed;
+  decodes-row-not = computed;
+  replaces-in = computed;
+  replaces-in-not = computed;
 }

@@ -9,10 +9,13 @@ use Rattle.line_rules.specs.Replace.{callOf, replaced}
 use Rattle.line_rules.proofs.Theorems.{refused-same}
 use Rattle.record_bytes.specs.Wire.{replacementOf}
 use Rattle.sheet_rules.proofs.Theorems.{refused-row-leaves, refused-sheet-leaves}
-use Rattle.console.specs.Promises.{Decodes, DecodesRow, Determined, Gives, Packs, ReadsHead, ReadsLine, Replaces, ReplacesIn, Unpacks, Writes, WritesHead}
+use Rattle.rinchovek.specs.Promises.{Decodes, Determined, Gives, Packs, ReadsLine, Replaces, Unpacks, Versions, Writes, DecodesRow, ReadsHead, ReplacesIn, WritesHead}
 
 one-given : {A : Type 0} (refusal : ℕ) (left : A) → Determined (Gives refusal left)
-one-given refusal left a b x y p q = (p .0 ∙ sym (q .0), p .1 ∙ sym (q .1))
+one-given refusal left a b x y p q = (p .answers ∙ sym (q .answers), p .leaves ∙ sym (q .leaves))
+
+pub determined-version : (a b : ℕ) → Versions a → Versions b → a ≡ b
+determined-version a b p q = p ∙ sym q
 
 pub determined-bc7-decode-block : (block : List ℕ) (x y : List (List ℕ)) → Decodes block x → Decodes block y → x ≡ y
 determined-bc7-decode-block block x y p q = p ∙ sym q
@@ -46,7 +49,7 @@ abbrev pub Leaves : {A : Type 0} → A → (ℕ → A → Type 0) → Type 0
 Leaves {A} before promise = (answer : ℕ) (after : A) → promise answer after → answer ≢ 0 → after ≡ before
 
 refused-leaves : {A : Type 0} (refusal : ℕ) (value before : A) → Leaves before (Writes refusal value before)
-refused-leaves refusal value before answer after p ne = p .1 ∙ rw (ne-eqb refusal 0 (λ e. ne (p .0 ∙ e)))
+refused-leaves refusal value before answer after p ne = p .leaves ∙ rw (ne-eqb refusal 0 (λ e. ne (p .answers ∙ e)))
 
 pub refused-bc7-unpack-leaves : (block before : List ℕ) → Leaves before (Unpacks block before)
 refused-bc7-unpack-leaves block before = refused-leaves _ _ before
@@ -60,7 +63,7 @@ refused-bc7-read-line-leaves block line before = refused-leaves _ _ before
 pub refused-bc7-replace-line-leaves : (block : List ℕ) (line : ℕ) (bytes : List ℕ) → Leaves block (Replaces block line bytes)
 unfolding replaced
 refused-bc7-replace-line-leaves block line bytes answer after p ne =
-    p .1 ∙ refused-same block (callOf line (replacementOf bytes)) (λ e. ne (p .0 ∙ e))
+    p .leaves ∙ refused-same block (callOf line (replacementOf bytes)) (λ e. ne (p .answers ∙ e))
 
 pub refused-sheet-read-head-leaves : (sheet before : List ℕ) → Leaves before (ReadsHead sheet before)
 refused-sheet-read-head-leaves sheet before = refused-leaves _ _ before
@@ -69,8 +72,9 @@ pub refused-sheet-write-head-leaves : (width height : ℕ) (before : List ℕ ×
 refused-sheet-write-head-leaves width height before = refused-leaves _ _ before
 
 pub refused-sheet-decode-row-leaves : (width height row : ℕ) (blocks before : List ℕ) → Leaves before (DecodesRow width height row blocks before)
-refused-sheet-decode-row-leaves width height row blocks before answer after p ne = refused-row-leaves width height row blocks before answer after p ne
+refused-sheet-decode-row-leaves width height row blocks before answer after p ne =
+    refused-row-leaves width height row blocks before answer after (p .answers, p .leaves) ne
 
 pub refused-sheet-replace-line-leaves : (sheet : List ℕ) (block line : ℕ) (bytes : List ℕ) → Leaves sheet (ReplacesIn sheet block line bytes)
 refused-sheet-replace-line-leaves sheet block line bytes answer after p ne =
-    refused-sheet-leaves sheet (record { block = block; line = line; given = replacementOf bytes }) answer after p ne
+    refused-sheet-leaves sheet (record { block = block; line = line; given = replacementOf bytes }) answer after (p .answers, p .leaves) ne

@@ -8,7 +8,9 @@ use lib.Dec.{eqb}
 use lib.ListN.{length}
 use Rattle.laws.specs.Tables.{pick}
 use Rattle.bc7_format.specs.Lines.{pixels}
+use Rattle.sheet_head.specs.declared.Head.{Head}
 use Rattle.sheet_head.specs.Heads.{readHead, writeHead}
+use Rattle.line_rules.specs.declared.LineRead.{LineRead}
 use Rattle.line_rules.specs.Read.{lineRead}
 use Rattle.line_rules.specs.Replace.{replaced}
 use Rattle.record_rules.specs.Records.{taken}
@@ -17,12 +19,17 @@ use Rattle.sheet_rules.specs.Sheets.{sheetAfter, sheetRefusal}
 use Rattle.record_bytes.specs.Wire.{packedBytes, recordBytes, replacementBytes, replacementOf}
 
 -- this number is answered, and this is left
-abbrev pub Gives : {A : Type 0} → ℕ → A → ℕ → A → Type 0
-Gives refusal left answer after = (answer ≡ refusal) × (after ≡ left)
+pub record Gives {A : Type 0} (refusal : ℕ) (left : A) (answer : ℕ) (after : A) : Type 0 where
+  pub answers : answer ≡ refusal
+  pub leaves : after ≡ left
 
 -- this number is answered, and this is written where it is 0: else what stood there before is left
 abbrev pub Writes : {A : Type 0} → ℕ → A → A → ℕ → A → Type 0
 Writes refusal value before = Gives refusal (pick (eqb refusal 0) value before)
+
+-- version 1.0.0: major, minor and patch, with two digits for each of the last two
+abbrev pub Versions : ℕ → Type 0
+Versions answer = answer ≡ 10000
 
 abbrev pub Decodes : List ℕ → List (List ℕ) → Type 0
 Decodes block after = after ≡ pixels block
@@ -33,23 +40,30 @@ Unpacks block before = Writes (taken block .refusal) (recordBytes (taken block .
 abbrev pub Packs : List ℕ → List ℕ → ℕ → List ℕ → Type 0
 Packs bytes before = Writes (packedBytes bytes .refusal) (packedBytes bytes .block) before
 
--- the line's 26 bytes and their widths
+-- a line's 26 bytes and their widths
+abbrev pub lineAndWidths : LineRead → List ℕ × List ℕ
+lineAndWidths read = (replacementBytes (read .line), replacementBytes (read .widths))
+
 abbrev pub ReadsLine : List ℕ → ℕ → List ℕ × List ℕ → ℕ → List ℕ × List ℕ → Type 0
-ReadsLine block line before = Writes (lineRead block line .refusal) (replacementBytes (lineRead block line .line), replacementBytes (lineRead block line .widths)) before
+ReadsLine block line before = Writes (lineRead block line .refusal) (lineAndWidths (lineRead block line)) before
 
 abbrev pub Replaces : List ℕ → ℕ → List ℕ → ℕ → List ℕ → Type 0
 Replaces block line bytes = Gives (replaced block line (replacementOf bytes) .refusal) (replaced block line (replacementOf bytes) .block)
 
 -- width, height and where the blocks start
+abbrev pub headNumbers : Head → List ℕ
+headNumbers head = head .width ∷ head .height ∷ head .start ∷ []
+
 abbrev pub ReadsHead : List ℕ → List ℕ → ℕ → List ℕ → Type 0
-ReadsHead sheet before = Writes (readHead sheet .refusal) (readHead sheet .width ∷ readHead sheet .height ∷ readHead sheet .start ∷ []) before
+ReadsHead sheet before = Writes (readHead sheet .refusal) (headNumbers (readHead sheet)) before
 
 -- the head's bytes and their count
 abbrev pub WritesHead : ℕ → ℕ → List ℕ × ℕ → ℕ → List ℕ × ℕ → Type 0
 WritesHead width height before = Writes (writeHead width height .refusal) (writeHead width height .bytes, writeHead width height .count) before
 
 abbrev pub DecodesRow : ℕ → ℕ → ℕ → List ℕ → List ℕ → ℕ → List ℕ → Type 0
-DecodesRow width height row blocks before = Gives (rowRefusal width height row (length blocks) (length before)) (rowOut width height row blocks before)
+DecodesRow width height row blocks before =
+    Gives (rowRefusal width height row (length blocks) (length before)) (rowOut width height row blocks before)
 
 abbrev pub ReplacesIn : List ℕ → ℕ → ℕ → List ℕ → ℕ → List ℕ → Type 0
 ReplacesIn sheet block line bytes = Gives (sheetRefusal sheet block line (replacementOf bytes)) (sheetAfter sheet block line (replacementOf bytes))

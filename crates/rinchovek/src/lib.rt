@@ -1,7 +1,7 @@
 // The C face: the public calls of blocks and sheets, for the consoles' display code. A refused call changes nothing that it
-// was lent. What a call promises has one name, in specs/Promises. include/rinchovek.h declares these functions; `rt staticlib
-// console` writes the archive.
-ghost use Rattle.console.specs.Promises.{Decodes, DecodesRow, Packs, ReadsHead, ReadsLine, Replaces, ReplacesIn, Unpacks, WritesHead};
+// was lent. What a call promises has one name, in specs/Promises. include/rinchovek.h declares these functions and says what a
+// C caller has to know; `rt staticlib rinchovek` writes the archive.
+ghost use Rattle.rinchovek.specs.Promises.{Decodes, Packs, ReadsLine, Replaces, Unpacks, Versions, DecodesRow, ReadsHead, ReplacesIn, WritesHead};
 use bc7::decode_bc7_block;
 use line::read_line;
 use line::replace_line;
@@ -15,9 +15,20 @@ use sheet::replace_in_sheet;
 use sheet_head::read_head;
 use sheet_head::write_head;
 
+// Which version of the calls and their answers this is: 10000 times the major number, 100 times the minor one, and the patch. The
+// header has the same three.
+const VERSION: u32 = 10000;
+
+#[no_mangle]
+pub extern "C" fn rinchovek_version() -> u32
+    ensures { λ r. ⌜ Versions r ⌝ }
+{
+    VERSION
+}
+
 // The sixteen pixels of a block, red green blue alpha each.
 #[no_mangle]
-pub extern "C" fn bc7_decode_block(block: &[u8; 16], out: &mut [[u8; 4]; 16])
+pub extern "C" fn rinchovek_bc7_decode_block(block: &[u8; 16], out: &mut [[u8; 4]; 16])
     ensures { λ _. ⌜ Decodes (now (block .entry)) (now (out .exit)) ⌝ }
 {
     *out = decode_bc7_block(*block);
@@ -25,7 +36,7 @@ pub extern "C" fn bc7_decode_block(block: &[u8; 16], out: &mut [[u8; 4]; 16])
 
 // A block taken apart into the 66 bytes of its record.
 #[no_mangle]
-pub extern "C" fn bc7_unpack(block: &[u8; 16], bytes: &mut [u8; 66]) -> u32
+pub extern "C" fn rinchovek_bc7_unpack(block: &[u8; 16], bytes: &mut [u8; 66]) -> u32
     ensures { λ r. ⌜ Unpacks (now (block .entry)) (now (bytes .entry)) r (now (bytes .exit)) ⌝ }
 {
     let unpacked = unpack(*block);
@@ -39,7 +50,7 @@ pub extern "C" fn bc7_unpack(block: &[u8; 16], bytes: &mut [u8; 66]) -> u32
 
 // The block of a record that is given in 66 bytes.
 #[no_mangle]
-pub extern "C" fn bc7_pack(bytes: &[u8; 66], block: &mut [u8; 16]) -> u32
+pub extern "C" fn rinchovek_bc7_pack(bytes: &[u8; 66], block: &mut [u8; 16]) -> u32
     ensures { λ r. ⌜ Packs (now (bytes .entry)) (now (block .entry)) r (now (block .exit)) ⌝ }
 {
     let packed = pack_bytes(*bytes);
@@ -53,13 +64,14 @@ pub extern "C" fn bc7_pack(bytes: &[u8; 66], block: &mut [u8; 16]) -> u32
 
 // A line of a block as it stands, in the 26 bytes of a replacement, and how many bits each of them has.
 #[no_mangle]
-pub extern "C" fn bc7_read_line(
+pub extern "C" fn rinchovek_bc7_read_line(
     block: &[u8; 16],
     line: u32,
     replacement: &mut [u8; 26],
     widths: &mut [u8; 26],
 ) -> u32
-    ensures { λ r. ⌜ ReadsLine (now (block .entry)) line (now (replacement .entry), now (widths .entry)) r (now (replacement .exit), now (widths .exit)) ⌝ }
+    ensures { λ r. ⌜ ReadsLine (now (block .entry)) line (now (replacement .entry), now (widths .entry)) r
+        (now (replacement .exit), now (widths .exit)) ⌝ }
 {
     let read = read_line(*block, line);
     if read.refusal != 0 {
@@ -74,7 +86,11 @@ pub extern "C" fn bc7_read_line(
 
 // A line of a block replaced in its place, by a replacement of 26 bytes.
 #[no_mangle]
-pub extern "C" fn bc7_replace_line(block: &mut [u8; 16], line: u32, replacement: &[u8; 26]) -> u32
+pub extern "C" fn rinchovek_bc7_replace_line(
+    block: &mut [u8; 16],
+    line: u32,
+    replacement: &[u8; 26],
+) -> u32
     ensures { λ r. ⌜ Replaces (now (block .entry)) line (now (replacement .entry)) r (now (block .exit)) ⌝ }
 {
     let answer = replace_line(*block, line, replacement_of(*replacement));
@@ -88,7 +104,7 @@ pub extern "C" fn bc7_replace_line(block: &mut [u8; 16], line: u32, replacement:
 
 // Width, height and the place of the first block, from the bytes of a sheet.
 #[no_mangle]
-pub extern "C" fn sheet_read_head(sheet: &[u8], head: &mut [u32; 3]) -> u32
+pub extern "C" fn rinchovek_sheet_read_head(sheet: &[u8], head: &mut [u32; 3]) -> u32
     ensures { λ r. ⌜ ReadsHead (now (sheet .entry)) (now (head .entry)) r (now (head .exit)) ⌝ }
 {
     let read = read_head(sheet);
@@ -101,7 +117,7 @@ pub extern "C" fn sheet_read_head(sheet: &[u8], head: &mut [u32; 3]) -> u32
 
 // The bytes of a head, zeros behind, and how many of the seven they are.
 #[no_mangle]
-pub extern "C" fn sheet_write_head(
+pub extern "C" fn rinchovek_sheet_write_head(
     width: u32,
     height: u32,
     head: &mut [u8; 7],
@@ -121,7 +137,7 @@ pub extern "C" fn sheet_write_head(
 
 // One row of blocks as rows of pixels, cut at the edges of the picture.
 #[no_mangle]
-pub extern "C" fn sheet_decode_row(
+pub extern "C" fn rinchovek_sheet_decode_row(
     width: u32,
     height: u32,
     row: u32,
@@ -135,7 +151,7 @@ pub extern "C" fn sheet_decode_row(
 
 // A line of one block replaced in a sheet; no byte of another block changes.
 #[no_mangle]
-pub extern "C" fn sheet_replace_line(
+pub extern "C" fn rinchovek_sheet_replace_line(
     sheet: &mut [u8],
     block: u32,
     line: u32,

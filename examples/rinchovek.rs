@@ -1,0 +1,275 @@
+//! Safe Rust over every call of include/rinchovek.h. A program takes this file as a module (`mod rinchovek;`) and says where the
+//! library is (`rustc -L PREFIX/lib`, or `-L target/staticlib`). What the header says of a call holds here too; lengths that C would
+//! only promise are types, what is written comes back as the answer, and a refusal is an error.
+#![allow(unsafe_code)]
+
+use std::fmt;
+
+#[link(name = "rinchovek")]
+extern "C" {
+    fn rinchovek_version() -> u32;
+    fn rinchovek_bc7_decode_block(block: *const u8, pixels: *mut u8);
+    fn rinchovek_bc7_unpack(block: *const u8, record: *mut u8) -> u32;
+    fn rinchovek_bc7_pack(record: *const u8, block: *mut u8) -> u32;
+    fn rinchovek_bc7_read_line(block: *const u8, line: u32, replacement: *mut u8, widths: *mut u8) -> u32;
+    fn rinchovek_bc7_replace_line(block: *mut u8, line: u32, replacement: *const u8) -> u32;
+    fn rinchovek_sheet_read_head(sheet: *const u8, length: usize, head: *mut u32) -> u32;
+    fn rinchovek_sheet_write_head(width: u32, height: u32, head: *mut u8, count: *mut u32) -> u32;
+    fn rinchovek_sheet_decode_row(
+        width: u32,
+        height: u32,
+        row: u32,
+        blocks: *const u8,
+        blocks_length: usize,
+        out: *mut u8,
+        out_length: usize,
+    ) -> u32;
+    fn rinchovek_sheet_replace_line(
+        sheet: *mut u8,
+        length: usize,
+        block: u32,
+        line: u32,
+        replacement: *const u8,
+    ) -> u32;
+}
+
+/// Why a call was refused. It then has changed nothing.
+#[derive(Clone, Copy, Debug, PartialEq, Eq)]
+#[repr(u32)]
+pub enum Refusal {
+    ReservedBlock = 1,
+    NoSuchLine = 2,
+    ValueTooWide = 3,
+    PBitsDiffer = 4,
+    WrongKind = 5,
+    AnchorBitSet = 6,
+    BadNumber = 7,
+    UnknownForm = 8,
+    BadSide = 9,
+    WrongBlockBytes = 10,
+    WrongOutputLength = 11,
+    BeyondSheet = 12,
+}
+
+impl Refusal {
+    pub const ALL: [Refusal; 12] = [
+        Refusal::ReservedBlock,
+        Refusal::NoSuchLine,
+        Refusal::ValueTooWide,
+        Refusal::PBitsDiffer,
+        Refusal::WrongKind,
+        Refusal::AnchorBitSet,
+        Refusal::BadNumber,
+        Refusal::UnknownForm,
+        Refusal::BadSide,
+        Refusal::WrongBlockBytes,
+        Refusal::WrongOutputLength,
+        Refusal::BeyondSheet,
+    ];
+
+    pub fn number(self) -> u32 {
+        self as u32
+    }
+}
+
+impl fmt::Display for Refusal {
+    fn fmt(&self, f: &mut fmt::Formatter) -> fmt::Result {
+        f.write_str(match self {
+            Refusal::ReservedBlock => "the block is reserved",
+            Refusal::NoSuchLine => "the block has no such line",
+            Refusal::ValueTooWide => "a value needs more bits than it has",
+            Refusal::PBitsDiffer => "the p bits differ, and mode 1 has one for both endpoints",
+            Refusal::WrongKind => "no such mode, or a kind of split that is not the mode's",
+            Refusal::AnchorBitSet => "the index at an anchor has its top bit set",
+            Refusal::BadNumber => "a number of the head is cut off, too long or not in its shortest form",
+            Refusal::UnknownForm => "the form of the sheet is not 1",
+            Refusal::BadSide => "the width or the height is 0 or too large",
+            Refusal::WrongBlockBytes => "too few or too many bytes of blocks",
+            Refusal::WrongOutputLength => "the output is too short or too long",
+            Refusal::BeyondSheet => "the row or the block is beyond the sheet",
+        })
+    }
+}
+
+impl std::error::Error for Refusal {}
+
+fn answer<T>(number: u32, value: T) -> Result<T, Refusal> {
+    if number == 0 {
+        return Ok(value);
+    }
+    let known = Refusal::ALL.into_iter().find(|refusal| refusal.number() == number);
+    Err(known.expect("the library is of another version than this module"))
+}
+
+/// Major, minor and patch.
+pub fn version() -> (u32, u32, u32) {
+    let version = unsafe { rinchovek_version() };
+    (version / 10000, version / 100 % 100, version % 100)
+}
+
+pub type Block = [u8; 16];
+/// Red, green, blue, alpha.
+pub type Color = [u8; 4];
+
+/// In C a block's number and a line's are both `uint32_t` and stand side by side; these can't be exchanged.
+#[derive(Clone, Copy, Debug, PartialEq, Eq)]
+pub struct BlockNumber(pub u32);
+#[derive(Clone, Copy, Debug, PartialEq, Eq)]
+pub struct LineNumber(pub u32);
+
+#[derive(Clone, Copy, Debug, PartialEq, Eq)]
+pub enum Split {
+    Whole,
+    TwoSubsets { partition: u8 },
+    ThreeSubsets { partition: u8 },
+    VectorAndScalar { rotation: u8, index_mode: u8 },
+}
+
+/// A block taken apart. What the mode hasn't got is 0.
+#[derive(Clone, Copy, Debug, PartialEq, Eq)]
+pub struct Record {
+    pub mode: u8,
+    pub split: Split,
+    pub endpoints: [Color; 6],
+    pub p: [u8; 6],
+    pub first_indexes: [u8; 16],
+    pub second_indexes: [u8; 16],
+}
+
+impl Record {
+    fn bytes(&self) -> [u8; 66] {
+        let split = match self.split {
+            Split::Whole => [0, 0, 0],
+            Split::TwoSubsets { partition } => [1, partition, 0],
+            Split::ThreeSubsets { partition } => [2, partition, 0],
+            Split::VectorAndScalar { rotation, index_mode } => [3, rotation, index_mode],
+        };
+        let mut bytes = [self.mode; 66];
+        bytes[1..4].copy_from_slice(&split);
+        bytes[4..28].copy_from_slice(self.endpoints.as_flattened());
+        bytes[28..34].copy_from_slice(&self.p);
+        bytes[34..50].copy_from_slice(&self.first_indexes);
+        bytes[50..].copy_from_slice(&self.second_indexes);
+        bytes
+    }
+
+    fn of(bytes: &[u8; 66]) -> Record {
+        let split = match bytes[1] {
+            0 => Split::Whole,
+            1 => Split::TwoSubsets { partition: bytes[2] },
+            2 => Split::ThreeSubsets { partition: bytes[2] },
+            _ => Split::VectorAndScalar { rotation: bytes[2], index_mode: bytes[3] },
+        };
+        let mut record =
+            Record { mode: bytes[0], split, endpoints: [[0; 4]; 6], p: [0; 6], first_indexes: [0; 16], second_indexes: [0; 16] };
+        record.endpoints.as_flattened_mut().copy_from_slice(&bytes[4..28]);
+        record.p.copy_from_slice(&bytes[28..34]);
+        record.first_indexes.copy_from_slice(&bytes[34..50]);
+        record.second_indexes.copy_from_slice(&bytes[50..]);
+        record
+    }
+}
+
+/// A line as it is read and as it is replaced, or how many bits each of its values has. What the line hasn't got is 0.
+#[derive(Clone, Copy, Debug, Default, PartialEq, Eq)]
+pub struct Line {
+    pub endpoints: [Color; 2],
+    pub p: [u8; 2],
+    pub indexes: [u8; 16],
+}
+
+impl Line {
+    fn bytes(&self) -> [u8; 26] {
+        let mut bytes = [0; 26];
+        bytes[..8].copy_from_slice(self.endpoints.as_flattened());
+        bytes[8..10].copy_from_slice(&self.p);
+        bytes[10..].copy_from_slice(&self.indexes);
+        bytes
+    }
+
+    fn of(bytes: &[u8; 26]) -> Line {
+        let mut line = Line::default();
+        line.endpoints.as_flattened_mut().copy_from_slice(&bytes[..8]);
+        line.p.copy_from_slice(&bytes[8..10]);
+        line.indexes.copy_from_slice(&bytes[10..]);
+        line
+    }
+}
+
+// In each call the arrays and slices have the lengths that it takes, and a mutable borrow overlaps nothing.
+
+pub fn decode_block(block: &Block) -> [Color; 16] {
+    let mut pixels = [[0; 4]; 16];
+    unsafe { rinchovek_bc7_decode_block(block.as_ptr(), pixels.as_flattened_mut().as_mut_ptr()) };
+    pixels
+}
+
+pub fn unpack(block: &Block) -> Result<Record, Refusal> {
+    let mut record = [0; 66];
+    let refusal = unsafe { rinchovek_bc7_unpack(block.as_ptr(), record.as_mut_ptr()) };
+    answer(refusal, Record::of(&record))
+}
+
+pub fn pack(record: &Record) -> Result<Block, Refusal> {
+    let mut block = [0; 16];
+    let refusal = unsafe { rinchovek_bc7_pack(record.bytes().as_ptr(), block.as_mut_ptr()) };
+    answer(refusal, block)
+}
+
+/// The line as it stands, and how many bits each of its values has.
+pub fn read_line(block: &Block, line: LineNumber) -> Result<(Line, Line), Refusal> {
+    let (mut held, mut widths) = ([0; 26], [0; 26]);
+    let refusal = unsafe { rinchovek_bc7_read_line(block.as_ptr(), line.0, held.as_mut_ptr(), widths.as_mut_ptr()) };
+    answer(refusal, (Line::of(&held), Line::of(&widths)))
+}
+
+pub fn replace_line(block: &mut Block, line: LineNumber, new: &Line) -> Result<(), Refusal> {
+    answer(unsafe { rinchovek_bc7_replace_line(block.as_mut_ptr(), line.0, new.bytes().as_ptr()) }, ())
+}
+
+/// Width and height in pixels, and where the first block starts in the sheet.
+#[derive(Clone, Copy, Debug, PartialEq, Eq)]
+pub struct Head {
+    pub width: u32,
+    pub height: u32,
+    pub start: usize,
+}
+
+impl Head {
+    /// The bytes of a row of blocks.
+    pub fn row_blocks(self) -> usize {
+        16 * (self.width as usize).div_ceil(4)
+    }
+
+    /// The bytes of the pixels that a row of blocks shows: four lines, or as many as are left.
+    pub fn row_pixels(self, row: u32) -> usize {
+        let left = (self.height as usize).saturating_sub(4 * row as usize);
+        4 * self.width as usize * left.min(4)
+    }
+}
+
+pub fn read_head(sheet: &[u8]) -> Result<Head, Refusal> {
+    let mut head = [0; 3];
+    let refusal = unsafe { rinchovek_sheet_read_head(sheet.as_ptr(), sheet.len(), head.as_mut_ptr()) };
+    answer(refusal, Head { width: head[0], height: head[1], start: head[2] as usize })
+}
+
+pub fn write_head(width: u32, height: u32) -> Result<Vec<u8>, Refusal> {
+    let (mut bytes, mut count) = ([0; 7], 0);
+    let refusal = unsafe { rinchovek_sheet_write_head(width, height, bytes.as_mut_ptr(), &mut count) };
+    answer(refusal, bytes[..count as usize].to_vec())
+}
+
+/// The blocks are exactly `head.row_blocks()` bytes, and the output `head.row_pixels(row)`.
+pub fn decode_row(head: Head, row: u32, blocks: &[u8], out: &mut [u8]) -> Result<(), Refusal> {
+    let (lent, length) = (out.as_mut_ptr(), out.len());
+    let refusal = unsafe {
+        rinchovek_sheet_decode_row(head.width, head.height, row, blocks.as_ptr(), blocks.len(), lent, length)
+    };
+    answer(refusal, ())
+}
+
+pub fn replace_in_sheet(sheet: &mut [u8], block: BlockNumber, line: LineNumber, new: &Line) -> Result<(), Refusal> {
+    let (lent, length) = (sheet.as_mut_ptr(), sheet.len());
+    answer(unsafe { rinchovek_sheet_replace_line(lent, length, block.0, line.0, new.bytes().as_ptr()) }, ())
+}
