@@ -11,8 +11,8 @@ use lib.Bits.{bitAnd}
 use lib.Dec.{T, eqb}
 use lib.Pow.{pow-pos}
 use Rattle.bits.specs.declared.stream.BitStream.{BitStream}
-use Rattle.line.specs.declared.fields.Fields.{Fields}
-use Rattle.line.specs.declared.parts.LinePart.{LinePart}
+use Rattle.bc7_places.specs.declared.places.Fields.{Fields}
+use Rattle.bc7_places.specs.declared.lines.LinePart.{LinePart}
 use Rattle.bc7_places.specs.declared.modes.ModeRow.{ModeRow}
 use Rattle.bc7_format.specs.declared.Split.{Split}
 use Rattle.laws.specs.Tables.{pick, table, tableFrom}
@@ -29,18 +29,20 @@ use Rattle.bc7_format.proofs.Starts.{start, start-le}
 use Rattle.bits.specs.Stream.{held}
 use Rattle.bcn_format.specs.Indexes.{part}
 use Rattle.bc7_format.specs.Fields.{headEnd}
-use Rattle.bc7_places.specs.Rows.{rowOf}
+use Rattle.bc7_places.specs.Modes.{rowOf}
 use Rattle.line_rules.specs.Read.{givenAs, widthsOf}
 use Rattle.line_rules.specs.Replace.{ownWidth}
 use Rattle.line_rules.proofs.Own.{own-none, own-some}
 use Rattle.line_rules.proofs.OwnWidths.{own-widths}
-use Rattle.line.specs.Parts.{maskOf, ownPixel}
+use Rattle.line.specs.Parts.{maskOf}
+use Rattle.bc7_places.specs.Lines.{ownPixel}
 use Rattle.line.proofs.parts.Parts.{IsPart}
 use Rattle.line.proofs.parts.Words.{Small, masked, word, word-part}
-use Rattle.line.specs.Fields.{fieldsAt, fieldsOf, setBefore}
+use Rattle.line.specs.Fields.{fieldsAt, setBefore}
+use Rattle.bc7_places.specs.Places.{fieldsOf}
 use Rattle.line.proofs.fields.Indexes.{before-word, rising, stood-small}
 use Rattle.line.proofs.fields.Putting.{p-next, p-there, value-next, value-there}
-use Rattle.line.proofs.fields.Starting.{channel-low, channel-starts, channelAt, p-low, p-starts, set-starts}
+use Rattle.bc7_places.proofs.places.Starting.{channel-low, channel-starts, channelAt, p-low, p-starts, set-starts}
 use Rattle.line.proofs.fields.Whole.{head-low, two-of-1, whole-start}
 use Rattle.line.proofs.fields.Taking.{first-read, one-read, second-read}
 use Rattle.line.specs.Reading.{PartSmall, ReadReady, lineAt, psAt, setAt, twoAt, widthsIn}

@@ -7,7 +7,7 @@ use mathlib.Core.List.{List}
 use lib.Dec.{eqb, ltb}
 use lib.ListN.{getD}
 use Rattle.record_rules.specs.declared.Record.{Record}
-use Rattle.bc7_places.specs.declared.modes.Anchors.{Anchors}
+use Rattle.bc7_places.specs.declared.splits.Anchors.{Anchors}
 use Rattle.bc7_places.specs.declared.modes.ModeRow.{ModeRow}
 use Rattle.bc7_format.specs.declared.Split.{Split}
 use Rattle.laws.specs.Tables.{both, pick}
@@ -15,7 +15,7 @@ use Rattle.bc7_format.specs.Modes.{kindOfMode}
 use Rattle.bc7_format.specs.Splits.{anchors, indexMode, kindOf, partition, rotation}
 use Rattle.record_rules.specs.Answers.{Within}
 use Rattle.record_rules.specs.Records.{fits, says}
-use Rattle.bc7_places.specs.Rows.{rowOf}
+use Rattle.bc7_places.specs.Modes.{rowOf}
 
 -- does what a split has fit the row's widths
 abbrev pub splitFits : Split → ModeRow → Bool

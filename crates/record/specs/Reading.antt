@@ -4,25 +4,15 @@ use Prim.Native.Nat.{ℕ, _+_, _-_, _*_, _/_, _%_}
 use mathlib.Core.List.{List, [], _∷_}
 use lib.Dec.{eqb, ltb}
 use lib.ListN.{getD, replicate}
-use Rattle.record.specs.declared.reading.ReadSplit.{ReadSplit}
 use Rattle.record.specs.declared.reading.ReadEndpoints.{ReadEndpoints}
 use Rattle.record.specs.declared.reading.ReadP.{ReadP}
-use Rattle.bc7_places.specs.declared.modes.Anchors.{Anchors}
+use Rattle.bc7_places.specs.declared.splits.Anchors.{Anchors}
 use Rattle.bc7_places.specs.declared.modes.ModeRow.{ModeRow}
 use Rattle.bits.specs.declared.stream.BitStream.{BitStream}
 use Rattle.laws.specs.Tables.{pick, table}
-use Rattle.bc7_format.specs.Splits.{ofKind}
 use Rattle.bcn_format.specs.Indexes.{anchorCount, anchorsOfKind, part}
 use Rattle.indexes.specs.Reading.{newIndexes}
 use Rattle.bits.specs.Stream.{nextBits, skipped}
-
--- the split bits come next: partition, rotation, index mode
-abbrev pub splitRead : ModeRow → BitStream → ReadSplit
-splitRead row s = record {
-  split = ofKind (row .kind) (nextBits s (row .partition)) (nextBits (skipped s (row .partition)) (row .rotation))
-      (nextBits (skipped s (row .partition + row .rotation)) (row .«index_mode»));
-  stream = skipped s (row .partition + row .rotation + row .«index_mode»);
-}
 
 -- the endpoints of four words, one a channel: value e of a channel is part e of its word, and 0 where the mode has no endpoint e
 abbrev pub channelOf : ℕ → ℕ → ℕ → ℕ → ℕ → ℕ

@@ -13,7 +13,7 @@ use Rattle.bc7_format.specs.Places.{Place, inside, placeAt, width}
 use Rattle.bc7_format.specs.Splits.{anchors, kindOf}
 use Rattle.bits.specs.Writer.{writerOf}
 use Rattle.record_rules.specs.Records.{says}
-use Rattle.bc7_places.specs.Rows.{rowOf}
+use Rattle.bc7_places.specs.Modes.{rowOf}
 
 -- a record that packs, with the row of its mode: everything fits as it is stored
 pub record Packs (r : Record) (row : ModeRow) : Type 0 where

@@ -8,11 +8,12 @@ ghost use lib.ListN.{getD, replicate};
 ghost use Rattle.laws.specs.Digits.{join, split};
 ghost use Rattle.laws.specs.Tables.{below, pick, table};
 ghost use Rattle.record_rules.specs.Records.{fits, says};
-ghost use Rattle.bc7_places.specs.Rows.{OfMode, Pixels, anchorsOf, rowOf};
+ghost use Rattle.bc7_places.specs.Modes.{OfMode, rowOf};
+ghost use Rattle.bc7_places.specs.Splits.{ArePixels, anchorsOf};
 ghost use Rattle.record.specs.Fitting.{Full, splitFits, storedFit, topsClear, valueBits};
 use bc7_format::Split;
-use bc7_places::modes::Anchors;
 use bc7_places::modes::ModeRow;
+use bc7_places::splits::Anchors;
 use bc7_places::splits::index_mode_of;
 use bc7_places::splits::partition_of;
 use bc7_places::splits::rotation_of;
@@ -159,7 +160,7 @@ pub fn record_fits(record: Record, row: ModeRow) -> bool
 
 // Do the anchors' indexes of a set do without their top bits?
 fn tops_clear(indexes: [u8; 16], anchors: Anchors, width: u32) -> bool
-    requires { ⌜ (0 < width) × (width ≤ 4) × Pixels anchors ⌝ }
+    requires { ⌜ (0 < width) × (width ≤ 4) × ArePixels anchors ⌝ }
     ensures { λ r. ⌜ r ≡ topsClear indexes anchors (width - 1) ⌝ }
 {
     let a = anchors.a;

@@ -1,5 +1,5 @@
-// Reading a block group by group: the mode, the split, a word for each channel, a word of p bits, a word for each set of
-// indexes. A word is then taken apart into its parts.
+// Reading a block group by group: behind the split a word for each channel, a word of p bits, a word for each set of indexes. A
+// word is then taken apart into its parts.
 ghost use mathlib.Core.Path.{_≡_};
 ghost use Prim.Native.Nat.{_+_, _-_, _*_, _<_, _≤_};
 ghost use Rattle.laws.specs.Tables.{table};
@@ -7,46 +7,16 @@ ghost use Rattle.bc7_format.specs.Modes.{modeOf};
 ghost use Rattle.bcn_format.specs.Indexes.{Rising, anchorCount, anchorsOfKind, part};
 ghost use Rattle.indexes.specs.Reading.{newIndexes};
 ghost use Rattle.record_rules.specs.Records.{recordOf};
-ghost use Rattle.bc7_places.specs.Rows.{OfMode, rowOf};
-ghost use Rattle.record.specs.Reading.{endpointsOf, endpointsRead, pRead, secondRead, splitRead};
-use bc7_format::Split;
-use bc7_places::modes::Anchors;
+ghost use Rattle.bc7_places.specs.Modes.{OfMode, rowOf};
+ghost use Rattle.record.specs.Reading.{endpointsOf, endpointsRead, pRead, secondRead};
 use bc7_places::modes::ModeRow;
-use bc7_places::modes::anchors_of;
-use bc7_places::splits::split_of_kind;
+use bc7_places::splits::Anchors;
+use bc7_places::splits::anchors_of;
+use bc7_places::splits::read_split;
 use bits::stream::BitStream;
 use indexes::Indexes;
 use indexes::NewIndexes;
 use record_rules::Record;
-
-// The mode is the count of zero bits that byte 0 ends in, and 8 is reserved.
-pub fn mode_of(block: [u8; 16]) -> u8
-    ensures { λ r. ⌜ r ≡ modeOf block ⌝ }
-{
-    u8::trailing_zeros(block[0]) as u8
-}
-
-// The split, and the stream past it.
-pub struct ReadSplit {
-    pub split: Split,
-    pub stream: BitStream,
-}
-
-// A mode has a partition, or a rotation (of two bits) with an index mode, or nothing: one read, of which the kind takes what it
-// has.
-pub fn read_split(row: ModeRow, stream: BitStream) -> ReadSplit
-    requires { ⌜ OfMode row × (stream .at ≤ 128) ⌝ }
-    ensures { λ r. ⌜ r ≡ splitRead row stream ⌝ }
-{
-    let bits = stream.take(row.partition + row.rotation + row.index_mode);
-    let rest = bits.stream;
-    let value = bits.value as u8;
-    let split = split_of_kind(row.kind, value, value % 4, value >> 2);
-    ReadSplit {
-        split: split,
-        stream: rest,
-    }
-}
 
 // The sixteen indexes of a set as one word of equal parts, the anchors' zeros put in.
 pub fn read_indexes(kind: u8, anchors: Anchors, width: u32, stream: BitStream) -> NewIndexes

@@ -11,10 +11,10 @@ ghost use Rattle.bc7_format.specs.Places.{blockOf};
 ghost use Rattle.bcn_format.specs.Indexes.{Rising, anchorCount, anchorsOfKind, indexWidths};
 ghost use Rattle.bits.specs.Writer.{pushed, written};
 ghost use Rattle.record_rules.specs.Records.{says};
-ghost use Rattle.bc7_places.specs.Rows.{Pixels, anchorsOf};
+ghost use Rattle.bc7_places.specs.Splits.{ArePixels, anchorsOf};
 ghost use Rattle.record.specs.Writing.{Packs, upto};
-use bc7_places::modes::Anchors;
 use bc7_places::modes::ModeRow;
+use bc7_places::splits::Anchors;
 use bc7_places::splits::index_mode_of;
 use bc7_places::splits::partition_of;
 use bc7_places::splits::rotation_of;
@@ -128,7 +128,7 @@ fn push_set(
     width: u32,
     indexes: [u8; 16],
 ) -> BitWriter
-    requires { ⌜ (0 < width) × (width ≤ 4) × Pixels anchors × Rising kind (anchors .b) (anchors .c) × Fit (indexWidths width (anchorsOfKind kind (anchors .b) (anchors .c))) indexes × (writer .at + (16 * width - anchorCount kind) ≤ 128) × (written writer < 2 ^ writer .at) ⌝ }
+    requires { ⌜ (0 < width) × (width ≤ 4) × ArePixels anchors × Rising kind (anchors .b) (anchors .c) × Fit (indexWidths width (anchorsOfKind kind (anchors .b) (anchors .c))) indexes × (writer .at + (16 * width - anchorCount kind) ≤ 128) × (written writer < 2 ^ writer .at) ⌝ }
     ensures { λ r. ⌜ r ≡ pushed writer (join (indexWidths width (anchorsOfKind kind (anchors .b) (anchors .c))) indexes) (16 * width - anchorCount kind) ⌝ }
 {
     let word = word_of(indexes, width);

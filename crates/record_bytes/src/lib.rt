@@ -12,6 +12,8 @@ ghost use Rattle.record_bytes.specs.Wire.{bytesFrom, packedBytes, record
 use bc7_format::Split;
 use bc7_places::splits::index_mode_of;
 use bc7_places::splits::kind_of;
+use bc7_places::splits::partition_of;
+use bc7_places::splits::rotation_of;
 use bc7_places::splits::split_of_kind;
 use line_rules::Replacement;
 use record::pack;
@@ -22,15 +24,10 @@ use record_rules::Record;
 fn split_byte(split: Split) -> u8
     ensures { λ r. ⌜ r ≡ splitByte split ⌝ }
 {
-    match split {
-        Split::Whole => 0,
-        Split::Two(partition) => partition,
-        Split::Three(partition) => partition,
-        Split::Vector {
-            rotation,
-            index_mode: _,
-        } => rotation,
+    if kind_of(split) == 3 {
+        return rotation_of(split);
     }
+    partition_of(split)
 }
 
 // Bytes laid over others from a place on.

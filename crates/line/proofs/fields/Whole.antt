@@ -12,8 +12,8 @@ use lib.Arith.{digits-lt, lt-one}
 use lib.Dec.{T, eqb, leb, leb→le}
 use lib.ListN.{getD}
 use Rattle.bits.specs.declared.stream.BitStream.{BitStream}
-use Rattle.line.specs.declared.fields.Fields.{Fields}
-use Rattle.line.specs.declared.parts.LinePart.{LinePart}
+use Rattle.bc7_places.specs.declared.places.Fields.{Fields}
+use Rattle.bc7_places.specs.declared.lines.LinePart.{LinePart}
 use Rattle.line.specs.declared.parts.Stored.{Stored}
 use Rattle.bc7_places.specs.declared.modes.ModeRow.{ModeRow}
 use Rattle.bc7_format.specs.declared.Split.{Split}
@@ -36,7 +36,7 @@ use Rattle.bits.specs.Stream.{held}
 use Rattle.bcn_format.specs.Indexes.{indexWidth, indexWidths}
 use Rattle.bc7_format.specs.Fields.{headEnd}
 use Rattle.bc7_format.proofs.Fields.{begins}
-use Rattle.bc7_places.specs.Rows.{rowOf}
+use Rattle.bc7_places.specs.Modes.{rowOf}
 use Rattle.line_rules.specs.Acceptable.{Acceptable}
 use Rattle.line_rules.specs.Replace.{oriented, put, refusalIn, topSet}
 use Rattle.line_rules.proofs.Accepting.{accepted-is}
@@ -45,11 +45,12 @@ use Rattle.line_rules.proofs.Put.{put-good}
 use Rattle.line.proofs.parts.Parts.{IsPart}
 use Rattle.line.proofs.parts.Storing.{IsStored}
 use Rattle.line.proofs.parts.Words.{maskPart, word}
-use Rattle.line.specs.Fields.{LineReady, PairReady, SetReady, endpointsPut, fieldsAt, fieldsOf, linePut, psPut, twoPut, valuesPut}
+use Rattle.line.specs.Fields.{LineReady, PairReady, SetReady, endpointsPut, fieldsAt, linePut, psPut, twoPut, valuesPut}
+use Rattle.bc7_places.specs.Places.{fieldsOf}
 use Rattle.line.proofs.fields.Indexes.{set-put, set-ready, stored, stored-lt, stored-split}
 use Rattle.line.proofs.fields.Putting.{after-head, channel-put, indexes-put, p-put, p-put-1, put-whole}
 use Rattle.line.proofs.fields.Runs.{Upto, nothing-put}
-use Rattle.line.proofs.fields.Starting.{channel-low, channel-starts, channelAt, p-low, p-starts, set-starts}
+use Rattle.bc7_places.proofs.places.Starting.{channel-low, channel-starts, channelAt, p-low, p-starts, set-starts}
 
 pub two-of-1 : (m : ℕ) → m ≡ 1 → pCount m ≢ 0
 unfolding modeRow

@@ -15,8 +15,8 @@ use lib.ListN.{replicate}
 use lib.Pow.{field as part-of, mod-mod-pow, pow-mono, shr-shr}
 use Rattle.record.specs.declared.reading.ReadEndpoints.{ReadEndpoints}
 use Rattle.record.specs.declared.reading.ReadP.{ReadP}
-use Rattle.record.specs.declared.reading.ReadSplit.{ReadSplit}
-use Rattle.bc7_places.specs.declared.modes.Anchors.{Anchors}
+use Rattle.bc7_places.specs.declared.splits.ReadSplit.{ReadSplit}
+use Rattle.bc7_places.specs.declared.splits.Anchors.{Anchors}
 use Rattle.bc7_places.specs.declared.modes.ModeRow.{ModeRow}
 use Rattle.indexes.specs.declared.NewIndexes.{NewIndexes}
 use Rattle.bits.specs.declared.stream.BitStream.{BitStream}
@@ -42,11 +42,12 @@ use Rattle.bits.proofs.On.{On, field-lt, next-is, on-skipped}
 use Rattle.bc7_format.specs.Fields.{headEnd, valueStart}
 use Rattle.bc7_format.proofs.Fields.{begins, bit-at, first-start, index-at, value-at, valuesEnd}
 use Rattle.record_rules.specs.Records.{made, recordOf}
-use Rattle.bc7_places.specs.Rows.{OfMode, anchorsOf, rowOf}
+use Rattle.bc7_places.specs.Modes.{OfMode, rowOf}
+use Rattle.bc7_places.specs.Splits.{anchorsOf, splitRead}
 use Rattle.bc7_places.proofs.modes.Bounds.{second-bits, small}
-use Rattle.record.specs.Reading.{channelOf, channelsAt, endpointsOf, endpointsRead, pRead, secondRead, splitRead}
-use Rattle.record.proofs.reading.Heads.{split-is, split-on}
-use Rattle.bc7_places.proofs.modes.Pixels.{anchors-kind, anchors-rise}
+use Rattle.record.specs.Reading.{channelOf, channelsAt, endpointsOf, endpointsRead, pRead, secondRead}
+use Rattle.bc7_places.proofs.splits.Heads.{split-is, split-on}
+use Rattle.bc7_places.proofs.splits.AnchorPixels.{anchors-kind, anchors-rise}
 
 -- a part of a field is a field
 part-field : (n a t w i : ℕ) → i * w + w ≤ t → part (field n a t) w i ≡ field n (a + i * w) w

@@ -11,7 +11,7 @@ use lib.Arith.{le-zero}
 use lib.Dec.{eqb, ltb}
 use lib.ListN.{getD, length}
 use Rattle.record_rules.specs.declared.Record.{Record}
-use Rattle.bc7_places.specs.declared.modes.Anchors.{Anchors}
+use Rattle.bc7_places.specs.declared.splits.Anchors.{Anchors}
 use Rattle.bc7_places.specs.declared.modes.ModeRow.{ModeRow}
 use Rattle.bits.specs.declared.writer.BitWriter.{BitWriter}
 use Rattle.laws.specs.Digits.{Fit, join, row as evenly, total}
@@ -35,10 +35,11 @@ use Rattle.bits.specs.Writer.{pushed, writerOf, written}
 use Rattle.bits.proofs.Puts.{row-asks, row-more, row-none, row-written, written-of}
 use Rattle.laws.proofs.Words.{one-shl}
 use Rattle.record_rules.specs.Records.{says}
-use Rattle.bc7_places.specs.Rows.{OfMode, anchorsOf, Pixels}
+use Rattle.bc7_places.specs.Modes.{OfMode}
+use Rattle.bc7_places.specs.Splits.{ArePixels, anchorsOf}
 use Rattle.bc7_places.proofs.modes.Bounds.{low-partition, small}
 use Rattle.record.specs.Writing.{Packs, said, upto, wide}
-use Rattle.bc7_places.proofs.modes.Pixels.{anchors-kind, anchors-low, anchors-rise}
+use Rattle.bc7_places.proofs.splits.AnchorPixels.{anchors-kind, anchors-low, anchors-rise}
 
 module _ {r : Record} {row : ModeRow} (p : Packs r row) where
   each : (k : ℕ) → k < 66 → said r k < 2 ^ wide r k
@@ -266,7 +267,7 @@ module _ {r : Record} {row : ModeRow} (p : Packs r row) where
     pub rise : Rising (row .kind) (a .b) (a .c)
     rise = rw (kind-is, ea) (anchors-rise (r .split) part-64)
 
-    pub pixels : Pixels a
+    pub pixels : ArePixels a
     pixels = rw ea (anchors-low (r .split) part-64)
 
     anchors-are : anchorsOfKind (row .kind) (a .b) (a .c) ≡ anchors (r .split)

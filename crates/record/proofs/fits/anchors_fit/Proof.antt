@@ -3,7 +3,7 @@
 use mathlib.Core.Path.{_∙_, sym}
 use native.Mathlib.Omega.{arith}
 use borrow.Author.Tests.{not-false, not-true}
-use Rattle.bc7_places.specs.Rows.{OfMode}
+use Rattle.bc7_places.specs.Modes.{OfMode}
 use Rattle.bc7_places.proofs.modes.Bounds.{second-bits, small}
 use Rattle.record.proofs.fits.Fits.{first-not, first-only, pixels, second-decides}
 use Rattle.record.proofs.fits.anchors_fit.Statement.{statement}

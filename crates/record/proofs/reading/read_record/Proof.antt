@@ -11,9 +11,9 @@ use Rattle.bcn_format.specs.Block.{eights, number}
 use Rattle.bc7_format.specs.Splits.{splitAt}
 use Rattle.bc7_format.proofs.Subsets.{sixteen-bytes}
 use Rattle.bits.proofs.On.{On}
-use Rattle.bc7_places.specs.Rows.{OfMode}
+use Rattle.bc7_places.specs.Modes.{OfMode}
 use Rattle.bc7_places.proofs.modes.Bounds.{small}
-use Rattle.record.proofs.reading.Heads.{marker-on}
+use Rattle.bc7_places.proofs.splits.Heads.{marker-on}
 use Rattle.record.proofs.reading.Standing.{first-room, p-room, partition-64, record-read, rise, second-room, the-split, values-room}
 use borrow.Author.Needs.{needs}
 use Rattle.record.proofs.reading.read_record.Statement.{statement}
