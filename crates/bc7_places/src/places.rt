@@ -8,6 +8,18 @@ ghost use Rattle.bc7_places.specs.Modes.{OfMode};
 ghost use Rattle.bc7_places.specs.Places.{fieldsOf};
 use crate::modes::ModeRow;
 
+// Where the groups start in the list of places, which are also those of a record's bytes: the values, the p bits, the first and the
+// second indexes; and how many places there are.
+pub const VALUES: usize = 4;
+
+pub const P_BITS: usize = 28;
+
+pub const FIRST: usize = 34;
+
+pub const SECOND: usize = 50;
+
+pub const PLACES: usize = 66;
+
 // Where the fields of a line start: the pair of each channel, the p bits of the mode, the set of the line's indexes.
 pub struct Fields {
     pub red: u32,

@@ -7,7 +7,7 @@ ghost use lib.ListN.{getD};
 ghost use Rattle.laws.specs.Digits.{Fit, join, row};
 ghost use Rattle.bcn_format.specs.Block.{field};
 ghost use Rattle.bc7_format.specs.Modes.{channelBits};
-ghost use Rattle.bc7_format.specs.Places.{blockOf};
+ghost use Rattle.bc7_format.specs.Places.{blockOf, firstFrom, placeCount, psFrom, valuesFrom};
 ghost use Rattle.bcn_format.specs.Indexes.{Rising, anchorCount, anchorsOfKind, indexWidths};
 ghost use Rattle.bits.specs.Writer.{pushed, written};
 ghost use Rattle.record_rules.specs.Records.{says};
@@ -76,7 +76,7 @@ fn p_word(p: [u8; 6], count: usize) -> u64
 // Marker and split.
 fn push_head(record: Record, row: ModeRow) -> BitWriter
     requires { ⌜ Packs «record» row ⌝ }
-    ensures { λ r. ⌜ r ≡ upto «record» 4 ⌝ }
+    ensures { λ r. ⌜ r ≡ upto «record» valuesFrom ⌝ }
 {
     let mode = record.mode;
     let split = record.split;
@@ -94,8 +94,8 @@ fn push_channel(
     channel: usize,
     width: u32,
 ) -> BitWriter
-    requires { ⌜ Packs «record» row × (channel < 4) × (width ≡ channelBits («record» .mode) channel) × (writer ≡ upto «record» (4 + 6 * channel)) ⌝ }
-    ensures { λ r. ⌜ r ≡ upto «record» (4 + 6 * channel + 6) ⌝ }
+    requires { ⌜ Packs «record» row × (channel < 4) × (width ≡ channelBits («record» .mode) channel) × (writer ≡ upto «record» (valuesFrom + 6 * channel)) ⌝ }
+    ensures { λ r. ⌜ r ≡ upto «record» (valuesFrom + 6 * channel + 6) ⌝ }
 {
     let endpoints = record.endpoints;
     let word = channel_word(endpoints, row.endpoints, channel, width);
@@ -103,8 +103,8 @@ fn push_channel(
 }
 
 fn push_endpoints(writer: BitWriter, record: Record, row: ModeRow) -> BitWriter
-    requires { ⌜ Packs «record» row × (writer ≡ upto «record» 4) ⌝ }
-    ensures { λ r. ⌜ r ≡ upto «record» 28 ⌝ }
+    requires { ⌜ Packs «record» row × (writer ≡ upto «record» valuesFrom) ⌝ }
+    ensures { λ r. ⌜ r ≡ upto «record» psFrom ⌝ }
 {
     let red = push_channel(writer, record, row, 0, row.colour);
     let green = push_channel(red, record, row, 1, row.colour);
@@ -113,8 +113,8 @@ fn push_endpoints(writer: BitWriter, record: Record, row: ModeRow) -> BitWriter
 }
 
 fn push_p(writer: BitWriter, record: Record, row: ModeRow) -> BitWriter
-    requires { ⌜ Packs «record» row × (writer ≡ upto «record» 28) ⌝ }
-    ensures { λ r. ⌜ r ≡ upto «record» 34 ⌝ }
+    requires { ⌜ Packs «record» row × (writer ≡ upto «record» psFrom) ⌝ }
+    ensures { λ r. ⌜ r ≡ upto «record» firstFrom ⌝ }
 {
     let p = record.p;
     writer.push(p_word(p, row.p), row.p as u32)
@@ -138,8 +138,8 @@ fn push_set(
 
 // Both sets, where the mode has two.
 fn push_indexes(writer: BitWriter, record: Record, row: ModeRow, anchors: Anchors) -> BitWriter
-    requires { ⌜ Packs «record» row × (anchors ≡ anchorsOf («record» .split)) × (writer ≡ upto «record» 34) ⌝ }
-    ensures { λ r. ⌜ r ≡ upto «record» 66 ⌝ }
+    requires { ⌜ Packs «record» row × (anchors ≡ anchorsOf («record» .split)) × (writer ≡ upto «record» firstFrom) ⌝ }
+    ensures { λ r. ⌜ r ≡ upto «record» placeCount ⌝ }
 {
     let first = record.first;
     let one = push_set(writer, row.kind, anchors, row.first, first);

@@ -16,7 +16,7 @@ use Rattle.laws.specs.Tables.{below, both, implies, pick, table, tableFrom}
 use Rattle.laws.proofs.Tests.{at, both-left, both-right, implied, no-both}
 use Rattle.bc7_format.specs.Lines.{arrayOf, valuePlace}
 use Rattle.bc7_format.specs.Modes.{endpointCount, firstBits, kindOfMode, lines, modeRow, pCount}
-use Rattle.bc7_format.specs.Places.{Place, placeAt, pos, width, widths}
+use Rattle.bc7_format.specs.Places.{Place, placeAt, pos, width, widths, valuesFrom, psFrom, firstFrom, secondFrom}
 use Rattle.bc7_format.specs.Splits.{anchors, isVector}
 use Rattle.bc7_format.specs.WellFormed.{WellFormed}
 use Rattle.bc7_format.proofs.Meaning.{array-lt}
@@ -41,13 +41,13 @@ abbrev pair : ℕ → ℕ → ℕ
 pair m l = pick (eqb (kindOfMode m) 3) 0 (2 * l + 0)
 
 channelTest : Split → ℕ → ℕ → ℕ → Bool
-channelTest s m l c = both (eqb (channelAt (at-line m l) c) (start m s (4 + (6 * c + pair m l)))) (leb (channelAt (at-line m l) c) 100)
+channelTest s m l c = both (eqb (channelAt (at-line m l) c) (start m s (valuesFrom + (6 * c + pair m l)))) (leb (channelAt (at-line m l) c) 100)
 
 -- (where the mode has no p bits, it doesn't matter where they start)
 pTest : Split → ℕ → ℕ → Bool
 pTest s m l =
-    both (implies (not (eqb (pCount m) 0)) (eqb (at-line m l .p + pick (eqb m 1) l (2 * l + 0)) (start m s (28 + pick (eqb m 1) l (2 * l + 0)))))
-    (both (leb (at-line m l .p) 100) (eqb (at-line m l .indexes) (start m s 34)))
+    both (implies (not (eqb (pCount m) 0)) (eqb (at-line m l .p + pick (eqb m 1) l (2 * l + 0)) (start m s (psFrom + pick (eqb m 1) l (2 * l + 0)))))
+    (both (leb (at-line m l .p) 100) (eqb (at-line m l .indexes) (start m s firstFrom)))
 
 lineTest : Split → ℕ → ℕ → Bool
 lineTest s m l = implies (ltb l (lines m)) (both (below 4 (channelTest s m l)) (pTest s m l))
@@ -86,49 +86,49 @@ module _ {m : ℕ} {s : Split} {f : Place → ℕ} (g : WellFormed m s f) (l : �
   pub channel-starts : (c : ℕ) → c < 4 → channelAt (at-line m l) c ≡ start m s (pos (valuePlace s l 0 c))
   unfolding channelTest pos valuePlace
   channel-starts c h =
-      eqb→eq _ _ (both-left (eqb (channelAt (at-line m l) c) (start m s (4 + (6 * c + pair m l)))) _ (a-channel c h))
-      ∙ ap (λ (b : Bool). start m s (4 + (6 * c + pick b 0 (2 * l + 0)))) (vector-mode g)
+      eqb→eq _ _ (both-left (eqb (channelAt (at-line m l) c) (start m s (valuesFrom + (6 * c + pair m l)))) _ (a-channel c h))
+      ∙ ap (λ (b : Bool). start m s (valuesFrom + (6 * c + pick b 0 (2 * l + 0)))) (vector-mode g)
 
   pub channel-low : (c : ℕ) → c < 4 → channelAt (at-line m l) c ≤ 100
   unfolding channelTest
-  channel-low c h = leb→le _ 100 (both-right (eqb (channelAt (at-line m l) c) (start m s (4 + (6 * c + pair m l)))) _ (a-channel c h))
+  channel-low c h = leb→le _ 100 (both-right (eqb (channelAt (at-line m l) c) (start m s (valuesFrom + (6 * c + pair m l)))) _ (a-channel c h))
 
   a-p : T (pTest s m l)
   a-p = both-right (below 4 (channelTest s m l)) (pTest s m l) tested
 
-  pub p-starts : pCount m ≢ 0 → at-line m l .p + pick (eqb m 1) l (2 * l + 0) ≡ start m s (28 + pick (eqb m 1) l (2 * l + 0))
+  pub p-starts : pCount m ≢ 0 → at-line m l .p + pick (eqb m 1) l (2 * l + 0) ≡ start m s (psFrom + pick (eqb m 1) l (2 * l + 0))
   unfolding pTest
   p-starts n =
       eqb→eq _ _
-      (implied (not (eqb (pCount m) 0)) _ (both-left (implies (not (eqb (pCount m) 0)) (eqb (at-line m l .p + pick (eqb m 1) l (2 * l + 0)) (start m s (28 + pick (eqb m 1) l (2 * l + 0))))) _ a-p)
+      (implied (not (eqb (pCount m) 0)) _ (both-left (implies (not (eqb (pCount m) 0)) (eqb (at-line m l .p + pick (eqb m 1) l (2 * l + 0)) (start m s (psFrom + pick (eqb m 1) l (2 * l + 0))))) _ a-p)
       (rw (ne-eqb (pCount m) 0 n) tt))
 
-  rest : T (both (leb (at-line m l .p) 100) (eqb (at-line m l .indexes) (start m s 34)))
+  rest : T (both (leb (at-line m l .p) 100) (eqb (at-line m l .indexes) (start m s firstFrom)))
   unfolding pTest
   rest =
       both-right
-      (implies (not (eqb (pCount m) 0)) (eqb (at-line m l .p + pick (eqb m 1) l (2 * l + 0)) (start m s (28 + pick (eqb m 1) l (2 * l + 0))))) _ a-p
+      (implies (not (eqb (pCount m) 0)) (eqb (at-line m l .p + pick (eqb m 1) l (2 * l + 0)) (start m s (psFrom + pick (eqb m 1) l (2 * l + 0))))) _ a-p
 
   pub p-low : at-line m l .p ≤ 100
   p-low = leb→le _ 100 (both-left (leb (at-line m l .p) 100) _ rest)
 
   -- the first set, and the second behind it
-  first-starts : at-line m l .indexes ≡ start m s 34
+  first-starts : at-line m l .indexes ≡ start m s firstFrom
   first-starts = eqb→eq _ _ (both-right (leb (at-line m l .p) 100) _ rest)
 
-  pub set-starts : fieldsOf (rowOf m) (headEnd m) l (arrayOf s l) .indexes ≡ start m s (34 + (16 * arrayOf s l + 0))
+  pub set-starts : fieldsOf (rowOf m) (headEnd m) l (arrayOf s l) .indexes ≡ start m s (firstFrom + (16 * arrayOf s l + 0))
   unfolding fieldsOf
   set-starts = go (arrayOf s l) (array-lt s l (good-index-mode g)) refl
     where
-      behind : isVector s ≡ true → start m s 50 ≡ start m s 34 + (16 * firstBits m - 1)
+      behind : isVector s ≡ true → start m s secondFrom ≡ start m s firstFrom + (16 * firstBits m - 1)
       behind v =
           begins m s 0 (omega arith) 16 (omega arith)
-          ∙ ap (λ (t : ℕ). start m s 34 + t) (ap (λ (an : List ℕ). total (table 16 (indexWidth (firstBits m) an))) (vector-anchors s v) ∙ size-first)
+          ∙ ap (λ (t : ℕ). start m s firstFrom + t) (ap (λ (an : List ℕ). total (table 16 (indexWidth (firstBits m) an))) (vector-anchors s v) ∙ size-first)
         where
           size-first : total (table 16 (indexWidth (firstBits m) (0 ∷ []))) ≡ 16 * firstBits m - 1
           size-first = one-anchor (firstBits m) (omega (arith, good-vector g v .least1))
 
-      go : (a : ℕ) → a < 2 → arrayOf s l ≡ a → fieldsOf (rowOf m) (headEnd m) l a .indexes ≡ start m s (34 + (16 * a + 0))
+      go : (a : ℕ) → a < 2 → arrayOf s l ≡ a → fieldsOf (rowOf m) (headEnd m) l a .indexes ≡ start m s (firstFrom + (16 * a + 0))
       go zero h e = first-starts
       go (suc zero) h e = ap (λ (x : ℕ). x + (16 * firstBits m - 1)) first-starts ∙ sym (behind (second-set s l e))
       go (suc (suc a)) h e = absurd (let y : ⊥ = omega arith in y)

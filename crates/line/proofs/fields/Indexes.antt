@@ -17,7 +17,7 @@ use Rattle.laws.proofs.Rows.{fit-table, split-table}
 use Rattle.bc7_format.specs.Lines.{Line, arrayOf, has, indexPlace, laid, lineBits, withLine}
 use Rattle.bc7_format.specs.Modes.{indexBits, kindOfMode}
 use Rattle.bcn_format.specs.Partitions.{among}
-use Rattle.bc7_format.specs.Places.{Place, atPlace, index, width}
+use Rattle.bc7_format.specs.Places.{Place, atPlace, index, width, firstFrom}
 use Rattle.bc7_format.specs.Splits.{anchors}
 use Rattle.bc7_format.specs.WellFormed.{WellFormed}
 use Rattle.bc7_format.proofs.Meaning.{array-lt}
@@ -90,7 +90,7 @@ module _ {m : ℕ} {s : Split} {f : Place → ℕ} (g : WellFormed m s f) (l : �
   unfolding indexPlace width
   stood-small q h = rw bits (lt-of-lt-of-le (g .fits (index a q) (inside-index ha h)) (pow-mono (pick-less (among q (anchors s)) (indexBits m a))))
 
-  pub before-word : (n b : ℕ) → b ≡ start m s (34 + (16 * a + 0)) → ((q : ℕ) → q < 16 → atPlace m s n (indexPlace s l q) ≡ stood q)
+  pub before-word : (n b : ℕ) → b ≡ start m s (firstFrom + (16 * a + 0)) → ((q : ℕ) → q < 16 → atPlace m s n (indexPlace s l q) ≡ stood q)
       → setBefore n k b x ≡ word w stood
   unfolding setBefore indexPlace
   before-word n b eb e =
@@ -163,12 +163,12 @@ module _ {m : ℕ} {s : Split} {f : Place → ℕ} (g : WellFormed m s f) (l : �
     unfolding stored
     stored-split = split-join stand-fits
 
-    module _ (n b : ℕ) {mask new : ℕ} (eb : b ≡ start m s (34 + (16 * a + 0))) (e : (q : ℕ) → q < 16 → atPlace m s n (indexPlace s l q) ≡ stood q)
+    module _ (n b : ℕ) {mask new : ℕ} (eb : b ≡ start m s (firstFrom + (16 * a + 0))) (e : (q : ℕ) → q < 16 → atPlace m s n (indexPlace s l q) ≡ stood q)
         (em : mask ≡ word w (maskPart x)) (en : new ≡ word w (λ q. pick (own q) (o .index q) 0)) where
       after-split : split (indexWidths w []) (setAfter n k b x mask new) ≡ table 16 stands
       after-split = rw (after-word n b (before-word n b eb e) em en) (word-split w stands stands-small)
 
-      pub set-ready : start m s (34 + (16 * a + 0)) + total (indexWidths (indexBits m a) (anchors s)) ≤ 128 → SetReady n k b x mask new
+      pub set-ready : start m s (firstFrom + (16 * a + 0)) + total (indexWidths (indexBits m a) (anchors s)) ≤ 128 → SetReady n k b x mask new
       set-ready room = record {
         least = omega (arith, is .least);
         most = is .most;
@@ -181,6 +181,6 @@ module _ {m : ℕ} {s : Split} {f : Place → ℕ} (g : WellFormed m s f) (l : �
         fits = rw (after-split, anchors-are, bits) stand-fits;
       }
 
-      pub set-put : setPut n k b x mask new ≡ replacedAt n (start m s (34 + (16 * a + 0))) (total (indexWidths (indexBits m a) (anchors s))) stored
+      pub set-put : setPut n k b x mask new ≡ replacedAt n (start m s (firstFrom + (16 * a + 0))) (total (indexWidths (indexBits m a) (anchors s))) stored
       unfolding setPut stored
       set-put = rw (after-split, anchors-are, size-is, bits, eb)

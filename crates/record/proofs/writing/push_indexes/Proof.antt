@@ -12,6 +12,7 @@ use Rattle.record.proofs.writing.Pushing.{of-mode, pixels, rise, second
 use borrow.Author.Needs.{needs}
 use Rattle.record.proofs.writing.push_indexes.Statement.{statement}
 use Rattle.record.proofs.writing.push_indexes.Tie as tie
+use Rattle.bc7_format.specs.Places.{secondFrom}
 
 long-1 : (s : tie.Start) → length (s .args .«record» .first) ≡ 16
 long-1 s = search needs
@@ -19,7 +20,7 @@ long-1 s = search needs
 long-2 : (s : tie.Start) → length (s .args .«record» .second) ≡ 16
 long-2 s = search needs
 
-first : (c : tie.After-push-set) → c .push-set .result ≡ upto (c .before .before .args .«record») 50
+first : (c : tie.After-push-set) → c .push-set .result ≡ upto (c .before .before .args .«record») secondFrom
 unfolding says
 first c =
     let s = c .before .before in
