@@ -11,9 +11,10 @@ ghost use Rattle.bcn_format.specs.Block.{bytesOf};
 ghost use Rattle.bc7_format.specs.Modes.{modeOf, lines};
 ghost use Rattle.bits.specs.Stream.{held};
 ghost use Rattle.bc7_places.specs.Modes.{rowOf};
-ghost use Rattle.line_rules.specs.Read.{givenAs, lineRead, noLine, readAs};
-ghost use Rattle.line_rules.specs.Replace.{replaced, replacedAs};
+ghost use Rattle.line_rules.specs.Read.{givenAs, noLine, readAs};
+ghost use Rattle.line_rules.specs.Replace.{replacedAs};
 ghost use Rattle.line.specs.Opened.{IsOpened};
+ghost use Rattle.line_rules.specs.Promises.{ReadsLine, Replaces};
 use crate::fields::put_line;
 use crate::parts::mask_of;
 use crate::parts::only_own;
@@ -95,7 +96,7 @@ fn bytes_of(s: BitStream) -> [u8; 16]
 
 // The block with the line replaced, or the first refusal that applies: 1, 2, 3, 4.
 pub fn replace_line(block: [u8; 16], line: u32, new: Replacement) -> Replaced
-    ensures { λ r. ⌜ r ≡ replaced block line new ⌝ }
+    ensures { λ r. ⌜ Replaces block line new r ⌝ }
 {
     let mode = mode_of(block);
     if mode == 8 {
@@ -154,7 +155,7 @@ fn unread(refusal: u8) -> LineRead
 
 // The line as it stands and the widths of its parts, or the first refusal that applies: 1, 2.
 pub fn read_line(block: [u8; 16], line: u32) -> LineRead
-    ensures { λ r. ⌜ r ≡ lineRead block line ⌝ }
+    ensures { λ r. ⌜ ReadsLine block line r ⌝ }
 {
     let mode = mode_of(block);
     if mode == 8 {

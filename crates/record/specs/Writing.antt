@@ -16,7 +16,7 @@ use Rattle.record_rules.specs.Records.{says}
 use Rattle.bc7_places.specs.Modes.{rowOf}
 
 -- a record that packs, with the row of its mode: everything fits as it is stored
-pub record Packs (r : Record) (row : ModeRow) : Type 0 where
+pub record Packable (r : Record) (row : ModeRow) : Type 0 where
   pub low : r .mode < 8
   pub is : row ≡ rowOf (r .mode)
   pub kind : kindOf (r .split) ≡ kindOfMode (r .mode)

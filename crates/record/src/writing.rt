@@ -12,7 +12,7 @@ ghost use Rattle.bcn_format.specs.Indexes.{Rising, anchorCount, anchorsOfKind, 
 ghost use Rattle.bits.specs.Writer.{pushed, written};
 ghost use Rattle.record_rules.specs.Records.{says};
 ghost use Rattle.bc7_places.specs.Splits.{ArePixels, anchorsOf};
-ghost use Rattle.record.specs.Writing.{Packs, upto};
+ghost use Rattle.record.specs.Writing.{Packable, upto};
 use bc7_places::modes::ModeRow;
 use bc7_places::splits::Anchors;
 use bc7_places::splits::index_mode_of;
@@ -75,7 +75,7 @@ fn p_word(p: [u8; 6], count: usize) -> u64
 
 // Marker and split.
 fn push_head(record: Record, row: ModeRow) -> BitWriter
-    requires { ⌜ Packs «record» row ⌝ }
+    requires { ⌜ Packable «record» row ⌝ }
     ensures { λ r. ⌜ r ≡ upto «record» valuesFrom ⌝ }
 {
     let mode = record.mode;
@@ -94,7 +94,7 @@ fn push_channel(
     channel: usize,
     width: u32,
 ) -> BitWriter
-    requires { ⌜ Packs «record» row × (channel < 4) × (width ≡ channelBits («record» .mode) channel) × (writer ≡ upto «record» (valuesFrom + 6 * channel)) ⌝ }
+    requires { ⌜ Packable «record» row × (channel < 4) × (width ≡ channelBits («record» .mode) channel) × (writer ≡ upto «record» (valuesFrom + 6 * channel)) ⌝ }
     ensures { λ r. ⌜ r ≡ upto «record» (valuesFrom + 6 * channel + 6) ⌝ }
 {
     let endpoints = record.endpoints;
@@ -103,7 +103,7 @@ fn push_channel(
 }
 
 fn push_endpoints(writer: BitWriter, record: Record, row: ModeRow) -> BitWriter
-    requires { ⌜ Packs «record» row × (writer ≡ upto «record» valuesFrom) ⌝ }
+    requires { ⌜ Packable «record» row × (writer ≡ upto «record» valuesFrom) ⌝ }
     ensures { λ r. ⌜ r ≡ upto «record» psFrom ⌝ }
 {
     let red = push_channel(writer, record, row, 0, row.colour);
@@ -113,7 +113,7 @@ fn push_endpoints(writer: BitWriter, record: Record, row: ModeRow) -> BitWriter
 }
 
 fn push_p(writer: BitWriter, record: Record, row: ModeRow) -> BitWriter
-    requires { ⌜ Packs «record» row × (writer ≡ upto «record» psFrom) ⌝ }
+    requires { ⌜ Packable «record» row × (writer ≡ upto «record» psFrom) ⌝ }
     ensures { λ r. ⌜ r ≡ upto «record» firstFrom ⌝ }
 {
     let p = record.p;
@@ -138,7 +138,7 @@ fn push_set(
 
 // Both sets, where the mode has two.
 fn push_indexes(writer: BitWriter, record: Record, row: ModeRow, anchors: Anchors) -> BitWriter
-    requires { ⌜ Packs «record» row × (anchors ≡ anchorsOf («record» .split)) × (writer ≡ upto «record» firstFrom) ⌝ }
+    requires { ⌜ Packable «record» row × (anchors ≡ anchorsOf («record» .split)) × (writer ≡ upto «record» firstFrom) ⌝ }
     ensures { λ r. ⌜ r ≡ upto «record» placeCount ⌝ }
 {
     let first = record.first;
@@ -152,7 +152,7 @@ fn push_indexes(writer: BitWriter, record: Record, row: ModeRow, anchors: Anchor
 
 // The block of a record that packs.
 pub fn write_record(record: Record, row: ModeRow, anchors: Anchors) -> [u8; 16]
-    requires { ⌜ Packs «record» row × (anchors ≡ anchorsOf («record» .split)) ⌝ }
+    requires { ⌜ Packable «record» row × (anchors ≡ anchorsOf («record» .split)) ⌝ }
     ensures { λ r. ⌜ r ≡ blockOf («record» .mode) («record» .split) (says «record») ⌝ }
 {
     let head = push_head(record, row);

@@ -7,8 +7,8 @@ use mathlib.Core.Bool.{true}
 use mathlib.Core.List.{List}
 use Prim.Native.Nat.{ℕ, zero, suc, _+_, _-_, _<_, _≤_}
 use native.Mathlib.Omega.{arith}
-use borrow.Author.Tests.{eq-eqb, eqb-true, lt-ltb, le-ltb}
-use lib.Dec.{T, eqb, eqb→eq, lit<}
+use borrow.Author.Tests.{eq-eqb, lt-ltb, le-ltb}
+use lib.Dec.{eqb, eqb→eq, lit<}
 use lib.ListN.{length, getD}
 use lib.Seq.{ext-getD}
 use Rattle.line_rules.specs.declared.Replacement.{Replacement}
@@ -31,10 +31,11 @@ use Rattle.record_rules.specs.Records.{Shaped, made, packRefusal, packed, packe
 use Rattle.record_rules.proofs.Answering.{packing}
 use Rattle.record_rules.proofs.Packing.{taken-open}
 use Rattle.record_rules.proofs.Theorems.{pack-unpack, unpack-pack}
-use Rattle.record_bytes.specs.Wire.{bytesFrom, bytesRules, packedBytes, recordByte, recordBytes, recordOfBytes, replacementBytes, replacementOf, spelt, splitByte}
+use Rattle.record_bytes.specs.Wire.{bytesFrom, bytesRules, packedBytes, recordByte, recordBytes, recordOfBytes, spelt, splitByte}
 use Rattle.record_bytes.proofs.Laying.{first-at, p-bit-at, second-at, value-at}
 use Rattle.record_bytes.proofs.Packing.{as-record, bytes-packing}
 use Rattle.bc7_format.specs.Places.{valuesFrom, psFrom, firstFrom, secondFrom, placeCount}
+use Rattle.record_bytes.specs.Promises.{PacksBytes, ReadsReplacement, WritesRecord, WritesReplacement}
 
 same-split : (s : Split) → ofKind (kindOf s) (splitByte s) (splitByte s) (indexMode s) ≡ s
 same-split Whole = refl
@@ -170,14 +171,14 @@ unfolding packedBytes
 bytes-refused-when bs = exactly (bytes-packing bs)
 
 -- any two answers that a promise admits are the same
-pub determined-record-bytes : (r : Record) (a b : List ℕ) → a ≡ recordBytes r → b ≡ recordBytes r → a ≡ b
+pub determined-record-bytes : (r : Record) (a b : List ℕ) → WritesRecord r a → WritesRecord r b → a ≡ b
 determined-record-bytes r a b p q = p ∙ sym q
 
-pub determined-pack-bytes : (bs : List ℕ) (a b : Packed) → a ≡ packedBytes bs → b ≡ packedBytes bs → a ≡ b
+pub determined-pack-bytes : (bs : List ℕ) (a b : Packed) → PacksBytes bs a → PacksBytes bs b → a ≡ b
 determined-pack-bytes bs a b p q = p ∙ sym q
 
-pub determined-replacement-of : (bs : List ℕ) (a b : Replacement) → a ≡ replacementOf bs → b ≡ replacementOf bs → a ≡ b
+pub determined-replacement-of : (bs : List ℕ) (a b : Replacement) → ReadsReplacement bs a → ReadsReplacement bs b → a ≡ b
 determined-replacement-of bs a b p q = p ∙ sym q
 
-pub determined-replacement-bytes : (g : Replacement) (a b : List ℕ) → a ≡ replacementBytes g → b ≡ replacementBytes g → a ≡ b
+pub determined-replacement-bytes : (g : Replacement) (a b : List ℕ) → WritesReplacement g a → WritesReplacement g b → a ≡ b
 determined-replacement-bytes g a b p q = p ∙ sym q

@@ -8,7 +8,8 @@ ghost use lib.ListN.{getD, length, replicate};
 ghost use Rattle.laws.specs.Tables.{both, over};
 ghost use Rattle.bc7_format.specs.Splits.{indexMode};
 ghost use Rattle.record_rules.specs.Records.{packedAs};
-ghost use Rattle.record_bytes.specs.Wire.{bytesFrom, packedBytes, recordBytes, recordOfBytes, replacementBytes, replacementOf, splitByte};
+ghost use Rattle.record_bytes.specs.Wire.{bytesFrom, recordOfBytes, splitByte};
+ghost use Rattle.record_bytes.specs.Promises.{PacksBytes, ReadsReplacement, WritesRecord, WritesReplacement};
 use bc7_format::Split;
 use bc7_places::places::FIRST;
 use bc7_places::places::P_BITS;
@@ -47,7 +48,7 @@ fn lay(values: &[u8], at: usize, bytes: &mut [u8])
 
 // The bytes of a record.
 pub fn record_bytes(from: Record) -> [u8; PLACES]
-    ensures { λ r. ⌜ r ≡ recordBytes from ⌝ }
+    ensures { λ r. ⌜ WritesRecord from r ⌝ }
 {
     let split = from.split;
     let mut bytes = [0u8; PLACES];
@@ -120,7 +121,7 @@ fn refused(refusal: u8) -> Packed
 // Packing a record that is given in bytes. A byte that names no kind is a split of another kind than the mode's; one that says what
 // the kind hasn't got needs more than its width, which is 0.
 pub fn pack_bytes(bytes: [u8; PLACES]) -> Packed
-    ensures { λ r. ⌜ r ≡ packedBytes bytes ⌝ }
+    ensures { λ r. ⌜ PacksBytes bytes r ⌝ }
 {
     if 3 < bytes[1] {
         return refused(5);
@@ -139,7 +140,7 @@ pub fn pack_bytes(bytes: [u8; PLACES]) -> Packed
 
 // The replacement of 26 bytes: 8 endpoint values, 2 p bits, 16 indexes.
 pub fn replacement_of(bytes: [u8; 26]) -> Replacement
-    ensures { λ r. ⌜ r ≡ replacementOf bytes ⌝ }
+    ensures { λ r. ⌜ ReadsReplacement bytes r ⌝ }
 {
     let mut endpoints = [0u8; 8];
     copy_from(&bytes, 0, &mut endpoints);
@@ -154,7 +155,7 @@ pub fn replacement_of(bytes: [u8; 26]) -> Replacement
 
 // The bytes of a replacement, in the same order.
 pub fn replacement_bytes(from: Replacement) -> [u8; 26]
-    ensures { λ r. ⌜ r ≡ replacementBytes from ⌝ }
+    ensures { λ r. ⌜ WritesReplacement from r ⌝ }
 {
     let mut bytes = [0u8; 26];
     let endpoints = from.endpoints;

@@ -38,10 +38,10 @@ use Rattle.record_rules.specs.Records.{says}
 use Rattle.bc7_places.specs.Modes.{OfMode}
 use Rattle.bc7_places.specs.Splits.{ArePixels, anchorsOf}
 use Rattle.bc7_places.proofs.modes.Bounds.{low-partition, small}
-use Rattle.record.specs.Writing.{Packs, said, upto, wide}
+use Rattle.record.specs.Writing.{Packable, said, upto, wide}
 use Rattle.bc7_places.proofs.splits.AnchorPixels.{anchors-kind, anchors-low, anchors-rise}
 
-module _ {r : Record} {row : ModeRow} (p : Packs r row) where
+module _ {r : Record} {row : ModeRow} (p : Packable r row) where
   each : (k : ℕ) → k < placeCount → said r k < 2 ^ wide r k
   each k l = p .fits (placeAt k) (inside-placeAt k l)
 
