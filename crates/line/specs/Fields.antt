@@ -82,7 +82,13 @@ valuesPut s mode row l x new = psPut (endpointsPut (held s) (fieldsAt s row l x)
 unfoldable pub linePut : BitStream → ℕ → ModeRow → ℕ → LinePart → ℕ → Stored → ℕ
 linePut s mode row l x mask new = setPut (valuesPut s mode row l x new) (row .kind) (fieldsAt s row l x .indexes) x mask (new .indexes)
 
--- a pair of w bits at a that a number has room for
+-- a field of w bits at a that a number has room for, and a pair of them
+pub record FieldReady (a w x : ℕ) : Type 0 where
+  pub width : w < 64
+  pub below : a < 128
+  pub room : a + w ≤ 128
+  pub fits : x < 2 ^ w
+
 pub record PairReady (a w x y : ℕ) : Type 0 where
   pub width : w ≤ 8
   pub below : a < 128

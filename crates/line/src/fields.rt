@@ -4,7 +4,7 @@ ghost use Prim.Native.Nat.{_+_, _-_, _*_, _^_, _≤_, _<_};
 ghost use lib.ListN.{getD};
 ghost use Rattle.laws.specs.Digits.{replacedAt};
 ghost use Rattle.bits.specs.Stream.{held};
-ghost use Rattle.line.specs.Fields.{LineReady, SetReady, Step, linePut, psPut, setPut, standing, twoPut};
+ghost use Rattle.line.specs.Fields.{FieldReady, LineReady, PairReady, SetReady, Step, linePut, psPut, setPut, standing, twoPut};
 use crate::parts::Stored;
 use bc7_places::lines::LinePart;
 use bc7_places::modes::ModeRow;
@@ -35,7 +35,7 @@ fn exchanged(word: u64, old: u64, new: u64) -> u64
 
 // A field replaced, in one half or in both. The double shift is defined at position 0 too.
 pub fn put(s: BitStream, at: u32, count: u32, value: u64) -> BitStream
-    requires { ⌜ (count < 64) × (at < 128) × (at + count ≤ 128) × (value < 2 ^ count) ⌝ }
+    requires { ⌜ FieldReady at count value ⌝ }
     ensures { λ r. ⌜ held r ≡ replacedAt (held s) at count value ⌝ }
 {
     let bits = standing_at(s, at).take(count);
@@ -62,7 +62,7 @@ fn wide(value: u8) -> u64
 
 // Two values of one width side by side.
 pub fn put_two(s: BitStream, at: u32, width: u32, a: u8, b: u8) -> BitStream
-    requires { ⌜ (width ≤ 8) × (at < 128) × (at + 2 * width ≤ 128) × (a < 2 ^ width) × (b < 2 ^ width) ⌝ }
+    requires { ⌜ PairReady at width a b ⌝ }
     ensures { λ r. ⌜ held r ≡ twoPut (held s) at width a b ⌝ }
 {
     put(s, at, 2 * width, (wide(b) << width) + wide(a))

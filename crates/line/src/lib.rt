@@ -8,9 +8,9 @@ ghost use lib.Dec.{eqb};
 ghost use lib.ListN.{getD};
 ghost use Rattle.laws.specs.Tables.{both};
 ghost use Rattle.bcn_format.specs.Block.{bytesOf};
-ghost use Rattle.bc7_format.specs.Modes.{modeOf, lines};
+ghost use Rattle.bc7_format.specs.Modes.{lines};
 ghost use Rattle.bits.specs.Stream.{held};
-ghost use Rattle.bc7_places.specs.Modes.{rowOf};
+ghost use Rattle.bc7_places.specs.Modes.{OfBlock};
 ghost use Rattle.line_rules.specs.Read.{givenAs, noLine, readAs};
 ghost use Rattle.line_rules.specs.Replace.{replacedAs};
 ghost use Rattle.line.specs.Opened.{IsOpened};
@@ -47,7 +47,7 @@ pub struct Opened {
 
 // The mode is the block's and not the reserved one.
 fn open_line(block: [u8; 16], mode: u8, row: ModeRow, line: u32) -> Opened
-    requires { ⌜ (mode ≡ modeOf block) × (mode < 8) × (row ≡ rowOf mode) × (line < lines mode) ⌝ }
+    requires { ⌜ OfBlock block mode row × (line < lines mode) ⌝ }
     ensures { λ r. ⌜ IsOpened block line r ⌝ }
 {
     let head = read_split(row, BitStream::new(block).skip(mode as u32 + 1));

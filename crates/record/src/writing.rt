@@ -6,13 +6,11 @@ ghost use Prim.Native.Nat.{ℕ, _+_, _-_, _*_, _^_, _<_, _≤_};
 ghost use lib.ListN.{getD};
 ghost use Rattle.laws.specs.Digits.{Fit, join, row};
 ghost use Rattle.bcn_format.specs.Block.{field};
-ghost use Rattle.bc7_format.specs.Modes.{channelBits};
 ghost use Rattle.bc7_format.specs.Places.{blockOf, firstFrom, placeCount, psFrom, valuesFrom};
-ghost use Rattle.bcn_format.specs.Indexes.{Rising, anchorCount, anchorsOfKind, indexWidths};
-ghost use Rattle.bits.specs.Writer.{pushed, written};
+ghost use Rattle.bcn_format.specs.Indexes.{anchorCount, anchorsOfKind, indexWidths};
+ghost use Rattle.bits.specs.Writer.{pushed};
 ghost use Rattle.record_rules.specs.Records.{says};
-ghost use Rattle.bc7_places.specs.Splits.{ArePixels, anchorsOf};
-ghost use Rattle.record.specs.Writing.{Packable, upto};
+ghost use Rattle.record.specs.Writing.{ChannelNext, IndexesNext, Next, Packable, PackableWith, SetNext, upto};
 use bc7_places::modes::ModeRow;
 use bc7_places::splits::Anchors;
 use bc7_places::splits::index_mode_of;
@@ -94,7 +92,7 @@ fn push_channel(
     channel: usize,
     width: u32,
 ) -> BitWriter
-    requires { ⌜ Packable «record» row × (channel < 4) × (width ≡ channelBits («record» .mode) channel) × (writer ≡ upto «record» (valuesFrom + 6 * channel)) ⌝ }
+    requires { ⌜ ChannelNext «record» row channel width writer ⌝ }
     ensures { λ r. ⌜ r ≡ upto «record» (valuesFrom + 6 * channel + 6) ⌝ }
 {
     let endpoints = record.endpoints;
@@ -103,7 +101,7 @@ fn push_channel(
 }
 
 fn push_endpoints(writer: BitWriter, record: Record, row: ModeRow) -> BitWriter
-    requires { ⌜ Packable «record» row × (writer ≡ upto «record» valuesFrom) ⌝ }
+    requires { ⌜ Next «record» row valuesFrom writer ⌝ }
     ensures { λ r. ⌜ r ≡ upto «record» psFrom ⌝ }
 {
     let red = push_channel(writer, record, row, 0, row.colour);
@@ -113,7 +111,7 @@ fn push_endpoints(writer: BitWriter, record: Record, row: ModeRow) -> BitWriter
 }
 
 fn push_p(writer: BitWriter, record: Record, row: ModeRow) -> BitWriter
-    requires { ⌜ Packable «record» row × (writer ≡ upto «record» psFrom) ⌝ }
+    requires { ⌜ Next «record» row psFrom writer ⌝ }
     ensures { λ r. ⌜ r ≡ upto «record» firstFrom ⌝ }
 {
     let p = record.p;
@@ -128,7 +126,7 @@ fn push_set(
     width: u32,
     indexes: [u8; 16],
 ) -> BitWriter
-    requires { ⌜ (0 < width) × (width ≤ 4) × ArePixels anchors × Rising kind (anchors .b) (anchors .c) × Fit (indexWidths width (anchorsOfKind kind (anchors .b) (anchors .c))) indexes × (writer .at + (16 * width - anchorCount kind) ≤ 128) × (written writer < 2 ^ writer .at) ⌝ }
+    requires { ⌜ SetNext writer kind anchors width indexes ⌝ }
     ensures { λ r. ⌜ r ≡ pushed writer (join (indexWidths width (anchorsOfKind kind (anchors .b) (anchors .c))) indexes) (16 * width - anchorCount kind) ⌝ }
 {
     let word = word_of(indexes, width);
@@ -138,7 +136,7 @@ fn push_set(
 
 // Both sets, where the mode has two.
 fn push_indexes(writer: BitWriter, record: Record, row: ModeRow, anchors: Anchors) -> BitWriter
-    requires { ⌜ Packable «record» row × (anchors ≡ anchorsOf («record» .split)) × (writer ≡ upto «record» firstFrom) ⌝ }
+    requires { ⌜ IndexesNext «record» row anchors writer ⌝ }
     ensures { λ r. ⌜ r ≡ upto «record» placeCount ⌝ }
 {
     let first = record.first;
@@ -152,7 +150,7 @@ fn push_indexes(writer: BitWriter, record: Record, row: ModeRow, anchors: Anchor
 
 // The block of a record that packs.
 pub fn write_record(record: Record, row: ModeRow, anchors: Anchors) -> [u8; 16]
-    requires { ⌜ Packable «record» row × (anchors ≡ anchorsOf («record» .split)) ⌝ }
+    requires { ⌜ PackableWith «record» row anchors ⌝ }
     ensures { λ r. ⌜ r ≡ blockOf («record» .mode) («record» .split) (says «record») ⌝ }
 {
     let head = push_head(record, row);

@@ -116,9 +116,7 @@ returns-2 c =
 
 open-line-requires : tie.Need-open-line-requires
 open-line-requires c κs = (
-  mode-is (unreserved c),
-  rw (mode-is (unreserved c)) (low (unreserved c)),
-  c .before .before .mode-row .ensures,
+  record { mode-is = mode-is (unreserved c); low = rw (mode-is (unreserved c)) (low (unreserved c)); row-is = c .before .before .mode-row .ensures },
   rw (mode-is (unreserved c)) (counted c),
 )
 

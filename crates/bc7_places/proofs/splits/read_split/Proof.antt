@@ -9,19 +9,19 @@ use Rattle.bc7_places.proofs.splits.read_split.Statement.{statement}
 use Rattle.bc7_places.proofs.splits.read_split.Tie as tie
 
 add-take : tie.Need-add-take
-add-take c = omega (arith, small (c .before .pre .0) .split)
+add-take c = omega (arith, small (c .before .pre .of-mode) .split)
 
 add-take-2 : tie.Need-add-take-2
-add-take-2 c = omega (arith, small (c .before .before .pre .0) .split)
+add-take-2 c = omega (arith, small (c .before .before .pre .of-mode) .split)
 
 take-requires : tie.Need-take-requires
-take-requires c κs = let b = small (c .before .before .pre .0) .split in (omega (arith, b), omega (arith, b, c .before .before .pre .1))
+take-requires c κs = let b = small (c .before .before .pre .of-mode) .split in (omega (arith, b), omega (arith, b, c .before .before .pre .within))
 
 cast-value : tie.Need-cast-value
 cast-value c =
     record {
       fits = rw (c .before .before .take .ensures)
-          (field-below _ _ _ 8 (omega (arith, small (c .before .before .before .before .before .pre .0) .split)));
+          (field-below _ _ _ 8 (omega (arith, small (c .before .before .before .before .before .pre .of-mode) .split)));
     }
 
 split-of-kind-requires : tie.Need-split-of-kind-requires
@@ -29,7 +29,7 @@ split-of-kind-requires c κs = search needs
 
 returns : tie.Need-returns
 returns c =
-    split-taken _ _ (c .before .before .before .before .before .before .pre .0) (c .before .before .before .take .ensures) (c .split-of-kind .ensures)
+    split-taken _ _ (c .before .before .before .before .before .before .pre .of-mode) (c .before .before .before .take .ensures) (c .split-of-kind .ensures)
 
 pub read-split-spec : {M : Type 1} → statement M
 read-split-spec =
