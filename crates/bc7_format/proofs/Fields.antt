@@ -18,7 +18,7 @@ use Rattle.laws.proofs.Rows.{split-mod, total-more}
 use Rattle.laws.proofs.Tests.{at, implied}
 use Rattle.bcn_format.specs.Block.{field}
 use Rattle.bc7_format.specs.Modes.{alphaBits, channelBits, colourBits, endpointCount, indexBits, kindOfMode, modeRow, pCount}
-use Rattle.bc7_format.specs.Places.{atPlace, index, pbit, placeAt, pos, value, width, widths}
+use Rattle.bc7_format.specs.Places.{atPlace, index, pbit, placeAt, pos, value, width, widths, firstFrom, secondFrom}
 use Rattle.bc7_format.specs.Splits.{anchors, splitAt}
 use Rattle.bc7_format.proofs.Places.{inside-index, inside-pbit, inside-value, placeAt-pos}
 use Rattle.bc7_format.proofs.Starts.{at-field, start, start-next}
@@ -46,9 +46,9 @@ unfolding pTest start widths table tableFrom placeAt width pos headEnd implies m
 ps-start s = tt
 
 -- and the indexes behind those
-pub first-start : (m : ℕ) (s : Split) → m < 8 → start m s 34 ≡ valuesEnd m + pCount m
+pub first-start : (m : ℕ) (s : Split) → m < 8 → start m s firstFrom ≡ valuesEnd m + pCount m
 unfolding start widths table tableFrom placeAt width headEnd modeRow endpointCount
-first-start m s h = eqb→eq _ _ (at 8 (λ m. eqb (start m s 34) (valuesEnd m + pCount m)) tt m h)
+first-start m s h = eqb→eq _ _ (at 8 (λ m. eqb (start m s firstFrom) (valuesEnd m + pCount m)) tt m h)
 
 six-ends : (m : ℕ) → m < 8 → endpointCount m ≤ 6
 unfolding modeRow endpointCount
@@ -87,38 +87,38 @@ module _ (m : ℕ) (s : Split) (a : ℕ) (ha : a < 2) where
   abbrev wide : ℕ → ℕ
   wide q = indexWidth (indexBits m a) (anchors s) q
 
-  wide-is : (q : ℕ) → q < 16 → width m (anchors s) (placeAt (34 + (16 * a + q))) ≡ wide q
+  wide-is : (q : ℕ) → q < 16 → width m (anchors s) (placeAt (firstFrom + (16 * a + q))) ≡ wide q
   unfolding pos width
   wide-is q hq = ap (width m (anchors s)) (placeAt-pos (index a q) (inside-index ha hq))
 
-  pub begins : (q : ℕ) → q ≤ 16 → start m s (34 + (16 * a + q)) ≡ start m s (34 + (16 * a + 0)) + total (table q wide)
+  pub begins : (q : ℕ) → q ≤ 16 → start m s (firstFrom + (16 * a + q)) ≡ start m s (firstFrom + (16 * a + 0)) + total (table q wide)
   unfolding table tableFrom
   begins zero h = omega arith
   begins (suc q) h =
-      let next : start m s (suc (34 + (16 * a + q))) ≡ start m s (34 + (16 * a + q)) + width m (anchors s) (placeAt (34 + (16 * a + q))) = start-next m s (34 + (16 * a + q)) (omega arith) in
-      let before : start m s (34 + (16 * a + q)) ≡ start m s (34 + (16 * a + 0)) + total (table q wide) = begins q (omega arith) in
-      let e : 34 + (16 * a + suc q) ≡ suc (34 + (16 * a + q)) = omega arith in
+      let next : start m s (suc (firstFrom + (16 * a + q))) ≡ start m s (firstFrom + (16 * a + q)) + width m (anchors s) (placeAt (firstFrom + (16 * a + q))) = start-next m s (firstFrom + (16 * a + q)) (omega arith) in
+      let before : start m s (firstFrom + (16 * a + q)) ≡ start m s (firstFrom + (16 * a + 0)) + total (table q wide) = begins q (omega arith) in
+      let e : firstFrom + (16 * a + suc q) ≡ suc (firstFrom + (16 * a + q)) = omega arith in
       ap (start m s) e
-      ∙ (let z : start m s (suc (34 + (16 * a + q))) ≡ start m s (34 + (16 * a + 0)) + total (table (suc q) wide) = omega (arith, wide-is q h, total-more q wide) in z)
+      ∙ (let z : start m s (suc (firstFrom + (16 * a + q))) ≡ start m s (firstFrom + (16 * a + 0)) + total (table (suc q) wide) = omega (arith, wide-is q h, total-more q wide) in z)
 
   -- a word of indexes, read whole and expanded
   pub index-at : (n q : ℕ) → q < 16
-      → part (expanded (indexBits m a) (anchors s) (field n (start m s (34 + (16 * a + 0))) (total (indexWidths (indexBits m a) (anchors s))))) (indexBits m a) q ≡ atPlace m s n (index a q)
+      → part (expanded (indexBits m a) (anchors s) (field n (start m s (firstFrom + (16 * a + 0))) (total (indexWidths (indexBits m a) (anchors s))))) (indexBits m a) q ≡ atPlace m s n (index a q)
   unfolding field expanded pos width
   index-at n q hq =
       let w : ℕ = indexBits m a in
-      let first : ℕ = start m s (34 + (16 * a + 0)) in
+      let first : ℕ = start m s (firstFrom + (16 * a + 0)) in
       ap (λ (l : List ℕ). part (join (indexWidths w []) l) w q) (split-mod (indexWidths w (anchors s)) (n / 2 ^ first))
       ∙ part-expanded w (anchors s) (n / 2 ^ first) q hq
       ∙ ap (λ (x : ℕ). x % 2 ^ wide q) (shr-shr n first (total (table q wide)) ∙ ap (λ (x : ℕ). n / 2 ^ x) (sym (begins q (omega arith))))
       ∙ sym (at-field m s n (index a q) (inside-index ha hq))
 
 -- where the second indexes of modes 4 and 5 start, and what their split is
-pub second-4 : (r i : ℕ) → start 4 (Vector r i) 50 ≡ 81
+pub second-4 : (r i : ℕ) → start 4 (Vector r i) secondFrom ≡ 81
 unfolding start widths table tableFrom placeAt width modeRow endpointCount
 second-4 r i = refl
 
-pub second-5 : (r i : ℕ) → start 5 (Vector r i) 50 ≡ 97
+pub second-5 : (r i : ℕ) → start 5 (Vector r i) secondFrom ≡ 97
 unfolding start widths table tableFrom placeAt width modeRow endpointCount
 second-5 r i = refl
 

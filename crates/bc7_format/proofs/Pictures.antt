@@ -19,7 +19,7 @@ use Rattle.bcn_format.specs.Block.{field}
 use Rattle.bcn_format.specs.Drawing.{drawn, weightOf}
 use Rattle.bc7_format.specs.Lines.{arrayOf, lineAt, rotated}
 use Rattle.bc7_format.specs.Modes.{firstBits, indexBits}
-use Rattle.bc7_format.specs.Places.{atPlace, index}
+use Rattle.bc7_format.specs.Places.{atPlace, index, firstFrom}
 use Rattle.bc7_format.specs.Splits.{anchors, isVector, splitAt, subset}
 use Rattle.bc7_format.proofs.Meaning.{rotated-lt}
 use Rattle.bc7_format.proofs.Starts.{start}
@@ -45,7 +45,7 @@ four-ext f g h = λ i. h 0 (omega arith) i ∷ h 1 (omega arith) i ∷ h 2 (omeg
 
 -- the word of the indexes of set a
 pub indexes-at : (m : ℕ) (s : Split) (a n b t : ℕ) (an : List ℕ) {x : ℕ} → a < 2 → indexBits m a ≡ b → anchors s ≡ an → total (indexWidths b an) ≡ t
-    → x ≡ expanded b an (field n (start m s (34 + (16 * a + 0))) t) → (q : ℕ) → q < 16 → part x b q ≡ atPlace m s n (index a q)
+    → x ≡ expanded b an (field n (start m s (firstFrom + (16 * a + 0))) t) → (q : ℕ) → q < 16 → part x b q ≡ atPlace m s n (index a q)
 indexes-at m s a n b t an ha eb ea et ex q hq = rw (ex, ← et, ← ea, ← eb) (index-at m s a ha n q hq)
 
 -- where there are subsets

@@ -21,7 +21,7 @@ use Rattle.laws.proofs.Rows.{fit-table}
 use Rattle.laws.proofs.Tests.{at, both-intro, both-left, both-right}
 use Rattle.bc7_format.specs.Modes.{endpointCount, indexBits, kindOfMode, modeRow, partitionBits}
 use Rattle.bcn_format.specs.Partitions.{among, anchors2, anchors3, digits, marks, strings2, strings3}
-use Rattle.bc7_format.specs.Places.{Place, head, index, inside, listOf, pbit, placeAt, pos, value, width, widths}
+use Rattle.bc7_format.specs.Places.{Place, head, index, inside, listOf, pbit, placeAt, pos, value, width, widths, valuesFrom, psFrom, firstFrom, placeCount}
 use Rattle.bc7_format.specs.Splits.{anchors, indexMode, kindOf, ofKind, partition, rotation}
 
 -- the places that code names are there
@@ -34,7 +34,7 @@ inside-pbit {k} h = lt→ltb k 6 h
 pub inside-index : {a q : ℕ} → a < 2 → q < 16 → T (inside (index a q))
 inside-index {a} {q} ha hq = both-intro (ltb a 2) (ltb q 16) (lt→ltb a 2 ha) (lt→ltb q 16 hq)
 
-pub pos-lt : (x : Place) → T (inside x) → pos x < 66
+pub pos-lt : (x : Place) → T (inside x) → pos x < placeCount
 unfolding pos
 pos-lt (head k) h = omega (arith, ltb→lt k 4 h)
 pos-lt (value c e) h = omega (arith, ltb→lt c 4 (both-left (ltb c 4) (ltb e 6) h), ltb→lt e 6 (both-right (ltb c 4) (ltb e 6) h))
@@ -43,30 +43,30 @@ pos-lt (index a q) h = omega (arith, ltb→lt a 2 (both-left (ltb a 2) (ltb q 16
 
 pub placeAt-pos : (x : Place) → T (inside x) → placeAt (pos x) ≡ x
 unfolding pos placeAt
-placeAt-pos (head k) h = rw (lt-ltb k 4 (ltb→lt k 4 h))
+placeAt-pos (head k) h = rw (lt-ltb k valuesFrom (ltb→lt k 4 h))
 placeAt-pos (value c e) h =
     let hc : c < 4 = ltb→lt c 4 (both-left (ltb c 4) (ltb e 6) h) in
     let he : e < 6 = ltb→lt e 6 (both-right (ltb c 4) (ltb e 6) h) in
-    let i : ℕ = 4 + (6 * c + e) in
-    rw (le-ltb (4 + (6 * c + e)) 4 (omega arith), lt-ltb (4 + (6 * c + e)) 28 (omega arith))
-    (ap₂ value (let z : (4 + (6 * c + e) - 4) / 6 ≡ c = omega arith in z) (let z : (4 + (6 * c + e) - 4) % 6 ≡ e = omega arith in z))
+    let i : ℕ = valuesFrom + (6 * c + e) in
+    rw (le-ltb (valuesFrom + (6 * c + e)) valuesFrom (omega arith), lt-ltb (valuesFrom + (6 * c + e)) psFrom (omega arith))
+    (ap₂ value (let z : (valuesFrom + (6 * c + e) - valuesFrom) / 6 ≡ c = omega arith in z) (let z : (valuesFrom + (6 * c + e) - valuesFrom) % 6 ≡ e = omega arith in z))
 placeAt-pos (pbit k) h =
     let hk : k < 6 = ltb→lt k 6 h in
-    rw (le-ltb (28 + k) 4 (omega arith), le-ltb (28 + k) 28 (omega arith), lt-ltb (28 + k) 34 (omega arith))
-    (ap pbit (let z : 28 + k - 28 ≡ k = omega arith in z))
+    rw (le-ltb (psFrom + k) valuesFrom (omega arith), le-ltb (psFrom + k) psFrom (omega arith), lt-ltb (psFrom + k) firstFrom (omega arith))
+    (ap pbit (let z : psFrom + k - psFrom ≡ k = omega arith in z))
 placeAt-pos (index a q) h =
     let ha : a < 2 = ltb→lt a 2 (both-left (ltb a 2) (ltb q 16) h) in
     let hq : q < 16 = ltb→lt q 16 (both-right (ltb a 2) (ltb q 16) h) in
-    rw (le-ltb (34 + (16 * a + q)) 4 (omega arith), le-ltb (34 + (16 * a + q)) 28 (omega arith), le-ltb (34 + (16 * a + q)) 34 (omega arith))
-    (ap₂ index (let z : (34 + (16 * a + q) - 34) / 16 ≡ a = omega arith in z) (let z : (34 + (16 * a + q) - 34) % 16 ≡ q = omega arith in z))
+    rw (le-ltb (firstFrom + (16 * a + q)) valuesFrom (omega arith), le-ltb (firstFrom + (16 * a + q)) psFrom (omega arith), le-ltb (firstFrom + (16 * a + q)) firstFrom (omega arith))
+    (ap₂ index (let z : (firstFrom + (16 * a + q) - firstFrom) / 16 ≡ a = omega arith in z) (let z : (firstFrom + (16 * a + q) - firstFrom) % 16 ≡ q = omega arith in z))
 
-pub pos-placeAt : (i : ℕ) → i < 66 → pos (placeAt i) ≡ i
+pub pos-placeAt : (i : ℕ) → i < placeCount → pos (placeAt i) ≡ i
 unfolding pos placeAt
-pos-placeAt i h = eqb→eq _ i (at 66 (λ i. eqb (pos (placeAt i)) i) tt i h)
+pos-placeAt i h = eqb→eq _ i (at placeCount (λ i. eqb (pos (placeAt i)) i) tt i h)
 
-pub inside-placeAt : (i : ℕ) → i < 66 → T (inside (placeAt i))
+pub inside-placeAt : (i : ℕ) → i < placeCount → T (inside (placeAt i))
 unfolding placeAt
-inside-placeAt i h = at 66 (λ i. inside (placeAt i)) tt i h
+inside-placeAt i h = at placeCount (λ i. inside (placeAt i)) tt i h
 
 pub pos-one : (x y : Place) → T (inside x) → T (inside y) → pos x ≡ pos y → x ≡ y
 pos-one x y hx hy e = sym (placeAt-pos x hx) ∙ ap placeAt e ∙ placeAt-pos y hy
@@ -74,31 +74,31 @@ pos-one x y hx hy e = sym (placeAt-pos x hx) ∙ ap placeAt e ∙ placeAt-pos y 
 -- a list by its places, and back
 pub at-list : (f : Place → ℕ) (x : Place) → T (inside x) → getD (listOf f) (pos x) 0 ≡ f x
 unfolding listOf
-at-list f x h = getD-table 66 (λ i. f (placeAt i)) 0 (pos x) (pos-lt x h) ∙ ap f (placeAt-pos x h)
+at-list f x h = getD-table placeCount (λ i. f (placeAt i)) 0 (pos x) (pos-lt x h) ∙ ap f (placeAt-pos x h)
 
 pub list-ext : (f g : Place → ℕ) → ((x : Place) → T (inside x) → f x ≡ g x) → listOf f ≡ listOf g
 unfolding listOf
-list-ext f g h = table-same 0 66 _ _ (λ i l. h (placeAt i) (inside-placeAt i l))
+list-ext f g h = table-same 0 placeCount _ _ (λ i l. h (placeAt i) (inside-placeAt i l))
 
-pub list-at : (vs : List ℕ) → length vs ≡ 66 → listOf (λ x. getD vs (pos x) 0) ≡ vs
+pub list-at : (vs : List ℕ) → length vs ≡ placeCount → listOf (λ x. getD vs (pos x) 0) ≡ vs
 unfolding listOf
 list-at vs e =
-    ext-getD 0 _ vs (length-table 66 (λ i. getD vs (pos (placeAt i)) 0) ∙ sym e) (λ i l.
-    let l' : i < 66 = rw (length-table 66 (λ i. getD vs (pos (placeAt i)) 0)) at l in
-    getD-table 66 (λ i. getD vs (pos (placeAt i)) 0) 0 i l' ∙ ap (λ (j : ℕ). getD vs j 0) (pos-placeAt i l'))
+    ext-getD 0 _ vs (length-table placeCount (λ i. getD vs (pos (placeAt i)) 0) ∙ sym e) (λ i l.
+    let l' : i < placeCount = rw (length-table placeCount (λ i. getD vs (pos (placeAt i)) 0)) at l in
+    getD-table placeCount (λ i. getD vs (pos (placeAt i)) 0) 0 i l' ∙ ap (λ (j : ℕ). getD vs j 0) (pos-placeAt i l'))
 
 -- fitting, place by place
 pub fit-list : (m : ℕ) (s : Split) (f : Place → ℕ) → ((x : Place) → T (inside x) → f x < 2 ^ width m (anchors s) x) → Fit (widths m s) (listOf f)
 unfolding widths listOf table
-fit-list m s f h = fit-table 66 _ _ (λ k l. h (placeAt k) (inside-placeAt k l))
+fit-list m s f h = fit-table placeCount _ _ (λ k l. h (placeAt k) (inside-placeAt k l))
 
 pub fit-at : (m : ℕ) (s : Split) (vs : List ℕ) → Fit (widths m s) vs → (x : Place) → T (inside x) → getD vs (pos x) 0 < 2 ^ width m (anchors s) x
 unfolding widths
-fit-at m s vs f x h = rw (getD-table 66 (λ i. width m (anchors s) (placeAt i)) 0 (pos x) (pos-lt x h), placeAt-pos x h) at (fit-get f (pos x))
+fit-at m s vs f x h = rw (getD-table placeCount (λ i. width m (anchors s) (placeAt i)) 0 (pos x) (pos-lt x h), placeAt-pos x h) at (fit-get f (pos x))
 
-pub length-widths : (m : ℕ) (s : Split) → length (widths m s) ≡ 66
+pub length-widths : (m : ℕ) (s : Split) → length (widths m s) ≡ placeCount
 unfolding widths
-length-widths m s = length-table 66 _
+length-widths m s = length-table placeCount _
 
 -- an anchor's width is no more than the full one
 pub width-le : (m : ℕ) (an : List ℕ) (x : Place) → width m an x ≤ width m [] x
@@ -131,6 +131,6 @@ unfolding widths
 total-128 m s hm hk hp =
     let e : anchors s ≡ anchors (ofKind (kindOfMode m) (partition s) 0 0) =
     ap anchors (split-of-kind s) ∙ same-anchors (kindOf s) (partition s) (rotation s) (indexMode s) ∙ ap (λ (k : ℕ). anchors (ofKind k (partition s) 0 0)) hk in
-    ap (λ (an : List ℕ). total (table 66 (λ i. width m an (placeAt i)))) e
+    ap (λ (an : List ℕ). total (table placeCount (λ i. width m an (placeAt i)))) e
     ∙ eqb→eq _ 128 (at (2 ^ partitionBits m) (λ a. eqb (total (widths m (ofKind (kindOfMode m) a 0 0))) 128)
     (at 8 (λ m. below (2 ^ partitionBits m) (λ a. eqb (total (widths m (ofKind (kindOfMode m) a 0 0))) 128)) all-128 m hm) (partition s) hp)

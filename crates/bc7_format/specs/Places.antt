@@ -21,9 +21,26 @@ pub data Place : Type 0 where
   pbit : ℕ → Place
   index : ℕ → ℕ → Place
 
+-- where the groups start in the list of places: the values behind the four of the head, the p bits, the first and the second
+-- indexes; and how many places there are. (A record's 66 bytes have their groups there too)
+abbrev pub valuesFrom : ℕ
+valuesFrom = 4
+
+abbrev pub psFrom : ℕ
+psFrom = 28
+
+abbrev pub firstFrom : ℕ
+firstFrom = 34
+
+abbrev pub secondFrom : ℕ
+secondFrom = 50
+
+abbrev pub placeCount : ℕ
+placeCount = 66
+
 -- the places there are
 abbrev pub inside : Place → Bool
-inside (head k) = ltb k 4
+inside (head k) = ltb k valuesFrom
 inside (value c e) = both (ltb c 4) (ltb e 6)
 inside (pbit k) = ltb k 6
 inside (index a q) = both (ltb a 2) (ltb q 16)
@@ -31,16 +48,16 @@ inside (index a q) = both (ltb a 2) (ltb q 16)
 -- the stored order: red of the endpoints 0 to 5, green, blue, alpha, the p bits, the first and the second indexes; and back
 unfoldable pub placeAt : ℕ → Place
 placeAt i =
-    pick (ltb i 4) (head i)
-    (pick (ltb i 28) (value ((i - 4) / 6) ((i - 4) % 6))
-    (pick (ltb i 34) (pbit (i - 28))
-    (index ((i - 34) / 16) ((i - 34) % 16))))
+    pick (ltb i valuesFrom) (head i)
+    (pick (ltb i psFrom) (value ((i - valuesFrom) / 6) ((i - valuesFrom) % 6))
+    (pick (ltb i firstFrom) (pbit (i - psFrom))
+    (index ((i - firstFrom) / 16) ((i - firstFrom) % 16))))
 
 unfoldable pub pos : Place → ℕ
 pos (head k) = k
-pos (value c e) = 4 + (6 * c + e)
-pos (pbit k) = 28 + k
-pos (index a q) = 34 + (16 * a + q)
+pos (value c e) = valuesFrom + (6 * c + e)
+pos (pbit k) = psFrom + k
+pos (index a q) = firstFrom + (16 * a + q)
 
 -- how many bits a place has in a mode, where the pixels of `an` are anchors: an anchor's index has one bit less
 unfoldable pub width : ℕ → List ℕ → Place → ℕ
@@ -51,10 +68,10 @@ width m an (index a q) = pick (among q an) (indexBits m a - 1) (indexBits m a)
 
 -- all widths, and what stands at all places, in stored order
 unfoldable pub widths : ℕ → Split → List ℕ
-widths m s = table 66 (λ i. width m (anchors s) (placeAt i))
+widths m s = table placeCount (λ i. width m (anchors s) (placeAt i))
 
 unfoldable pub listOf : (Place → ℕ) → List ℕ
-listOf f = table 66 (λ i. f (placeAt i))
+listOf f = table placeCount (λ i. f (placeAt i))
 
 -- what stands at a place of a number, in a mode and a split; and of a block
 unfoldable pub atPlace : ℕ → Split → ℕ → Place → ℕ

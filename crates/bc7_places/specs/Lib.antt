@@ -1,2 +1,5 @@
--- The definitions that the contracts cite.
-pub mod Rows
+-- The definitions that the contracts cite, a page for each module.
+pub mod Modes
+pub mod Splits
+pub mod Places
+pub mod Lines

@@ -1,3 +1,6 @@
-// The pages of `bc7_format` as code: what a mode stores, and what its split says.
+// The pages of `bc7_format` as code, a module for each page: the table of modes, what a split says, where the fields of a block
+// stand, and what a line has.
+pub mod lines;
 pub mod modes;
+pub mod places;
 pub mod splits;

@@ -1,11 +1,8 @@
-// The table of modes by rows, and the anchors of a split.
+// The table of modes by rows, and the mode of a block.
 ghost use mathlib.Core.Path.{_≡_};
 ghost use Prim.Native.Nat.{_<_};
-ghost use Rattle.bc7_format.specs.Splits.{partition};
-ghost use Rattle.bc7_places.specs.Rows.{anchorsOf, rowAs, rowOf};
-use bc7_format::Split;
-use partitions::fixup_index_2;
-use partitions::fixup_indexes_3;
+ghost use Rattle.bc7_format.specs.Modes.{modeOf};
+ghost use Rattle.bc7_places.specs.Modes.{rowAs, rowOf};
 
 // A row of the table. The kind of split: 0 whole, 1 two subsets, 2 three subsets, 3 vector and scalar.
 pub struct ModeRow {
@@ -20,13 +17,6 @@ pub struct ModeRow {
     pub p: usize,
     pub first: u32,
     pub second: u32,
-}
-
-// The pixels that are anchors, as three numbers: pixel 0 again where a split has fewer.
-pub struct Anchors {
-    pub a: usize,
-    pub b: usize,
-    pub c: usize,
 }
 
 // A row, its columns in the order of the struct.
@@ -78,32 +68,9 @@ pub fn mode_row(mode: u8) -> ModeRow
     }
 }
 
-// Pixel 0 is always an anchor; the partition tables have the others.
-pub fn anchors_of(split: Split) -> Anchors
-    requires { ⌜ partition split < 64 ⌝ }
-    ensures { λ r. ⌜ r ≡ anchorsOf split ⌝ }
+// The mode is the count of zero bits that byte 0 ends in, and 8 is reserved.
+pub fn mode_of(block: [u8; 16]) -> u8
+    ensures { λ r. ⌜ r ≡ modeOf block ⌝ }
 {
-    match split {
-        Split::Whole => Anchors { a: 0, b: 0, c: 0 },
-        Split::Two(partition) => {
-            let fixup = fixup_index_2(partition);
-            Anchors {
-                a: 0,
-                b: fixup as usize,
-                c: 0,
-            }
-        }
-        Split::Three(partition) => {
-            let fixups = fixup_indexes_3(partition);
-            Anchors {
-                a: 0,
-                b: fixups.fixup_index_2 as usize,
-                c: fixups.fixup_index_3 as usize,
-            }
-        }
-        Split::Vector {
-            rotation: _,
-            index_mode: _,
-        } => Anchors { a: 0, b: 0, c: 0 },
-    }
+    u8::trailing_zeros(block[0]) as u8
 }

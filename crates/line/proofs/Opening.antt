@@ -11,9 +11,9 @@ use Rattle.line.specs.declared.Opened.{Opened}
 use Rattle.line_rules.specs.declared.Replacement.{Replacement}
 use Rattle.laws.specs.Refusals.{first}
 use Rattle.bits.specs.declared.stream.BitStream.{BitStream}
-use Rattle.record.specs.declared.reading.ReadSplit.{ReadSplit}
+use Rattle.bc7_places.specs.declared.splits.ReadSplit.{ReadSplit}
 use Rattle.bc7_places.specs.declared.modes.ModeRow.{ModeRow}
-use Rattle.line.specs.declared.parts.LinePart.{LinePart}
+use Rattle.bc7_places.specs.declared.lines.LinePart.{LinePart}
 use Rattle.laws.specs.Digits.{Fit}
 use Rattle.bcn_format.specs.Block.{eights, number}
 use Rattle.bc7_format.specs.Modes.{modeOf, indexModeBits, lines, partitionBits, rotationBits}
@@ -24,11 +24,12 @@ use Rattle.bc7_format.proofs.Opening.{opened-good}
 use Rattle.bits.specs.Stream.{held, skipped}
 use Rattle.bits.proofs.On.{On}
 use Rattle.bc7_format.specs.Fields.{headEnd}
-use Rattle.bc7_places.specs.Rows.{rowOf}
-use Rattle.record.specs.Reading.{splitRead}
-use Rattle.record.proofs.reading.Heads.{marker-on, split-is, split-on}
-use Rattle.line.specs.Parts.{OfLine, partOf}
-use Rattle.line.proofs.parts.Parts.{IsPart, is-part, of-line}
+use Rattle.bc7_places.specs.Modes.{rowOf}
+use Rattle.bc7_places.specs.Splits.{splitRead}
+use Rattle.bc7_places.proofs.splits.Heads.{marker-on, split-is, split-on}
+use Rattle.bc7_places.specs.Lines.{OfLine, partOf}
+use Rattle.line.proofs.parts.Parts.{IsPart, is-part}
+use Rattle.bc7_places.proofs.lines.Parts.{of-line}
 use Rattle.line_rules.specs.Read.{lineRead, noLine, readAs, readRefusal}
 use Rattle.line_rules.proofs.Reading.{read-is}
 use Rattle.line.specs.Opened.{IsOpened}

@@ -11,8 +11,8 @@ use lib.Bits.{bitAnd}
 use lib.Dec.{T, eqb}
 use lib.Pow.{pow-pos}
 use Rattle.bits.specs.declared.stream.BitStream.{BitStream}
-use Rattle.line.specs.declared.fields.Fields.{Fields}
-use Rattle.line.specs.declared.parts.LinePart.{LinePart}
+use Rattle.bc7_places.specs.declared.places.Fields.{Fields}
+use Rattle.bc7_places.specs.declared.lines.LinePart.{LinePart}
 use Rattle.bc7_places.specs.declared.modes.ModeRow.{ModeRow}
 use Rattle.bc7_format.specs.declared.Split.{Split}
 use Rattle.laws.specs.Tables.{pick, table, tableFrom}
@@ -20,7 +20,7 @@ use Rattle.laws.proofs.Joining.{table-same}
 use Rattle.bcn_format.specs.Block.{field}
 use Rattle.bc7_format.specs.Lines.{Line, arrayOf, has, indexPlace, lineOf, own, pPlace, valuePlace}
 use Rattle.bc7_format.specs.Modes.{kindOfMode, lines, pCount}
-use Rattle.bc7_format.specs.Places.{Place, atPlace, inside, pos, width}
+use Rattle.bc7_format.specs.Places.{Place, atPlace, inside, pos, width, psFrom, firstFrom, placeCount}
 use Rattle.bc7_format.specs.WellFormed.{WellFormed}
 use Rattle.bc7_format.proofs.Meaning.{array-lt}
 use Rattle.bc7_format.proofs.Modes.{good-index-mode, lines-le}
@@ -29,18 +29,20 @@ use Rattle.bc7_format.proofs.Starts.{start, start-le}
 use Rattle.bits.specs.Stream.{held}
 use Rattle.bcn_format.specs.Indexes.{part}
 use Rattle.bc7_format.specs.Fields.{headEnd}
-use Rattle.bc7_places.specs.Rows.{rowOf}
+use Rattle.bc7_places.specs.Modes.{rowOf}
 use Rattle.line_rules.specs.Read.{givenAs, widthsOf}
 use Rattle.line_rules.specs.Replace.{ownWidth}
 use Rattle.line_rules.proofs.Own.{own-none, own-some}
 use Rattle.line_rules.proofs.OwnWidths.{own-widths}
-use Rattle.line.specs.Parts.{maskOf, ownPixel}
+use Rattle.line.specs.Parts.{maskOf}
+use Rattle.bc7_places.specs.Lines.{ownPixel}
 use Rattle.line.proofs.parts.Parts.{IsPart}
 use Rattle.line.proofs.parts.Words.{Small, masked, word, word-part}
-use Rattle.line.specs.Fields.{fieldsAt, fieldsOf, setBefore}
+use Rattle.line.specs.Fields.{fieldsAt, setBefore}
+use Rattle.bc7_places.specs.Places.{fieldsOf}
 use Rattle.line.proofs.fields.Indexes.{before-word, rising, stood-small}
 use Rattle.line.proofs.fields.Putting.{p-next, p-there, value-next, value-there}
-use Rattle.line.proofs.fields.Starting.{channel-low, channel-starts, channelAt, p-low, p-starts, set-starts}
+use Rattle.bc7_places.proofs.places.Starting.{channel-low, channel-starts, channelAt, p-low, p-starts, set-starts}
 use Rattle.line.proofs.fields.Whole.{head-low, two-of-1, whole-start}
 use Rattle.line.proofs.fields.Taking.{first-read, one-read, second-read}
 use Rattle.line.specs.Reading.{PartSmall, ReadReady, lineAt, psAt, setAt, twoAt, widthsIn}
@@ -123,12 +125,12 @@ module _ {m : ℕ} {s : Split} {f : Place → ℕ} (g : WellFormed m s f) (l : �
             let there : pCount m ≢ 0 = two-of-1 m (eqb-true m 1 t) in
             let xp : x .p ≡ 1 = sym p-is ∙ rw (ne-eqb (pCount m) 0 there) in
             one-read m s l f n fn (pPlace m l k) 1 (at .p + l) (p-there g l hl k hk) (is .p k hk ∙ xp) refl
-            (λ nz. (rw t at (p-starts g l hl l3 there)) ∙ ap (λ (b : Bool). start m s (28 + pick b l (2 * l + k))) (sym t))
+            (λ nz. (rw t at (p-starts g l hl l3 there)) ∙ ap (λ (b : Bool). start m s (psFrom + pick b l (2 * l + k))) (sym t))
 
         starts : m ≢ 1 → x .p ≢ 0 → at .p + 2 * l ≡ start m s (pos (pPlace m l 0))
         starts n1 nz =
             (let y : at .p + 2 * l ≡ at .p + (2 * l + 0) = omega arith in y) ∙ (rw (ne-eqb m 1 n1) at (p-starts g l hl l3 (some nz)))
-            ∙ ap (λ (b : Bool). start m s (28 + pick b l (2 * l + 0))) (sym (ne-eqb m 1 n1))
+            ∙ ap (λ (b : Bool). start m s (psFrom + pick b l (2 * l + 0))) (sym (ne-eqb m 1 n1))
 
         go : (b : Bool) → eqb m 1 ≡ b
             → pick b (record { a = field n (at .p + l) 1; b = field n (at .p + l) 1 }) (twoAt n (at .p + 2 * l) (x .p)) ≡ record { a = mine (pPlace m l 0); b = mine (pPlace m l 1) }
@@ -212,6 +214,6 @@ module _ {m : ℕ} {s : Split} {f : Place → ℕ} (g : WellFormed m s f) (l : �
         });
       }
         where
-          set-low : start m s (34 + (16 * arrayOf s l + 0)) ≤ 128
+          set-low : start m s (firstFrom + (16 * arrayOf s l + 0)) ≤ 128
           set-low =
-              rw (← (whole-start g)) (start-le m s (34 + (16 * arrayOf s l + 0)) 66 (omega (arith, array-lt s l (good-index-mode g))) (omega arith))
+              rw (← (whole-start g)) (start-le m s (firstFrom + (16 * arrayOf s l + 0)) placeCount (omega (arith, array-lt s l (good-index-mode g))) (omega arith))

@@ -12,7 +12,7 @@ use lib.Dec.{eqb}
 use lib.ListN.{length, getD}
 use Rattle.line.specs.declared.Opened.{Opened}
 use Rattle.bits.specs.declared.stream.BitStream.{BitStream}
-use Rattle.line.specs.declared.parts.LinePart.{LinePart}
+use Rattle.bc7_places.specs.declared.lines.LinePart.{LinePart}
 use Rattle.line.specs.declared.parts.Stored.{Stored}
 use Rattle.line_rules.specs.declared.Replacement.{Replacement}
 use Rattle.bc7_places.specs.declared.modes.ModeRow.{ModeRow}
@@ -30,12 +30,13 @@ use Rattle.bc7_format.specs.Splits.{splitOf}
 use Rattle.bc7_format.proofs.Reserved.{reserved-mode, zero-byte}
 use Rattle.bits.specs.Stream.{held}
 use Rattle.bcn_format.specs.Indexes.{indexWidths}
-use Rattle.bc7_places.specs.Rows.{rowOf}
+use Rattle.bc7_places.specs.Modes.{rowOf}
 use Rattle.line_rules.specs.Acceptable.{Within, callRules}
 use Rattle.line_rules.specs.Replace.{after, callOf, lineGiven, refusal, refusalIn, replaced, replacedAs}
 use Rattle.line_rules.proofs.Accepting.{on-block, second}
 use Rattle.line_rules.proofs.Blocks.{unchanged}
-use Rattle.line.specs.Parts.{ownPixel, partsFit, storedAs}
+use Rattle.bc7_places.specs.Lines.{ownPixel}
+use Rattle.line.specs.Parts.{partsFit, storedAs}
 use Rattle.line.proofs.parts.Given.{only-kept, parts-within, small-indexes, within-kept, within-parts}
 use Rattle.line.proofs.parts.Parts.{IsPart}
 use Rattle.line.proofs.parts.Storing.{is-stored, mask-above}

@@ -3,8 +3,6 @@ pub mod Runs
 pub mod Groups
 pub mod Taking
 pub mod Putting
-pub mod Room
 pub mod Sets
-pub mod Starting
 pub mod Indexes
 pub mod Whole

@@ -1,5 +1,4 @@
 pub mod Asks
-pub mod Maps
 pub mod Parts
 pub mod Words
 pub mod Given

@@ -7,8 +7,8 @@ use lib.Bits.{bitAnd}
 use lib.Dec.{eqb}
 use lib.ListN.{getD}
 use Rattle.bits.specs.declared.stream.BitStream.{BitStream}
-use Rattle.line.specs.declared.fields.Fields.{Fields}
-use Rattle.line.specs.declared.parts.LinePart.{LinePart}
+use Rattle.bc7_places.specs.declared.places.Fields.{Fields}
+use Rattle.bc7_places.specs.declared.lines.LinePart.{LinePart}
 use Rattle.line.specs.declared.parts.Stored.{Stored}
 use Rattle.bc7_places.specs.declared.modes.ModeRow.{ModeRow}
 use Rattle.laws.specs.Digits.{Fit, join, replacedAt, split}
@@ -16,7 +16,8 @@ use Rattle.laws.specs.Tables.{pick}
 use Rattle.bcn_format.specs.Block.{field}
 use Rattle.bits.specs.Stream.{held}
 use Rattle.bcn_format.specs.Indexes.{Rising, anchorCount, anchorsOfKind, expanded, indexWidths}
-use Rattle.bc7_places.specs.Rows.{OfMode}
+use Rattle.bc7_places.specs.Modes.{OfMode}
+use Rattle.bc7_places.specs.Places.{fieldsOf}
 
 abbrev pub standing : BitStream → ℕ → BitStream
 standing s a = record { low = s .low; high = s .high; at = a }
@@ -29,21 +30,6 @@ pub record Step (word old new : ℕ) : Type 0 where
 -- two values of w bits from bit a on
 abbrev pub twoPut : ℕ → ℕ → ℕ → ℕ → ℕ → ℕ
 twoPut n a w x y = replacedAt n a (2 * w) (y * 2 ^ w + x)
-
--- where the fields of line l start, of a number whose values start at a
-unfoldable pub fieldsOf : ModeRow → ℕ → ℕ → ℕ → Fields
-fieldsOf row a l set =
-    let pair = pick (eqb (row .kind) 3) 0 (2 * l) in
-    let channel = row .endpoints * row .colour in
-    let p = a + 3 * channel + row .endpoints * row .alpha in
-    record {
-      red = a + pair * row .colour;
-      green = a + pair * row .colour + channel;
-      blue = a + pair * row .colour + 2 * channel;
-      alpha = a + 3 * channel + pair * row .alpha;
-      p = p;
-      indexes = pick (eqb set 0) (p + row .p) (p + row .p + (16 * row .first - 1));
-    }
 
 -- the pairs of the channels, then the p bits: in mode 1 one serves both endpoints
 unfoldable pub endpointsPut : ℕ → Fields → LinePart → List ℕ → ℕ
@@ -96,7 +82,13 @@ valuesPut s mode row l x new = psPut (endpointsPut (held s) (fieldsAt s row l x)
 unfoldable pub linePut : BitStream → ℕ → ModeRow → ℕ → LinePart → ℕ → Stored → ℕ
 linePut s mode row l x mask new = setPut (valuesPut s mode row l x new) (row .kind) (fieldsAt s row l x .indexes) x mask (new .indexes)
 
--- a pair of w bits at a that a number has room for
+-- a field of w bits at a that a number has room for, and a pair of them
+pub record FieldReady (a w x : ℕ) : Type 0 where
+  pub width : w < 64
+  pub below : a < 128
+  pub room : a + w ≤ 128
+  pub fits : x < 2 ^ w
+
 pub record PairReady (a w x y : ℕ) : Type 0 where
   pub width : w ≤ 8
   pub below : a < 128

@@ -9,8 +9,8 @@ use Rattle.bcn_format.specs.Block.{number}
 use Rattle.bc7_format.specs.Splits.{splitOf}
 use Rattle.bits.specs.Stream.{held}
 use Rattle.bc7_format.specs.Fields.{headEnd}
-use Rattle.bc7_places.specs.Rows.{rowOf}
-use Rattle.line.specs.Parts.{partOf}
+use Rattle.bc7_places.specs.Modes.{rowOf}
+use Rattle.bc7_places.specs.Lines.{partOf}
 
 -- the stream holds the block and stands where its values start, and the part is that of line l
 pub record IsOpened (bs : List ℕ) (l : ℕ) (o : Opened) : Type 0 where

@@ -6,15 +6,16 @@ use lib.Bits.{bitAnd}
 use lib.Dec.{eqb}
 use Rattle.line.specs.declared.reading.Two.{Two}
 use Rattle.bits.specs.declared.stream.BitStream.{BitStream}
-use Rattle.line.specs.declared.parts.LinePart.{LinePart}
+use Rattle.bc7_places.specs.declared.lines.LinePart.{LinePart}
 use Rattle.line_rules.specs.declared.Replacement.{Replacement}
 use Rattle.bc7_places.specs.declared.modes.ModeRow.{ModeRow}
 use Rattle.laws.specs.Tables.{pick, table}
 use Rattle.bcn_format.specs.Block.{field}
 use Rattle.bits.specs.Stream.{held}
 use Rattle.bcn_format.specs.Indexes.{Rising, part}
-use Rattle.bc7_places.specs.Rows.{OfMode}
-use Rattle.line.specs.Parts.{maskOf, ownPixel}
+use Rattle.bc7_places.specs.Modes.{OfMode}
+use Rattle.line.specs.Parts.{maskOf}
+use Rattle.bc7_places.specs.Lines.{ownPixel}
 use Rattle.line.specs.Fields.{fieldsAt, setBefore}
 
 -- two values of w bits from bit a on
@@ -32,7 +33,7 @@ pub record SetThere (k a : ℕ) (x : LinePart) : Type 0 where
   pub least : 0 < x .index
   pub most : x .index ≤ 4
   pub rising : Rising k (x .anchors .b) (x .anchors .c)
-  pub map : x .pixels .bits ≤ 2
+  pub map : x .pixels .subsets .bits ≤ 2
   pub below : a ≤ 128
 
 -- the line, of a stream that stands where the values start
@@ -55,7 +56,7 @@ pub record PartSmall (x : LinePart) : Type 0 where
   pub colour : x .colour ≤ 8
   pub alpha : x .alpha ≤ 8
   pub p : x .p ≤ 1
-  pub map : x .pixels .bits ≤ 2
+  pub map : x .pixels .subsets .bits ≤ 2
   pub index : x .index ≤ 4
 
 pub record ReadReady (s : BitStream) (row : ModeRow) (l : ℕ) (x : LinePart) : Type 0 where

@@ -1,16 +1,14 @@
 // A line put into the number of a block: its fields are replaced where they stand, so that every other bit is as it was.
 ghost use mathlib.Core.Path.{_≡_};
 ghost use Prim.Native.Nat.{_+_, _-_, _*_, _^_, _≤_, _<_};
-ghost use lib.Dec.{eqb};
 ghost use lib.ListN.{getD};
 ghost use Rattle.laws.specs.Digits.{replacedAt};
-ghost use Rattle.laws.specs.Tables.{pick};
 ghost use Rattle.bits.specs.Stream.{held};
-ghost use Rattle.bc7_places.specs.Rows.{OfMode};
-ghost use Rattle.line.specs.Fields.{LineReady, SetReady, Step, fieldsOf, linePut, psPut, setPut, standing, twoPut};
-use crate::parts::LinePart;
+ghost use Rattle.line.specs.Fields.{FieldReady, LineReady, PairReady, SetReady, Step, linePut, psPut, setPut, standing, twoPut};
 use crate::parts::Stored;
+use bc7_places::lines::LinePart;
 use bc7_places::modes::ModeRow;
+use bc7_places::places::fields_of;
 use bits::stream::BitStream;
 use indexes::storing::compressed;
 use indexes::storing::stored_bits;
@@ -37,7 +35,7 @@ fn exchanged(word: u64, old: u64, new: u64) -> u64
 
 // A field replaced, in one half or in both. The double shift is defined at position 0 too.
 pub fn put(s: BitStream, at: u32, count: u32, value: u64) -> BitStream
-    requires { ⌜ (count < 64) × (at < 128) × (at + count ≤ 128) × (value < 2 ^ count) ⌝ }
+    requires { ⌜ FieldReady at count value ⌝ }
     ensures { λ r. ⌜ held r ≡ replacedAt (held s) at count value ⌝ }
 {
     let bits = standing_at(s, at).take(count);
@@ -64,64 +62,10 @@ fn wide(value: u8) -> u64
 
 // Two values of one width side by side.
 pub fn put_two(s: BitStream, at: u32, width: u32, a: u8, b: u8) -> BitStream
-    requires { ⌜ (width ≤ 8) × (at < 128) × (at + 2 * width ≤ 128) × (a < 2 ^ width) × (b < 2 ^ width) ⌝ }
+    requires { ⌜ PairReady at width a b ⌝ }
     ensures { λ r. ⌜ held r ≡ twoPut (held s) at width a b ⌝ }
 {
     put(s, at, 2 * width, (wide(b) << width) + wide(a))
-}
-
-// The first endpoint of a line; a vector and its scalar share the two that there are.
-fn pair_of(kind: u8, line: u32) -> u32
-    requires { ⌜ line < 3 ⌝ }
-    ensures { λ r. ⌜ r ≡ pick (eqb kind 3) 0 (2 * line) ⌝ }
-{
-    if kind == 3 {
-        return 0;
-    }
-    2 * line
-}
-
-// The second set of indexes stands behind the first, which has one anchor where there are two sets.
-fn set_start(row: ModeRow, first: u32, set: usize) -> u32
-    requires { ⌜ OfMode row × (first ≤ 200) ⌝ }
-    ensures { λ r. ⌜ r ≡ pick (eqb set 0) first (first + (16 * row .first - 1)) ⌝ }
-{
-    if set == 0 {
-        return first;
-    }
-    first + (16 * row.first - 1)
-}
-
-// Where the fields of a line start: the pair of each channel, the p bits of the mode, the set of the line's indexes.
-pub struct Fields {
-    pub red: u32,
-    pub green: u32,
-    pub blue: u32,
-    pub alpha: u32,
-    pub p: u32,
-    pub indexes: u32,
-}
-
-// The values of a channel stand side by side, those of red first, then come the p bits and the first indexes. `at` is where the
-// values start.
-pub fn fields_of(row: ModeRow, at: u32, line: u32, set: usize) -> Fields
-    requires { ⌜ OfMode row × (at ≤ 16) × (line < 3) ⌝ }
-    ensures { λ r. ⌜ r ≡ fieldsOf row at line set ⌝ }
-{
-    let pair = pair_of(row.kind, line);
-    let ends = row.endpoints as u32;
-    let channel = ends * row.colour;
-    let red = at + pair * row.colour;
-    let p = at + 3 * channel + ends * row.alpha;
-    let first = p + row.p as u32;
-    Fields {
-        red: red,
-        green: red + channel,
-        blue: red + 2 * channel,
-        alpha: at + 3 * channel + pair * row.alpha,
-        p: p,
-        indexes: set_start(row, first, set),
-    }
 }
 
 // In mode 1 one p bit serves both endpoints.

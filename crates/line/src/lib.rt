@@ -8,30 +8,31 @@ ghost use lib.Dec.{eqb};
 ghost use lib.ListN.{getD};
 ghost use Rattle.laws.specs.Tables.{both};
 ghost use Rattle.bcn_format.specs.Block.{bytesOf};
-ghost use Rattle.bc7_format.specs.Modes.{modeOf, lines};
+ghost use Rattle.bc7_format.specs.Modes.{lines};
 ghost use Rattle.bits.specs.Stream.{held};
-ghost use Rattle.bc7_places.specs.Rows.{rowOf};
-ghost use Rattle.line_rules.specs.Read.{givenAs, lineRead, noLine, readAs};
-ghost use Rattle.line_rules.specs.Replace.{replaced, replacedAs};
+ghost use Rattle.bc7_places.specs.Modes.{OfBlock};
+ghost use Rattle.line_rules.specs.Read.{givenAs, noLine, readAs};
+ghost use Rattle.line_rules.specs.Replace.{replacedAs};
 ghost use Rattle.line.specs.Opened.{IsOpened};
+ghost use Rattle.line_rules.specs.Promises.{ReadsLine, Replaces};
 use crate::fields::put_line;
-use crate::parts::LinePart;
-use crate::parts::line_part;
 use crate::parts::mask_of;
 use crate::parts::only_own;
 use crate::parts::oriented;
 use crate::parts::parts_fit;
 use crate::reading::line_at;
 use crate::reading::widths_of;
+use bc7_places::lines::LinePart;
+use bc7_places::lines::line_part;
 use bc7_places::modes::ModeRow;
+use bc7_places::modes::mode_of;
 use bc7_places::modes::mode_row;
+use bc7_places::splits::read_split;
 use bits::stream::BitStream;
 use bits::writer::BitWriter;
 use line_rules::LineRead;
 use line_rules::Replaced;
 use line_rules::Replacement;
-use record::reading::mode_of;
-use record::reading::read_split;
 use record::writing::word_of;
 
 pub mod fields;
@@ -46,7 +47,7 @@ pub struct Opened {
 
 // The mode is the block's and not the reserved one.
 fn open_line(block: [u8; 16], mode: u8, row: ModeRow, line: u32) -> Opened
-    requires { ⌜ (mode ≡ modeOf block) × (mode < 8) × (row ≡ rowOf mode) × (line < lines mode) ⌝ }
+    requires { ⌜ OfBlock block mode row × (line < lines mode) ⌝ }
     ensures { λ r. ⌜ IsOpened block line r ⌝ }
 {
     let head = read_split(row, BitStream::new(block).skip(mode as u32 + 1));
@@ -95,7 +96,7 @@ fn bytes_of(s: BitStream) -> [u8; 16]
 
 // The block with the line replaced, or the first refusal that applies: 1, 2, 3, 4.
 pub fn replace_line(block: [u8; 16], line: u32, new: Replacement) -> Replaced
-    ensures { λ r. ⌜ r ≡ replaced block line new ⌝ }
+    ensures { λ r. ⌜ Replaces block line new r ⌝ }
 {
     let mode = mode_of(block);
     if mode == 8 {
@@ -154,7 +155,7 @@ fn unread(refusal: u8) -> LineRead
 
 // The line as it stands and the widths of its parts, or the first refusal that applies: 1, 2.
 pub fn read_line(block: [u8; 16], line: u32) -> LineRead
-    ensures { λ r. ⌜ r ≡ lineRead block line ⌝ }
+    ensures { λ r. ⌜ ReadsLine block line r ⌝ }
 {
     let mode = mode_of(block);
     if mode == 8 {

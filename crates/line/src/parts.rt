@@ -1,181 +1,25 @@
-// What a line has: the widths of its parts, the set of its indexes, its pixels and its anchor; and whether a given line keeps to it.
+// A given line: whether it keeps to what the line has, and how it is stored.
 ghost use mathlib.Core.Path.{_≡_};
 ghost use Prim.Native.Nat.{_%_, _^_, _≤_, _<_};
 ghost use lib.Bits.{bitAnd};
 ghost use lib.Dec.{eqb, ltb};
 ghost use lib.ListN.{getD};
 ghost use Rattle.laws.specs.Tables.{below, pick};
-ghost use Rattle.bc7_format.specs.Splits.{partition as partitionOf};
-ghost use Rattle.line.specs.Parts.{OfLine, allPixels, anchorIn, linePixels, maskOf, ownPixel, partOf, partsFit, setOf, storedAs};
-use bc7_format::Split;
-use bc7_places::modes::Anchors;
-use bc7_places::modes::ModeRow;
-use bc7_places::modes::anchors_of;
+ghost use Rattle.bc7_places.specs.Lines.{ownPixel};
+ghost use Rattle.line.specs.Parts.{maskOf, partsFit, storedAs};
+use bc7_places::lines::LinePart;
+use bc7_places::lines::Pixels;
+use bc7_places::lines::own;
 use bits::stream::word;
 use line_rules::Replacement;
-use partitions::subset_indexes_2;
-use partitions::subset_indexes_3;
 use record::fits::above;
 use record::fits::indexes_fit;
 use record::fits::pair_fits;
 use record::writing::top_of;
 
-// The pixels of a line: those whose part of `map`, of `bits` bits, is `subset`.
-pub struct Pixels {
-    pub map: u32,
-    pub bits: u32,
-    pub subset: u32,
-}
-
-// Widths are 0 where the line hasn't got the part.
-pub struct LinePart {
-    pub colour: u32,
-    pub alpha: u32,
-    pub p: u32,
-    pub index: u32,
-    pub set: usize,
-    pub anchor: usize,
-    pub pixels: Pixels,
-    pub anchors: Anchors,
-}
-
-// Every pixel.
-fn all_pixels() -> Pixels
-    ensures { λ r. ⌜ r ≡ allPixels ⌝ }
-{
-    Pixels {
-        map: 0,
-        bits: 1,
-        subset: 0,
-    }
-}
-
-// A block of one line, and a vector and its scalar, have all pixels in each.
-fn pixels_of(split: Split, line: u32) -> Pixels
-    requires { ⌜ partitionOf split < 64 ⌝ }
-    ensures { λ r. ⌜ r ≡ linePixels split line ⌝ }
-{
-    match split {
-        Split::Whole => all_pixels(),
-        Split::Two(partition) => {
-            let map = subset_indexes_2(partition);
-            Pixels {
-                map: map as u32,
-                bits: 1,
-                subset: line,
-            }
-        }
-        Split::Three(partition) => {
-            let map = subset_indexes_3(partition);
-            Pixels {
-                map: map,
-                bits: 2,
-                subset: line,
-            }
-        }
-        Split::Vector {
-            rotation: _,
-            index_mode: _,
-        } => all_pixels(),
-    }
-}
-
-// Is a pixel the line's?
-pub fn own(pixels: Pixels, pixel: usize) -> bool
-    requires { ⌜ (pixels .bits ≤ 2) × (pixel < 16) ⌝ }
-    ensures { λ r. ⌜ r ≡ ownPixel pixels pixel ⌝ }
-{
-    (pixels.map >> (pixel as u32 * pixels.bits)) % (1u32 << pixels.bits) == pixels.subset
-}
-
-// The anchor of a line: pixel 0 of line 0 and of a set of its own, else that one of the fixups which is the line's.
-fn anchor(kind: u8, line: u32, pixels: Pixels, anchors: Anchors) -> usize
-    requires { ⌜ (pixels .bits ≤ 2) × (anchors .b < 16) ⌝ }
-    ensures { λ r. ⌜ r ≡ anchorIn kind line pixels anchors ⌝ }
-{
-    if line == 0 {
-        return 0;
-    }
-    if kind == 3 {
-        return 0;
-    }
-    if own(pixels, anchors.b) {
-        return anchors.b;
-    }
-    anchors.c
-}
-
-// The index set of a line: the index mode is the number of the vector's.
-fn set_of(split: Split, line: u32) -> usize
-    ensures { λ r. ⌜ r ≡ setOf split line ⌝ }
-{
-    match split {
-        Split::Whole => 0,
-        Split::Two(_) => 0,
-        Split::Three(_) => 0,
-        Split::Vector {
-            rotation: _,
-            index_mode,
-        } => if line == index_mode as u32 { 0 } else { 1 },
-    }
-}
-
-// A width that one of the two lines of a vector and its scalar has not: red, green and blue are line 0's, alpha is line 1's.
-fn width_in(kind: u8, line: u32, without: u32, width: u32) -> u32
-    ensures { λ r. ⌜ r ≡ pick (eqb kind 3) (pick (eqb line without) 0 width) width ⌝ }
-{
-    if kind != 3 {
-        return width;
-    }
-    if line == without {
-        return 0;
-    }
-    width
-}
-
-// A p bit has one bit, where the mode has p bits at all.
-fn p_width(count: usize) -> u32
-    ensures { λ r. ⌜ r ≡ pick (eqb count 0) 0 1 ⌝ }
-{
-    if count == 0 {
-        return 0;
-    }
-    1
-}
-
-// The width of an index of the first (0) or the second set (1).
-fn index_width(row: ModeRow, set: usize) -> u32
-    ensures { λ r. ⌜ r ≡ pick (eqb set 0) (row .first) (row .second) ⌝ }
-{
-    if set == 0 {
-        return row.first;
-    }
-    row.second
-}
-
-// The row is that of the split's mode.
-pub fn line_part(row: ModeRow, split: Split, line: u32) -> LinePart
-    requires { ⌜ OfLine row split line ⌝ }
-    ensures { λ r. ⌜ r ≡ partOf row split line ⌝ }
-{
-    let set = set_of(split, line);
-    let pixels = pixels_of(split, line);
-    let anchors = anchors_of(split);
-    LinePart {
-        colour: width_in(row.kind, line, 1, row.colour),
-        alpha: width_in(row.kind, line, 0, row.alpha),
-        p: p_width(row.p),
-        index: index_width(row, set),
-        set: set,
-        anchor: anchor(row.kind, line, pixels, anchors),
-        pixels: pixels,
-        anchors: anchors,
-    }
-}
-
 // A value at a pixel of the line, and zero at any other.
 pub fn at_own(pixels: Pixels, pixel: usize, value: u64) -> u64
-    requires { ⌜ (pixels .bits ≤ 2) × (pixel < 16) ⌝ }
+    requires { ⌜ (pixels .subsets .bits ≤ 2) × (pixel < 16) ⌝ }
     ensures { λ r. ⌜ r ≡ pick (ownPixel pixels pixel) value 0 ⌝ }
 {
     if own(pixels, pixel) {
@@ -186,7 +30,7 @@ pub fn at_own(pixels: Pixels, pixel: usize, value: u64) -> u64
 
 // All ones at each pixel of the line, zeros at the others, in a word of parts of one width.
 pub fn mask_of(pixels: Pixels, width: u32) -> u64
-    requires { ⌜ (pixels .bits ≤ 2) × (width ≤ 4) ⌝ }
+    requires { ⌜ (pixels .subsets .bits ≤ 2) × (width ≤ 4) ⌝ }
     ensures { λ r. ⌜ r ≡ maskOf pixels width ⌝ }
 {
     let ones = (1u64 << width) - 1;

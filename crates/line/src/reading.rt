@@ -3,15 +3,15 @@ ghost use mathlib.Core.Path.{_≡_};
 ghost use Prim.Native.Nat.{_≤_, _<_};
 ghost use Rattle.laws.specs.Tables.{pick, table};
 ghost use Rattle.bits.specs.Stream.{held};
-ghost use Rattle.line.specs.Parts.{ownPixel};
+ghost use Rattle.bc7_places.specs.Lines.{ownPixel};
 ghost use Rattle.line.specs.Reading.{PartSmall, ReadReady, SetThere, lineAt, psAt, setAt, twoAt, widthsIn};
-use crate::fields::fields_of;
 use crate::fields::standing_at;
-use crate::parts::LinePart;
-use crate::parts::Pixels;
 use crate::parts::at_own;
 use crate::parts::mask_of;
+use bc7_places::lines::LinePart;
+use bc7_places::lines::Pixels;
 use bc7_places::modes::ModeRow;
+use bc7_places::places::fields_of;
 use bits::stream::BitStream;
 use line_rules::Replacement;
 use record::reading::parts_of;
@@ -91,7 +91,7 @@ pub fn line_at(s: BitStream, mode: u8, row: ModeRow, line: u32, part: LinePart) 
 
 // A width at each pixel of the line.
 fn index_widths(pixels: Pixels, width: u32) -> [u8; 16]
-    requires { ⌜ (pixels .bits ≤ 2) × (width ≤ 4) ⌝ }
+    requires { ⌜ (pixels .subsets .bits ≤ 2) × (width ≤ 4) ⌝ }
     ensures { λ r. ⌜ r ≡ table 16 (λ q. pick (ownPixel pixels q) width 0) ⌝ }
 {
     let mut widths = [0u8; 16];

@@ -33,6 +33,7 @@ use Rattle.line_rules.proofs.OwnWidths.{own-widths}
 use Rattle.line_rules.proofs.Reading.{given-back, other-read, put-draws, put-is-read, read-after, read-answers, read-drawn, read-not-turned, replaced-by-read}
 use Rattle.line_rules.proofs.Sequences.{all-stays, bytes-trade, first-stays, lasts, same-lasts, sequence-draws, trading}
 use Rattle.line_rules.proofs.TooWide.{refused-with-3}
+use Rattle.line_rules.specs.Promises.{ReadsLine, Replaces}
 
 -- a call is accepted exactly when the first byte isn't zero, the line number is below the mode's count, every value is within
 -- the width that it has in that line, and in mode 1 the p bits are equal
@@ -202,8 +203,8 @@ unfolding lineRead
 refused-with-3-when = refused-with-3
 
 -- DEMAND 1: any two answers that the promises of `replace_line` and `read_line` admit coincide
-pub determined-replace-line : (bs : List ℕ) (l : ℕ) (g : Replacement) (a b : Replaced) → a ≡ replaced bs l g → b ≡ replaced bs l g → a ≡ b
+pub determined-replace-line : (bs : List ℕ) (l : ℕ) (g : Replacement) (a b : Replaced) → Replaces bs l g a → Replaces bs l g b → a ≡ b
 determined-replace-line bs l g a b ea eb = ea ∙ sym eb
 
-pub determined-read-line : (bs : List ℕ) (l : ℕ) (a b : LineRead) → a ≡ lineRead bs l → b ≡ lineRead bs l → a ≡ b
+pub determined-read-line : (bs : List ℕ) (l : ℕ) (a b : LineRead) → ReadsLine bs l a → ReadsLine bs l b → a ≡ b
 determined-read-line bs l a b ea eb = ea ∙ sym eb

@@ -3,3 +3,4 @@ pub mod Replace
 pub mod Calls
 pub mod Acceptable
 pub mod Read
+pub mod Promises

@@ -14,11 +14,11 @@ ghost use Rattle.listing_rules.specs.Listing.{blockText, listed, listing, unles
 ghost use Rattle.listing_rules.specs.Machine.{InRows, NextEnd, Ready, atHead, atStart, begun, ended, headText, inRows, nextAtHead, nextInRows, nextOf, spareOf, takenOf, textAtHead, textInRows, textOf, turnsOf, wantedOf};
 ghost use Rattle.listing_rules.specs.Taking.{fresh, goesOn, headTaken, withByte};
 use bc7::decode_bc7_block;
+use bc7_places::modes::mode_of;
 use listing_rules::HeadReader;
 use listing_rules::Machine;
 use listing_rules::Phase;
 use listing_rules::Taken;
-use record::reading::mode_of;
 use sheet::blocks::load;
 use sheet_head::Head;
 

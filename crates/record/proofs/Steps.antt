@@ -15,7 +15,7 @@ use Rattle.bc7_format.specs.Splits.{anchors}
 use Rattle.record_rules.specs.Answers.{TopsClear}
 use Rattle.record_rules.proofs.Answering.{clear-stored, fits-at, fits-of, packed-as, stored-clear}
 use Rattle.record.specs.Fitting.{Full, storedFit}
-use Rattle.record.specs.Writing.{Packs}
+use Rattle.record.specs.Writing.{Packable}
 use Rattle.bc7_format.specs.Modes.{modeOf}
 use Rattle.bc7_format.proofs.Modes.{mode-le-8}
 use Rattle.record_rules.specs.Records.{packed, packedAs, recordOf, says, taken, unpackedAs, zeroRecord}
@@ -38,7 +38,7 @@ module _ (bs : List ℕ) {m : ℕ} (em : m ≡ modeOf bs) (not-8 : m ≢ 8) wher
 -- PACKING: a record in which everything fits its full width
 module _ {r : Record} {row : ModeRow} (full : Full r row) where
   -- and then it packs
-  pub packs : storedFit r ≡ true → Packs r row
+  pub packs : storedFit r ≡ true → Packable r row
   packs e = record { low = full .low; is = full .is; kind = full .kind; fits = fits-at (r .mode) (anchors (r .split)) (says r) e }
 
   -- what packing answers

@@ -7,7 +7,7 @@ use mathlib.Core.List.{List}
 use lib.Dec.{eqb, ltb}
 use lib.ListN.{getD}
 use Rattle.record_rules.specs.declared.Record.{Record}
-use Rattle.bc7_places.specs.declared.modes.Anchors.{Anchors}
+use Rattle.bc7_places.specs.declared.splits.Anchors.{Anchors}
 use Rattle.bc7_places.specs.declared.modes.ModeRow.{ModeRow}
 use Rattle.bc7_format.specs.declared.Split.{Split}
 use Rattle.laws.specs.Tables.{both, pick}
@@ -15,7 +15,8 @@ use Rattle.bc7_format.specs.Modes.{kindOfMode}
 use Rattle.bc7_format.specs.Splits.{anchors, indexMode, kindOf, partition, rotation}
 use Rattle.record_rules.specs.Answers.{Within}
 use Rattle.record_rules.specs.Records.{fits, says}
-use Rattle.bc7_places.specs.Rows.{rowOf}
+use Rattle.bc7_places.specs.Modes.{rowOf}
+use Rattle.bc7_places.specs.Splits.{anchorsOf}
 
 -- does what a split has fit the row's widths
 abbrev pub splitFits : Split → ModeRow → Bool
@@ -40,3 +41,8 @@ pub record Full (r : Record) (row : ModeRow) : Type 0 where
   pub is : row ≡ rowOf (r .mode)
   pub kind : kindOf (r .split) ≡ kindOfMode (r .mode)
   pub within : Within r
+
+-- and with its anchors
+pub record FullWith (r : Record) (row : ModeRow) (a : Anchors) : Type 0 where
+  pub full : Full r row
+  pub anchors-are : a ≡ anchorsOf (r .split)

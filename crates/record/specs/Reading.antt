@@ -1,28 +1,19 @@
 -- What is read of a block group by group, by the row of its mode.
 -- Assumes nothing.
-use Prim.Native.Nat.{ℕ, _+_, _-_, _*_, _/_, _%_}
+use Prim.Native.Nat.{ℕ, _+_, _-_, _*_, _/_, _%_, _≤_, _<_}
 use mathlib.Core.List.{List, [], _∷_}
 use lib.Dec.{eqb, ltb}
 use lib.ListN.{getD, replicate}
-use Rattle.record.specs.declared.reading.ReadSplit.{ReadSplit}
 use Rattle.record.specs.declared.reading.ReadEndpoints.{ReadEndpoints}
 use Rattle.record.specs.declared.reading.ReadP.{ReadP}
-use Rattle.bc7_places.specs.declared.modes.Anchors.{Anchors}
+use Rattle.bc7_places.specs.declared.splits.Anchors.{Anchors}
 use Rattle.bc7_places.specs.declared.modes.ModeRow.{ModeRow}
 use Rattle.bits.specs.declared.stream.BitStream.{BitStream}
 use Rattle.laws.specs.Tables.{pick, table}
-use Rattle.bc7_format.specs.Splits.{ofKind}
-use Rattle.bcn_format.specs.Indexes.{anchorCount, anchorsOfKind, part}
+use Rattle.bcn_format.specs.Indexes.{anchorCount, anchorsOfKind, part, Rising}
 use Rattle.indexes.specs.Reading.{newIndexes}
 use Rattle.bits.specs.Stream.{nextBits, skipped}
-
--- the split bits come next: partition, rotation, index mode
-abbrev pub splitRead : ModeRow → BitStream → ReadSplit
-splitRead row s = record {
-  split = ofKind (row .kind) (nextBits s (row .partition)) (nextBits (skipped s (row .partition)) (row .rotation))
-      (nextBits (skipped s (row .partition + row .rotation)) (row .«index_mode»));
-  stream = skipped s (row .partition + row .rotation + row .«index_mode»);
-}
+use Rattle.bc7_places.specs.Modes.{OfMode}
 
 -- the endpoints of four words, one a channel: value e of a channel is part e of its word, and 0 where the mode has no endpoint e
 abbrev pub channelOf : ℕ → ℕ → ℕ → ℕ → ℕ → ℕ
@@ -54,3 +45,15 @@ secondRead row a s =
     (table 16 (part (newIndexes (row .second) (anchorsOfKind (row .kind) (a .b) (a .c)) s (16 * row .second - anchorCount (row .kind)) .indexes
     .uncompressed) (row .second)))
     (replicate 16 0)
+
+-- what reading a set asks for: a width of one to four bits, anchors in rising order, and a stream that stands within its block
+pub record SetAt (kind : ℕ) (a : Anchors) (w : ℕ) (s : BitStream) : Type 0 where
+  pub least : 0 < w
+  pub most : w ≤ 4
+  pub rising : Rising kind (a .b) (a .c)
+  pub within : s .at ≤ 128
+
+pub record SecondAt (row : ModeRow) (a : Anchors) (s : BitStream) : Type 0 where
+  pub of-mode : OfMode row
+  pub rising : Rising (row .kind) (a .b) (a .c)
+  pub within : s .at ≤ 128

@@ -1,22 +1,26 @@
 -- What is written of a record, group by group.
 -- Assumes nothing.
 use mathlib.Core.Path.{_≡_}
-use Prim.Native.Nat.{ℕ, _^_, _<_}
+use Prim.Native.Nat.{ℕ, _^_, _<_, _+_, _-_, _*_, _≤_}
 use lib.Dec.{T}
 use Rattle.record_rules.specs.declared.Record.{Record}
 use Rattle.bc7_places.specs.declared.modes.ModeRow.{ModeRow}
 use Rattle.bits.specs.declared.writer.BitWriter.{BitWriter}
-use Rattle.laws.specs.Digits.{join, total}
+use Rattle.laws.specs.Digits.{join, total, Fit}
 use Rattle.laws.specs.Tables.{table}
-use Rattle.bc7_format.specs.Modes.{kindOfMode}
-use Rattle.bc7_format.specs.Places.{Place, inside, placeAt, width}
+use Rattle.bc7_format.specs.Modes.{kindOfMode, channelBits}
+use Rattle.bc7_format.specs.Places.{Place, inside, placeAt, width, firstFrom, valuesFrom}
 use Rattle.bc7_format.specs.Splits.{anchors, kindOf}
-use Rattle.bits.specs.Writer.{writerOf}
+use Rattle.bits.specs.Writer.{writerOf, written}
 use Rattle.record_rules.specs.Records.{says}
-use Rattle.bc7_places.specs.Rows.{rowOf}
+use Rattle.bc7_places.specs.Modes.{rowOf}
+use mathlib.Core.List.{List}
+use Rattle.bc7_places.specs.declared.splits.Anchors.{Anchors}
+use Rattle.bcn_format.specs.Indexes.{Rising, anchorCount, anchorsOfKind, indexWidths}
+use Rattle.bc7_places.specs.Splits.{ArePixels, anchorsOf}
 
 -- a record that packs, with the row of its mode: everything fits as it is stored
-pub record Packs (r : Record) (row : ModeRow) : Type 0 where
+pub record Packable (r : Record) (row : ModeRow) : Type 0 where
   pub low : r .mode < 8
   pub is : row ≡ rowOf (r .mode)
   pub kind : kindOf (r .split) ≡ kindOfMode (r .mode)
@@ -31,3 +35,33 @@ said r i = says r (placeAt i)
 
 unfoldable pub upto : Record → ℕ → BitWriter
 upto r i = writerOf (join (table i (wide r)) (table i (said r))) (total (table i (wide r)))
+
+-- what each group asks for: a record that packs, the anchors of its split, the writer that holds what stands before the group
+pub record PackableWith (r : Record) (row : ModeRow) (a : Anchors) : Type 0 where
+  pub packs : Packable r row
+  pub anchors-are : a ≡ anchorsOf (r .split)
+
+pub record Next (r : Record) (row : ModeRow) (i : ℕ) (b : BitWriter) : Type 0 where
+  pub packs : Packable r row
+  pub before : b ≡ upto r i
+
+pub record ChannelNext (r : Record) (row : ModeRow) (c w : ℕ) (b : BitWriter) : Type 0 where
+  pub packs : Packable r row
+  pub channel : c < 4
+  pub width-is : w ≡ channelBits (r .mode) c
+  pub before : b ≡ upto r (valuesFrom + 6 * c)
+
+pub record IndexesNext (r : Record) (row : ModeRow) (a : Anchors) (b : BitWriter) : Type 0 where
+  pub packs : Packable r row
+  pub anchors-are : a ≡ anchorsOf (r .split)
+  pub before : b ≡ upto r firstFrom
+
+-- and a set of indexes: that they fit as they are stored, and that there is room
+pub record SetNext (b : BitWriter) (kind : ℕ) (a : Anchors) (w : ℕ) (vs : List ℕ) : Type 0 where
+  pub least : 0 < w
+  pub most : w ≤ 4
+  pub pixels : ArePixels a
+  pub rising : Rising kind (a .b) (a .c)
+  pub fits : Fit (indexWidths w (anchorsOfKind kind (a .b) (a .c))) vs
+  pub room : b .at + (16 * w - anchorCount kind) ≤ 128
+  pub holds : written b < 2 ^ b .at

@@ -8,11 +8,12 @@ ghost use lib.ListN.{getD, replicate};
 ghost use Rattle.laws.specs.Digits.{join, split};
 ghost use Rattle.laws.specs.Tables.{below, pick, table};
 ghost use Rattle.record_rules.specs.Records.{fits, says};
-ghost use Rattle.bc7_places.specs.Rows.{OfMode, Pixels, anchorsOf, rowOf};
-ghost use Rattle.record.specs.Fitting.{Full, splitFits, storedFit, topsClear, valueBits};
+ghost use Rattle.bc7_places.specs.Modes.{IsRow, OfMode};
+ghost use Rattle.bc7_places.specs.Splits.{ArePixels};
+ghost use Rattle.record.specs.Fitting.{FullWith, splitFits, storedFit, topsClear, valueBits};
 use bc7_format::Split;
-use bc7_places::modes::Anchors;
 use bc7_places::modes::ModeRow;
+use bc7_places::splits::Anchors;
 use bc7_places::splits::index_mode_of;
 use bc7_places::splits::partition_of;
 use bc7_places::splits::rotation_of;
@@ -134,7 +135,7 @@ fn p_fits(p: [u8; 6], row: ModeRow) -> bool
 
 // Refusal 3: does everything fit its full width?
 pub fn record_fits(record: Record, row: ModeRow) -> bool
-    requires { ⌜ («record» .mode < 8) × (row ≡ rowOf («record» .mode)) ⌝ }
+    requires { ⌜ IsRow («record» .mode) row ⌝ }
     ensures { λ r. ⌜ r ≡ fits («record» .mode) [] (says «record») ⌝ }
 {
     let split = record.split;
@@ -159,7 +160,7 @@ pub fn record_fits(record: Record, row: ModeRow) -> bool
 
 // Do the anchors' indexes of a set do without their top bits?
 fn tops_clear(indexes: [u8; 16], anchors: Anchors, width: u32) -> bool
-    requires { ⌜ (0 < width) × (width ≤ 4) × Pixels anchors ⌝ }
+    requires { ⌜ (0 < width) × (width ≤ 4) × ArePixels anchors ⌝ }
     ensures { λ r. ⌜ r ≡ topsClear indexes anchors (width - 1) ⌝ }
 {
     let a = anchors.a;
@@ -177,7 +178,7 @@ fn tops_clear(indexes: [u8; 16], anchors: Anchors, width: u32) -> bool
 // Refusal 6, where everything fits its full width: do the anchors' indexes fit as they are stored? A mode whose kind is a vector
 // and a scalar has two sets.
 pub fn anchors_fit(record: Record, row: ModeRow, anchors: Anchors) -> bool
-    requires { ⌜ Full «record» row × (anchors ≡ anchorsOf («record» .split)) ⌝ }
+    requires { ⌜ FullWith «record» row anchors ⌝ }
     ensures { λ r. ⌜ r ≡ storedFit «record» ⌝ }
 {
     let first = record.first;

@@ -2,15 +2,16 @@
 // and replaced in.
 ghost use mathlib.Core.Path.{_≡_};
 ghost use lib.ListN.{replicate};
-ghost use Rattle.record_rules.specs.Records.{packed, packedAs, taken, zeroRecord};
+ghost use Rattle.record_rules.specs.Records.{packedAs, zeroRecord};
+ghost use Rattle.record_rules.specs.Promises.{Packs, Unpacks};
 use crate::fits::anchors_fit;
 use crate::fits::record_fits;
-use crate::reading::mode_of;
 use crate::reading::read_record;
 use crate::writing::write_record;
 use bc7_format::Split;
-use bc7_places::modes::anchors_of;
+use bc7_places::modes::mode_of;
 use bc7_places::modes::mode_row;
+use bc7_places::splits::anchors_of;
 use bc7_places::splits::kind_of;
 use record_rules::Packed;
 use record_rules::Record;
@@ -36,7 +37,7 @@ fn zero_record() -> Record
 
 // The record of a block; a reserved block is refused with 1.
 pub fn unpack(block: [u8; 16]) -> Unpacked
-    ensures { λ r. ⌜ r ≡ taken block ⌝ }
+    ensures { λ r. ⌜ Unpacks block r ⌝ }
 {
     let mode = mode_of(block);
     if mode == 8 {
@@ -65,7 +66,7 @@ fn refused(refusal: u8) -> Packed
 
 // The block of a record, or the first refusal that applies: 5, 3, 6.
 pub fn pack(record: Record) -> Packed
-    ensures { λ r. ⌜ r ≡ packed «record» ⌝ }
+    ensures { λ r. ⌜ Packs «record» r ⌝ }
 {
     let mode = record.mode;
     if mode > 7 {

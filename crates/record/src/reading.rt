@@ -1,56 +1,25 @@
-// Reading a block group by group: the mode, the split, a word for each channel, a word of p bits, a word for each set of
-// indexes. A word is then taken apart into its parts.
+// Reading a block group by group: behind the split a word for each channel, a word of p bits, a word for each set of indexes. A
+// word is then taken apart into its parts.
 ghost use mathlib.Core.Path.{_≡_};
 ghost use Prim.Native.Nat.{_+_, _-_, _*_, _<_, _≤_};
 ghost use Rattle.laws.specs.Tables.{table};
-ghost use Rattle.bc7_format.specs.Modes.{modeOf};
-ghost use Rattle.bcn_format.specs.Indexes.{Rising, anchorCount, anchorsOfKind, part};
+ghost use Rattle.bcn_format.specs.Indexes.{anchorCount, anchorsOfKind, part};
 ghost use Rattle.indexes.specs.Reading.{newIndexes};
 ghost use Rattle.record_rules.specs.Records.{recordOf};
-ghost use Rattle.bc7_places.specs.Rows.{OfMode, rowOf};
-ghost use Rattle.record.specs.Reading.{endpointsOf, endpointsRead, pRead, secondRead, splitRead};
-use bc7_format::Split;
-use bc7_places::modes::Anchors;
+ghost use Rattle.bc7_places.specs.Modes.{OfBlock, OfMode, RowAt};
+ghost use Rattle.record.specs.Reading.{SecondAt, SetAt, endpointsOf, endpointsRead, pRead, secondRead};
 use bc7_places::modes::ModeRow;
-use bc7_places::modes::anchors_of;
-use bc7_places::splits::split_of_kind;
+use bc7_places::splits::Anchors;
+use bc7_places::splits::anchors_of;
+use bc7_places::splits::read_split;
 use bits::stream::BitStream;
 use indexes::Indexes;
 use indexes::NewIndexes;
 use record_rules::Record;
 
-// The mode is the count of zero bits that byte 0 ends in, and 8 is reserved.
-pub fn mode_of(block: [u8; 16]) -> u8
-    ensures { λ r. ⌜ r ≡ modeOf block ⌝ }
-{
-    u8::trailing_zeros(block[0]) as u8
-}
-
-// The split, and the stream past it.
-pub struct ReadSplit {
-    pub split: Split,
-    pub stream: BitStream,
-}
-
-// A mode has a partition, or a rotation (of two bits) with an index mode, or nothing: one read, of which the kind takes what it
-// has.
-pub fn read_split(row: ModeRow, stream: BitStream) -> ReadSplit
-    requires { ⌜ OfMode row × (stream .at ≤ 128) ⌝ }
-    ensures { λ r. ⌜ r ≡ splitRead row stream ⌝ }
-{
-    let bits = stream.take(row.partition + row.rotation + row.index_mode);
-    let rest = bits.stream;
-    let value = bits.value as u8;
-    let split = split_of_kind(row.kind, value, value % 4, value >> 2);
-    ReadSplit {
-        split: split,
-        stream: rest,
-    }
-}
-
 // The sixteen indexes of a set as one word of equal parts, the anchors' zeros put in.
 pub fn read_indexes(kind: u8, anchors: Anchors, width: u32, stream: BitStream) -> NewIndexes
-    requires { ⌜ (0 < width) × (width ≤ 4) × Rising kind (anchors .b) (anchors .c) × (stream .at ≤ 128) ⌝ }
+    requires { ⌜ SetAt kind anchors width stream ⌝ }
     ensures { λ r. ⌜ r ≡ newIndexes width (anchorsOfKind kind (anchors .b) (anchors .c)) stream (16 * width - anchorCount kind) ⌝ }
 {
     if kind == 1 {
@@ -108,7 +77,7 @@ pub struct ReadEndpoints {
 
 // A channel's values stand side by side: one read for each channel.
 pub fn read_endpoints(row: ModeRow, stream: BitStream) -> ReadEndpoints
-    requires { ⌜ OfMode row × (stream .at ≤ 128) ⌝ }
+    requires { ⌜ RowAt row stream ⌝ }
     ensures { λ r. ⌜ r ≡ endpointsRead row stream ⌝ }
 {
     let count = row.endpoints as u32;
@@ -134,7 +103,7 @@ pub struct ReadP {
 
 // What the mode hasn't got is 0, since a word of its p bits has no more.
 pub fn read_p(row: ModeRow, stream: BitStream) -> ReadP
-    requires { ⌜ OfMode row × (stream .at ≤ 128) ⌝ }
+    requires { ⌜ RowAt row stream ⌝ }
     ensures { λ r. ⌜ r ≡ pRead row stream ⌝ }
 {
     let bits = stream.take(row.p as u32);
@@ -155,7 +124,7 @@ pub fn read_p(row: ModeRow, stream: BitStream) -> ReadP
 
 // The second set of indexes, zeros where the mode has none.
 pub fn read_second(row: ModeRow, anchors: Anchors, stream: BitStream) -> [u8; 16]
-    requires { ⌜ OfMode row × Rising (row .kind) (anchors .b) (anchors .c) × (stream .at ≤ 128) ⌝ }
+    requires { ⌜ SecondAt row anchors stream ⌝ }
     ensures { λ r. ⌜ r ≡ secondRead row anchors stream ⌝ }
 {
     if row.kind != 3 {
@@ -168,7 +137,7 @@ pub fn read_second(row: ModeRow, anchors: Anchors, stream: BitStream) -> [u8; 16
 
 // The record of a block that is not reserved, by its mode and the row of that mode.
 pub fn read_record(block: [u8; 16], mode: u8, row: ModeRow) -> Record
-    requires { ⌜ (mode ≡ modeOf block) × (mode < 8) × (row ≡ rowOf mode) ⌝ }
+    requires { ⌜ OfBlock block mode row ⌝ }
     ensures { λ r. ⌜ r ≡ recordOf block ⌝ }
 {
     let head = read_split(row, BitStream::new(block).skip(mode as u32 + 1));

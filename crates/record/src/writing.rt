@@ -6,15 +6,13 @@ ghost use Prim.Native.Nat.{ℕ, _+_, _-_, _*_, _^_, _<_, _≤_};
 ghost use lib.ListN.{getD};
 ghost use Rattle.laws.specs.Digits.{Fit, join, row};
 ghost use Rattle.bcn_format.specs.Block.{field};
-ghost use Rattle.bc7_format.specs.Modes.{channelBits};
-ghost use Rattle.bc7_format.specs.Places.{blockOf};
-ghost use Rattle.bcn_format.specs.Indexes.{Rising, anchorCount, anchorsOfKind, indexWidths};
-ghost use Rattle.bits.specs.Writer.{pushed, written};
+ghost use Rattle.bc7_format.specs.Places.{blockOf, firstFrom, placeCount, psFrom, valuesFrom};
+ghost use Rattle.bcn_format.specs.Indexes.{anchorCount, anchorsOfKind, indexWidths};
+ghost use Rattle.bits.specs.Writer.{pushed};
 ghost use Rattle.record_rules.specs.Records.{says};
-ghost use Rattle.bc7_places.specs.Rows.{Pixels, anchorsOf};
-ghost use Rattle.record.specs.Writing.{Packs, upto};
-use bc7_places::modes::Anchors;
+ghost use Rattle.record.specs.Writing.{ChannelNext, IndexesNext, Next, Packable, PackableWith, SetNext, upto};
 use bc7_places::modes::ModeRow;
+use bc7_places::splits::Anchors;
 use bc7_places::splits::index_mode_of;
 use bc7_places::splits::partition_of;
 use bc7_places::splits::rotation_of;
@@ -75,8 +73,8 @@ fn p_word(p: [u8; 6], count: usize) -> u64
 
 // Marker and split.
 fn push_head(record: Record, row: ModeRow) -> BitWriter
-    requires { ⌜ Packs «record» row ⌝ }
-    ensures { λ r. ⌜ r ≡ upto «record» 4 ⌝ }
+    requires { ⌜ Packable «record» row ⌝ }
+    ensures { λ r. ⌜ r ≡ upto «record» valuesFrom ⌝ }
 {
     let mode = record.mode;
     let split = record.split;
@@ -94,8 +92,8 @@ fn push_channel(
     channel: usize,
     width: u32,
 ) -> BitWriter
-    requires { ⌜ Packs «record» row × (channel < 4) × (width ≡ channelBits («record» .mode) channel) × (writer ≡ upto «record» (4 + 6 * channel)) ⌝ }
-    ensures { λ r. ⌜ r ≡ upto «record» (4 + 6 * channel + 6) ⌝ }
+    requires { ⌜ ChannelNext «record» row channel width writer ⌝ }
+    ensures { λ r. ⌜ r ≡ upto «record» (valuesFrom + 6 * channel + 6) ⌝ }
 {
     let endpoints = record.endpoints;
     let word = channel_word(endpoints, row.endpoints, channel, width);
@@ -103,8 +101,8 @@ fn push_channel(
 }
 
 fn push_endpoints(writer: BitWriter, record: Record, row: ModeRow) -> BitWriter
-    requires { ⌜ Packs «record» row × (writer ≡ upto «record» 4) ⌝ }
-    ensures { λ r. ⌜ r ≡ upto «record» 28 ⌝ }
+    requires { ⌜ Next «record» row valuesFrom writer ⌝ }
+    ensures { λ r. ⌜ r ≡ upto «record» psFrom ⌝ }
 {
     let red = push_channel(writer, record, row, 0, row.colour);
     let green = push_channel(red, record, row, 1, row.colour);
@@ -113,8 +111,8 @@ fn push_endpoints(writer: BitWriter, record: Record, row: ModeRow) -> BitWriter
 }
 
 fn push_p(writer: BitWriter, record: Record, row: ModeRow) -> BitWriter
-    requires { ⌜ Packs «record» row × (writer ≡ upto «record» 28) ⌝ }
-    ensures { λ r. ⌜ r ≡ upto «record» 34 ⌝ }
+    requires { ⌜ Next «record» row psFrom writer ⌝ }
+    ensures { λ r. ⌜ r ≡ upto «record» firstFrom ⌝ }
 {
     let p = record.p;
     writer.push(p_word(p, row.p), row.p as u32)
@@ -128,7 +126,7 @@ fn push_set(
     width: u32,
     indexes: [u8; 16],
 ) -> BitWriter
-    requires { ⌜ (0 < width) × (width ≤ 4) × Pixels anchors × Rising kind (anchors .b) (anchors .c) × Fit (indexWidths width (anchorsOfKind kind (anchors .b) (anchors .c))) indexes × (writer .at + (16 * width - anchorCount kind) ≤ 128) × (written writer < 2 ^ writer .at) ⌝ }
+    requires { ⌜ SetNext writer kind anchors width indexes ⌝ }
     ensures { λ r. ⌜ r ≡ pushed writer (join (indexWidths width (anchorsOfKind kind (anchors .b) (anchors .c))) indexes) (16 * width - anchorCount kind) ⌝ }
 {
     let word = word_of(indexes, width);
@@ -138,8 +136,8 @@ fn push_set(
 
 // Both sets, where the mode has two.
 fn push_indexes(writer: BitWriter, record: Record, row: ModeRow, anchors: Anchors) -> BitWriter
-    requires { ⌜ Packs «record» row × (anchors ≡ anchorsOf («record» .split)) × (writer ≡ upto «record» 34) ⌝ }
-    ensures { λ r. ⌜ r ≡ upto «record» 66 ⌝ }
+    requires { ⌜ IndexesNext «record» row anchors writer ⌝ }
+    ensures { λ r. ⌜ r ≡ upto «record» placeCount ⌝ }
 {
     let first = record.first;
     let one = push_set(writer, row.kind, anchors, row.first, first);
@@ -152,7 +150,7 @@ fn push_indexes(writer: BitWriter, record: Record, row: ModeRow, anchors: Anchor
 
 // The block of a record that packs.
 pub fn write_record(record: Record, row: ModeRow, anchors: Anchors) -> [u8; 16]
-    requires { ⌜ Packs «record» row × (anchors ≡ anchorsOf («record» .split)) ⌝ }
+    requires { ⌜ PackableWith «record» row anchors ⌝ }
     ensures { λ r. ⌜ r ≡ blockOf («record» .mode) («record» .split) (says «record») ⌝ }
 {
     let head = push_head(record, row);

@@ -16,6 +16,7 @@ use Rattle.laws.proofs.Over.{filled-run}
 use Rattle.bc7_format.specs.Splits.{indexMode, kindOf}
 use Rattle.line_rules.specs.Read.{valueAt}
 use Rattle.record_bytes.specs.Wire.{recordByte, splitByte}
+use Rattle.bc7_format.specs.Places.{valuesFrom, psFrom, firstFrom, secondFrom, placeCount}
 
 -- i places behind o
 pub behind : (o i : ℕ) (xs : List ℕ) → getD xs (o + i - o) 0 ≡ getD xs i 0
@@ -42,29 +43,29 @@ module _ (g : Replacement) (j : ℕ) where
   index-at h = rw (le-ltb (10 + j) 8 (omega arith), le-ltb (10 + j) 10 (omega arith)) (behind 10 j (g .indexes))
 
 -- the four bytes before them
-pub head-laid : (r : Record) (k s i : ℕ) (out : List ℕ) → length out ≡ 66 → k ≡ kindOf (r .split) → s ≡ splitByte (r .split) → i ≡ indexMode (r .split)
-    → Filled 66 0 (recordByte r) 4 (set (set (set (set out 0 (r .mode)) 1 k) 2 s) 3 i)
+pub head-laid : (r : Record) (k s i : ℕ) (out : List ℕ) → length out ≡ placeCount → k ≡ kindOf (r .split) → s ≡ splitByte (r .split) → i ≡ indexMode (r .split)
+    → Filled placeCount 0 (recordByte r) valuesFrom (set (set (set (set out 0 (r .mode)) 1 k) 2 s) 3 i)
 unfolding recordByte
 head-laid r k s i out long ek es ei =
     filled-next 3 i (filled-next 2 s (filled-next 1 k (filled-next {out = out} 0 (r .mode) (filled-none long) (lit< tt) refl) (lit< tt) ek) (lit< tt) es) (lit< tt) ei
 
 -- where the values of a record stand
 module _ (r : Record) (i : ℕ) where
-  pub value-at : i < 24 → recordByte r (4 + i) ≡ getD (r .endpoints) i 0
+  pub value-at : i < 24 → recordByte r (valuesFrom + i) ≡ getD (r .endpoints) i 0
   unfolding recordByte
-  value-at h = rw (le-ltb (4 + i) 4 (omega arith), lt-ltb (4 + i) 28 (omega arith)) (behind 4 i (r .endpoints))
+  value-at h = rw (le-ltb (valuesFrom + i) valuesFrom (omega arith), lt-ltb (valuesFrom + i) psFrom (omega arith)) (behind valuesFrom i (r .endpoints))
 
-  pub p-bit-at : i < 6 → recordByte r (28 + i) ≡ getD (r .p) i 0
+  pub p-bit-at : i < 6 → recordByte r (psFrom + i) ≡ getD (r .p) i 0
   unfolding recordByte
   p-bit-at h =
-      rw (le-ltb (28 + i) 4 (omega arith), le-ltb (28 + i) 28 (omega arith), lt-ltb (28 + i) 34 (omega arith)) (behind 28 i (r .p))
+      rw (le-ltb (psFrom + i) valuesFrom (omega arith), le-ltb (psFrom + i) psFrom (omega arith), lt-ltb (psFrom + i) firstFrom (omega arith)) (behind psFrom i (r .p))
 
-  pub first-at : i < 16 → recordByte r (34 + i) ≡ getD (r .first) i 0
+  pub first-at : i < 16 → recordByte r (firstFrom + i) ≡ getD (r .first) i 0
   unfolding recordByte
   first-at h =
-      rw (le-ltb (34 + i) 4 (omega arith), le-ltb (34 + i) 28 (omega arith), le-ltb (34 + i) 34 (omega arith), lt-ltb (34 + i) 50 (omega arith)) (behind 34 i (r .first))
+      rw (le-ltb (firstFrom + i) valuesFrom (omega arith), le-ltb (firstFrom + i) psFrom (omega arith), le-ltb (firstFrom + i) firstFrom (omega arith), lt-ltb (firstFrom + i) secondFrom (omega arith)) (behind firstFrom i (r .first))
 
-  pub second-at : i < 16 → recordByte r (50 + i) ≡ getD (r .second) i 0
+  pub second-at : i < 16 → recordByte r (secondFrom + i) ≡ getD (r .second) i 0
   unfolding recordByte
   second-at h =
-      rw (le-ltb (50 + i) 4 (omega arith), le-ltb (50 + i) 28 (omega arith), le-ltb (50 + i) 34 (omega arith), le-ltb (50 + i) 50 (omega arith)) (behind 50 i (r .second))
+      rw (le-ltb (secondFrom + i) valuesFrom (omega arith), le-ltb (secondFrom + i) psFrom (omega arith), le-ltb (secondFrom + i) firstFrom (omega arith), le-ltb (secondFrom + i) secondFrom (omega arith)) (behind secondFrom i (r .second))

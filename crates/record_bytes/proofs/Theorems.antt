@@ -7,8 +7,8 @@ use mathlib.Core.Bool.{true}
 use mathlib.Core.List.{List}
 use Prim.Native.Nat.{ℕ, zero, suc, _+_, _-_, _<_, _≤_}
 use native.Mathlib.Omega.{arith}
-use borrow.Author.Tests.{eq-eqb, eqb-true, lt-ltb, le-ltb}
-use lib.Dec.{T, eqb, eqb→eq, lit<}
+use borrow.Author.Tests.{eq-eqb, lt-ltb, le-ltb}
+use lib.Dec.{eqb, eqb→eq, lit<}
 use lib.ListN.{length, getD}
 use lib.Seq.{ext-getD}
 use Rattle.line_rules.specs.declared.Replacement.{Replacement}
@@ -31,9 +31,11 @@ use Rattle.record_rules.specs.Records.{Shaped, made, packRefusal, packed, packe
 use Rattle.record_rules.proofs.Answering.{packing}
 use Rattle.record_rules.proofs.Packing.{taken-open}
 use Rattle.record_rules.proofs.Theorems.{pack-unpack, unpack-pack}
-use Rattle.record_bytes.specs.Wire.{bytesFrom, bytesRules, packedBytes, recordByte, recordBytes, recordOfBytes, replacementBytes, replacementOf, spelt, splitByte}
+use Rattle.record_bytes.specs.Wire.{bytesFrom, bytesRules, packedBytes, recordByte, recordBytes, recordOfBytes, spelt, splitByte}
 use Rattle.record_bytes.proofs.Laying.{first-at, p-bit-at, second-at, value-at}
 use Rattle.record_bytes.proofs.Packing.{as-record, bytes-packing}
+use Rattle.bc7_format.specs.Places.{valuesFrom, psFrom, firstFrom, secondFrom, placeCount}
+use Rattle.record_bytes.specs.Promises.{PacksBytes, ReadsReplacement, WritesRecord, WritesReplacement}
 
 same-split : (s : Split) → ofKind (kindOf s) (splitByte s) (splitByte s) (indexMode s) ≡ s
 same-split Whole = refl
@@ -42,12 +44,12 @@ same-split (Three a) = refl
 same-split (Vector r i) = refl
 
 module _ (r : Record) where
-  byte : (i : ℕ) → i < 66 → getD (recordBytes r) i 0 ≡ recordByte r i
+  byte : (i : ℕ) → i < placeCount → getD (recordBytes r) i 0 ≡ recordByte r i
   unfolding recordBytes
-  byte i h = getD-table 66 (recordByte r) 0 i h
+  byte i h = getD-table placeCount (recordByte r) 0 i h
 
   -- n bytes from o on that are the values xs
-  part : (n o : ℕ) (xs : List ℕ) → length xs ≡ n → o + n ≤ 66 → ((i : ℕ) → i < n → recordByte r (o + i) ≡ getD xs i 0) → bytesFrom (recordBytes r) o n ≡ xs
+  part : (n o : ℕ) (xs : List ℕ) → length xs ≡ n → o + n ≤ placeCount → ((i : ℕ) → i < n → recordByte r (o + i) ≡ getD xs i 0) → bytesFrom (recordBytes r) o n ≡ xs
   part n o xs long room is =
       ext-getD 0 _ xs (length-table n _ ∙ sym long) (λ i l.
       let l' : i < n = subst (λ (m : ℕ). i < m) (length-table n (λ k. getD (recordBytes r) (o + k) 0)) l in
@@ -62,10 +64,10 @@ module _ (r : Record) where
       λ j. record {
         mode = byte 0 (lit< tt) j;
         split = e j;
-        endpoints = part 24 4 (r .endpoints) (sh .endpoints) (lit< tt) (value-at r) j;
-        p = part 6 28 (r .p) (sh .p) (lit< tt) (p-bit-at r) j;
-        first = part 16 34 (r .first) (sh .first) (lit< tt) (first-at r) j;
-        second = part 16 50 (r .second) (sh .second) (lit< tt) (second-at r) j;
+        endpoints = part 24 valuesFrom (r .endpoints) (sh .endpoints) (lit< tt) (value-at r) j;
+        p = part 6 psFrom (r .p) (sh .p) (lit< tt) (p-bit-at r) j;
+        first = part 16 firstFrom (r .first) (sh .first) (lit< tt) (first-at r) j;
+        second = part 16 secondFrom (r .second) (sh .second) (lit< tt) (second-at r) j;
       }
 
 packing-is : (r : Record) → packRefusal r ≡ packed r .refusal
@@ -100,7 +102,7 @@ kind-of-kind (suc (suc zero)) a i h = refl
 kind-of-kind (suc (suc (suc zero))) a i h = refl
 kind-of-kind (suc (suc (suc (suc k)))) a i h = absurd (let y : ⊥ = omega arith in y)
 
-module _ (bs : List ℕ) (long : length bs ≡ 66) (k : getD bs 1 0 ≤ 3) (said : spelt bs ≡ true) where
+module _ (bs : List ℕ) (long : length bs ≡ placeCount) (k : getD bs 1 0 ≤ 3) (said : spelt bs ≡ true) where
   abbrev r : Record
   r = recordOfBytes bs
 
@@ -108,7 +110,7 @@ module _ (bs : List ℕ) (long : length bs ≡ 66) (k : getD bs 1 0 ≤ 3) (said
   at-group n o i l h = getD-table n (λ j. getD bs (o + j) 0) 0 (i - o) (omega arith) ∙ ap (λ (j : ℕ). getD bs j 0) (let z : o + (i - o) ≡ i = omega arith in z)
 
   -- the first four
-  head-byte : (i : ℕ) → i < 4 → recordByte r i ≡ getD bs i 0
+  head-byte : (i : ℕ) → i < valuesFrom → recordByte r i ≡ getD bs i 0
   unfolding recordByte recordOfBytes spelt
   head-byte zero h = refl
   head-byte (suc zero) h = kind-of-kind (getD bs 1 0) (getD bs 2 0) (getD bs 3 0) k
@@ -117,24 +119,24 @@ module _ (bs : List ℕ) (long : length bs ≡ 66) (k : getD bs 1 0 ≤ 3) (said
   head-byte (suc (suc (suc (suc i)))) h = absurd (let y : ⊥ = omega arith in y)
 
   -- and those of the arrays
-  array-byte : (i : ℕ) → 4 ≤ i → i < 66 → recordByte r i ≡ getD bs i 0
+  array-byte : (i : ℕ) → valuesFrom ≤ i → i < placeCount → recordByte r i ≡ getD bs i 0
   unfolding recordByte recordOfBytes
   array-byte i l h =
-      rw (le-ltb i 4 l)
-      (⊎-elim (λ a. rw (lt-ltb i 28 a) (at-group 24 4 i l (omega arith)))
-      (λ b. rw (le-ltb i 28 b)
-      (⊎-elim (λ a. rw (lt-ltb i 34 a) (at-group 6 28 i b (omega arith)))
-      (λ c. rw (le-ltb i 34 c)
-      (⊎-elim (λ a. rw (lt-ltb i 50 a) (at-group 16 34 i c (omega arith))) (λ d. rw (le-ltb i 50 d) (at-group 16 50 i d (omega arith))) (lt-or i 50)))
-      (lt-or i 34)))
-      (lt-or i 28))
+      rw (le-ltb i valuesFrom l)
+      (⊎-elim (λ a. rw (lt-ltb i psFrom a) (at-group 24 valuesFrom i l (omega arith)))
+      (λ b. rw (le-ltb i psFrom b)
+      (⊎-elim (λ a. rw (lt-ltb i firstFrom a) (at-group 6 psFrom i b (omega arith)))
+      (λ c. rw (le-ltb i firstFrom c)
+      (⊎-elim (λ a. rw (lt-ltb i secondFrom a) (at-group 16 firstFrom i c (omega arith))) (λ d. rw (le-ltb i secondFrom d) (at-group 16 secondFrom i d (omega arith))) (lt-or i secondFrom)))
+      (lt-or i firstFrom)))
+      (lt-or i psFrom))
 
   bytes-of-its-record : recordBytes r ≡ bs
   unfolding recordBytes
   bytes-of-its-record =
-      ext-getD 0 _ bs (length-table 66 _ ∙ sym long) (λ i l.
-      let h : i < 66 = subst (λ (m : ℕ). i < m) (length-table 66 (recordByte r)) l in
-      getD-table 66 (recordByte r) 0 i h ∙ ⊎-elim (head-byte i) (λ g. array-byte i g h) (lt-or i 4))
+      ext-getD 0 _ bs (length-table placeCount _ ∙ sym long) (λ i l.
+      let h : i < placeCount = subst (λ (m : ℕ). i < m) (length-table placeCount (recordByte r)) l in
+      getD-table placeCount (recordByte r) 0 i h ∙ ⊎-elim (head-byte i) (λ g. array-byte i g h) (lt-or i valuesFrom))
 
 -- a record that was taken apart has its arrays
 taken-shaped : (bs : List ℕ) → modeOf bs < 8 → Shaped (taken bs .«record»)
@@ -152,7 +154,7 @@ pack-unpack-bytes bs h n =
     sym (as-record (recordBytes r) (kind-named r) (λ e. let y : ⊥ = omega (arith, e, accepted) in y) (its-bytes-spell r same)) ∙ ap packed same ∙ pack-unpack bs h n
 
 -- and taking apart what packing made of accepted bytes gives those bytes
-pub unpack-pack-bytes : (bs : List ℕ) → length bs ≡ 66 → packedBytes bs .refusal ≡ 0 → recordBytes (taken (packedBytes bs .block) .«record») ≡ bs
+pub unpack-pack-bytes : (bs : List ℕ) → length bs ≡ placeCount → packedBytes bs .refusal ≡ 0 → recordBytes (taken (packedBytes bs .block) .«record») ≡ bs
 unfolding packedBytes
 unpack-pack-bytes bs long e =
     let (k, (low, (kind, (said, (w, (c, u)))))) = bytes-packing bs .met e in
@@ -169,14 +171,14 @@ unfolding packedBytes
 bytes-refused-when bs = exactly (bytes-packing bs)
 
 -- any two answers that a promise admits are the same
-pub determined-record-bytes : (r : Record) (a b : List ℕ) → a ≡ recordBytes r → b ≡ recordBytes r → a ≡ b
+pub determined-record-bytes : (r : Record) (a b : List ℕ) → WritesRecord r a → WritesRecord r b → a ≡ b
 determined-record-bytes r a b p q = p ∙ sym q
 
-pub determined-pack-bytes : (bs : List ℕ) (a b : Packed) → a ≡ packedBytes bs → b ≡ packedBytes bs → a ≡ b
+pub determined-pack-bytes : (bs : List ℕ) (a b : Packed) → PacksBytes bs a → PacksBytes bs b → a ≡ b
 determined-pack-bytes bs a b p q = p ∙ sym q
 
-pub determined-replacement-of : (bs : List ℕ) (a b : Replacement) → a ≡ replacementOf bs → b ≡ replacementOf bs → a ≡ b
+pub determined-replacement-of : (bs : List ℕ) (a b : Replacement) → ReadsReplacement bs a → ReadsReplacement bs b → a ≡ b
 determined-replacement-of bs a b p q = p ∙ sym q
 
-pub determined-replacement-bytes : (g : Replacement) (a b : List ℕ) → a ≡ replacementBytes g → b ≡ replacementBytes g → a ≡ b
+pub determined-replacement-bytes : (g : Replacement) (a b : List ℕ) → WritesReplacement g a → WritesReplacement g b → a ≡ b
 determined-replacement-bytes g a b p q = p ∙ sym q

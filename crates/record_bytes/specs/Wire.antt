@@ -18,6 +18,7 @@ use Rattle.bc7_format.specs.Splits.{indexMode, kindOf, ofKind}
 use Rattle.line_rules.specs.Read.{valueAt}
 use Rattle.record_rules.specs.Answers.{TopsClear, Within}
 use Rattle.record_rules.specs.Records.{packRefusal, packed, packedAs}
+use Rattle.bc7_format.specs.Places.{valuesFrom, psFrom, firstFrom, secondFrom, placeCount}
 
 -- the partition or the rotation, whichever the split has
 abbrev pub splitByte : Split → ℕ
@@ -29,14 +30,14 @@ splitByte (Vector r i) = r
 -- 66 bytes: four of the head, 24 endpoint values, 6 p bits, 16 first and 16 second indexes
 unfoldable pub recordByte : Record → ℕ → ℕ
 recordByte r i =
-    pick (ltb i 4) (getD (r .mode ∷ kindOf (r .split) ∷ splitByte (r .split) ∷ indexMode (r .split) ∷ []) i 0)
-    (pick (ltb i 28) (getD (r .endpoints) (i - 4) 0)
-    (pick (ltb i 34) (getD (r .p) (i - 28) 0)
-    (pick (ltb i 50) (getD (r .first) (i - 34) 0)
-    (getD (r .second) (i - 50) 0))))
+    pick (ltb i valuesFrom) (getD (r .mode ∷ kindOf (r .split) ∷ splitByte (r .split) ∷ indexMode (r .split) ∷ []) i 0)
+    (pick (ltb i psFrom) (getD (r .endpoints) (i - valuesFrom) 0)
+    (pick (ltb i firstFrom) (getD (r .p) (i - psFrom) 0)
+    (pick (ltb i secondFrom) (getD (r .first) (i - firstFrom) 0)
+    (getD (r .second) (i - secondFrom) 0))))
 
 unfoldable pub recordBytes : Record → List ℕ
-recordBytes r = table 66 (recordByte r)
+recordBytes r = table placeCount (recordByte r)
 
 -- n bytes from a place on
 abbrev pub bytesFrom : List ℕ → ℕ → ℕ → List ℕ
@@ -47,10 +48,10 @@ unfoldable pub recordOfBytes : List ℕ → Record
 recordOfBytes bs = record {
   mode = getD bs 0 0;
   split = ofKind (getD bs 1 0) (getD bs 2 0) (getD bs 2 0) (getD bs 3 0);
-  endpoints = bytesFrom bs 4 24;
-  p = bytesFrom bs 28 6;
-  first = bytesFrom bs 34 16;
-  second = bytesFrom bs 50 16;
+  endpoints = bytesFrom bs valuesFrom 24;
+  p = bytesFrom bs psFrom 6;
+  first = bytesFrom bs firstFrom 16;
+  second = bytesFrom bs secondFrom 16;
 }
 
 -- are the third and the fourth byte those of the split that they say: what its kind hasn't got is 0

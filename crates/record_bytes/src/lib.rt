@@ -8,10 +8,18 @@ ghost use lib.ListN.{getD, length, replicate};
 ghost use Rattle.laws.specs.Tables.{both, over};
 ghost use Rattle.bc7_format.specs.Splits.{indexMode};
 ghost use Rattle.record_rules.specs.Records.{packedAs};
-ghost use Rattle.record_bytes.specs.Wire.{bytesFrom, packedBytes, recordBytes, recordOfBytes, replacementBytes, replacementOf, splitByte};
+ghost use Rattle.record_bytes.specs.Wire.{bytesFrom, recordOfBytes, splitByte};
+ghost use Rattle.record_bytes.specs.Promises.{PacksBytes, ReadsReplacement, WritesRecord, WritesReplacement};
 use bc7_format::Split;
+use bc7_places::places::FIRST;
+use bc7_places::places::P_BITS;
+use bc7_places::places::PLACES;
+use bc7_places::places::SECOND;
+use bc7_places::places::VALUES;
 use bc7_places::splits::index_mode_of;
 use bc7_places::splits::kind_of;
+use bc7_places::splits::partition_of;
+use bc7_places::splits::rotation_of;
 use bc7_places::splits::split_of_kind;
 use line_rules::Replacement;
 use record::pack;
@@ -22,15 +30,10 @@ use record_rules::Record;
 fn split_byte(split: Split) -> u8
     ensures { λ r. ⌜ r ≡ splitByte split ⌝ }
 {
-    match split {
-        Split::Whole => 0,
-        Split::Two(partition) => partition,
-        Split::Three(partition) => partition,
-        Split::Vector {
-            rotation,
-            index_mode: _,
-        } => rotation,
+    if kind_of(split) == 3 {
+        return rotation_of(split);
     }
+    partition_of(split)
 }
 
 // Bytes laid over others from a place on.
@@ -44,23 +47,23 @@ fn lay(values: &[u8], at: usize, bytes: &mut [u8])
 }
 
 // The bytes of a record.
-pub fn record_bytes(from: Record) -> [u8; 66]
-    ensures { λ r. ⌜ r ≡ recordBytes from ⌝ }
+pub fn record_bytes(from: Record) -> [u8; PLACES]
+    ensures { λ r. ⌜ WritesRecord from r ⌝ }
 {
     let split = from.split;
-    let mut bytes = [0u8; 66];
+    let mut bytes = [0u8; PLACES];
     bytes[0] = from.mode;
     bytes[1] = kind_of(split);
     bytes[2] = split_byte(split);
     bytes[3] = index_mode_of(split);
     let endpoints = from.endpoints;
-    lay(&endpoints, 4, &mut bytes);
+    lay(&endpoints, VALUES, &mut bytes);
     let p = from.p;
-    lay(&p, 28, &mut bytes);
+    lay(&p, P_BITS, &mut bytes);
     let first = from.first;
-    lay(&first, 34, &mut bytes);
+    lay(&first, FIRST, &mut bytes);
     let second = from.second;
-    lay(&second, 50, &mut bytes);
+    lay(&second, SECOND, &mut bytes);
     bytes
 }
 
@@ -75,17 +78,17 @@ fn copy_from(bytes: &[u8], at: usize, values: &mut [u8])
 }
 
 // The record of 66 bytes. A kind above 3 is read as 3: `pack_bytes` refuses it before.
-fn record_of_bytes(bytes: [u8; 66]) -> Record
+fn record_of_bytes(bytes: [u8; PLACES]) -> Record
     ensures { λ r. ⌜ r ≡ recordOfBytes bytes ⌝ }
 {
     let mut endpoints = [0u8; 24];
-    copy_from(&bytes, 4, &mut endpoints);
+    copy_from(&bytes, VALUES, &mut endpoints);
     let mut p = [0u8; 6];
-    copy_from(&bytes, 28, &mut p);
+    copy_from(&bytes, P_BITS, &mut p);
     let mut first = [0u8; 16];
-    copy_from(&bytes, 34, &mut first);
+    copy_from(&bytes, FIRST, &mut first);
     let mut second = [0u8; 16];
-    copy_from(&bytes, 50, &mut second);
+    copy_from(&bytes, SECOND, &mut second);
     Record {
         mode: bytes[0],
         split: split_of_kind(bytes[1], bytes[2], bytes[2], bytes[3]),
@@ -117,8 +120,8 @@ fn refused(refusal: u8) -> Packed
 
 // Packing a record that is given in bytes. A byte that names no kind is a split of another kind than the mode's; one that says what
 // the kind hasn't got needs more than its width, which is 0.
-pub fn pack_bytes(bytes: [u8; 66]) -> Packed
-    ensures { λ r. ⌜ r ≡ packedBytes bytes ⌝ }
+pub fn pack_bytes(bytes: [u8; PLACES]) -> Packed
+    ensures { λ r. ⌜ PacksBytes bytes r ⌝ }
 {
     if 3 < bytes[1] {
         return refused(5);
@@ -137,7 +140,7 @@ pub fn pack_bytes(bytes: [u8; 66]) -> Packed
 
 // The replacement of 26 bytes: 8 endpoint values, 2 p bits, 16 indexes.
 pub fn replacement_of(bytes: [u8; 26]) -> Replacement
-    ensures { λ r. ⌜ r ≡ replacementOf bytes ⌝ }
+    ensures { λ r. ⌜ ReadsReplacement bytes r ⌝ }
 {
     let mut endpoints = [0u8; 8];
     copy_from(&bytes, 0, &mut endpoints);
@@ -152,7 +155,7 @@ pub fn replacement_of(bytes: [u8; 26]) -> Replacement
 
 // The bytes of a replacement, in the same order.
 pub fn replacement_bytes(from: Replacement) -> [u8; 26]
-    ensures { λ r. ⌜ r ≡ replacementBytes from ⌝ }
+    ensures { λ r. ⌜ WritesReplacement from r ⌝ }
 {
     let mut bytes = [0u8; 26];
     let endpoints = from.endpoints;

@@ -15,7 +15,7 @@ use Rattle.laws.proofs.Refusals.{Answers, Met, accepted-when, answer-0, answer-
 use Rattle.laws.proofs.Tests.{T-true, at, below-intro, true-T}
 use Rattle.bc7_format.specs.Modes.{indexBits, kindOfMode}
 use Rattle.bcn_format.specs.Partitions.{among}
-use Rattle.bc7_format.specs.Places.{Place, blockOf, head, index, inside, pbit, placeAt, pos, value, width}
+use Rattle.bc7_format.specs.Places.{Place, blockOf, head, index, inside, pbit, placeAt, pos, value, width, placeCount}
 use Rattle.bc7_format.specs.Splits.{anchors, kindOf}
 use Rattle.bc7_format.proofs.Places.{inside-placeAt, placeAt-pos, pos-lt}
 use Rattle.record_rules.specs.Answers.{TopsClear, Within, packRules}
@@ -26,11 +26,11 @@ pub fits-at : (m : ℕ) (an : List ℕ) (f : Place → ℕ) → fits m an f ≡ 
 unfolding fits
 fits-at m an f e x h =
     subst (λ (y : Place). f y < 2 ^ width m an y) (placeAt-pos x h)
-    (ltb→lt _ _ (at 66 (λ i. ltb (f (placeAt i)) (2 ^ width m an (placeAt i))) (true-T _ e) (pos x) (pos-lt x h)))
+    (ltb→lt _ _ (at placeCount (λ i. ltb (f (placeAt i)) (2 ^ width m an (placeAt i))) (true-T _ e) (pos x) (pos-lt x h)))
 
 pub fits-of : (m : ℕ) (an : List ℕ) (f : Place → ℕ) → ((x : Place) → T (inside x) → f x < 2 ^ width m an x) → fits m an f ≡ true
 unfolding fits
-fits-of m an f h = T-true _ (below-intro 66 (λ i. ltb (f (placeAt i)) (2 ^ width m an (placeAt i))) (λ k l. lt→ltb _ _ (h (placeAt k) (inside-placeAt k l))))
+fits-of m an f h = T-true _ (below-intro placeCount (λ i. ltb (f (placeAt i)) (2 ^ width m an (placeAt i))) (λ k l. lt→ltb _ _ (h (placeAt k) (inside-placeAt k l))))
 
 module _ (r : Record) where
   abbrev m : ℕ

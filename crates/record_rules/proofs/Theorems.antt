@@ -28,6 +28,7 @@ use Rattle.record_rules.specs.Answers.{packRules}
 use Rattle.record_rules.specs.Records.{Shaped, made, packed, packedAs, recordOf, says, taken, unpackedAs, zeroRecord}
 use Rattle.record_rules.proofs.Answering.{packing}
 use Rattle.record_rules.proofs.Packing.{good-accepted, good-packs, made-ext, made-says, packs-good, record-says, taken-open, taken-reserved}
+use Rattle.record_rules.specs.Promises.{Packs, Unpacks}
 
 -- taking apart refuses a block exactly when it is reserved, and then answers 1 and the zero record
 pub refused-when-reserved : (bs : List ℕ) → Fit eights bs → (taken bs ≡ unpackedAs 1 zeroRecord) ↔ (getD bs 0 0 ≡ 0)
@@ -74,8 +75,8 @@ record-draws-block bs h n q c =
     (shown-ext (modeOf bs) (splitOf bs) (says (recordOf bs)) (opened bs) q c (record-says bs h o))
 
 -- any two answers that a promise admits are the same
-pub determined-unpack : (bs : List ℕ) (a b : Unpacked) → a ≡ taken bs → b ≡ taken bs → a ≡ b
+pub determined-unpack : (bs : List ℕ) (a b : Unpacked) → Unpacks bs a → Unpacks bs b → a ≡ b
 determined-unpack bs a b p q = p ∙ sym q
 
-pub determined-pack : (r : Record) (a b : Packed) → a ≡ packed r → b ≡ packed r → a ≡ b
+pub determined-pack : (r : Record) (a b : Packed) → Packs r a → Packs r b → a ≡ b
 determined-pack r a b p q = p ∙ sym q

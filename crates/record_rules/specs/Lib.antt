@@ -1,3 +1,4 @@
 -- The record of a block, taking apart and packing.
 pub mod Records
 pub mod Answers
+pub mod Promises

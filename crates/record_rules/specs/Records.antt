@@ -14,7 +14,7 @@ use Rattle.bc7_format.specs.declared.Split.the-variants.{Whole}
 use Rattle.laws.specs.Refusals.{first, refuse}
 use Rattle.laws.specs.Tables.{below, pick, table}
 use Rattle.bc7_format.specs.Modes.{modeOf, kindOfMode}
-use Rattle.bc7_format.specs.Places.{Place, blockOf, head, index, opened, pbit, placeAt, value, width}
+use Rattle.bc7_format.specs.Places.{Place, blockOf, head, index, opened, pbit, placeAt, value, width, placeCount}
 use Rattle.bc7_format.specs.Splits.{anchors, indexMode, kindOf, partition, rotation, splitOf}
 
 -- the record of what stands at the places
@@ -61,7 +61,7 @@ taken bs = pick (eqb (modeOf bs) 8) (unpackedAs 1 zeroRecord) (unpackedAs 0 (rec
 
 -- does what stands at each place fit its width, where the pixels of `an` are anchors
 unfoldable pub fits : ℕ → List ℕ → (Place → ℕ) → Bool
-fits m an f = below 66 (λ i. ltb (f (placeAt i)) (2 ^ width m an (placeAt i)))
+fits m an f = below placeCount (λ i. ltb (f (placeAt i)) (2 ^ width m an (placeAt i)))
 
 -- PACKING: the first refusal that applies. Where no pixel is an anchor every index has its full width; where the full widths
 -- hold and the anchors' do not, an anchor's index has its top bit set

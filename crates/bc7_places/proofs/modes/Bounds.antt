@@ -8,7 +8,7 @@ use lib.Pow.{pow-mono}
 use Rattle.bc7_places.specs.declared.modes.ModeRow.{ModeRow}
 use Rattle.bc7_format.specs.Modes.{endpointCount, kindOfMode, modeRow, partitionBits}
 use Rattle.bc7_format.proofs.Modes.{by-vector, six-bits}
-use Rattle.bc7_places.specs.Rows.{OfMode, rowOf}
+use Rattle.bc7_places.specs.Modes.{OfMode, rowOf}
 
 pub record Small (row : ModeRow) : Type 0 where
   pub split : row .partition + row .rotation + row .«index_mode» ≤ 6

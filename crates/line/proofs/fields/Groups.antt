@@ -15,7 +15,7 @@ use Rattle.bc7_format.specs.declared.Split.{Split}
 use Rattle.laws.specs.Digits.{replacedAt}
 use Rattle.laws.proofs.Tests.{no-both, not-so}
 use Rattle.bc7_format.specs.Lines.{Line, has, laid, withLine}
-use Rattle.bc7_format.specs.Places.{Place, inside, pos, width}
+use Rattle.bc7_format.specs.Places.{Place, inside, pos, width, placeCount}
 use Rattle.bc7_format.specs.Splits.{anchors}
 use Rattle.bc7_format.proofs.Places.{placeAt-pos, pos-one}
 use Rattle.bc7_format.proofs.Starts.{start, start-next}
@@ -32,7 +32,7 @@ module _ (m : ℕ) (s : Split) (l : ℕ) (o : Line) (f : Place → ℕ) where
 
   -- two neighbours of one width, the only ones of the line from k on up to k'
   module _ (a b : Place) (k k' w : ℕ) (ia : T (inside a)) (ib : T (inside b)) (next : pos b ≡ suc (pos a)) (hk : k ≤ pos a) (hk' : pos a + 2 ≤ k')
-      (h66 : k' ≤ 66)
+      (h66 : k' ≤ placeCount)
       (wa : ownWidth m s l a ≡ w) (wb : ownWidth m s l b ≡ w) (fa : width m (anchors s) a ≡ width m [] a) (fb : width m (anchors s) b ≡ width m [] b)
       (only : (x : Place) → T (inside x) → k ≤ pos x → pos x < k' → has m s l x ≡ true → (x ≡ a) ⊎ (x ≡ b)) where
     module _ (x y n n' : ℕ) (hx : x < 2 ^ w) (hy : y < 2 ^ w) (lx : laid m o a ≡ x) (ly : laid m o b ≡ y)

@@ -6,11 +6,9 @@ use mathlib.Core.List.{List, []}
 use Prim.Native.Nat.{ℕ, zero, suc, _+_, _-_, _*_, _^_, _≤_, _<_}
 use native.Mathlib.Nat.{add-zero, lt-of-lt-of-le, zero-add}
 use native.Mathlib.Omega.{arith}
-use lib.Dec.{lit<}
 use lib.Pow.{pow-mono, pow-pos}
 use Rattle.bc7_format.specs.declared.Split.{Split}
-use Rattle.bc7_format.specs.declared.Split.the-variants.{Whole, Two, Three, Vector}
-use Rattle.line.specs.declared.parts.LinePart.{LinePart}
+use Rattle.bc7_places.specs.declared.lines.LinePart.{LinePart}
 use Rattle.laws.specs.Digits.{Fit, join, replacedAt, split, total}
 use Rattle.laws.specs.Tables.{pick, table}
 use Rattle.laws.proofs.Cases.{pick-less}
@@ -19,24 +17,22 @@ use Rattle.laws.proofs.Rows.{fit-table, split-table}
 use Rattle.bc7_format.specs.Lines.{Line, arrayOf, has, indexPlace, laid, lineBits, withLine}
 use Rattle.bc7_format.specs.Modes.{indexBits, kindOfMode}
 use Rattle.bcn_format.specs.Partitions.{among}
-use Rattle.bc7_format.specs.Places.{Place, atPlace, index, width}
-use Rattle.bc7_format.specs.Splits.{anchors, partition}
+use Rattle.bc7_format.specs.Places.{Place, atPlace, index, width, firstFrom}
+use Rattle.bc7_format.specs.Splits.{anchors}
 use Rattle.bc7_format.specs.WellFormed.{WellFormed}
 use Rattle.bc7_format.proofs.Meaning.{array-lt}
 use Rattle.bc7_format.proofs.Modes.{good-64, good-index-mode}
 use Rattle.bc7_format.proofs.Opening.{good-kind}
 use Rattle.bc7_format.proofs.Places.{inside-index}
 use Rattle.bc7_format.proofs.Starts.{start}
-use Rattle.partitions.proofs.Maps.{anchors-in2, anchors-in3}
 use Rattle.bcn_format.specs.Indexes.{Rising, anchorCount, expanded, indexWidth, indexWidths, part}
 use Rattle.bcn_format.proofs.Expanding.{part-expanded}
 use Rattle.indexes.proofs.Remove.{size-kind}
 use Rattle.bc7_format.proofs.Fields.{index-at}
-use Rattle.bc7_places.specs.Rows.{anchorsOf}
-use Rattle.bc7_places.proofs.modes.Pixels.{anchors-kind, anchors-rise}
+use Rattle.bc7_places.proofs.splits.AnchorPixels.{anchors-kind, anchors-low, anchors-rise}
 use Rattle.line_rules.specs.Replace.{ownWidth}
 use Rattle.line_rules.proofs.Own.{own-none, own-some}
-use Rattle.line.specs.Parts.{ownPixel}
+use Rattle.bc7_places.specs.Lines.{ownPixel}
 use Rattle.line.proofs.parts.Parts.{IsPart}
 use Rattle.line.proofs.parts.Words.{Small, maskPart, masked, word, word-lt, word-plus, word-same, word-split}
 use Rattle.line.specs.Fields.{SetReady, anchorsIn, setAfter, setBefore, setPut, sizeIn}
@@ -46,12 +42,6 @@ expanded-word : (w : ℕ) (an : List ℕ) (n : ℕ) → expanded w an n ≡ word
 unfolding expanded indexWidths
 expanded-word w an n =
     ap (join (table 16 (indexWidth w []))) (split-table 16 (indexWidth w an) n) ∙ word-same w _ _ (λ q h. sym (part-expanded w an n q h))
-
-anchors-low : (s : Split) → partition s < 64 → (anchorsOf s .b < 16) × (anchorsOf s .c < 16)
-anchors-low Whole h = (lit< tt, lit< tt)
-anchors-low (Two a) h = rw (anchors-in2 a h .are) (anchors-in2 a h .last, lit< tt)
-anchors-low (Three a) h = rw (anchors-in3 a h .are) (omega (arith, anchors-in3 a h .next, anchors-in3 a h .last), anchors-in3 a h .last)
-anchors-low (Vector r i) h = (lit< tt, lit< tt)
 
 -- a set has bits
 sizes : (k w : ℕ) → 2 ≤ w → 0 < 16 * w - anchorCount k
@@ -100,7 +90,7 @@ module _ {m : ℕ} {s : Split} {f : Place → ℕ} (g : WellFormed m s f) (l : �
   unfolding indexPlace width
   stood-small q h = rw bits (lt-of-lt-of-le (g .fits (index a q) (inside-index ha h)) (pow-mono (pick-less (among q (anchors s)) (indexBits m a))))
 
-  pub before-word : (n b : ℕ) → b ≡ start m s (34 + (16 * a + 0)) → ((q : ℕ) → q < 16 → atPlace m s n (indexPlace s l q) ≡ stood q)
+  pub before-word : (n b : ℕ) → b ≡ start m s (firstFrom + (16 * a + 0)) → ((q : ℕ) → q < 16 → atPlace m s n (indexPlace s l q) ≡ stood q)
       → setBefore n k b x ≡ word w stood
   unfolding setBefore indexPlace
   before-word n b eb e =
@@ -173,24 +163,24 @@ module _ {m : ℕ} {s : Split} {f : Place → ℕ} (g : WellFormed m s f) (l : �
     unfolding stored
     stored-split = split-join stand-fits
 
-    module _ (n b : ℕ) {mask new : ℕ} (eb : b ≡ start m s (34 + (16 * a + 0))) (e : (q : ℕ) → q < 16 → atPlace m s n (indexPlace s l q) ≡ stood q)
+    module _ (n b : ℕ) {mask new : ℕ} (eb : b ≡ start m s (firstFrom + (16 * a + 0))) (e : (q : ℕ) → q < 16 → atPlace m s n (indexPlace s l q) ≡ stood q)
         (em : mask ≡ word w (maskPart x)) (en : new ≡ word w (λ q. pick (own q) (o .index q) 0)) where
       after-split : split (indexWidths w []) (setAfter n k b x mask new) ≡ table 16 stands
       after-split = rw (after-word n b (before-word n b eb e) em en) (word-split w stands stands-small)
 
-      pub set-ready : start m s (34 + (16 * a + 0)) + total (indexWidths (indexBits m a) (anchors s)) ≤ 128 → SetReady n k b x mask new
+      pub set-ready : start m s (firstFrom + (16 * a + 0)) + total (indexWidths (indexBits m a) (anchors s)) ≤ 128 → SetReady n k b x mask new
       set-ready room = record {
         least = omega (arith, is .least);
         most = is .most;
         rising = rising;
-        second = rw (is .anchors) (anchors-low s (good-64 g) .0);
-        third = rw (is .anchors) (anchors-low s (good-64 g) .1);
+        second = rw (is .anchors) (anchors-low s (good-64 g) .second);
+        third = rw (is .anchors) (anchors-low s (good-64 g) .third);
         below = omega (arith, eb, size-is, sizes k w (is .least));
         room = rw (eb, size-is) room;
         small = rw (after-word n b (before-word n b eb e) em en) (word-lt w stands stands-small);
         fits = rw (after-split, anchors-are, bits) stand-fits;
       }
 
-      pub set-put : setPut n k b x mask new ≡ replacedAt n (start m s (34 + (16 * a + 0))) (total (indexWidths (indexBits m a) (anchors s))) stored
+      pub set-put : setPut n k b x mask new ≡ replacedAt n (start m s (firstFrom + (16 * a + 0))) (total (indexWidths (indexBits m a) (anchors s))) stored
       unfolding setPut stored
       set-put = rw (after-split, anchors-are, size-is, bits, eb)

@@ -21,7 +21,7 @@ use Rattle.laws.proofs.Tests.{both-left, both-right, not-so}
 use Rattle.bcn_format.specs.Block.{bytesOf}
 use Rattle.bc7_format.specs.Lines.{Line, arrayOf, has, indexPlace, laid, pPlace, valuePlace, withLine}
 use Rattle.bc7_format.specs.Modes.{indexBits, lines, pCount}
-use Rattle.bc7_format.specs.Places.{Place, atPlace, blockOf, head, index, inside, pbit, pos, value, width, widths}
+use Rattle.bc7_format.specs.Places.{Place, atPlace, blockOf, head, index, inside, pbit, pos, value, width, widths, valuesFrom, psFrom, firstFrom, placeCount}
 use Rattle.bc7_format.specs.Splits.{anchors, isVector}
 use Rattle.bc7_format.specs.WellFormed.{WellFormed}
 use Rattle.bc7_format.proofs.Lens.{has-head}
@@ -66,7 +66,7 @@ module _ {m : ℕ} {s : Split} {f : Place → ℕ} (g : WellFormed m s f) (l : �
   unfolding valuePlace pos
   value-next c = go (isVector s)
     where
-      go : (v : Bool) → 4 + (6 * c + pick v 1 (2 * l + 1)) ≡ suc (4 + (6 * c + pick v 0 (2 * l + 0)))
+      go : (v : Bool) → valuesFrom + (6 * c + pick v 1 (2 * l + 1)) ≡ suc (valuesFrom + (6 * c + pick v 0 (2 * l + 0)))
       go true = omega arith
       go false = omega arith
 
@@ -76,18 +76,18 @@ module _ {m : ℕ} {s : Split} {f : Place → ℕ} (g : WellFormed m s f) (l : �
 
   pub p-next : m ≢ 1 → pos (pPlace m l 1) ≡ suc (pos (pPlace m l 0))
   unfolding pPlace pos
-  p-next n1 = rw (ne-eqb m 1 n1) (let z : 28 + (2 * l + 1) ≡ suc (28 + (2 * l + 0)) = omega arith in z)
+  p-next n1 = rw (ne-eqb m 1 n1) (let z : psFrom + (2 * l + 1) ≡ suc (psFrom + (2 * l + 0)) = omega arith in z)
 
 module _ {m : ℕ} {s : Split} {f : Place → ℕ} (g : WellFormed m s f) (l : ℕ) (hl : l < lines m) (o : Line) where
   abbrev Until : ℕ → ℕ → Type 0
   Until k n = Upto m s l o f k n
 
   -- the head is no line's
-  pub after-head : (n : ℕ) → ((x : Place) → T (inside x) → atPlace m s n x ≡ f x) → Until 4 n
+  pub after-head : (n : ℕ) → ((x : Place) → T (inside x) → atPlace m s n x ≡ f x) → Until valuesFrom n
   unfolding pos
-  after-head n e = passed m s l o f 4 (omega arith) (begin m s l o f n e) none
+  after-head n e = passed m s l o f valuesFrom (omega arith) (begin m s l o f n e) none
     where
-      none : (x : Place) → T (inside x) → 0 ≤ pos x → pos x < 4 → has m s l x ≡ false
+      none : (x : Place) → T (inside x) → 0 ≤ pos x → pos x < valuesFrom → has m s l x ≡ false
       none (head k) i p q = has-head m s l k (omega (arith, h3 g l hl))
       none (value c e) i p q = absurd (let y : ⊥ = omega arith in y)
       none (pbit k) i p q = absurd (let y : ⊥ = omega arith in y)
@@ -100,20 +100,20 @@ module _ {m : ℕ} {s : Split} {f : Place → ℕ} (g : WellFormed m s f) (l : �
   either x (suc (suc j)) at h e = absurd (let y : ⊥ = omega arith in y)
 
   pub channel-put : (c w n n' : ℕ) → c < 4 → ownWidth m s l (valuePlace s l 0 c) ≡ w → o .value 0 c < 2 ^ w → o .value 1 c < 2 ^ w
-      → n' ≡ replacedAt n (start m s (pos (valuePlace s l 0 c))) (2 * w) (o .value 1 c * 2 ^ w + o .value 0 c) → Until (4 + 6 * c) n
-      → Until (10 + 6 * c) n'
+      → n' ≡ replacedAt n (start m s (pos (valuePlace s l 0 c))) (2 * w) (o .value 1 c * 2 ^ w + o .value 0 c) → Until (valuesFrom + 6 * c) n
+      → Until (valuesFrom + 6 * c + 6) n'
   unfolding valuePlace pos width
   channel-put c w n n' hc hw h0 h1 e u =
-      pair-put m s l o f (valuePlace s l 0 c) (valuePlace s l 1 c) (4 + 6 * c) (10 + 6 * c) w (value-there g l hl 0 c (omega arith) hc)
+      pair-put m s l o f (valuePlace s l 0 c) (valuePlace s l 1 c) (valuesFrom + 6 * c) (valuesFrom + 6 * c + 6) w (value-there g l hl 0 c (omega arith) hc)
       (value-there g l hl 1 c (omega arith) hc) (value-next g l hl c) (omega arith) (room (isVector s)) (omega arith)
       hw (ws g l hl .value 1 c (omega arith) hc ∙ sym (ws g l hl .value 0 c (omega arith) hc) ∙ hw) refl refl only
       (o .value 0 c) (o .value 1 c) n n' h0 h1 (laid-value m s l o 0 c (omega arith)) (laid-value m s l o 1 c (omega arith)) e u
     where
-      room : (v : Bool) → 4 + (6 * c + pick v 0 (2 * l + 0)) + 2 ≤ 10 + 6 * c
+      room : (v : Bool) → valuesFrom + (6 * c + pick v 0 (2 * l + 0)) + 2 ≤ valuesFrom + 6 * c + 6
       room true = omega arith
       room false = omega (arith, h3 g l hl)
 
-      only : (x : Place) → T (inside x) → 4 + 6 * c ≤ pos x → pos x < 10 + 6 * c → has m s l x ≡ true
+      only : (x : Place) → T (inside x) → valuesFrom + 6 * c ≤ pos x → pos x < valuesFrom + 6 * c + 6 → has m s l x ≡ true
           → (x ≡ valuePlace s l 0 c) ⊎ (x ≡ valuePlace s l 1 c)
       only (head k) i p q h = absurd (let k4 : k < 4 = ltb→lt k 4 i in let y : ⊥ = omega arith in y)
       only (value c' e) i p q h =
@@ -124,7 +124,7 @@ module _ {m : ℕ} {s : Split} {f : Place → ℕ} (g : WellFormed m s f) (l : �
       only (index a q') i p q h = absurd (let y : ⊥ = omega arith in y)
 
   -- the p bits
-  p-only : (x : Place) → T (inside x) → 28 ≤ pos x → pos x < 34 → has m s l x ≡ true → (k : ℕ) × (x ≡ pbit k)
+  p-only : (x : Place) → T (inside x) → psFrom ≤ pos x → pos x < firstFrom → has m s l x ≡ true → (k : ℕ) × (x ≡ pbit k)
   unfolding pos
   p-only (head k) i p q h = absurd (let k4 : k < 4 = ltb→lt k 4 i in let y : ⊥ = omega arith in y)
   p-only (value c e) i p q h =
@@ -134,10 +134,10 @@ module _ {m : ℕ} {s : Split} {f : Place → ℕ} (g : WellFormed m s f) (l : �
   p-only (index a q') i p q h = absurd (let y : ⊥ = omega arith in y)
 
   pub p-put : (w n n' : ℕ) → m ≢ 1 → pick (eqb (pCount m) 0) 0 1 ≡ w → o .p 0 < 2 ^ w → o .p 1 < 2 ^ w
-      → n' ≡ replacedAt n (start m s (pos (pPlace m l 0))) (2 * w) (o .p 1 * 2 ^ w + o .p 0) → Until 28 n → Until 34 n'
+      → n' ≡ replacedAt n (start m s (pos (pPlace m l 0))) (2 * w) (o .p 1 * 2 ^ w + o .p 0) → Until psFrom n → Until firstFrom n'
   unfolding pPlace pos width
   p-put w n n' n1 hw h0 h1 e u =
-      pair-put m s l o f (pPlace m l 0) (pPlace m l 1) 28 34 w (p-there g l hl 0 (omega arith)) (p-there g l hl 1 (omega arith)) (p-next g l hl n1)
+      pair-put m s l o f (pPlace m l 0) (pPlace m l 1) psFrom firstFrom w (p-there g l hl 0 (omega arith)) (p-there g l hl 1 (omega arith)) (p-next g l hl n1)
       (omega arith) room (omega arith)
       (ws g l hl .p 0 (omega arith) ∙ hw) (ws g l hl .p 1 (omega arith) ∙ hw) refl refl only
       (o .p 0) (o .p 1) n n' h0 h1 (laid-p m l o 0 (omega arith) (λ z. absurd (n1 z))) (laid-p m l o 1 (omega arith) (λ z. absurd (n1 z))) e u
@@ -145,20 +145,20 @@ module _ {m : ℕ} {s : Split} {f : Place → ℕ} (g : WellFormed m s f) (l : �
       not-1 : eqb m 1 ≡ false
       not-1 = ne-eqb m 1 n1
 
-      room : pos (pPlace m l 0) + 2 ≤ 34
+      room : pos (pPlace m l 0) + 2 ≤ firstFrom
       room = rw not-1 (omega (arith, h3 g l hl))
 
-      only : (x : Place) → T (inside x) → 28 ≤ pos x → pos x < 34 → has m s l x ≡ true → (x ≡ pPlace m l 0) ⊎ (x ≡ pPlace m l 1)
+      only : (x : Place) → T (inside x) → psFrom ≤ pos x → pos x < firstFrom → has m s l x ≡ true → (x ≡ pPlace m l 0) ⊎ (x ≡ pPlace m l 1)
       only x i p q h =
           let (k, ex) = p-only x i p q h in
           either x (k % 2) (pPlace m l) (mod-lt k (lit< tt))
           (ap (λ (b : Bool). pPlace m l (pick b 0 (k % 2))) (sym not-1) ∙ own-pbit m s l k (rw ex at h) ∙ sym ex)
 
   -- in mode 1 the line has one
-  pub p-put-1 : (n n' : ℕ) → m ≡ 1 → pCount m ≢ 0 → o .p 0 < 2 → n' ≡ replacedAt n (start m s (28 + l)) 1 (o .p 0) → Until 28 n → Until 34 n'
+  pub p-put-1 : (n n' : ℕ) → m ≡ 1 → pCount m ≢ 0 → o .p 0 < 2 → n' ≡ replacedAt n (start m s (psFrom + l)) 1 (o .p 0) → Until psFrom n → Until firstFrom n'
   unfolding pos width
   p-put-1 n n' e1 some h0 e u =
-      more m s l o f (28 + l) (28 + l + 1) 34 (o .p 0) n' (omega arith) (omega arith) (omega (arith, h3 g l hl)) (omega arith) (rw one h0)
+      more m s l o f (psFrom + l) (psFrom + l + 1) firstFrom (o .p 0) n' (omega arith) (omega arith) (omega (arith, h3 g l hl)) (omega arith) (rw one h0)
       (rw one e) u holds others
     where
       here : pPlace m l 0 ≡ pbit l
@@ -173,37 +173,37 @@ module _ {m : ℕ} {s : Split} {f : Place → ℕ} (g : WellFormed m s f) (l : �
       bit : width m (anchors s) (pbit l) ≡ 1
       bit = sym (has-width m s l (pbit l) mine) ∙ (rw (here, ne-eqb (pCount m) 0 some) at (ws g l hl .p 0 (omega arith)))
 
-      one : start m s (28 + l + 1) - start m s (28 + l) ≡ 1
+      one : start m s (psFrom + l + 1) - start m s (psFrom + l) ≡ 1
       one =
-          let z : 28 + l + 1 ≡ suc (28 + l) = omega arith in
-          let n : start m s (28 + l + 1) ≡ start m s (28 + l) + 1 =
-          ap (start m s) z ∙ start-next m s (28 + l) (omega (arith, h3 g l hl))
-          ∙ ap (λ (c : ℕ). start m s (28 + l) + c) (ap (width m (anchors s)) (placeAt-pos (pbit l) there) ∙ bit) in
+          let z : psFrom + l + 1 ≡ suc (psFrom + l) = omega arith in
+          let n : start m s (psFrom + l + 1) ≡ start m s (psFrom + l) + 1 =
+          ap (start m s) z ∙ start-next m s (psFrom + l) (omega (arith, h3 g l hl))
+          ∙ ap (λ (c : ℕ). start m s (psFrom + l) + c) (ap (width m (anchors s)) (placeAt-pos (pbit l) there) ∙ bit) in
           omega (arith, n)
 
-      holds : (x : Place) → T (inside x) → 28 + l ≤ pos x → pos x < 28 + l + 1
-          → o .p 0 / 2 ^ (start m s (pos x) - start m s (28 + l)) % 2 ^ width m (anchors s) x ≡ withLine m s l o f x
+      holds : (x : Place) → T (inside x) → psFrom + l ≤ pos x → pos x < psFrom + l + 1
+          → o .p 0 / 2 ^ (start m s (pos x) - start m s (psFrom + l)) % 2 ^ width m (anchors s) x ≡ withLine m s l o f x
       holds x i p q =
-          let ex : pbit l ≡ x = pos-one (pbit l) x there i (let z : 28 + l ≡ pos x = omega arith in z) in
-          subst (λ (x : Place). o .p 0 / 2 ^ (start m s (pos x) - start m s (28 + l)) % 2 ^ width m (anchors s) x ≡ withLine m s l o f x) ex
-          (let z : start m s (28 + l) - start m s (28 + l) ≡ 0 = omega arith in
+          let ex : pbit l ≡ x = pos-one (pbit l) x there i (let z : psFrom + l ≡ pos x = omega arith in z) in
+          subst (λ (x : Place). o .p 0 / 2 ^ (start m s (pos x) - start m s (psFrom + l)) % 2 ^ width m (anchors s) x ≡ withLine m s l o f x) ex
+          (let z : start m s (psFrom + l) - start m s (psFrom + l) ≡ 0 = omega arith in
           rw (z, bit, own-laid m s l o f (pbit l) mine, ← here, laid-p-1 m l o e1) (ap (λ (c : ℕ). c % 2) (div-one (o .p 0)) ∙ mod-eq-of-lt h0))
 
-      others : (x : Place) → T (inside x) → 28 ≤ pos x → pos x < 34 → (pos x < 28 + l) ⊎ (28 + l + 1 ≤ pos x) → has m s l x ≡ false
+      others : (x : Place) → T (inside x) → psFrom ≤ pos x → pos x < firstFrom → (pos x < psFrom + l) ⊎ (psFrom + l + 1 ≤ pos x) → has m s l x ≡ false
       others x i p q r =
           not-so (has m s l x) (λ t.
           let (k, ex) = p-only x i p q t in
-          let at : pos x ≡ 28 + l = ap pos (ex ∙ sym (own-pbit m s l k (rw ex at t)) ∙ p-place-1 m l _ e1) in
+          let at : pos x ≡ psFrom + l = ap pos (ex ∙ sym (own-pbit m s l k (rw ex at t)) ∙ p-place-1 m l _ e1) in
           ⊎-elim {C = ⊥} (λ d. omega arith) (λ d. omega arith) r)
 
   -- the set of indexes, as they are stored
   pub indexes-put : (v n n' : ℕ) → v < 2 ^ total (indexWidths (indexBits m (arrayOf s l)) (anchors s))
       → split (indexWidths (indexBits m (arrayOf s l)) (anchors s)) v ≡ table 16 (λ q. withLine m s l o f (indexPlace s l q))
-      → n' ≡ replacedAt n (start m s (34 + (16 * arrayOf s l + 0))) (total (indexWidths (indexBits m (arrayOf s l)) (anchors s))) v → Until 34 n
-      → Until 66 n'
+      → n' ≡ replacedAt n (start m s (firstFrom + (16 * arrayOf s l + 0))) (total (indexWidths (indexBits m (arrayOf s l)) (anchors s))) v → Until firstFrom n
+      → Until placeCount n'
   unfolding indexWidths indexPlace pos width
   indexes-put v n n' hv sv e u =
-      more m s l o f (34 + (16 * a + 0)) (34 + (16 * a + 16)) 66 v n' (omega arith) (omega arith) (omega (arith, ha)) (omega arith) (rw all hv)
+      more m s l o f (firstFrom + (16 * a + 0)) (firstFrom + (16 * a + 16)) placeCount v n' (omega arith) (omega arith) (omega (arith, ha)) (omega arith) (rw all hv)
       (rw all e) u holds others
     where
       a : ℕ
@@ -215,25 +215,25 @@ module _ {m : ℕ} {s : Split} {f : Place → ℕ} (g : WellFormed m s f) (l : �
       wide : ℕ → ℕ
       wide q = indexWidth (indexBits m a) (anchors s) q
 
-      all : start m s (34 + (16 * a + 16)) - start m s (34 + (16 * a + 0)) ≡ total (table 16 wide)
+      all : start m s (firstFrom + (16 * a + 16)) - start m s (firstFrom + (16 * a + 0)) ≡ total (table 16 wide)
       all = omega (arith, begins m s a ha 16 (omega arith))
 
       at-pixel : (q : ℕ) → q < 16
-          → v / 2 ^ (start m s (34 + (16 * a + q)) - start m s (34 + (16 * a + 0))) % 2 ^ wide q ≡ withLine m s l o f (index a q)
+          → v / 2 ^ (start m s (firstFrom + (16 * a + q)) - start m s (firstFrom + (16 * a + 0))) % 2 ^ wide q ≡ withLine m s l o f (index a q)
       at-pixel q hq =
-          let z : start m s (34 + (16 * a + q)) - start m s (34 + (16 * a + 0)) ≡ total (table q wide) =
+          let z : start m s (firstFrom + (16 * a + q)) - start m s (firstFrom + (16 * a + 0)) ≡ total (table q wide) =
           omega (arith, begins m s a ha q (omega arith)) in
           rw z (sym (digit 16 wide v q hq) ∙ ap (λ (vs : List ℕ). getD vs q 0) sv ∙ getD-table 16 (λ q. withLine m s l o f (index a q)) 0 q hq)
 
-      holds : (x : Place) → T (inside x) → 34 + (16 * a + 0) ≤ pos x → pos x < 34 + (16 * a + 16)
-          → v / 2 ^ (start m s (pos x) - start m s (34 + (16 * a + 0))) % 2 ^ width m (anchors s) x ≡ withLine m s l o f x
+      holds : (x : Place) → T (inside x) → firstFrom + (16 * a + 0) ≤ pos x → pos x < firstFrom + (16 * a + 16)
+          → v / 2 ^ (start m s (pos x) - start m s (firstFrom + (16 * a + 0))) % 2 ^ width m (anchors s) x ≡ withLine m s l o f x
       holds x i p q =
-          let k : ℕ = pos x - (34 + 16 * a) in
+          let k : ℕ = pos x - (firstFrom + 16 * a) in
           let hk : k < 16 = omega arith in
-          subst (λ (x : Place). v / 2 ^ (start m s (pos x) - start m s (34 + (16 * a + 0))) % 2 ^ width m (anchors s) x ≡ withLine m s l o f x)
-          (pos-one (index a k) x (inside-index ha hk) i (let z : 34 + (16 * a + k) ≡ pos x = omega arith in z)) (at-pixel k hk)
+          subst (λ (x : Place). v / 2 ^ (start m s (pos x) - start m s (firstFrom + (16 * a + 0))) % 2 ^ width m (anchors s) x ≡ withLine m s l o f x)
+          (pos-one (index a k) x (inside-index ha hk) i (let z : firstFrom + (16 * a + k) ≡ pos x = omega arith in z)) (at-pixel k hk)
 
-      others : (x : Place) → T (inside x) → 34 ≤ pos x → pos x < 66 → (pos x < 34 + (16 * a + 0)) ⊎ (34 + (16 * a + 16) ≤ pos x) → has m s l x ≡ false
+      others : (x : Place) → T (inside x) → firstFrom ≤ pos x → pos x < placeCount → (pos x < firstFrom + (16 * a + 0)) ⊎ (firstFrom + (16 * a + 16) ≤ pos x) → has m s l x ≡ false
       others (head k) i p q r = absurd (let k4 : k < 4 = ltb→lt k 4 i in let y : ⊥ = omega arith in y)
       others (value c e) i p q r =
           absurd
@@ -246,7 +246,7 @@ module _ {m : ℕ} {s : Split} {f : Place → ℕ} (g : WellFormed m s f) (l : �
           ⊎-elim {C = ⊥} (λ d. omega arith) (λ d. omega arith) r)
 
   -- the block that is left
-  pub put-whole : (n : ℕ) → n < 2 ^ 128 → Until 66 n → bytesOf n ≡ blockOf m s (withLine m s l o f)
+  pub put-whole : (n : ℕ) → n < 2 ^ 128 → Until placeCount n → bytesOf n ≡ blockOf m s (withLine m s l o f)
   unfolding blockOf atPlace
   put-whole n hn u =
       ap bytesOf

@@ -13,7 +13,7 @@ use Rattle.laws.specs.Digits.{replacedAt}
 use Rattle.laws.proofs.Cases.{lt-or}
 use Rattle.laws.proofs.Replacing.{is-inside, stays-above, stays-below}
 use Rattle.bc7_format.specs.Lines.{Line, has, withLine}
-use Rattle.bc7_format.specs.Places.{Place, atPlace, inside, pos, width}
+use Rattle.bc7_format.specs.Places.{Place, atPlace, inside, pos, width, placeCount}
 use Rattle.bc7_format.specs.Splits.{anchors}
 use Rattle.bc7_format.proofs.Places.{placeAt-pos, pos-lt}
 use Rattle.bc7_format.proofs.Starts.{at-field, start, start-le, start-room}
@@ -23,11 +23,11 @@ module _ (m : ℕ) (s : Split) where
   wide x = width m (anchors s) x
 
   -- where a place ends
-  room : (x : Place) (j : ℕ) → T (inside x) → pos x < j → j ≤ 66 → start m s (pos x) + wide x ≤ start m s j
+  room : (x : Place) (j : ℕ) → T (inside x) → pos x < j → j ≤ placeCount → start m s (pos x) + wide x ≤ start m s j
   room x j h l k = rw (placeAt-pos x h) at (start-room m s (pos x) j l k)
 
   -- the places from i on, up to j, hold the value v
-  module _ (n i j v : ℕ) (ij : i ≤ j) (hj : j ≤ 66) (hv : v < 2 ^ (start m s j - start m s i)) where
+  module _ (n i j v : ℕ) (ij : i ≤ j) (hj : j ≤ placeCount) (hv : v < 2 ^ (start m s j - start m s i)) where
     abbrev run : ℕ
     run = replacedAt n (start m s i) (start m s j - start m s i) v
 
@@ -82,7 +82,7 @@ module _ (m : ℕ) (s : Split) (l : ℕ) (o : Line) (f : Place → ℕ) where
   }
 
   -- and a run of the line's is put in
-  pub more : {k n : ℕ} (i j k' v n' : ℕ) → k ≤ i → i ≤ j → j ≤ k' → k' ≤ 66 → v < 2 ^ (start m s j - start m s i)
+  pub more : {k n : ℕ} (i j k' v n' : ℕ) → k ≤ i → i ≤ j → j ≤ k' → k' ≤ placeCount → v < 2 ^ (start m s j - start m s i)
       → n' ≡ replacedAt n (start m s i) (start m s j - start m s i) v
       → Upto m s l o f k n
       → ((x : Place) → T (inside x) → i ≤ pos x → pos x < j → v / 2 ^ (start m s (pos x) - start m s i) % 2 ^ width m (anchors s) x ≡ withLine m s l o f x)

@@ -9,7 +9,7 @@ use lib.Bits.{bitAnd}
 use lib.Pow.{pow-mono}
 use Rattle.bits.specs.declared.stream.BitStream.{BitStream}
 use Rattle.indexes.specs.declared.NewIndexes.{NewIndexes}
-use Rattle.line.specs.declared.parts.LinePart.{LinePart}
+use Rattle.bc7_places.specs.declared.lines.LinePart.{LinePart}
 use Rattle.laws.specs.Digits.{join, split}
 use Rattle.laws.proofs.Digits.{join-lt}
 use Rattle.bits.specs.Stream.{held}

@@ -12,8 +12,8 @@ use lib.Arith.{digits-lt, lt-one}
 use lib.Dec.{T, eqb, leb, leb→le}
 use lib.ListN.{getD}
 use Rattle.bits.specs.declared.stream.BitStream.{BitStream}
-use Rattle.line.specs.declared.fields.Fields.{Fields}
-use Rattle.line.specs.declared.parts.LinePart.{LinePart}
+use Rattle.bc7_places.specs.declared.places.Fields.{Fields}
+use Rattle.bc7_places.specs.declared.lines.LinePart.{LinePart}
 use Rattle.line.specs.declared.parts.Stored.{Stored}
 use Rattle.bc7_places.specs.declared.modes.ModeRow.{ModeRow}
 use Rattle.bc7_format.specs.declared.Split.{Split}
@@ -24,7 +24,7 @@ use Rattle.laws.proofs.Tests.{at as at-each}
 use Rattle.bcn_format.specs.Block.{bytesOf}
 use Rattle.bc7_format.specs.Lines.{Line, arrayOf, indexPlace, lineBits, pPlace, turned, withLine}
 use Rattle.bc7_format.specs.Modes.{indexBits, kindOfMode, lines, modeRow, pCount}
-use Rattle.bc7_format.specs.Places.{Place, atPlace, blockOf, index, inside, placeAt, pos, width, widths}
+use Rattle.bc7_format.specs.Places.{Place, atPlace, blockOf, index, inside, placeAt, pos, width, widths, valuesFrom, psFrom, firstFrom, placeCount}
 use Rattle.bc7_format.specs.Splits.{anchors}
 use Rattle.bc7_format.specs.WellFormed.{WellFormed}
 use Rattle.bc7_format.proofs.Meaning.{array-lt}
@@ -36,7 +36,7 @@ use Rattle.bits.specs.Stream.{held}
 use Rattle.bcn_format.specs.Indexes.{indexWidth, indexWidths}
 use Rattle.bc7_format.specs.Fields.{headEnd}
 use Rattle.bc7_format.proofs.Fields.{begins}
-use Rattle.bc7_places.specs.Rows.{rowOf}
+use Rattle.bc7_places.specs.Modes.{rowOf}
 use Rattle.line_rules.specs.Acceptable.{Acceptable}
 use Rattle.line_rules.specs.Replace.{oriented, put, refusalIn, topSet}
 use Rattle.line_rules.proofs.Accepting.{accepted-is}
@@ -45,11 +45,12 @@ use Rattle.line_rules.proofs.Put.{put-good}
 use Rattle.line.proofs.parts.Parts.{IsPart}
 use Rattle.line.proofs.parts.Storing.{IsStored}
 use Rattle.line.proofs.parts.Words.{maskPart, word}
-use Rattle.line.specs.Fields.{LineReady, PairReady, SetReady, endpointsPut, fieldsAt, fieldsOf, linePut, psPut, twoPut, valuesPut}
+use Rattle.line.specs.Fields.{LineReady, PairReady, SetReady, endpointsPut, fieldsAt, linePut, psPut, twoPut, valuesPut}
+use Rattle.bc7_places.specs.Places.{fieldsOf}
 use Rattle.line.proofs.fields.Indexes.{set-put, set-ready, stored, stored-lt, stored-split}
 use Rattle.line.proofs.fields.Putting.{after-head, channel-put, indexes-put, p-put, p-put-1, put-whole}
 use Rattle.line.proofs.fields.Runs.{Upto, nothing-put}
-use Rattle.line.proofs.fields.Starting.{channel-low, channel-starts, channelAt, p-low, p-starts, set-starts}
+use Rattle.bc7_places.proofs.places.Starting.{channel-low, channel-starts, channelAt, p-low, p-starts, set-starts}
 
 pub two-of-1 : (m : ℕ) → m ≡ 1 → pCount m ≢ 0
 unfolding modeRow
@@ -60,9 +61,9 @@ unfolding headEnd modeRow
 head-low m h = leb→le _ 16 (at-each 8 (λ m. leb (headEnd m) 16) tt m h)
 
 -- where the places end
-pub whole-start : {m : ℕ} {s : Split} {f : Place → ℕ} → WellFormed m s f → start m s 66 ≡ 128
+pub whole-start : {m : ℕ} {s : Split} {f : Place → ℕ} → WellFormed m s f → start m s placeCount ≡ 128
 unfolding start widths
-whole-start {m} {s} g = ap total (take-table 66 66 (λ i. width m (anchors s) (placeAt i)) (le-refl 66)) ∙ good-total g
+whole-start {m} {s} g = ap total (take-table placeCount placeCount (λ i. width m (anchors s) (placeAt i)) (le-refl placeCount)) ∙ good-total g
 
 module _ {m : ℕ} {s : Split} {f : Place → ℕ} (g : WellFormed m s f) (l : ℕ) (ln : Line) (acc : refusalIn m s l ln ≡ 0) {x : LinePart}
     (is : IsPart m s l x) where
@@ -113,7 +114,7 @@ module _ {m : ℕ} {s : Split} {f : Place → ℕ} (g : WellFormed m s f) (l : �
   Until k n = Upto m s l o f k n
 
   channel : (c w b x0 y0 n n' : ℕ) → c < 4 → pick (eqb c 3) (x .alpha) (x .colour) ≡ w → b ≡ channelAt at c → x0 ≡ o .value 0 c → y0 ≡ o .value 1 c
-      → n' ≡ twoPut n b w x0 y0 → Until (4 + 6 * c) n → Until (10 + 6 * c) n'
+      → n' ≡ twoPut n b w x0 y0 → Until (valuesFrom + 6 * c) n → Until (valuesFrom + 6 * c + 6) n'
   unfolding fieldsOf
   channel c w b x0 y0 n n' hc ew eb ex ey e u =
       channel-put g l hl o c w n n' hc (is .value 0 c (omega arith) hc ∙ ew) (rw ew at (o-value 0 c (omega arith) hc))
@@ -124,7 +125,7 @@ module _ {m : ℕ} {s : Split} {f : Place → ℕ} (g : WellFormed m s f) (l : �
     abbrev e : ℕ → ℕ
     e i = getD (st .endpoints) i 0
 
-    after-values : (n : ℕ) → Until 4 n → Until 28 (endpointsPut n at x (st .endpoints))
+    after-values : (n : ℕ) → Until valuesFrom n → Until psFrom (endpointsPut n at x (st .endpoints))
     unfolding endpointsPut
     after-values n u =
         channel 3 (x .alpha) (at .alpha) (e 3) (e 7) _ _ (omega arith) refl refl (ist .value 0 3 (omega arith) (omega arith))
@@ -137,7 +138,7 @@ module _ {m : ℕ} {s : Split} {f : Place → ℕ} (g : WellFormed m s f) (l : �
     p-is = sym (own-widths g l hl .p 0 (omega arith)) ∙ is .p 0 (omega arith)
 
     -- in mode 1, and in the others: where there are no p bits, none are put
-    after-ps : (n : ℕ) → Until 28 n → Until 34 (psPut n m (at .p) l (x .p) (st .p))
+    after-ps : (n : ℕ) → Until psFrom n → Until firstFrom (psPut n m (at .p) l (x .p) (st .p))
     unfolding psPut pPlace pos fieldsOf
     after-ps n u = go (eqb m 1) refl
       where
@@ -165,16 +166,16 @@ module _ {m : ℕ} {s : Split} {f : Place → ℕ} (g : WellFormed m s f) (l : �
                 let zp : x .p ≡ 0 = sym p-is ∙ rw (eq-eqb (pCount m) 0 z) in
                 rw (e0, e1) (none zp _ ∙ sym (none zp _))
             either (no nz) =
-                let z : at .p + 2 * l ≡ start m s (28 + (2 * l + 0)) =
+                let z : at .p + 2 * l ≡ start m s (psFrom + (2 * l + 0)) =
                 (let y : at .p + 2 * l ≡ at .p + (2 * l + 0) = omega arith in y) ∙ (rw (ne-eqb m 1 n1) at (p-starts g l hl l3 nz)) in
                 rw (e0, e1, z, ne-eqb m 1 n1)
 
-        go : (b : Bool) → eqb m 1 ≡ b → Until 34 (pick b (replacedAt n (at .p + l) 1 p0) (twoPut n (at .p + 2 * l) (x .p) p0 p1))
+        go : (b : Bool) → eqb m 1 ≡ b → Until firstFrom (pick b (replacedAt n (at .p + l) 1 p0) (twoPut n (at .p + 2 * l) (x .p) p0 p1))
         go true t =
             let m1 : m ≡ 1 = eqb-true m 1 t in
             let some : pCount m ≢ 0 = two-of-1 m m1 in
             let xp : x .p ≡ 1 = sym p-is ∙ rw (ne-eqb (pCount m) 0 some) in
-            let z : at .p + l ≡ start m s (28 + l) = rw t at (p-starts g l hl l3 some) in
+            let z : at .p + l ≡ start m s (psFrom + l) = rw t at (p-starts g l hl l3 some) in
             p-put-1 g l hl o n _ m1 some (rw xp at (o-p 0 (omega arith))) (rw (z, e0)) u
         go false t = let n1 : m ≢ 1 = eqb-false m 1 t in p-put g l hl o (x .p) n _ n1 p-is (o-p 0 (omega arith)) (o-p 1 (omega arith)) (others n1) u
 
@@ -187,7 +188,7 @@ module _ {m : ℕ} {s : Split} {f : Place → ℕ} (g : WellFormed m s f) (l : �
       abbrev n' : ℕ
       n' = psPut (endpointsPut n at x (st .endpoints)) m (at .p) l (x .p) (st .p)
 
-      until-34 : Until 34 n'
+      until-34 : Until firstFrom n'
       until-34 = after-ps _ (after-values n (after-head g l hl o n fn))
 
       as-stood : (q : ℕ) → q < 16 → atPlace m s n' (indexPlace s l q) ≡ f (indexPlace s l q)
@@ -195,12 +196,12 @@ module _ {m : ℕ} {s : Split} {f : Place → ℕ} (g : WellFormed m s f) (l : �
       as-stood q h = until-34 .rest (index (arrayOf s l) q) (inside-index (array-lt s l (good-index-mode g)) h) (omega arith)
 
       -- the set ends where the block does, at the latest
-      set-room : start m s (34 + (16 * arrayOf s l + 0)) + total (indexWidths (indexBits m (arrayOf s l)) (anchors s)) ≤ 128
+      set-room : start m s (firstFrom + (16 * arrayOf s l + 0)) + total (indexWidths (indexBits m (arrayOf s l)) (anchors s)) ≤ 128
       unfolding indexWidths
       set-room =
           let h : arrayOf s l < 2 = array-lt s l (good-index-mode g) in
           rw (← (begins m s (arrayOf s l) h 16 (omega arith)), ← (whole-start g))
-          (start-le m s (34 + (16 * arrayOf s l + 16)) 66 (omega arith) (omega arith))
+          (start-le m s (firstFrom + (16 * arrayOf s l + 16)) placeCount (omega arith) (omega arith))
 
       module _ {mask : ℕ} (em : mask ≡ word (x .index) (maskPart x)) (q : BitStream) (hq : held q ≡ n) (aq : q .at ≡ headEnd m) {row : ModeRow}
           (er : row ≡ rowOf m) where

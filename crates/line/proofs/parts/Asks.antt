@@ -4,9 +4,9 @@ use mathlib.Core.Path.{_≡_, refl, sym, ap, ap₂, _∙_}
 use mathlib.Core.Logic.{⊎-elim}
 use mathlib.Core.Bool.{Bool, true, false}
 use mathlib.Core.List.{List, [], _∷_}
-use Prim.Native.Nat.{ℕ, zero, suc, _+_, _-_, _*_, _/_, _%_, _^_, _≤_, _<_}
+use Prim.Native.Nat.{ℕ, _+_, _-_, _*_, _/_, _%_, _^_, _≤_, _<_}
 use native.Mathlib.Omega.{arith}
-use lib.Dec.{eqb, eqb→eq, ltb}
+use lib.Dec.{eqb, ltb}
 use lib.ListN.{getD, replicate}
 use lib.Pow.{ones-lt, pow-pos, shr-le}
 use Rattle.laws.specs.Digits.{Fit, join, more, none, split}
@@ -14,24 +14,14 @@ use Rattle.laws.specs.Tables.{below, both, pick, table}
 use Rattle.laws.proofs.Cases.{lt-or}
 use Rattle.laws.proofs.Digits.{split-join}
 use Rattle.laws.proofs.Rows.{fit-table}
-use Rattle.laws.proofs.Tests.{at}
 use Rattle.laws.proofs.Words.{one-shl}
 use Rattle.bcn_format.specs.Indexes.{indexWidth, indexWidths}
 use Rattle.record_rules.proofs.Widths.{fit, unfit}
-use Rattle.line.specs.declared.parts.Pixels.{Pixels}
-use Rattle.line.specs.declared.parts.LinePart.{LinePart}
+use Rattle.bc7_places.specs.declared.lines.Pixels.{Pixels}
+use Rattle.bc7_places.specs.declared.lines.LinePart.{LinePart}
 use Rattle.line_rules.specs.declared.Replacement.{Replacement}
-use Rattle.line.specs.Parts.{ownPixel, partsFit}
-
--- a pixel's part of a map
-pub in-map : (q b : ℕ) → q < 16 → b ≤ 2 → q * b < 32
-in-map q zero h l = omega arith
-in-map q (suc zero) h l = omega arith
-in-map q (suc (suc zero)) h l = omega arith
-in-map q (suc (suc (suc b))) h l = absurd (let y : ⊥ = omega arith in y)
-
-pub map-shl : (b : ℕ) → b ≤ 2 → (1 * 2 ^ b) % 2 ^ 32 ≡ 2 ^ b
-map-shl b h = eqb→eq _ _ (at 3 (λ b. eqb ((1 * 2 ^ b) % 2 ^ 32) (2 ^ b)) tt b (omega arith))
+use Rattle.bc7_places.specs.Lines.{ownPixel}
+use Rattle.line.specs.Parts.{partsFit}
 
 -- all ones
 pub one-less : (w : ℕ) → w ≤ 4 → (1 ≤ (1 * 2 ^ w) % 2 ^ 64) × ((1 * 2 ^ w) % 2 ^ 64 - 1 ≡ 2 ^ w - 1)

@@ -9,14 +9,15 @@ use lib.Bits.{bitAnd}
 use lib.Dec.{eqb, lit<, ltb, ltb→lt, lt→ltb}
 use lib.ListN.{getD}
 use lib.Pow.{pow-mono, pow-pos}
-use Rattle.line.specs.declared.parts.LinePart.{LinePart}
+use Rattle.bc7_places.specs.declared.lines.LinePart.{LinePart}
 use Rattle.line_rules.specs.declared.Replacement.{Replacement}
 use Rattle.bc7_format.specs.declared.Split.{Split}
 use Rattle.laws.specs.Tables.{below, pick}
 use Rattle.laws.proofs.Tests.{T-true, at, below-intro, both-intro, both-true, true-T}
 use Rattle.line_rules.specs.Acceptable.{Within}
 use Rattle.line_rules.specs.Replace.{lineGiven}
-use Rattle.line.specs.Parts.{ownPixel, partsFit}
+use Rattle.bc7_places.specs.Lines.{ownPixel}
+use Rattle.line.specs.Parts.{partsFit}
 use Rattle.line.proofs.parts.Parts.{IsPart}
 use Rattle.line.proofs.parts.Words.{Small, maskPart, masked, word, word-one, word-same}
 

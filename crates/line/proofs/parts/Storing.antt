@@ -8,7 +8,7 @@ use borrow.Author.Tests.{eqb-false, eqb-true, le-leb, lt-leb, ltb-false, ltb-tru
 use lib.Dec.{eqb}
 use lib.ListN.{getD}
 use lib.Pow.{field as low-bits, le-ones, ones-sub-lt, pow-pos, shr-shr}
-use Rattle.line.specs.declared.parts.LinePart.{LinePart}
+use Rattle.bc7_places.specs.declared.lines.LinePart.{LinePart}
 use Rattle.line.specs.declared.parts.Stored.{Stored}
 use Rattle.line_rules.specs.declared.Replacement.{Replacement}
 use Rattle.bc7_format.specs.declared.Split.{Split}
@@ -17,7 +17,8 @@ use Rattle.bcn_format.specs.Block.{field}
 use Rattle.bc7_format.specs.Lines.{Line, lineBits, turned}
 use Rattle.record_rules.proofs.Widths.{fit, unfit}
 use Rattle.line_rules.specs.Replace.{lineGiven, oriented, topSet}
-use Rattle.line.specs.Parts.{asGiven, ownPixel, storedAs, turnedRound}
+use Rattle.line.specs.Parts.{asGiven, storedAs, turnedRound}
+use Rattle.bc7_places.specs.Lines.{ownPixel}
 use Rattle.line.proofs.parts.Parts.{IsPart}
 use Rattle.line.proofs.parts.Words.{Small, maskPart, word, word-part, word-plus, word-same}
 

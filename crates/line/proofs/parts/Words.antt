@@ -8,7 +8,7 @@ use native.Mathlib.Nat.{mod-eq-of-lt}
 use lib.Bits.{bitAnd, and-mask, and-zero-r}
 use lib.ListN.{getD}
 use lib.Pow.{ones-lt, pow-pos}
-use Rattle.line.specs.declared.parts.LinePart.{LinePart}
+use Rattle.bc7_places.specs.declared.lines.LinePart.{LinePart}
 use Rattle.laws.specs.Digits.{Fit, join, split}
 use Rattle.laws.specs.Tables.{pick, table}
 use Rattle.laws.proofs.Digits.{join-lt, split-join}
@@ -19,7 +19,7 @@ use Rattle.laws.proofs.Putting.{and-join}
 use Rattle.laws.proofs.Rows.{digit, fit-table, total-same}
 use Rattle.bcn_format.specs.Indexes.{indexWidth, indexWidths}
 use Rattle.bcn_format.proofs.Expanding.{size-none}
-use Rattle.line.specs.Parts.{ownPixel}
+use Rattle.bc7_places.specs.Lines.{ownPixel}
 
 -- the word whose part q is f q
 abbrev pub word : ℕ → (ℕ → ℕ) → ℕ

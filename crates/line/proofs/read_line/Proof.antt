@@ -12,7 +12,7 @@ use Rattle.bcn_format.specs.Block.{eights}
 use Rattle.bc7_format.specs.Modes.{modeOf, lines}
 use Rattle.bc7_format.proofs.Subsets.{sixteen-bytes}
 use Rattle.bc7_format.proofs.Modes.{mode-le-8}
-use Rattle.bc7_places.specs.Rows.{rowOf}
+use Rattle.bc7_places.specs.Modes.{rowOf}
 use Rattle.line.proofs.Opening.{read-0, read-1, read-2, ready-part, ready-read}
 use Rattle.line.proofs.read_line.Statement.{statement}
 use Rattle.line.proofs.read_line.Tie as tie
@@ -69,9 +69,7 @@ returns-2 c =
 
 open-line-requires : tie.Need-open-line-requires
 open-line-requires c κs = (
-  mode-is (unreserved c),
-  rw (mode-is (unreserved c)) (low (unreserved c)),
-  c .before .before .mode-row .ensures,
+  record { mode-is = mode-is (unreserved c); low = rw (mode-is (unreserved c)) (low (unreserved c)); row-is = c .before .before .mode-row .ensures },
   rw (mode-is (unreserved c)) (counted c),
 )
 

@@ -18,7 +18,7 @@ use Rattle.bc7_format.specs.Modes.{modeOf, lines}
 use Rattle.bc7_format.specs.Splits.{splitOf}
 use Rattle.bc7_format.proofs.Subsets.{sixteen-bytes}
 use Rattle.bc7_format.proofs.Modes.{mode-le-8}
-use Rattle.bc7_places.specs.Rows.{rowOf}
+use Rattle.bc7_places.specs.Modes.{rowOf}
 use Rattle.line_rules.specs.Replace.{replacedAs}
 use Rattle.line.specs.Parts.{partsFit}
 use Rattle.line.proofs.parts.Parts.{IsPart}
@@ -116,9 +116,7 @@ returns-2 c =
 
 open-line-requires : tie.Need-open-line-requires
 open-line-requires c κs = (
-  mode-is (unreserved c),
-  rw (mode-is (unreserved c)) (low (unreserved c)),
-  c .before .before .mode-row .ensures,
+  record { mode-is = mode-is (unreserved c); low = rw (mode-is (unreserved c)) (low (unreserved c)); row-is = c .before .before .mode-row .ensures },
   rw (mode-is (unreserved c)) (counted c),
 )
 

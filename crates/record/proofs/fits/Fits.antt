@@ -10,7 +10,7 @@ use lib.Dec.{T, eqb, ltb, ltb→lt}
 use lib.ListN.{getD, replicate}
 use lib.Pow.{pow-lt}
 use Rattle.record_rules.specs.declared.Record.{Record}
-use Rattle.bc7_places.specs.declared.modes.Anchors.{Anchors}
+use Rattle.bc7_places.specs.declared.splits.Anchors.{Anchors}
 use Rattle.bc7_places.specs.declared.modes.ModeRow.{ModeRow}
 use Rattle.laws.specs.Digits.{join, split}
 use Rattle.laws.specs.Tables.{below, both, pick, table, tableFrom}
@@ -29,9 +29,10 @@ use Rattle.bc7_format.proofs.Places.{inside-index, inside-pbit, inside-value}
 use Rattle.record_rules.specs.Answers.{TopsClear, Within}
 use Rattle.record_rules.specs.Records.{fits, says}
 use Rattle.record_rules.proofs.Answering.{clear-stored, fits-at, fits-of, stored-clear}
-use Rattle.bc7_places.specs.Rows.{anchorsOf, pixelsOf, rowOf, Pixels}
+use Rattle.bc7_places.specs.Splits.{ArePixels, anchorsOf, threeOf}
+use Rattle.bc7_places.specs.Modes.{rowOf}
 use Rattle.bc7_places.proofs.modes.Bounds.{low-partition}
-use Rattle.bc7_places.proofs.modes.Pixels.{three-are, anchors-low}
+use Rattle.bc7_places.proofs.splits.AnchorPixels.{three-are, anchors-low}
 use Rattle.record.specs.Fitting.{Full, splitFits, storedFit, topsClear, valueBits}
 use Rattle.record.proofs.fits.Bytes.{one-width}
 
@@ -173,10 +174,10 @@ module _ {r : Record} {row : ModeRow} (full : Full r row) where
   part-64 = low-partition (r .mode) _ (full .low) (full .within (head 1) tt)
 
   module _ {a : Anchors} (ea : a ≡ anchorsOf (r .split)) where
-    pub pixels : Pixels a
+    pub pixels : ArePixels a
     pixels = rw ea (anchors-low (r .split) part-64)
 
-    are : (q : ℕ) → among q (pixelsOf a) ≡ among q (anchors (r .split))
+    are : (q : ℕ) → among q (threeOf a) ≡ among q (anchors (r .split))
     are q = rw ea (three-are (r .split) part-64 q)
 
     -- a set whose values are these
@@ -186,7 +187,7 @@ module _ {r : Record} {row : ModeRow} (full : Full r row) where
 
       tops-from : TopsClear r → topsClear vs a w ≡ true
       tops-from c =
-          let clear : (q : ℕ) → q < 16 → among q (pixelsOf a) ≡ true → ltb (getD vs q 0) (2 ^ w) ≡ true =
+          let clear : (q : ℕ) → q < 16 → among q (threeOf a) ≡ true → ltb (getD vs q 0) (2 ^ w) ≡ true =
           λ q h t. lt-ltb _ _ (rw (ev q h) at (c k q (inside-index hk h) (true-T _ (sym (are q) ∙ t)))) in
           rw (
             clear (a .a) (pixels .first) (rw (eq-eqb (a .a) (a .a) refl)),

@@ -54,7 +54,7 @@ returns-2 c =
     (here (λ e. c .before .if2 .taken (kinds .kind-of .ensures ∙ e ∙ sym (ap (λ (r : ModeRow). r .kind) (kinds .before .mode-row .ensures))))))
 
 record-fits-requires : tie.Need-record-fits-requires
-record-fits-requires c κs = (omega arith, c .before .before .before .mode-row .ensures)
+record-fits-requires c κs = record { low = omega arith; is = c .before .before .before .mode-row .ensures }
 
 refused-requires-3 : tie.Need-refused-requires-3
 refused-requires-3 c κs = search needs
@@ -71,7 +71,7 @@ anchors-of-requires : tie.Need-anchors-of-requires
 anchors-of-requires c κs = part-64 (full c)
 
 anchors-fit-requires : tie.Need-anchors-fit-requires
-anchors-fit-requires c κs = (full (c .before), c .anchors-of .ensures)
+anchors-fit-requires c κs = record { full = full (c .before); anchors-are = c .anchors-of .ensures }
 
 refused-requires-4 : tie.Need-refused-requires-4
 refused-requires-4 c κs = search needs
@@ -84,11 +84,7 @@ returns-4 c =
     (then (f .kind) (then (f .within) (here (tops-set f (sym (c .before .before .anchors-fit .ensures) ∙ not-true _ (c .before .if4 .taken)))))))
 
 write-record-requires : tie.Need-write-record-requires
-write-record-requires c κs = (
-  packs (full (c .before .before .before)) (sym (c .before .anchors-fit .ensures) ∙ not-false _ (c .if4 .left)),
-  c .before .before .anchors-of
-      .ensures,
-)
+write-record-requires c κs = record { packs = packs (full (c .before .before .before)) (sym (c .before .anchors-fit .ensures) ∙ not-false _ (c .if4 .left)); anchors-are = c .before .before .anchors-of .ensures }
 
 returns-5 : tie.Need-returns-5
 returns-5 c =

@@ -15,8 +15,8 @@ use lib.ListN.{replicate}
 use lib.Pow.{field as part-of, mod-mod-pow, pow-mono, shr-shr}
 use Rattle.record.specs.declared.reading.ReadEndpoints.{ReadEndpoints}
 use Rattle.record.specs.declared.reading.ReadP.{ReadP}
-use Rattle.record.specs.declared.reading.ReadSplit.{ReadSplit}
-use Rattle.bc7_places.specs.declared.modes.Anchors.{Anchors}
+use Rattle.bc7_places.specs.declared.splits.ReadSplit.{ReadSplit}
+use Rattle.bc7_places.specs.declared.splits.Anchors.{Anchors}
 use Rattle.bc7_places.specs.declared.modes.ModeRow.{ModeRow}
 use Rattle.indexes.specs.declared.NewIndexes.{NewIndexes}
 use Rattle.bits.specs.declared.stream.BitStream.{BitStream}
@@ -28,7 +28,7 @@ use Rattle.laws.proofs.Joining.{table-same}
 use Rattle.bcn_format.specs.Block.{eights, field, number}
 use Rattle.bc7_format.specs.Modes.{modeOf, alphaBits, channelBits, colourBits, endpointCount, firstBits, indexBits, kindOfMode, modeRow, pCount, secondBits}
 use Rattle.bcn_format.specs.Partitions.{among}
-use Rattle.bc7_format.specs.Places.{Place, atPlace, index, inside, opened, pbit, pos, value, width}
+use Rattle.bc7_format.specs.Places.{Place, atPlace, index, inside, opened, pbit, pos, value, width, firstFrom, secondFrom}
 use Rattle.bc7_format.specs.Splits.{anchors, kindOf, partition, splitAt, splitOf}
 use Rattle.bc7_format.proofs.Modes.{by-subset, good-64}
 use Rattle.bc7_format.proofs.Opening.{good-kind, opened-good}
@@ -42,11 +42,12 @@ use Rattle.bits.proofs.On.{On, field-lt, next-is, on-skipped}
 use Rattle.bc7_format.specs.Fields.{headEnd, valueStart}
 use Rattle.bc7_format.proofs.Fields.{begins, bit-at, first-start, index-at, value-at, valuesEnd}
 use Rattle.record_rules.specs.Records.{made, recordOf}
-use Rattle.bc7_places.specs.Rows.{OfMode, anchorsOf, rowOf}
+use Rattle.bc7_places.specs.Modes.{OfMode, rowOf}
+use Rattle.bc7_places.specs.Splits.{anchorsOf, splitRead}
 use Rattle.bc7_places.proofs.modes.Bounds.{second-bits, small}
-use Rattle.record.specs.Reading.{channelOf, channelsAt, endpointsOf, endpointsRead, pRead, secondRead, splitRead}
-use Rattle.record.proofs.reading.Heads.{split-is, split-on}
-use Rattle.bc7_places.proofs.modes.Pixels.{anchors-kind, anchors-rise}
+use Rattle.record.specs.Reading.{channelOf, channelsAt, endpointsOf, endpointsRead, pRead, secondRead}
+use Rattle.bc7_places.proofs.splits.Heads.{split-is, split-on}
+use Rattle.bc7_places.proofs.splits.AnchorPixels.{anchors-kind, anchors-rise}
 
 -- a part of a field is a field
 part-field : (n a t w i : ℕ) → i * w + w ≤ t → part (field n a t) w i ≡ field n (a + i * w) w
@@ -158,18 +159,18 @@ module _ (m : ℕ) (s : Split) (n : ℕ) (hm : m < 8) where
             (λ l. part-past n (valuesEnd m) (pCount m) k l ∙ sym (nothing (pbit k) (inside-pbit h) (rw (le-ltb k (pCount m) l))))
             (lt-or k (pCount m))
 
-    pub ps-on : On n (start m s 34) (pRead row t .stream)
+    pub ps-on : On n (start m s firstFrom) (pRead row t .stream)
     unfolding pRead
     ps-on = rw (er, first-start m s hm) (on-skipped o (pCount m))
 
   -- a set of indexes, read whole
   pub set-stands : (a : ℕ) → a < 2 → {an : List ℕ} {t : BitStream} (b : ℕ) → an ≡ anchors s → b ≡ total (indexWidths (indexBits m a) (anchors s))
-      → On n (start m s (34 + (16 * a + 0))) t
+      → On n (start m s (firstFrom + (16 * a + 0))) t
       → table 16 (part (newIndexes (indexBits m a) an t b .indexes .uncompressed) (indexBits m a)) ≡ table 16 (λ q. at (index a q))
   set-stands a ha {an} {t} b ea eb o =
       table-same 0 16 _ _ (λ q l.
       ap₂ (λ (l : List ℕ) (x : ℕ). part (expanded (indexBits m a) l x) (indexBits m a) q) ea
-      (next-is o b ∙ ap (field n (start m s (34 + (16 * a + 0)))) eb)
+      (next-is o b ∙ ap (field n (start m s (firstFrom + (16 * a + 0)))) eb)
       ∙ index-at m s a ha n q l)
 
   -- and one that the mode hasn't got
@@ -211,9 +212,9 @@ module _ (bs : List ℕ) (sixteen : Fit eights bs) {m : ℕ} (em : m ≡ modeOf 
       set-size : (w : ℕ) → 0 < w → 16 * w - anchorCount (row .kind) ≡ total (indexWidths w (anchors s))
       set-size w h = sym (size-kind (row .kind) w (a .b) (a .c) h rise) ∙ ap (λ (l : List ℕ). total (indexWidths w l)) anchors-are
 
-      second-on : {t : BitStream} {set : NewIndexes} → On n (start m s 34) t
+      second-on : {t : BitStream} {set : NewIndexes} → On n (start m s firstFrom) t
           → set ≡ newIndexes (row .first) (anchorsOfKind (row .kind) (a .b) (a .c)) t (16 * row .first - anchorCount (row .kind))
-          → On n (start m s 50) (set .stream)
+          → On n (start m s secondFrom) (set .stream)
       unfolding indexWidths
       second-on o e =
           let w : 0 < row .first = omega (arith, small of-mode .least) in
@@ -221,7 +222,7 @@ module _ (bs : List ℕ) (sixteen : Fit eights bs) {m : ℕ} (em : m ≡ modeOf 
           ∙ ap (λ (r : ModeRow). total (indexWidths (r .first) (anchors s))) er in
           rw (e, size, begins m s 0 (omega arith) 16 (omega arith)) (on-skipped o _)
 
-      second-stands : {t : BitStream} → On n (start m s 50) t → secondRead row a t ≡ table 16 (λ q. atPlace m s n (index 1 q))
+      second-stands : {t : BitStream} → On n (start m s secondFrom) t → secondRead row a t ≡ table 16 (λ q. atPlace m s n (index 1 q))
       unfolding secondRead
       second-stands {t} o = go (eqb (row .kind) 3) refl
         where
@@ -240,7 +241,7 @@ module _ (bs : List ℕ) (sixteen : Fit eights bs) {m : ℕ} (em : m ≡ modeOf 
           go true e = two (eqb-true (row .kind) 3 e)
           go false e = set-none m s n hm (by-subset m hm (λ k. eqb-false (row .kind) 3 e (ap (λ (r : ModeRow). r .kind) er ∙ k)) .second)
 
-      first-stands : {t : BitStream} → On n (start m s 34) t
+      first-stands : {t : BitStream} → On n (start m s firstFrom) t
           → table 16 (part (newIndexes (row .first) (anchorsOfKind (row .kind) (a .b) (a .c)) t (16 * row .first - anchorCount (row .kind)) .indexes
           .uncompressed) (row .first))
           ≡ table 16 (λ q. atPlace m s n (index 0 q))
@@ -271,7 +272,7 @@ module _ (bs : List ℕ) (sixteen : Fit eights bs) {m : ℕ} (em : m ≡ modeOf 
       p-room = rw (values-behind .stands) (in-block m hm .p)
 
       module _ {p : ReadP} (ep : p ≡ pRead row (v .stream)) where
-        p-behind : On n (start m (h .split) 34) (p .stream)
+        p-behind : On n (start m (h .split) firstFrom) (p .stream)
         p-behind = rw ep (ps-on m (h .split) n hm er values-behind)
 
         pub first-room : p .stream .at ≤ 128

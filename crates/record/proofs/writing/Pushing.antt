@@ -11,7 +11,7 @@ use lib.Arith.{le-zero}
 use lib.Dec.{eqb, ltb}
 use lib.ListN.{getD, length}
 use Rattle.record_rules.specs.declared.Record.{Record}
-use Rattle.bc7_places.specs.declared.modes.Anchors.{Anchors}
+use Rattle.bc7_places.specs.declared.splits.Anchors.{Anchors}
 use Rattle.bc7_places.specs.declared.modes.ModeRow.{ModeRow}
 use Rattle.bits.specs.declared.writer.BitWriter.{BitWriter}
 use Rattle.laws.specs.Digits.{Fit, join, row as evenly, total}
@@ -24,7 +24,7 @@ use Rattle.laws.proofs.RowParts.{rows-join, rows-total, tail-join, tail-total}
 use Rattle.laws.proofs.Rows.{fit-table, total-same}
 use Rattle.bc7_format.specs.Modes.{channelBits, endpointCount, indexBits, pCount, partitionBits, secondBits}
 use Rattle.bcn_format.specs.Partitions.{among}
-use Rattle.bc7_format.specs.Places.{blockOf, head, index, listOf, pbit, placeAt, pos, value, width, widths}
+use Rattle.bc7_format.specs.Places.{blockOf, head, index, listOf, pbit, placeAt, pos, value, width, widths, valuesFrom, psFrom, firstFrom, secondFrom, placeCount}
 use Rattle.bcn_format.specs.Block.{bytesOf}
 use Rattle.bc7_format.specs.Splits.{anchors, indexMode, kindOf, partition, rotation}
 use Rattle.bc7_format.proofs.Modes.{by-subset}
@@ -35,13 +35,14 @@ use Rattle.bits.specs.Writer.{pushed, writerOf, written}
 use Rattle.bits.proofs.Puts.{row-asks, row-more, row-none, row-written, written-of}
 use Rattle.laws.proofs.Words.{one-shl}
 use Rattle.record_rules.specs.Records.{says}
-use Rattle.bc7_places.specs.Rows.{OfMode, anchorsOf, Pixels}
+use Rattle.bc7_places.specs.Modes.{OfMode}
+use Rattle.bc7_places.specs.Splits.{ArePixels, anchorsOf}
 use Rattle.bc7_places.proofs.modes.Bounds.{low-partition, small}
-use Rattle.record.specs.Writing.{Packs, said, upto, wide}
-use Rattle.bc7_places.proofs.modes.Pixels.{anchors-kind, anchors-low, anchors-rise}
+use Rattle.record.specs.Writing.{Packable, said, upto, wide}
+use Rattle.bc7_places.proofs.splits.AnchorPixels.{anchors-kind, anchors-low, anchors-rise}
 
-module _ {r : Record} {row : ModeRow} (p : Packs r row) where
-  each : (k : ℕ) → k < 66 → said r k < 2 ^ wide r k
+module _ {r : Record} {row : ModeRow} (p : Packable r row) where
+  each : (k : ℕ) → k < placeCount → said r k < 2 ^ wide r k
   each k l = p .fits (placeAt k) (inside-placeAt k l)
 
   part-fits : partition (r .split) < 2 ^ partitionBits (r .mode)
@@ -51,20 +52,20 @@ module _ {r : Record} {row : ModeRow} (p : Packs r row) where
   pub part-64 : partition (r .split) < 64
   part-64 = low-partition (r .mode) _ (p .low) part-fits
 
-  all-128 : total (table 66 (wide r)) ≡ 128
+  all-128 : total (table placeCount (wide r)) ≡ 128
   unfolding widths
   all-128 = total-128 (r .mode) (r .split) (p .low) (p .kind) part-fits
 
-  room-128 : (i : ℕ) → i ≤ 66 → total (table i (wide r)) ≤ 128
+  room-128 : (i : ℕ) → i ≤ placeCount → total (table i (wide r)) ≤ 128
   room-128 i h =
-      let e : i + (66 - i) ≡ 66 = omega arith in
-      let t : total (table 66 (wide r)) ≡ total (table i (wide r)) + total (table (66 - i) (λ j. wide r (i + j))) =
-      subst (λ (n : ℕ). total (table n (wide r)) ≡ total (table i (wide r)) + total (table (66 - i) (λ j. wide r (i + j)))) e
-      (rows-total i (66 - i) (wide r) (said r)) in
+      let e : i + (placeCount - i) ≡ placeCount = omega arith in
+      let t : total (table placeCount (wide r)) ≡ total (table i (wide r)) + total (table (placeCount - i) (λ j. wide r (i + j))) =
+      subst (λ (n : ℕ). total (table n (wide r)) ≡ total (table i (wide r)) + total (table (placeCount - i) (λ j. wide r (i + j)))) e
+      (rows-total i (placeCount - i) (wide r) (said r)) in
       omega (arith, all-128)
 
   -- a group of k places from i on: what a push asks, and what it gives
-  module _ (i k : ℕ) (room : i + k ≤ 66) {b : BitWriter} (eb : b ≡ upto r i) {x n : ℕ}
+  module _ (i k : ℕ) (room : i + k ≤ placeCount) {b : BitWriter} (eb : b ≡ upto r i) {x n : ℕ}
       (ex : x ≡ join (table k (λ j. wide r (i + j))) (table k (λ j. said r (i + j)))) (en : n ≡ total (table k (λ j. wide r (i + j)))) where
     pub group-asks : (x < 2 ^ n) × (b .at + n ≤ 128) × (written b < 2 ^ b .at)
     unfolding upto
@@ -89,14 +90,14 @@ module _ {r : Record} {row : ModeRow} (p : Packs r row) where
         )
 
   -- one place
-  module _ (i : ℕ) (h : i < 66) {b : BitWriter} (eb : b ≡ upto r i) {v w : ℕ} (ev : v ≡ said r i) (ew : w ≡ wide r i) where
+  module _ (i : ℕ) (h : i < placeCount) {b : BitWriter} (eb : b ≡ upto r i) {v w : ℕ} (ev : v ≡ said r i) (ew : w ≡ wide r i) where
     pub place-asks : (v < 2 ^ w) × (b .at + w ≤ 128) × (written b < 2 ^ b .at)
     unfolding upto
-    place-asks = rw (ev, ew) (row-asks (wide r) (said r) 66 each i h eb (le-of-eq all-128))
+    place-asks = rw (ev, ew) (row-asks (wide r) (said r) placeCount each i h eb (le-of-eq all-128))
 
     pub place-next : {c : BitWriter} → c ≡ pushed b v w → c ≡ upto r (i + 1)
     unfolding upto
-    place-next ec = row-more (wide r) (said r) 66 each i h eb (rw (ev, ew) at ec)
+    place-next ec = row-more (wide r) (said r) placeCount each i h eb (rw (ev, ew) at ec)
 
   pub begun : {b : BitWriter} → b ≡ writerOf 0 0 → b ≡ upto r 0
   unfolding upto
@@ -121,7 +122,7 @@ module _ {r : Record} {row : ModeRow} (p : Packs r row) where
   head-said a b c = (a, b, c)
 
   -- six places, of which the mode has the first `count`: the values of a channel, or the p bits
-  module _ (i : ℕ) (room : i + 6 ≤ 66) (count w : ℕ) (v : ℕ → ℕ) (six : count ≤ 6)
+  module _ (i : ℕ) (room : i + 6 ≤ placeCount) (count w : ℕ) (v : ℕ → ℕ) (six : count ≤ 6)
       (wides : (j : ℕ) → j < 6 → wide r (i + j) ≡ pick (ltb j count) w 0) (saids : (j : ℕ) → j < 6 → said r (i + j) ≡ v j) where
     abbrev some : ℕ → ℕ
     some j = pick (ltb j count) w 0
@@ -158,15 +159,15 @@ module _ {r : Record} {row : ModeRow} (p : Packs r row) where
 
   -- the values of channel c
   module _ (c : ℕ) (hc : c < 4) where
-    value-place : (j : ℕ) → j < 6 → placeAt (4 + 6 * c + j) ≡ value c j
+    value-place : (j : ℕ) → j < 6 → placeAt (valuesFrom + 6 * c + j) ≡ value c j
     unfolding pos
-    value-place j h = rw (add-assoc 4 (6 * c) j) (placeAt-pos (value c j) (inside-value hc h))
+    value-place j h = rw (add-assoc valuesFrom (6 * c) j) (placeAt-pos (value c j) (inside-value hc h))
 
-    pub value-wide : (j : ℕ) → j < 6 → wide r (4 + 6 * c + j) ≡ pick (ltb j (endpointCount (r .mode))) (channelBits (r .mode) c) 0
+    pub value-wide : (j : ℕ) → j < 6 → wide r (valuesFrom + 6 * c + j) ≡ pick (ltb j (endpointCount (r .mode))) (channelBits (r .mode) c) 0
     unfolding width
     value-wide j h = ap (width (r .mode) (anchors (r .split))) (value-place j h)
 
-    pub value-said : (j : ℕ) → j < 6 → said r (4 + 6 * c + j) ≡ getD (r .endpoints) (4 * j + c) 0
+    pub value-said : (j : ℕ) → j < 6 → said r (valuesFrom + 6 * c + j) ≡ getD (r .endpoints) (4 * j + c) 0
     unfolding says
     value-said j h = ap (says r) (value-place j h)
 
@@ -174,7 +175,7 @@ module _ {r : Record} {row : ModeRow} (p : Packs r row) where
     values k = getD (r .endpoints) (4 * k + c) 0
 
     module _ {w : ℕ} (ew : w ≡ channelBits (r .mode) c) where
-      wides : (j : ℕ) → j < 6 → wide r (4 + 6 * c + j) ≡ pick (ltb j (row .endpoints)) w 0
+      wides : (j : ℕ) → j < 6 → wide r (valuesFrom + 6 * c + j) ≡ pick (ltb j (row .endpoints)) w 0
       wides j h = rw (ew, p .is) (value-wide j h)
 
       pub channel-bits : w ≤ 8
@@ -184,79 +185,79 @@ module _ {r : Record} {row : ModeRow} (p : Packs r row) where
           (omega (arith, small of-mode .colour))))
 
       pub channel-fits : (k : ℕ) → k < row .endpoints → values k < 2 ^ w
-      channel-fits = run-fits (4 + 6 * c) (omega arith) (row .endpoints) w values (small of-mode .endpoints) wides value-said
+      channel-fits = run-fits (valuesFrom + 6 * c) (omega arith) (row .endpoints) w values (small of-mode .endpoints) wides value-said
 
-      module _ {b : BitWriter} (eb : b ≡ upto r (4 + 6 * c)) {x : ℕ} (ex : x ≡ evenly (row .endpoints) w values) where
-        joined : x ≡ join (table 6 (λ j. wide r (4 + 6 * c + j))) (table 6 (λ j. said r (4 + 6 * c + j)))
-        joined = ex ∙ run-join (4 + 6 * c) (omega arith) (row .endpoints) w values (small of-mode .endpoints) wides value-said
+      module _ {b : BitWriter} (eb : b ≡ upto r (valuesFrom + 6 * c)) {x : ℕ} (ex : x ≡ evenly (row .endpoints) w values) where
+        joined : x ≡ join (table 6 (λ j. wide r (valuesFrom + 6 * c + j))) (table 6 (λ j. said r (valuesFrom + 6 * c + j)))
+        joined = ex ∙ run-join (valuesFrom + 6 * c) (omega arith) (row .endpoints) w values (small of-mode .endpoints) wides value-said
 
-        size : row .endpoints * w ≡ total (table 6 (λ j. wide r (4 + 6 * c + j)))
-        size = run-size (4 + 6 * c) (omega arith) (row .endpoints) w values (small of-mode .endpoints) wides value-said
+        size : row .endpoints * w ≡ total (table 6 (λ j. wide r (valuesFrom + 6 * c + j)))
+        size = run-size (valuesFrom + 6 * c) (omega arith) (row .endpoints) w values (small of-mode .endpoints) wides value-said
 
         pub channel-asks : (x < 2 ^ (row .endpoints * w)) × (b .at + row .endpoints * w ≤ 128) × (written b < 2 ^ b .at)
-        channel-asks = group-asks (4 + 6 * c) 6 (omega arith) eb joined size
+        channel-asks = group-asks (valuesFrom + 6 * c) 6 (omega arith) eb joined size
 
-        pub channel-next : {d : BitWriter} → d ≡ pushed b x (row .endpoints * w) → d ≡ upto r (4 + 6 * c + 6)
-        channel-next = group-next (4 + 6 * c) 6 (omega arith) eb joined size
+        pub channel-next : {d : BitWriter} → d ≡ pushed b x (row .endpoints * w) → d ≡ upto r (valuesFrom + 6 * c + 6)
+        channel-next = group-next (valuesFrom + 6 * c) 6 (omega arith) eb joined size
 
   -- the p bits
-  p-place : (j : ℕ) → j < 6 → placeAt (28 + j) ≡ pbit j
+  p-place : (j : ℕ) → j < 6 → placeAt (psFrom + j) ≡ pbit j
   unfolding pos
   p-place j h = placeAt-pos (pbit j) (inside-pbit h)
 
-  pub p-wide : (j : ℕ) → j < 6 → wide r (28 + j) ≡ pick (ltb j (pCount (r .mode))) 1 0
+  pub p-wide : (j : ℕ) → j < 6 → wide r (psFrom + j) ≡ pick (ltb j (pCount (r .mode))) 1 0
   unfolding width
   p-wide j h = ap (width (r .mode) (anchors (r .split))) (p-place j h)
 
-  pub p-said : (j : ℕ) → j < 6 → said r (28 + j) ≡ getD (r .p) j 0
+  pub p-said : (j : ℕ) → j < 6 → said r (psFrom + j) ≡ getD (r .p) j 0
   unfolding says
   p-said j h = ap (says r) (p-place j h)
 
-  bits-wide : (j : ℕ) → j < 6 → wide r (28 + j) ≡ pick (ltb j (row .p)) 1 0
+  bits-wide : (j : ℕ) → j < 6 → wide r (psFrom + j) ≡ pick (ltb j (row .p)) 1 0
   bits-wide j h = rw (p .is) (p-wide j h)
 
   pub bits-fit : (k : ℕ) → k < row .p → getD (r .p) k 0 < 2 ^ 1
-  bits-fit = run-fits 28 (omega arith) (row .p) 1 (λ k. getD (r .p) k 0) (small of-mode .p) bits-wide p-said
+  bits-fit = run-fits psFrom (omega arith) (row .p) 1 (λ k. getD (r .p) k 0) (small of-mode .p) bits-wide p-said
 
-  module _ {b : BitWriter} (eb : b ≡ upto r 28) {x : ℕ} (ex : x ≡ evenly (row .p) 1 (λ k. getD (r .p) k 0)) where
-    bits-joined : x ≡ join (table 6 (λ j. wide r (28 + j))) (table 6 (λ j. said r (28 + j)))
-    bits-joined = ex ∙ run-join 28 (omega arith) (row .p) 1 (λ k. getD (r .p) k 0) (small of-mode .p) bits-wide p-said
+  module _ {b : BitWriter} (eb : b ≡ upto r psFrom) {x : ℕ} (ex : x ≡ evenly (row .p) 1 (λ k. getD (r .p) k 0)) where
+    bits-joined : x ≡ join (table 6 (λ j. wide r (psFrom + j))) (table 6 (λ j. said r (psFrom + j)))
+    bits-joined = ex ∙ run-join psFrom (omega arith) (row .p) 1 (λ k. getD (r .p) k 0) (small of-mode .p) bits-wide p-said
 
-    bits-size : row .p ≡ total (table 6 (λ j. wide r (28 + j)))
-    bits-size = sym (mul-one (row .p)) ∙ run-size 28 (omega arith) (row .p) 1 (λ k. getD (r .p) k 0) (small of-mode .p) bits-wide p-said
+    bits-size : row .p ≡ total (table 6 (λ j. wide r (psFrom + j)))
+    bits-size = sym (mul-one (row .p)) ∙ run-size psFrom (omega arith) (row .p) 1 (λ k. getD (r .p) k 0) (small of-mode .p) bits-wide p-said
 
     pub bits-ask : (x < 2 ^ row .p) × (b .at + row .p ≤ 128) × (written b < 2 ^ b .at)
-    bits-ask = group-asks 28 6 (omega arith) eb bits-joined bits-size
+    bits-ask = group-asks psFrom 6 (omega arith) eb bits-joined bits-size
 
-    pub bits-next : {d : BitWriter} → d ≡ pushed b x (row .p) → d ≡ upto r 34
-    bits-next = group-next 28 6 (omega arith) eb bits-joined bits-size
+    pub bits-next : {d : BitWriter} → d ≡ pushed b x (row .p) → d ≡ upto r firstFrom
+    bits-next = group-next psFrom 6 (omega arith) eb bits-joined bits-size
 
   -- the indexes of set a
   module _ (a : ℕ) (ha : a < 2) where
-    index-place : (q : ℕ) → q < 16 → placeAt (34 + 16 * a + q) ≡ index a q
+    index-place : (q : ℕ) → q < 16 → placeAt (firstFrom + 16 * a + q) ≡ index a q
     unfolding pos
-    index-place q h = rw (add-assoc 34 (16 * a) q) (placeAt-pos (index a q) (inside-index ha h))
+    index-place q h = rw (add-assoc firstFrom (16 * a) q) (placeAt-pos (index a q) (inside-index ha h))
 
     abbrev stored : List ℕ
     stored = indexWidths (indexBits (r .mode) a) (anchors (r .split))
 
-    pub set-wide : stored ≡ table 16 (λ q. wide r (34 + 16 * a + q))
+    pub set-wide : stored ≡ table 16 (λ q. wide r (firstFrom + 16 * a + q))
     unfolding width indexWidths
     set-wide = table-same 0 16 _ _ (λ q h. sym (ap (width (r .mode) (anchors (r .split))) (index-place q h)))
 
     module _ (vs : List ℕ) (long : length vs ≡ 16) (ev : (q : ℕ) → q < 16 → says r (index a q) ≡ getD vs q 0) where
-      set-said : vs ≡ table 16 (λ q. said r (34 + 16 * a + q))
+      set-said : vs ≡ table 16 (λ q. said r (firstFrom + 16 * a + q))
       set-said = sym (table-is 16 _ vs long (λ q h. ap (says r) (index-place q h) ∙ ev q h))
 
       pub set-fit : Fit stored vs
       set-fit =
-          rw (set-wide, set-said) (fit-table 16 (λ q. wide r (34 + 16 * a + q)) (λ q. said r (34 + 16 * a + q))
-          (λ q h. each (34 + 16 * a + q) (omega arith)))
+          rw (set-wide, set-said) (fit-table 16 (λ q. wide r (firstFrom + 16 * a + q)) (λ q. said r (firstFrom + 16 * a + q))
+          (λ q h. each (firstFrom + 16 * a + q) (omega arith)))
 
-      pub set-join : join stored vs ≡ join (table 16 (λ q. wide r (34 + 16 * a + q))) (table 16 (λ q. said r (34 + 16 * a + q)))
+      pub set-join : join stored vs ≡ join (table 16 (λ q. wide r (firstFrom + 16 * a + q))) (table 16 (λ q. said r (firstFrom + 16 * a + q)))
       set-join = ap₂ join set-wide set-said
 
-    pub set-size : total stored ≡ total (table 16 (λ q. wide r (34 + 16 * a + q)))
+    pub set-size : total stored ≡ total (table 16 (λ q. wide r (firstFrom + 16 * a + q)))
     set-size = ap total set-wide
 
   module _ {a : Anchors} (ea : a ≡ anchorsOf (r .split)) where
@@ -266,7 +267,7 @@ module _ {r : Record} {row : ModeRow} (p : Packs r row) where
     pub rise : Rising (row .kind) (a .b) (a .c)
     rise = rw (kind-is, ea) (anchors-rise (r .split) part-64)
 
-    pub pixels : Pixels a
+    pub pixels : ArePixels a
     pixels = rw ea (anchors-low (r .split) part-64)
 
     anchors-are : anchorsOfKind (row .kind) (a .b) (a .c) ≡ anchors (r .split)
@@ -283,34 +284,34 @@ module _ {r : Record} {row : ModeRow} (p : Packs r row) where
       pub set-fits : Fit at-anchors vs
       set-fits = rw widths-are (set-fit k hk vs long ev)
 
-      bits-are : 16 * w - anchorCount (row .kind) ≡ total (table 16 (λ q. wide r (34 + 16 * k + q)))
+      bits-are : 16 * w - anchorCount (row .kind) ≡ total (table 16 (λ q. wide r (firstFrom + 16 * k + q)))
       bits-are = sym (size-kind (row .kind) w (a .b) (a .c) hw rise) ∙ ap total widths-are ∙ set-size k hk
 
-      values-are : join at-anchors vs ≡ join (table 16 (λ q. wide r (34 + 16 * k + q))) (table 16 (λ q. said r (34 + 16 * k + q)))
+      values-are : join at-anchors vs ≡ join (table 16 (λ q. wide r (firstFrom + 16 * k + q))) (table 16 (λ q. said r (firstFrom + 16 * k + q)))
       values-are = ap (λ (l : List ℕ). join l vs) widths-are ∙ set-join k hk vs long ev
 
-      module _ {b : BitWriter} (eb : b ≡ upto r (34 + 16 * k)) where
+      module _ {b : BitWriter} (eb : b ≡ upto r (firstFrom + 16 * k)) where
         pub set-asks : (b .at + (16 * w - anchorCount (row .kind)) ≤ 128) × (written b < 2 ^ b .at)
-        set-asks = let g = group-asks (34 + 16 * k) 16 (omega arith) eb values-are bits-are in (g .1, g .2)
+        set-asks = let g = group-asks (firstFrom + 16 * k) 16 (omega arith) eb values-are bits-are in (g .1, g .2)
 
-        pub set-next : {d : BitWriter} → d ≡ pushed b (join at-anchors vs) (16 * w - anchorCount (row .kind)) → d ≡ upto r (34 + 16 * k + 16)
-        set-next = group-next (34 + 16 * k) 16 (omega arith) eb values-are bits-are
+        pub set-next : {d : BitWriter} → d ≡ pushed b (join at-anchors vs) (16 * w - anchorCount (row .kind)) → d ≡ upto r (firstFrom + 16 * k + 16)
+        set-next = group-next (firstFrom + 16 * k) 16 (omega arith) eb values-are bits-are
 
   -- a second set that the mode hasn't got
   pub second-none : (row .kind ≡ 3 → ⊥) → secondBits (r .mode) ≡ 0
   second-none k = by-subset (r .mode) (p .low) (λ z. k (ap (λ (x : ModeRow). x .kind) (p .is) ∙ z)) .second
 
-  pub set-none : secondBits (r .mode) ≡ 0 → upto r 50 ≡ upto r 66
+  pub set-none : secondBits (r .mode) ≡ 0 → upto r secondFrom ≡ upto r placeCount
   unfolding upto width
   set-none e =
-      let none : (k : ℕ) → 50 ≤ k → k < 50 + 16 → wide r k ≡ 0 =
+      let none : (k : ℕ) → secondFrom ≤ k → k < secondFrom + 16 → wide r k ≡ 0 =
       λ k h l.
-      ap (wide r) (let z : k ≡ 34 + 16 * 1 + (k - 50) = omega arith in z)
-      ∙ ap (width (r .mode) (anchors (r .split))) (index-place 1 (omega arith) (k - 50) (omega arith))
-      ∙ rw e (le-zero (pick-less (among (k - 50) (anchors (r .split))) 0)) in
-      sym (ap₂ writerOf (tail-join 50 (wide r) (said r) 16 each none) (tail-total 50 (wide r) (said r) 16 none))
+      ap (wide r) (let z : k ≡ firstFrom + 16 * 1 + (k - secondFrom) = omega arith in z)
+      ∙ ap (width (r .mode) (anchors (r .split))) (index-place 1 (omega arith) (k - secondFrom) (omega arith))
+      ∙ rw e (le-zero (pick-less (among (k - secondFrom) (anchors (r .split))) 0)) in
+      sym (ap₂ writerOf (tail-join secondFrom (wide r) (said r) 16 each none) (tail-total secondFrom (wide r) (said r) 16 none))
 
   -- the whole
-  pub all-written : {b : BitWriter} → b ≡ upto r 66 → bytesOf (written b) ≡ blockOf (r .mode) (r .split) (says r)
+  pub all-written : {b : BitWriter} → b ≡ upto r placeCount → bytesOf (written b) ≡ blockOf (r .mode) (r .split) (says r)
   unfolding upto blockOf widths listOf
-  all-written e = ap bytesOf (row-written (wide r) (said r) 66 e)
+  all-written e = ap bytesOf (row-written (wide r) (said r) placeCount e)

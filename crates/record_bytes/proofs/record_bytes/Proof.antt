@@ -10,6 +10,7 @@ use Rattle.record_bytes.specs.Wire.{recordByte, recordBytes}
 use Rattle.record_bytes.proofs.Laying.{first-at, head-laid, laid, p-bit-at, second-at, value-at}
 use Rattle.record_bytes.proofs.record_bytes.Statement.{statement}
 use Rattle.record_bytes.proofs.record_bytes.Tie as tie
+use Rattle.bc7_format.specs.Places.{valuesFrom, psFrom, firstFrom, secondFrom, placeCount}
 
 endpoints-long : (s : tie.Start) → length (s .args .from .endpoints) ≡ 24
 endpoints-long s = search needs
@@ -56,12 +57,12 @@ lay-requires c κs = omega (arith, endpoints-long (c .before .before .before .be
 abbrev from-1 : tie.After-lay → tie.Start
 from-1 c = c .before .before .before .before .before .before .before
 
-filled-28 : (c : tie.After-lay) → Filled 66 0 (recordByte (from-1 c .args .from)) 28 (c .lay .last .1 .1 .0)
-filled-28 c =
+filled-values : (c : tie.After-lay) → Filled placeCount 0 (recordByte (from-1 c .args .from)) psFrom (c .lay .last .1 .1 .0)
+filled-values c =
     let set = c .before .before .before .before in
     let r = from-1 c .args .from in
-    laid 4 24 (r .endpoints) (endpoints-long (from-1 c)) (c .lay .ensures)
-    (head-laid r _ _ _ (replicate 66 0) refl (set .before .before .kind-of .ensures) (set .before .split-byte .ensures) (set .index-mode-of .ensures))
+    laid valuesFrom 24 (r .endpoints) (endpoints-long (from-1 c)) (c .lay .ensures)
+    (head-laid r _ _ _ (replicate placeCount 0) refl (set .before .before .kind-of .ensures) (set .before .split-byte .ensures) (set .index-mode-of .ensures))
     (omega arith) (value-at r)
 
 slice-aggregate-lay-3 : tie.Need-slice-aggregate-lay-3
@@ -71,15 +72,15 @@ slice-aggregate-lay-4 : tie.Need-slice-aggregate-lay-4
 slice-aggregate-lay-4 c = search needs
 
 lay-requires-2 : tie.Need-lay-requires-2
-lay-requires-2 c κs = let at = c .before .before .before .before in omega (arith, p-long (from-1 at), filled-28 at .long)
+lay-requires-2 c κs = let at = c .before .before .before .before in omega (arith, p-long (from-1 at), filled-values at .long)
 
 abbrev from-2 : tie.After-lay2 → tie.After-lay
 from-2 c = c .before .before .before .before .before
 
-filled-34 : (c : tie.After-lay2) → Filled 66 0 (recordByte (from-1 (from-2 c) .args .from)) 34 (c .lay2 .last .1 .1 .0)
-filled-34 c =
+filled-ps : (c : tie.After-lay2) → Filled placeCount 0 (recordByte (from-1 (from-2 c) .args .from)) firstFrom (c .lay2 .last .1 .1 .0)
+filled-ps c =
     let s = from-1 (from-2 c) in
-    laid 28 6 (s .args .from .p) (p-long s) (c .lay2 .ensures) (filled-28 (from-2 c)) (omega arith) (p-bit-at (s .args .from))
+    laid psFrom 6 (s .args .from .p) (p-long s) (c .lay2 .ensures) (filled-values (from-2 c)) (omega arith) (p-bit-at (s .args .from))
 
 slice-aggregate-lay-5 : tie.Need-slice-aggregate-lay-5
 slice-aggregate-lay-5 c = search needs
@@ -88,15 +89,15 @@ slice-aggregate-lay-6 : tie.Need-slice-aggregate-lay-6
 slice-aggregate-lay-6 c = search needs
 
 lay-requires-3 : tie.Need-lay-requires-3
-lay-requires-3 c κs = let at = c .before .before .before .before in omega (arith, first-long (from-1 (from-2 at)), filled-34 at .long)
+lay-requires-3 c κs = let at = c .before .before .before .before in omega (arith, first-long (from-1 (from-2 at)), filled-ps at .long)
 
 abbrev from-3 : tie.After-lay3 → tie.After-lay2
 from-3 c = c .before .before .before .before .before
 
-filled-50 : (c : tie.After-lay3) → Filled 66 0 (recordByte (from-1 (from-2 (from-3 c)) .args .from)) 50 (c .lay3 .last .1 .1 .0)
-filled-50 c =
+filled-first : (c : tie.After-lay3) → Filled placeCount 0 (recordByte (from-1 (from-2 (from-3 c)) .args .from)) secondFrom (c .lay3 .last .1 .1 .0)
+filled-first c =
     let s = from-1 (from-2 (from-3 c)) in
-    laid 34 16 (s .args .from .first) (first-long s) (c .lay3 .ensures) (filled-34 (from-3 c)) (omega arith) (first-at (s .args .from))
+    laid firstFrom 16 (s .args .from .first) (first-long s) (c .lay3 .ensures) (filled-ps (from-3 c)) (omega arith) (first-at (s .args .from))
 
 slice-aggregate-lay-7 : tie.Need-slice-aggregate-lay-7
 slice-aggregate-lay-7 c = search needs
@@ -105,14 +106,14 @@ slice-aggregate-lay-8 : tie.Need-slice-aggregate-lay-8
 slice-aggregate-lay-8 c = search needs
 
 lay-requires-4 : tie.Need-lay-requires-4
-lay-requires-4 c κs = let at = c .before .before .before .before in omega (arith, second-long (from-1 (from-2 (from-3 at))), filled-50 at .long)
+lay-requires-4 c κs = let at = c .before .before .before .before in omega (arith, second-long (from-1 (from-2 (from-3 at))), filled-first at .long)
 
 returns : tie.Need-returns
 unfolding recordBytes
 returns c =
     let at = c .before .before .before .before .before .before in
     let s = from-1 (from-2 (from-3 at)) in
-    filled-all (laid 50 16 (s .args .from .second) (second-long s) (c .before .lay4 .ensures) (filled-50 at) (omega arith) (second-at (s .args .from))) (omega arith)
+    filled-all (laid secondFrom 16 (s .args .from .second) (second-long s) (c .before .lay4 .ensures) (filled-first at) (omega arith) (second-at (s .args .from))) (omega arith)
 
 pub record-bytes-spec : {M : Type 1} → statement M
 record-bytes-spec =

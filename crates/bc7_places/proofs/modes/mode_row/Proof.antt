@@ -7,7 +7,7 @@ use lib.Arith.{lt-of-le-ne}
 use borrow.Author.Needs.{needs}
 use Rattle.bc7_format.specs.Modes.{endpointCount, kindOfMode, modeRow}
 use Rattle.bc7_places.specs.declared.modes.ModeRow.{ModeRow}
-use Rattle.bc7_places.specs.Rows.{rowOf}
+use Rattle.bc7_places.specs.Modes.{rowOf}
 use Rattle.bc7_places.proofs.modes.mode_row.Statement.{statement}
 use Rattle.bc7_places.proofs.modes.mode_row.Tie as tie
 

@@ -14,7 +14,7 @@ standing-at-requires : tie.Need-standing-at-requires
 standing-at-requires c κs = search needs
 
 take-requires : tie.Need-take-requires
-take-requires c κs = (c .before .pre .0, rw (c .standing-at .ensures) (omega arith))
+take-requires c κs = (c .before .pre .width, rw (c .standing-at .ensures) (omega arith))
 
 shl-exchanged : tie.Need-shl-exchanged
 shl-exchanged c = search needs
@@ -26,7 +26,7 @@ exchanged-requires : tie.Need-exchanged-requires
 exchanged-requires c κs =
     let s = c .before .before .before in
     rw (read-at (s .args .s) (s .args .at) (s .args .count) (c .before .before .standing-at .ensures) (c .before .take .ensures))
-    (in-low (s .args .s .low) (s .args .s .high) (s .args .at) (s .args .count) (s .args .value) (search needs) (search needs) (s .pre .3) (omega arith) (s .pre .2) .low)
+    (in-low (s .args .s .low) (s .args .s .high) (s .args .at) (s .args .count) (s .args .value) (search needs) (search needs) (s .pre .fits) (omega arith) (s .pre .room) .low)
 
 sub-exchanged : tie.Need-sub-exchanged
 sub-exchanged c = search needs
@@ -50,7 +50,7 @@ exchanged-requires-2 : tie.Need-exchanged-requires-2
 exchanged-requires-2 c κs =
     let s = c .before .before .before .before in
     rw (read-at (s .args .s) (s .args .at) (s .args .count) (c .before .before .before .standing-at .ensures) (c .before .before .take .ensures))
-    (in-low (s .args .s .low) (s .args .s .high) (s .args .at) (s .args .count) (s .args .value) (search needs) (search needs) (s .pre .3) (omega arith) (s .pre .2) .high)
+    (in-low (s .args .s .low) (s .args .s .high) (s .args .at) (s .args .count) (s .args .value) (search needs) (search needs) (s .pre .fits) (omega arith) (s .pre .room) .high)
 
 returns : tie.Need-returns
 unfolding held
@@ -60,7 +60,7 @@ returns c =
     read-at (s .args .s) (s .args .at) (s .args .count) (c .before .before .before .before .standing-at .ensures)
     (c .before .before .before .take .ensures) in
     rw (c .before .exchanged .ensures, c .exchanged2 .ensures, e)
-    (in-low (s .args .s .low) (s .args .s .high) (s .args .at) (s .args .count) (s .args .value) (search needs) (search needs) (s .pre .3) (omega arith) (s .pre .2) .whole)
+    (in-low (s .args .s .low) (s .args .s .high) (s .args .at) (s .args .count) (s .args .value) (search needs) (search needs) (s .pre .fits) (omega arith) (s .pre .room) .whole)
 
 cast-exchanged-3 : tie.Need-cast-exchanged-3
 cast-exchanged-3 c = search needs
@@ -78,7 +78,7 @@ exchanged-requires-3 : tie.Need-exchanged-requires-3
 exchanged-requires-3 c κs =
     let s = c .before .before .before in
     rw (read-at (s .args .s) (s .args .at) (s .args .count) (c .before .before .standing-at .ensures) (c .before .take .ensures))
-    (in-high (s .args .s .low) (s .args .s .high) (s .args .at) (s .args .count) (s .args .value) (search needs) (search needs) (s .pre .3) (omega arith) (s .pre .2) .high)
+    (in-high (s .args .s .low) (s .args .s .high) (s .args .at) (s .args .count) (s .args .value) (search needs) (search needs) (s .pre .fits) (omega arith) (s .pre .room) .high)
 
 returns-2 : tie.Need-returns-2
 unfolding held
@@ -87,7 +87,7 @@ returns-2 c =
     let e =
     read-at (s .args .s) (s .args .at) (s .args .count) (c .before .before .before .standing-at .ensures) (c .before .before .take .ensures) in
     rw (c .exchanged3 .ensures, e)
-    (in-high (s .args .s .low) (s .args .s .high) (s .args .at) (s .args .count) (s .args .value) (search needs) (search needs) (s .pre .3) (omega arith) (s .pre .2) .whole)
+    (in-high (s .args .s .low) (s .args .s .high) (s .args .at) (s .args .count) (s .args .value) (search needs) (search needs) (s .pre .fits) (omega arith) (s .pre .room) .whole)
 
 pub put-spec : {M : Type 1} → statement M
 put-spec =

@@ -26,7 +26,7 @@ standing-at-requires c κs = search needs
 
 read-indexes-requires : tie.Need-read-indexes-requires
 read-indexes-requires c κs =
-    let s = c .before .before in (s .pre .least, s .pre .most, s .pre .rising, rw (c .standing-at .ensures) (le-of-lt (s .pre .below)))
+    let s = c .before .before in record { least = s .pre .least; most = s .pre .most; rising = s .pre .rising; within = rw (c .standing-at .ensures) (le-of-lt (s .pre .below)) }
 
 sub-after : tie.Need-sub-after
 sub-after c = and-le-l _ _
@@ -68,13 +68,14 @@ stored-bits-requires c κs = search needs
 
 put-requires : tie.Need-put-requires
 put-requires c κs =
-    let s = c .before .before .before .before .before .before .before .before in (
-      rw (c .stored-bits .ensures) (size-lt (s .args .kind) (s .args .part .index) (s .pre .least) (s .pre .most)),
-      s .pre .below,
-      rw (c .stored-bits .ensures) (s .pre .room),
-      stored-lt (s .args .s) (s .args .kind) (s .args .at) (s .args .part) (s .args .mask) (s .args .new) (s .pre) (c .stored-bits .ensures)
-          (stored (c .before)),
-    )
+    let s = c .before .before .before .before .before .before .before .before in
+    record {
+      width = rw (c .stored-bits .ensures) (size-lt (s .args .kind) (s .args .part .index) (s .pre .least) (s .pre .most));
+      below = s .pre .below;
+      room = rw (c .stored-bits .ensures) (s .pre .room);
+      fits = stored-lt (s .args .s) (s .args .kind) (s .args .at) (s .args .part) (s .args .mask) (s .args .new) (s .pre) (c .stored-bits .ensures)
+          (stored (c .before));
+    }
 
 returns : tie.Need-returns
 unfolding setPut

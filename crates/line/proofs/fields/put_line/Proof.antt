@@ -18,7 +18,7 @@ array-read-put-two-2 c = search needs
 
 put-two-requires : tie.Need-put-two-requires
 put-two-requires c κs =
-    let r = c .before .before .before .pre .red in rw (c .before .before .fields-of .ensures) (r .width, r .below, r .room, r .first, r .second)
+    rw (c .before .before .fields-of .ensures) (c .before .before .before .pre .red)
 
 array-read-put-two-3 : tie.Need-array-read-put-two-3
 array-read-put-two-3 c = search needs
@@ -28,8 +28,7 @@ array-read-put-two-4 c = search needs
 
 put-two-requires-2 : tie.Need-put-two-requires-2
 put-two-requires-2 c κs =
-    let r = c .before .before .before .before .pre .green in rw (c .before .before .before .fields-of .ensures)
-    (r .width, r .below, r .room, r .first, r .second)
+    rw (c .before .before .before .fields-of .ensures) (c .before .before .before .before .pre .green)
 
 array-read-put-two-5 : tie.Need-array-read-put-two-5
 array-read-put-two-5 c = search needs
@@ -39,8 +38,7 @@ array-read-put-two-6 c = search needs
 
 put-two-requires-3 : tie.Need-put-two-requires-3
 put-two-requires-3 c κs =
-    let r = c .before .before .before .before .before .pre .blue in rw (c .before .before .before .before .fields-of .ensures)
-    (r .width, r .below, r .room, r .first, r .second)
+    rw (c .before .before .before .before .fields-of .ensures) (c .before .before .before .before .before .pre .blue)
 
 array-read-put-two-7 : tie.Need-array-read-put-two-7
 array-read-put-two-7 c = search needs
@@ -50,8 +48,7 @@ array-read-put-two-8 c = search needs
 
 put-two-requires-4 : tie.Need-put-two-requires-4
 put-two-requires-4 c κs =
-    let r = c .before .before .before .before .before .before .pre .alpha in rw (c .before .before .before .before .before .fields-of .ensures)
-    (r .width, r .below, r .room, r .first, r .second)
+    rw (c .before .before .before .before .before .fields-of .ensures) (c .before .before .before .before .before .before .pre .alpha)
 
 put-p-requires : tie.Need-put-p-requires
 put-p-requires c κs =

@@ -19,7 +19,7 @@ wide-requires c κs = search needs
 put-requires : tie.Need-put-requires
 put-requires c κs =
     let s = c .before .before in
-    (omega arith, omega arith, omega arith, rw (c .wide .ensures) (rw (s .pre .5 (c .before .if1 .taken)) at (s .pre .3)))
+    record { width = omega arith; below = omega arith; room = omega arith; fits = rw (c .wide .ensures) (rw (s .pre .5 (c .before .if1 .taken)) at (s .pre .3)) }
 
 returns : tie.Need-returns
 unfolding psPut
@@ -38,7 +38,9 @@ array-read-put-two-2 : tie.Need-array-read-put-two-2
 array-read-put-two-2 c = search needs
 
 put-two-requires : tie.Need-put-two-requires
-put-two-requires c κs = search needs
+put-two-requires c κs =
+    let s = c .before in
+    record { width = omega arith; below = omega arith; room = omega arith; first = s .pre .3; second = s .pre .4 }
 
 returns-2 : tie.Need-returns-2
 unfolding psPut

@@ -6,7 +6,7 @@ use native.Mathlib.Omega.{arith}
 use Rattle.laws.specs.Tables.{pick}
 use Rattle.laws.proofs.Cases.{pick-lt}
 use Rattle.laws.proofs.Filled.{Filled, filled-all, filled-next, filled-none}
-use Rattle.line.specs.Parts.{ownPixel}
+use Rattle.bc7_places.specs.Lines.{ownPixel}
 use Rattle.line.proofs.reading.index_widths.Statement.{statement}
 use Rattle.line.proofs.reading.index_widths.Tie as tie
 

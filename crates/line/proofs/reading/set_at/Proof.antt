@@ -15,7 +15,7 @@ standing-at-requires c κs = search needs
 
 read-indexes-requires : tie.Need-read-indexes-requires
 read-indexes-requires c κs =
-    let s = c .before .before .before .before in (s .pre .least, s .pre .most, s .pre .rising, rw (c .standing-at .ensures) (s .pre .below))
+    let s = c .before .before .before .before in record { least = s .pre .least; most = s .pre .most; rising = s .pre .rising; within = rw (c .standing-at .ensures) (s .pre .below) }
 
 parts-of-requires : tie.Need-parts-of-requires
 parts-of-requires c κs = search needs

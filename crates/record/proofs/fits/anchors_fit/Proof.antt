@@ -3,36 +3,36 @@
 use mathlib.Core.Path.{_∙_, sym}
 use native.Mathlib.Omega.{arith}
 use borrow.Author.Tests.{not-false, not-true}
-use Rattle.bc7_places.specs.Rows.{OfMode}
+use Rattle.bc7_places.specs.Modes.{OfMode}
 use Rattle.bc7_places.proofs.modes.Bounds.{second-bits, small}
 use Rattle.record.proofs.fits.Fits.{first-not, first-only, pixels, second-decides}
 use Rattle.record.proofs.fits.anchors_fit.Statement.{statement}
 use Rattle.record.proofs.fits.anchors_fit.Tie as tie
 
 of-mode : (s : tie.Start) → OfMode (s .args .row)
-of-mode s = record { mode = _; low = s .pre .0 .low; is = s .pre .0 .is }
+of-mode s = record { mode = _; low = s .pre .full .low; is = s .pre .full .is }
 
 tops-clear-requires : tie.Need-tops-clear-requires
-tops-clear-requires c κs = let b = small (of-mode (c .before)) in (omega (arith, b .least), b .most, pixels (c .before .pre .0) (c .before .pre .1))
+tops-clear-requires c κs = let b = small (of-mode (c .before)) in (omega (arith, b .least), b .most, pixels (c .before .pre .full) (c .before .pre .anchors-are))
 
 returns : tie.Need-returns
-returns c = let s = c .before .before .before in first-not (s .pre .0) (s .pre .1) (sym (c .before .tops-clear .ensures) ∙ not-true _ (c .if1 .taken))
+returns c = let s = c .before .before .before in first-not (s .pre .full) (s .pre .anchors-are) (sym (c .before .tops-clear .ensures) ∙ not-true _ (c .if1 .taken))
 
 returns-2 : tie.Need-returns-2
 returns-2 c =
     let s = c .before .before .before .before .before in
-    first-only (s .pre .0) (s .pre .1) (sym (c .before .before .before .tops-clear .ensures) ∙ not-false _ (c .before .before .if1 .left))
+    first-only (s .pre .full) (s .pre .anchors-are) (sym (c .before .before .before .tops-clear .ensures) ∙ not-false _ (c .before .before .if1 .left))
     (c .if2 .taken)
 
 tops-clear-requires-2 : tie.Need-tops-clear-requires-2
 tops-clear-requires-2 c κs =
     let s = c .before .before .before .before .before .before in
-    (second-bits (of-mode s) (c .before .if2 .left), small (of-mode s) .second, pixels (s .pre .0) (s .pre .1))
+    (second-bits (of-mode s) (c .before .if2 .left), small (of-mode s) .second, pixels (s .pre .full) (s .pre .anchors-are))
 
 returns-3 : tie.Need-returns-3
 returns-3 c =
     let s = c .before .before .before .before .before .before .before in
-    c .tops-clear2 .ensures ∙ second-decides (s .pre .0) (s .pre .1)
+    c .tops-clear2 .ensures ∙ second-decides (s .pre .full) (s .pre .anchors-are)
     (sym (c .before .before .before .before .before .tops-clear .ensures) ∙ not-false _ (c .before .before .before .before .if1 .left))
 
 pub anchors-fit-spec : {M : Type 1} → statement M

@@ -3,7 +3,7 @@
 use mathlib.Core.Path.{_∙_, sym}
 use native.Mathlib.Omega.{arith}
 use borrow.Author.Tests.{not-false, not-true}
-use Rattle.bc7_places.specs.Rows.{OfMode}
+use Rattle.bc7_places.specs.Modes.{OfMode}
 use Rattle.bc7_places.proofs.modes.Bounds.{small}
 use Rattle.record.proofs.fits.Fits.{first-from, last-decides, one-fails, ps-from, split-from, values-from}
 use borrow.Author.Needs.{needs}
@@ -11,7 +11,7 @@ use Rattle.record.proofs.fits.record_fits.Statement.{statement}
 use Rattle.record.proofs.fits.record_fits.Tie as tie
 
 of-mode : (s : tie.Start) → OfMode (s .args .row)
-of-mode s = record { mode = _; low = s .pre .0; is = s .pre .1 }
+of-mode s = record { mode = _; low = s .pre .low; is = s .pre .is }
 
 split-fits-requires : tie.Need-split-fits-requires
 split-fits-requires c κs = of-mode c
@@ -19,7 +19,7 @@ split-fits-requires c κs = of-mode c
 returns : tie.Need-returns
 returns c =
     let s = c .before .before in
-    one-fails _ (s .pre .0) (s .pre .1) _ (split-from _ (s .pre .0) (s .pre .1)) (sym (c .before .split-fits .ensures) ∙ not-true _ (c .if1 .taken))
+    one-fails _ (s .pre .low) (s .pre .is) _ (split-from _ (s .pre .low) (s .pre .is)) (sym (c .before .split-fits .ensures) ∙ not-true _ (c .if1 .taken))
 
 endpoints-fit-requires : tie.Need-endpoints-fit-requires
 endpoints-fit-requires c κs = of-mode (c .before .before .before)
@@ -27,7 +27,7 @@ endpoints-fit-requires c κs = of-mode (c .before .before .before)
 returns-2 : tie.Need-returns-2
 returns-2 c =
     let s = c .before .before .before .before .before in
-    one-fails _ (s .pre .0) (s .pre .1) _ (values-from _ (s .pre .0) (s .pre .1))
+    one-fails _ (s .pre .low) (s .pre .is) _ (values-from _ (s .pre .low) (s .pre .is))
     (sym (c .before .endpoints-fit .ensures) ∙ not-true _ (c .if2 .taken))
 
 p-fits-requires : tie.Need-p-fits-requires
@@ -36,7 +36,7 @@ p-fits-requires c κs = search needs
 returns-3 : tie.Need-returns-3
 returns-3 c =
     let s = c .before .before .before .before .before .before .before .before in
-    one-fails _ (s .pre .0) (s .pre .1) _ (ps-from _ (s .pre .0) (s .pre .1)) (sym (c .before .p-fits .ensures) ∙ not-true _ (c .if3 .taken))
+    one-fails _ (s .pre .low) (s .pre .is) _ (ps-from _ (s .pre .low) (s .pre .is)) (sym (c .before .p-fits .ensures) ∙ not-true _ (c .if3 .taken))
 
 indexes-fit-requires : tie.Need-indexes-fit-requires
 indexes-fit-requires c κs = omega (arith, small (of-mode (c .before .before .before .before .before .before .before .before .before)) .most)
@@ -44,7 +44,7 @@ indexes-fit-requires c κs = omega (arith, small (of-mode (c .before .before .be
 returns-4 : tie.Need-returns-4
 returns-4 c =
     let s = c .before .before .before .before .before .before .before .before .before .before .before in
-    one-fails _ (s .pre .0) (s .pre .1) _ (first-from _ (s .pre .0) (s .pre .1)) (sym (c .before .indexes-fit .ensures) ∙ not-true _ (c .if4 .taken))
+    one-fails _ (s .pre .low) (s .pre .is) _ (first-from _ (s .pre .low) (s .pre .is)) (sym (c .before .indexes-fit .ensures) ∙ not-true _ (c .if4 .taken))
 
 indexes-fit-requires-2 : tie.Need-indexes-fit-requires-2
 indexes-fit-requires-2 c κs =
@@ -54,7 +54,7 @@ returns-5 : tie.Need-returns-5
 returns-5 c =
     let s = c .before .before .before .before .before .before .before .before .before .before .before .before .before in
     c .indexes-fit2 .ensures
-    ∙ last-decides _ (s .pre .0) (s .pre .1)
+    ∙ last-decides _ (s .pre .low) (s .pre .is)
     (sym (c .before .before .before .before .before .before .before .before .before .before .before .before .split-fits .ensures)
     ∙ not-false _ (c .before .before .before .before .before .before .before .before .before .before .before .if1 .left))
     (sym (c .before .before .before .before .before .before .before .before .before .endpoints-fit .ensures)

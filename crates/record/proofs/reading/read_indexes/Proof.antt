@@ -8,28 +8,28 @@ use Rattle.record.proofs.reading.read_indexes.Statement.{statement}
 use Rattle.record.proofs.reading.read_indexes.Tie as tie
 
 cast-new-p2 : tie.Need-cast-new-p2
-cast-new-p2 c = omega (arith, c .before .before .pre .2 .two (c .before .if1 .taken) .1)
+cast-new-p2 c = omega (arith, c .before .before .pre .rising .two (c .before .if1 .taken) .1)
 
 new-p2-requires : tie.Need-new-p2-requires
 new-p2-requires c κs =
     let s = c .before .before in
-    let r = s .pre .2 .two (c .before .if1 .taken) in
-    (s .pre .0, s .pre .1, r .0, r .1, omega (arith, s .pre .1, s .pre .3))
+    let r = s .pre .rising .two (c .before .if1 .taken) in
+    (s .pre .least, s .pre .most, r .0, r .1, omega (arith, s .pre .most, s .pre .within))
 
 returns : tie.Need-returns
 returns c = c .new-p2 .ensures ∙ rw (c .before .before .if1 .taken)
 
 cast-new-p3 : tie.Need-cast-new-p3
-cast-new-p3 c = let r = c .before .before .before .pre .2 .three (c .before .if2 .taken) in omega (arith, r .1, r .2)
+cast-new-p3 c = let r = c .before .before .before .pre .rising .three (c .before .if2 .taken) in omega (arith, r .1, r .2)
 
 cast-new-p3-2 : tie.Need-cast-new-p3-2
-cast-new-p3-2 c = omega (arith, c .before .before .before .before .pre .2 .three (c .before .before .if2 .taken) .2)
+cast-new-p3-2 c = omega (arith, c .before .before .before .before .pre .rising .three (c .before .before .if2 .taken) .2)
 
 new-p3-requires : tie.Need-new-p3-requires
 new-p3-requires c κs =
     let s = c .before .before .before .before in
-    let r = s .pre .2 .three (c .before .before .if2 .taken) in
-    (s .pre .0, s .pre .1, r .0, r .1, r .2, omega (arith, s .pre .1, s .pre .3))
+    let r = s .pre .rising .three (c .before .before .if2 .taken) in
+    (s .pre .least, s .pre .most, r .0, r .1, r .2, omega (arith, s .pre .most, s .pre .within))
 
 returns-2 : tie.Need-returns-2
 returns-2 c = c .new-p3 .ensures ∙ rw (c .before .before .before .if2 .taken)

@@ -11,9 +11,9 @@ use Rattle.bcn_format.specs.Block.{eights, number}
 use Rattle.bc7_format.specs.Splits.{splitAt}
 use Rattle.bc7_format.proofs.Subsets.{sixteen-bytes}
 use Rattle.bits.proofs.On.{On}
-use Rattle.bc7_places.specs.Rows.{OfMode}
+use Rattle.bc7_places.specs.Modes.{OfMode}
 use Rattle.bc7_places.proofs.modes.Bounds.{small}
-use Rattle.record.proofs.reading.Heads.{marker-on}
+use Rattle.bc7_places.proofs.splits.Heads.{marker-on}
 use Rattle.record.proofs.reading.Standing.{first-room, p-room, partition-64, record-read, rise, second-room, the-split, values-room}
 use borrow.Author.Needs.{needs}
 use Rattle.record.proofs.reading.read_record.Statement.{statement}
@@ -29,7 +29,7 @@ sixteen : (s : tie.Start) → Fit eights (s .args .block)
 sixteen s = sixteen-bytes _ (size s) (λ i l. byte s i .fits)
 
 of-mode : (s : tie.Start) → OfMode (s .args .row)
-of-mode s = record { mode = _; low = s .pre .1; is = s .pre .2 }
+of-mode s = record { mode = _; low = s .pre .low; is = s .pre .row-is }
 
 behind : (c : tie.After-skip) → On (number (c .before .before .args .block)) (c .before .before .args .mode + 1) (c .skip .result)
 behind c = marker-on _ (c .before .new .ensures .0) (c .before .new .ensures .1) (c .skip .ensures)
@@ -38,7 +38,7 @@ split-of : (c : tie.After-read-split)
     → c .read-split .result .split ≡ splitAt (c .before .before .before .args .mode) (number (c .before .before .before .args .block))
 split-of c =
     let s = c .before .before .before in
-    the-split _ (sixteen s) (s .pre .0) (s .pre .1) (s .pre .2) (behind (c .before)) (c .read-split .ensures)
+    the-split _ (sixteen s) (s .pre .mode-is) (s .pre .low) (s .pre .row-is) (behind (c .before)) (c .read-split .ensures)
 
 new-requires : tie.Need-new-requires
 new-requires c κs = search needs
@@ -50,58 +50,61 @@ skip-requires : tie.Need-skip-requires
 skip-requires c κs = search needs
 
 read-split-requires : tie.Need-read-split-requires
-read-split-requires c κs = (of-mode (c .before .before), rw (behind c .stands) (omega (arith, c .before .before .pre .1)))
+read-split-requires c κs = record { of-mode = of-mode (c .before .before); within = rw (behind c .stands) (omega (arith, c .before .before .pre .low)) }
 
 read-endpoints-requires : tie.Need-read-endpoints-requires
 read-endpoints-requires c κs =
     let s = c .before .before .before in
-    (of-mode s, values-room _ (sixteen s) (s .pre .0) (s .pre .1) (s .pre .2) (behind (c .before)) (c .read-split .ensures))
+    record { of-mode = of-mode s; within = values-room _ (sixteen s) (s .pre .mode-is) (s .pre .low) (s .pre .row-is) (behind (c .before)) (c .read-split .ensures) }
 
 read-p-requires : tie.Need-read-p-requires
 read-p-requires c κs =
-    let s = c .before .before .before .before .before in (
-      of-mode s,
-      p-room _ (sixteen s) (s .pre .0) (s .pre .1) (s .pre .2) (behind (c .before .before .before))
-          (c .before .before .read-split .ensures) (c .before .read-endpoints .ensures),
-    )
+    let s = c .before .before .before .before .before in
+    record {
+      of-mode = of-mode s;
+      within = p-room _ (sixteen s) (s .pre .mode-is) (s .pre .low) (s .pre .row-is) (behind (c .before .before .before))
+          (c .before .before .read-split .ensures) (c .before .read-endpoints .ensures);
+    }
 
 anchors-of-requires : tie.Need-anchors-of-requires
 anchors-of-requires c κs =
     let s = c .before .before .before .before .before .before .before in
-    partition-64 _ (sixteen s) (s .pre .0) (s .pre .1) (s .pre .2) (split-of (c .before .before .before .before))
+    partition-64 _ (sixteen s) (s .pre .mode-is) (s .pre .low) (s .pre .row-is) (split-of (c .before .before .before .before))
 
 read-indexes-requires : tie.Need-read-indexes-requires
 read-indexes-requires c κs =
     let s = c .before .before .before .before .before .before .before .before in
-    let b = small (of-mode s) in (
-      omega (arith, b .least),
-      b .most,
-      rise _ (sixteen s) (s .pre .0) (s .pre .1) (s .pre .2) (split-of (c .before .before .before .before .before)) (c .anchors-of .ensures),
-      first-room _ (sixteen s) (s .pre .0) (s .pre .1) (s .pre .2) (behind (c .before .before .before .before .before .before))
+    let b = small (of-mode s) in
+    record {
+      least = omega (arith, b .least);
+      most = b .most;
+      rising = rise _ (sixteen s) (s .pre .mode-is) (s .pre .low) (s .pre .row-is) (split-of (c .before .before .before .before .before)) (c .anchors-of .ensures);
+      within = first-room _ (sixteen s) (s .pre .mode-is) (s .pre .low) (s .pre .row-is) (behind (c .before .before .before .before .before .before))
           (c .before .before .before .before .before .read-split .ensures) (c .before .before .before .before .read-endpoints .ensures)
-          (c .before .before .read-p .ensures),
-    )
+          (c .before .before .read-p .ensures);
+    }
 
 parts-of-requires : tie.Need-parts-of-requires
 parts-of-requires c κs = small (of-mode (c .before .before .before .before .before .before .before .before .before .before)) .most
 
 read-second-requires : tie.Need-read-second-requires
 read-second-requires c κs =
-    let s = c .before .before .before .before .before .before .before .before .before .before .before in (
-      of-mode s,
-      rise _ (sixteen s) (s .pre .0) (s .pre .1) (s .pre .2) (split-of (c .before .before .before .before .before .before .before .before))
-          (c .before .before .before .anchors-of .ensures),
-      second-room _ (sixteen s) (s .pre .0) (s .pre .1) (s .pre .2)
+    let s = c .before .before .before .before .before .before .before .before .before .before .before in
+    record {
+      of-mode = of-mode s;
+      rising = rise _ (sixteen s) (s .pre .mode-is) (s .pre .low) (s .pre .row-is) (split-of (c .before .before .before .before .before .before .before .before))
+          (c .before .before .before .anchors-of .ensures);
+      within = second-room _ (sixteen s) (s .pre .mode-is) (s .pre .low) (s .pre .row-is)
           (behind (c .before .before .before .before .before .before .before .before .before))
           (c .before .before .before .before .before .before .before .before .read-split .ensures)
           (c .before .before .before .before .before .before .before .read-endpoints .ensures)
-          (c .before .before .before .before .before .read-p .ensures) _ (c .before .before .read-indexes .ensures),
-    )
+          (c .before .before .before .before .before .read-p .ensures) _ (c .before .before .read-indexes .ensures);
+    }
 
 returns : tie.Need-returns
 returns c =
     let s = c .before .before .before .before .before .before .before .before .before .before .before .before in
-    record-read _ (sixteen s) (s .pre .0) (s .pre .1) (s .pre .2)
+    record-read _ (sixteen s) (s .pre .mode-is) (s .pre .low) (s .pre .row-is)
     (behind (c .before .before .before .before .before .before .before .before .before .before))
     (c .before .before .before .before .before .before .before .before .before .read-split .ensures)
     (c .before .before .before .before .before .before .before .before .read-endpoints .ensures)

@@ -12,10 +12,10 @@ unfolding secondRead
 returns c = rw (ne-eqb _ _ (c .if1 .taken))
 
 read-indexes-requires : tie.Need-read-indexes-requires
-read-indexes-requires c κs = let s = c .before .before in (second-bits (s .pre .0) (c .if1 .left), small (s .pre .0) .second, s .pre .1, s .pre .2)
+read-indexes-requires c κs = let s = c .before .before in record { least = second-bits (s .pre .of-mode) (c .if1 .left); most = small (s .pre .of-mode) .second; rising = s .pre .rising; within = s .pre .within }
 
 parts-of-requires : tie.Need-parts-of-requires
-parts-of-requires c κs = small (c .before .before .before .before .pre .0) .second
+parts-of-requires c κs = small (c .before .before .before .before .pre .of-mode) .second
 
 returns-2 : tie.Need-returns-2
 unfolding secondRead

@@ -9,30 +9,30 @@ use Rattle.record.proofs.writing.push_channel.Tie as tie
 channel-word-requires : tie.Need-channel-word-requires
 channel-word-requires c κs =
     let s = c .before in (
-      small (of-mode (s .pre .0)) .endpoints,
-      s .pre .1,
-      channel-bits (s .pre .0) _ (s .pre .1) (s .pre .2),
-      channel-fits (s .pre .0) _ (s .pre .1)
-          (s .pre .2),
+      small (of-mode (s .pre .packs)) .endpoints,
+      s .pre .channel,
+      channel-bits (s .pre .packs) _ (s .pre .channel) (s .pre .width-is),
+      channel-fits (s .pre .packs) _ (s .pre .channel)
+          (s .pre .width-is),
     )
 
 cast-push : tie.Need-cast-push
-cast-push c = omega (arith, small (of-mode (c .before .before .before .pre .0)) .endpoints)
+cast-push c = omega (arith, small (of-mode (c .before .before .before .pre .packs)) .endpoints)
 
 mul-push : tie.Need-mul-push
 mul-push c =
     let s = c .before .before .before in
-    omega (arith, channel-asks (s .pre .0) _ (s .pre .1) (s .pre .2) (s .pre .3) (c .before .channel-word .ensures) .1)
+    omega (arith, channel-asks (s .pre .packs) _ (s .pre .channel) (s .pre .width-is) (s .pre .before) (c .before .channel-word .ensures) .1)
 
 push-requires : tie.Need-push-requires
 push-requires c κs =
     let s = c .before .before .before in
-    channel-asks (s .pre .0) _ (s .pre .1) (s .pre .2) (s .pre .3) (c .before .channel-word .ensures)
+    channel-asks (s .pre .packs) _ (s .pre .channel) (s .pre .width-is) (s .pre .before) (c .before .channel-word .ensures)
 
 returns : tie.Need-returns
 returns c =
     let s = c .before .before .before .before in
-    channel-next (s .pre .0) _ (s .pre .1) (s .pre .2) (s .pre .3) (c .before .before .channel-word .ensures) (c .push .ensures)
+    channel-next (s .pre .packs) _ (s .pre .channel) (s .pre .width-is) (s .pre .before) (c .before .before .channel-word .ensures) (c .push .ensures)
 
 pub push-channel-spec : {M : Type 1} → statement M
 push-channel-spec =

@@ -15,30 +15,30 @@ stored : (c : tie.After-compressed)
     (indexWidths (c .before .before .before .before .args .width)
     (anchorsOfKind (c .before .before .before .before .args .kind) (c .before .before .before .before .args .anchors .b)
     (c .before .before .before .before .args .anchors .c))) (c .before .before .before .before .args .indexes)
-stored c = c .compressed .ensures ∙ stored-again _ _ _ (c .before .before .before .before .pre .4) (c .before .before .before .word-of .ensures)
+stored c = c .compressed .ensures ∙ stored-again _ _ _ (c .before .before .before .before .pre .fits) (c .before .before .before .word-of .ensures)
 
 word-of-requires : tie.Need-word-of-requires
-word-of-requires c κs = (c .pre .1, full-fit _ _ _ (c .pre .4))
+word-of-requires c κs = (c .pre .most, full-fit _ _ _ (c .pre .fits))
 
 cast-compressed : tie.Need-cast-compressed
-cast-compressed c = omega (arith, c .before .before .pre .2 .second)
+cast-compressed c = omega (arith, c .before .before .pre .pixels .second)
 
 cast-compressed-2 : tie.Need-cast-compressed-2
-cast-compressed-2 c = omega (arith, c .before .before .before .pre .2 .third)
+cast-compressed-2 c = omega (arith, c .before .before .before .pre .pixels .third)
 
 compressed-requires : tie.Need-compressed-requires
 compressed-requires c κs =
     let s = c .before .before .before in
     let w = c .before .before .word-of .ensures in
-    (s .pre .0, s .pre .1, s .pre .3, word-lt _ _ _ (s .pre .4) w, rw (word-split _ _ _ (s .pre .4) w) (s .pre .4))
+    (s .pre .least, s .pre .most, s .pre .rising, word-lt _ _ _ (s .pre .fits) w, rw (word-split _ _ _ (s .pre .fits) w) (s .pre .fits))
 
 stored-bits-requires : tie.Need-stored-bits-requires
-stored-bits-requires c κs = (c .before .before .before .before .pre .0, c .before .before .before .before .pre .1)
+stored-bits-requires c κs = (c .before .before .before .before .pre .least, c .before .before .before .before .pre .most)
 
 push-requires : tie.Need-push-requires
 push-requires c κs =
     let s = c .before .before .before .before .before in
-    rw (stored (c .before), c .stored-bits .ensures) (rw (size-kind _ _ _ _ (s .pre .0) (s .pre .3)) at (join-lt (s .pre .4)), s .pre .5, s .pre .6)
+    rw (stored (c .before), c .stored-bits .ensures) (rw (size-kind _ _ _ _ (s .pre .least) (s .pre .rising)) at (join-lt (s .pre .fits)), s .pre .room, s .pre .holds)
 
 returns : tie.Need-returns
 returns c = c .push .ensures ∙ rw (stored (c .before .before), c .before .stored-bits .ensures)

@@ -7,22 +7,22 @@ use Rattle.record.proofs.writing.write_record.Statement.{statement}
 use Rattle.record.proofs.writing.write_record.Tie as tie
 
 push-head-requires : tie.Need-push-head-requires
-push-head-requires c κs = c .pre .0
+push-head-requires c κs = c .pre .packs
 
 push-endpoints-requires : tie.Need-push-endpoints-requires
-push-endpoints-requires c κs = (c .before .pre .0, c .push-head .ensures)
+push-endpoints-requires c κs = record { packs = c .before .pre .packs; before = c .push-head .ensures }
 
 push-p-requires : tie.Need-push-p-requires
-push-p-requires c κs = (c .before .before .pre .0, c .push-endpoints .ensures)
+push-p-requires c κs = record { packs = c .before .before .pre .packs; before = c .push-endpoints .ensures }
 
 push-indexes-requires : tie.Need-push-indexes-requires
-push-indexes-requires c κs = (c .before .before .before .pre .0, c .before .before .before .pre .1, c .push-p .ensures)
+push-indexes-requires c κs = record { packs = c .before .before .before .pre .packs; anchors-are = c .before .before .before .pre .anchors-are; before = c .push-p .ensures }
 
 finish-requires : tie.Need-finish-requires
 finish-requires c κs = search needs
 
 returns : tie.Need-returns
-returns c = c .finish .ensures ∙ all-written (c .before .before .before .before .before .pre .0) (c .before .push-indexes .ensures)
+returns c = c .finish .ensures ∙ all-written (c .before .before .before .before .before .pre .packs) (c .before .push-indexes .ensures)
 
 pub write-record-spec : {M : Type 1} → statement M
 write-record-spec =

@@ -1,0 +1,4 @@
+pub mod AnchorPixels
+pub mod Heads
+pub mod SubsetMaps
+pub mod VectorKind

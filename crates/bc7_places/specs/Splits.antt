@@ -1,0 +1,50 @@
+-- What the code holds of a split: its anchors as three pixels, its subsets as a map, and the split with the stream behind it.
+-- Assumes nothing.
+use Prim.Native.Nat.{ℕ, _+_, _*_, _<_}
+use mathlib.Core.List.{List, [], _∷_}
+use lib.ListN.{getD}
+use Rattle.bc7_places.specs.declared.modes.ModeRow.{ModeRow}
+use Rattle.bc7_places.specs.declared.splits.Anchors.{Anchors}
+use Rattle.bc7_places.specs.declared.splits.ReadSplit.{ReadSplit}
+use Rattle.bc7_places.specs.declared.splits.Subsets.{Subsets}
+use Rattle.bc7_format.specs.declared.Split.{Split}
+use Rattle.bc7_format.specs.declared.Split.the-variants.{Whole, Two, Three, Vector}
+use Rattle.bits.specs.declared.stream.BitStream.{BitStream}
+use Rattle.bcn_format.specs.Block.{field}
+use Rattle.bc7_format.specs.Splits.{anchors, ofKind}
+use Rattle.bits.specs.Stream.{nextBits, skipped}
+use Rattle.partitions.specs.Maps.{map2, map3}
+
+-- the anchors as three pixels: pixel 0 again where a split has fewer
+abbrev pub threeOf : Anchors → List ℕ
+threeOf x = x .a ∷ x .b ∷ x .c ∷ []
+
+abbrev pub anchorsOf : Split → Anchors
+anchorsOf s = record { a = getD (anchors s) 0 0; b = getD (anchors s) 1 0; c = getD (anchors s) 2 0 }
+
+-- the anchors are pixels
+pub record ArePixels (a : Anchors) : Type 0 where
+  pub first : a .a < 16
+  pub second : a .b < 16
+  pub third : a .c < 16
+
+-- the subsets as a map, and the subset of pixel q in it
+abbrev pub subsetsAs : ℕ → ℕ → Subsets
+subsetsAs m b = record { map = m; bits = b }
+
+abbrev pub subsetsOf : Split → Subsets
+subsetsOf Whole = subsetsAs 0 1
+subsetsOf (Two a) = subsetsAs (map2 a .«subset_indexes») 1
+subsetsOf (Three a) = subsetsAs (map3 a .«subset_indexes») 2
+subsetsOf (Vector r i) = subsetsAs 0 1
+
+unfoldable pub subsetIn : Subsets → ℕ → ℕ
+subsetIn x q = field (x .map) (q * x .bits) (x .bits)
+
+-- the split bits come next: partition, rotation, index mode
+abbrev pub splitRead : ModeRow → BitStream → ReadSplit
+splitRead row s = record {
+  split = ofKind (row .kind) (nextBits s (row .partition)) (nextBits (skipped s (row .partition)) (row .rotation))
+      (nextBits (skipped s (row .partition + row .rotation)) (row .«index_mode»));
+  stream = skipped s (row .partition + row .rotation + row .«index_mode»);
+}

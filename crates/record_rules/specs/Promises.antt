@@ -1,0 +1,15 @@
+-- What taking apart and packing promise, under one name each: the contract and `determined-*` say the same.
+-- Assumes nothing.
+use mathlib.Core.Path.{_≡_}
+use mathlib.Core.List.{List}
+use Prim.Native.Nat.{ℕ}
+use Rattle.record_rules.specs.declared.Record.{Record}
+use Rattle.record_rules.specs.declared.Unpacked.{Unpacked}
+use Rattle.record_rules.specs.declared.Packed.{Packed}
+use Rattle.record_rules.specs.Records.{packed, taken}
+
+abbrev pub Unpacks : List ℕ → Unpacked → Type 0
+Unpacks block answer = answer ≡ taken block
+
+abbrev pub Packs : Record → Packed → Type 0
+Packs r answer = answer ≡ packed r
