@@ -2,17 +2,11 @@
 -- Assumes nothing.
 use mathlib.Core.Path.{_≡_}
 use Prim.Native.Nat.{ℕ, _+_, _*_, _^_, _<_}
-use lib.Dec.{eqb}
-use Rattle.laws.specs.Tables.{pick}
 use Rattle.bits.specs.declared.stream.BitStream.{BitStream}
 use Rattle.bits.specs.declared.stream.Bits64.{Bits64}
 use Rattle.bits.specs.declared.stream.Bits8.{Bits8}
 use Rattle.bits.specs.declared.stream.Values2.{Values2}
 use Rattle.bits.specs.Stream.{consumed2, consumed64, consumed8}
-
--- how many bits a partition has, in a mode that has one
-abbrev pub setBits : ℕ → ℕ
-setBits mode = pick (eqb mode 0) 4 6
 
 pub record Taken1 (s : BitStream) (w : ℕ) (r : Bits8) : Type 0 where
   pub same : r ≡ consumed8 s w

@@ -1,13 +1,11 @@
-// What the modes of the decoder read: values, partitions and words of indexes. The promises say all that the modes ask of
+// What the modes of the decoder read: values and words of indexes. The promises say all that the modes ask of
 // them, in records with names for the parts.
 ghost use mathlib.Core.Path.{_≡_};
 ghost use mathlib.Core.List.{[], _∷_};
 ghost use Prim.Native.Nat.{_+_, _-_, _*_, _/_, _%_, _^_, _≤_, _<_};
-ghost use lib.Dec.{T};
-ghost use Rattle.bcn_format.specs.Partitions.{among};
 ghost use Rattle.bcn_format.specs.Indexes.{expanded};
 ghost use Rattle.bits.specs.Stream.{nextBits};
-ghost use Rattle.bc7_reads.specs.Taken.{setBits, Taken1, Taken2, Taken64};
+ghost use Rattle.bc7_reads.specs.Taken.{Taken1, Taken2, Taken64};
 use bits::stream::BitStream;
 use bits::stream::Bits8;
 use bits::stream::Bits64;
@@ -34,17 +32,6 @@ pub fn values_2(stream: BitStream, bits: u32) -> Values2
     ensures { λ r. ⌜ Taken2 stream bits r ⌝ }
 {
     stream.consume_2(bits)
-}
-
-// Mode 0 has room for four bits of it.
-pub fn extract_partition_set_id(mode: u8, stream: BitStream) -> Bits8
-    requires { ⌜ T (among mode (0 ∷ 1 ∷ 2 ∷ 3 ∷ 7 ∷ [])) × (stream .at + 6 < 2 ^ 32) ⌝ }
-    ensures { λ r. ⌜ Taken1 stream (setBits mode) r ⌝ }
-{
-    if mode == 0 {
-        return value(stream, 4);
-    }
-    value(stream, 6)
 }
 
 // Sixteen indexes, read whole and expanded, with one, two or three anchors: those behind pixel 0 stand in the partition's word

@@ -2,9 +2,13 @@
 // positions and masks fold away. A channel of both endpoints of a subset is read as one value, for they are stored side by side.
 // Subsets 0 and 1 share words; the third has its own, whose other half no key reaches.
 ghost use mathlib.Core.Path.{_≡_};
+ghost use mathlib.Core.List.{[], _∷_};
+ghost use Prim.Native.Nat.{_+_};
+ghost use lib.Dec.{T};
+ghost use Rattle.bcn_format.specs.Partitions.{among};
 ghost use Rattle.bits.specs.Stream.{held};
 ghost use Rattle.bc7_format.specs.Fields.{directPixels};
-use bc7_reads::extract_partition_set_id;
+use crate::extract_partition_set_id;
 use bc7_reads::indexes_3;
 use bc7_reads::values_1;
 use bc7_reads::values_2;
@@ -21,8 +25,19 @@ use drawing::palette::palette_3_3;
 use partitions::sets::set_3_2;
 use partitions::sets::set_3_3;
 
+// Any of them by its number, with which the decoder calls it as a literal: the `match` goes where this is inlined.
+pub fn mode_subset_3(mode: u8, stream: BitStream) -> [[u8; 4]; 16]
+    requires { ⌜ T (among mode (0 ∷ 2 ∷ [])) × (stream .at ≡ mode + 1) ⌝ }
+    ensures { λ r. ⌜ r ≡ directPixels mode (held stream) ⌝ }
+{
+    match mode {
+        0 => mode_0(stream),
+        _ => mode_2(stream),
+    }
+}
+
 // Only the first sixteen partitions; a p bit for each of the six endpoints.
-pub fn mode_0(stream: BitStream) -> [[u8; 4]; 16]
+fn mode_0(stream: BitStream) -> [[u8; 4]; 16]
     requires { ⌜ stream .at ≡ 1 ⌝ }
     ensures { λ r. ⌜ r ≡ directPixels 0 (held stream) ⌝ }
 {
@@ -70,7 +85,7 @@ pub fn mode_0(stream: BitStream) -> [[u8; 4]; 16]
 }
 
 // All 64 partitions, no p bits.
-pub fn mode_2(stream: BitStream) -> [[u8; 4]; 16]
+fn mode_2(stream: BitStream) -> [[u8; 4]; 16]
     requires { ⌜ stream .at ≡ 3 ⌝ }
     ensures { λ r. ⌜ r ≡ directPixels 2 (held stream) ⌝ }
 {

@@ -1,9 +1,13 @@
 // The modes with two subsets, 1, 3 and 7: `mode_subset_2` of the Rust. A function for each mode has literal widths, so that
 // positions and masks fold away. A channel of both endpoints of a subset is read as one value, for they are stored side by side.
 ghost use mathlib.Core.Path.{_≡_};
+ghost use mathlib.Core.List.{[], _∷_};
+ghost use Prim.Native.Nat.{_+_};
+ghost use lib.Dec.{T};
+ghost use Rattle.bcn_format.specs.Partitions.{among};
 ghost use Rattle.bits.specs.Stream.{held};
 ghost use Rattle.bc7_format.specs.Fields.{directPixels};
-use bc7_reads::extract_partition_set_id;
+use crate::extract_partition_set_id;
 use bc7_reads::indexes_2;
 use bc7_reads::values_2;
 use bits::stream::BitStream;
@@ -19,8 +23,20 @@ use drawing::palette::palette_2_3;
 use partitions::sets::set_2_2;
 use partitions::sets::set_2_3;
 
+// Any of them by its number, with which the decoder calls it as a literal: the `match` goes where this is inlined.
+pub fn mode_subset_2(mode: u8, stream: BitStream) -> [[u8; 4]; 16]
+    requires { ⌜ T (among mode (1 ∷ 3 ∷ 7 ∷ [])) × (stream .at ≡ mode + 1) ⌝ }
+    ensures { λ r. ⌜ r ≡ directPixels mode (held stream) ⌝ }
+{
+    match mode {
+        1 => mode_1(stream),
+        3 => mode_3(stream),
+        _ => mode_7(stream),
+    }
+}
+
 // One p bit serves both endpoints of a subset: 3 * p is that bit for each of them.
-pub fn mode_1(stream: BitStream) -> [[u8; 4]; 16]
+fn mode_1(stream: BitStream) -> [[u8; 4]; 16]
     requires { ⌜ stream .at ≡ 2 ⌝ }
     ensures { λ r. ⌜ r ≡ directPixels 1 (held stream) ⌝ }
 {
@@ -50,7 +66,7 @@ pub fn mode_1(stream: BitStream) -> [[u8; 4]; 16]
 }
 
 // A p bit for each endpoint.
-pub fn mode_3(stream: BitStream) -> [[u8; 4]; 16]
+fn mode_3(stream: BitStream) -> [[u8; 4]; 16]
     requires { ⌜ stream .at ≡ 4 ⌝ }
     ensures { λ r. ⌜ r ≡ directPixels 3 (held stream) ⌝ }
 {
@@ -80,7 +96,7 @@ pub fn mode_3(stream: BitStream) -> [[u8; 4]; 16]
 }
 
 // The only one of the three that stores alpha.
-pub fn mode_7(stream: BitStream) -> [[u8; 4]; 16]
+fn mode_7(stream: BitStream) -> [[u8; 4]; 16]
     requires { ⌜ stream .at ≡ 8 ⌝ }
     ensures { λ r. ⌜ r ≡ directPixels 7 (held stream) ⌝ }
 {

@@ -1,5 +1,5 @@
-// The modes with a vector and its scalar, 4 and 5. Each pixel takes red, green and blue by one index and alpha by the other, and
-// the rotation comes last.
+// The modes without partitions: 4 and 5, a vector and its scalar, and 6, which is whole. In 4 and 5 each pixel takes red, green and
+// blue by one index and alpha by the other, and the rotation comes last.
 ghost use mathlib.Core.Path.{_≡_};
 ghost use mathlib.Core.List.{[], _∷_, _++_};
 ghost use Prim.Native.Nat.{_+_, _*_, _/_, _%_, _^_, _≤_, _<_};
@@ -21,12 +21,14 @@ use bits::stream::BitStream;
 use drawing::color::Ends;
 use drawing::color::Stored;
 use drawing::color::alone;
+use drawing::color::alone_p;
 use drawing::color::high_color;
 use drawing::color::low_color;
 use drawing::keys::keys_2;
 use drawing::keys::paint_4;
 use drawing::palette::get_weight_2;
 use drawing::palette::get_weight_3;
+use drawing::palette::mix_16;
 use drawing::palette::two_shades;
 
 fn chosen(yes: bool, x: u8, y: u8) -> u8
@@ -227,4 +229,25 @@ pub fn mode_5(stream: BitStream) -> [[u8; 4]; 16]
     let x = indexes_1(2, a.stream);
     let y = indexes_1(2, a.stream.skip(31));
     swap_channels(paint_4(palette_2_and_2(e), keys_2(y, 2, x)), rotation.value)
+}
+
+// One subset, four channels, a p bit for each endpoint, sixteen weights.
+pub fn mode_6(stream: BitStream) -> [[u8; 4]; 16]
+    requires { ⌜ stream .at ≡ 7 ⌝ }
+    ensures { λ r. ⌜ r ≡ directPixels 6 (held stream) ⌝ }
+{
+    let r = values_1(stream, 14);
+    let g = values_1(r.stream, 14);
+    let b = values_1(g.stream, 14);
+    let a = values_1(b.stream, 14);
+    let p = values_1(a.stream, 2);
+    let stored = Stored {
+        r: r.value,
+        g: g.value,
+        b: b.value,
+        a: a.value,
+        p: p.value,
+    };
+    let x = indexes_1(4, p.stream);
+    mix_16(alone_p(stored, 7), x)
 }

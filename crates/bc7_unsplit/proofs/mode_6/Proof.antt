@@ -19,8 +19,8 @@ use Rattle.drawing.specs.Words.{endpoint, withP}
 use Rattle.drawing.proofs.color.Words.{endpoint-one}
 use Rattle.bc7_reads.proofs.Reading.{clear-p-shown, two-ps}
 use Rattle.bc7_reads.proofs.Whole.{whole-keys}
-use Rattle.bc7.proofs.mode_6.Statement.{statement}
-use Rattle.bc7.proofs.mode_6.Tie as tie
+use Rattle.bc7_unsplit.proofs.mode_6.Statement.{statement}
+use Rattle.bc7_unsplit.proofs.mode_6.Tie as tie
 
 values-1-requires : tie.Need-values-1-requires
 values-1-requires c κs = search needs

@@ -2,8 +2,8 @@
 -- Assumes nothing.
 use borrow.Author.Needs.{needs}
 use borrow.Author.Tests.{ne-eqb}
-use Rattle.bc7_reads.proofs.extract_partition_set_id.Statement.{statement}
-use Rattle.bc7_reads.proofs.extract_partition_set_id.Tie as tie
+use Rattle.bc7_subsets.proofs.extract_partition_set_id.Statement.{statement}
+use Rattle.bc7_subsets.proofs.extract_partition_set_id.Tie as tie
 
 value-requires : tie.Need-value-requires
 value-requires c κs = search needs
