@@ -17,7 +17,7 @@ use Rattle.bc7_format.specs.Modes.{firstBits}
 use Rattle.bcn_format.specs.Partitions.{among, anchors2, anchors3, subset2, subset3}
 use Rattle.bc7_format.specs.Splits.{anchors, isVector, splitAt, subset}
 use Rattle.bc7_format.proofs.Modes.{or-false}
-use Rattle.bc7_format.proofs.Starts.{index-start, start}
+use Rattle.bc7_format.proofs.Starts.{index-start, indexStart, start}
 use Rattle.bc7_format.proofs.Subsets.{subset-below}
 use Rattle.bits.specs.declared.stream.BitStream.{BitStream}
 use Rattle.bits.specs.Stream.{nextBits}
@@ -33,7 +33,6 @@ use Rattle.partitions.proofs.SetWords.{anchor-of2, second-of3, subset-of2, subs
 use Rattle.drawing.specs.declared.keys.Keys.{Keys}
 use Rattle.drawing.specs.Keys.{keyAt, keysOf}
 use Rattle.drawing.proofs.keys.KeyWords.{key-at}
-use Rattle.bc7_reads.proofs.Whole.{indexStart}
 
 -- a number among two or three that is none of the others is the last
 pub last-of-2 : (m a b : ℕ) → T (among m (a ∷ b ∷ [])) → m ≢ a → m ≡ b

@@ -4,8 +4,7 @@ ghost use mathlib.Core.List.{[], _∷_};
 ghost use lib.Dec.{T, eqb};
 ghost use Rattle.laws.specs.Tables.{pick};
 ghost use Rattle.bcn_format.specs.Partitions.{among};
-ghost use Rattle.bc7_reads.specs.Taken.{Taken1};
-use bc7_reads::value;
+ghost use Rattle.bits.specs.Stream.{Taken8};
 use bits::stream::BitStream;
 use bits::stream::Bits8;
 
@@ -15,10 +14,10 @@ pub mod two;
 // The number of the partition. Mode 0 has room for four bits of it.
 fn extract_partition_set_id(mode: u8, stream: BitStream) -> Bits8
     requires { ⌜ T (among mode (0 ∷ 1 ∷ 2 ∷ 3 ∷ 7 ∷ [])) × (stream .at + 6 < 2 ^ 32) ⌝ }
-    ensures { λ r. ⌜ Taken1 stream (pick (eqb mode 0) 4 6) r ⌝ }
+    ensures { λ r. ⌜ Taken8 stream (pick (eqb mode 0) 4 6) r ⌝ }
 {
     if mode == 0 {
-        return value(stream, 4);
+        return stream.consume_bits(4);
     }
-    value(stream, 6)
+    stream.consume_bits(6)
 }

@@ -24,7 +24,7 @@ byte s i = search needs
 
 -- behind the count of the mode each arm is the same: the stream stands where the mode's function wants it
 skipped-to : (at : tie.After-extract-mode) (k : ℕ) {t : BitStream} → t ≡ skipped (at .before .new .result) k → t .at ≡ k
-skipped-to at k e = rw e (omega (arith, at .before .new .ensures .1))
+skipped-to at k e = rw e (omega (arith, at .before .new .ensures .stands))
 
 -- and what that function shows is what the block shows
 shows : (at : tie.After-extract-mode) (m : ℕ) → at .extract-mode .result ≡ m → m < 8 → {t : BitStream} → t ≡ skipped (at .before .new .result) (m + 1) → {r : List (List ℕ)} → r ≡ directPixels m (held t)
@@ -32,7 +32,7 @@ shows : (at : tie.After-extract-mode) (m : ℕ) → at .extract-mode .result ≡
 shows at m is low et er =
     let new = at .before in
     let s = new .before in
-    by-mode (s .args .block) (size s) (λ i. byte s i .fits) (new .new .result) (new .new .ensures .0) (new .new .ensures .1) (at .extract-mode .ensures) is low et er
+    by-mode (s .args .block) (size s) (λ i. byte s i .fits) (new .new .result) (new .new .ensures .of) (new .new .ensures .stands) (at .extract-mode .ensures) is low et er
 
 new-requires : tie.Need-new-requires
 new-requires c κs = search needs
@@ -119,9 +119,9 @@ returns-9 c =
     let s = new .before in
     let rest = c .match .rest in
     let none =
-    eight _ (mode-8 (s .args .block) (size s) (λ i. byte s i .fits) (new .new .result) (new .new .ensures .0) (new .new .ensures .1) (mode .extract-mode .ensures) refl)
+    eight _ (mode-8 (s .args .block) (size s) (λ i. byte s i .fits) (new .new .result) (new .new .ensures .of) (new .new .ensures .stands) (mode .extract-mode .ensures) refl)
     (rest .0 .0 .0 .0 .0 .0 .0 .1) (rest .0 .0 .0 .0 .0 .0 .1) (rest .0 .0 .0 .0 .0 .1) (rest .0 .0 .0 .0 .1) (rest .0 .0 .0 .1) (rest .0 .0 .1) (rest .0 .1) (rest .1) in
-    by-none (s .args .block) (size s) (λ i. byte s i .fits) (new .new .result) (new .new .ensures .0) (new .new .ensures .1) (mode .extract-mode .ensures) refl none
+    by-none (s .args .block) (size s) (λ i. byte s i .fits) (new .new .result) (new .new .ensures .of) (new .new .ensures .stands) (mode .extract-mode .ensures) refl none
 
 pub decode-bc7-block-spec : {M : Type 1} → statement M
 decode-bc7-block-spec =
