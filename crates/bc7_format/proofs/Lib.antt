@@ -1,5 +1,6 @@
 pub mod Fields
 pub mod Showing
+pub mod Ends
 pub mod Pictures
 pub mod Examples
 pub mod Attested

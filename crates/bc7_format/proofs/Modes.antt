@@ -154,12 +154,12 @@ first-only l = same (eqb 0 l)
     same true = refl
     same false = refl
 
+pub or-false : (b : Bool) → T (or b false) → T b
+or-false true t = t
+or-false false t = t
+
 only-zero : (q l : ℕ) → T (among q (0 ∷ [])) → q ≡ firstIn (λ (q : ℕ). 0) l (0 ∷ [])
 only-zero q l t = eqb→eq q 0 (or-false (eqb q 0) t) ∙ sym (first-only l)
-  where
-    or-false : (b : Bool) → T (or b false) → T b
-    or-false true t = t
-    or-false false t = t
 
 pub the-anchor : (s : Split) (q l : ℕ) → partition s < 64 → q < 16 → T (among q (anchors s)) → (isVector s ≡ false → subset s q ≡ l) → q ≡ anchorOf s l
 unfolding anchorOf

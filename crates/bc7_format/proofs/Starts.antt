@@ -41,6 +41,9 @@ pub start-le : (m : ℕ) (s : Split) (i j : ℕ) → i ≤ j → j ≤ placeCoun
 start-le m s i j h l = ⊎-elim (λ e. rw e (le-refl (start m s j))) (λ k. omega (arith, start-room m s i j k l)) (eq-or-lt-of-le h)
 
 -- the indexes start at a bit that goes by the mode alone
-pub index-start : (m : ℕ) (s : Split) → m < 8 → start m s firstFrom ≡ getD (83 ∷ 82 ∷ 99 ∷ 98 ∷ 50 ∷ 66 ∷ 65 ∷ 98 ∷ []) m 0
+abbrev pub indexStart : ℕ → ℕ
+indexStart m = getD (83 ∷ 82 ∷ 99 ∷ 98 ∷ 50 ∷ 66 ∷ 65 ∷ 98 ∷ []) m 0
+
+pub index-start : (m : ℕ) (s : Split) → m < 8 → start m s firstFrom ≡ indexStart m
 unfolding start widths table tableFrom placeAt width modeRow endpointCount
-index-start m s h = eqb→eq _ _ (at 8 (λ m. eqb (start m s firstFrom) (getD (83 ∷ 82 ∷ 99 ∷ 98 ∷ 50 ∷ 66 ∷ 65 ∷ 98 ∷ []) m 0)) tt m h)
+index-start m s h = eqb→eq _ _ (at 8 (λ m. eqb (start m s firstFrom) (indexStart m)) tt m h)

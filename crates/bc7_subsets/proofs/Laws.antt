@@ -2,18 +2,22 @@
 -- Assumes nothing.
 use mathlib.Core.Path.{_≡_, refl, sym, ap, _∙_}
 use mathlib.Core.Bool.{false}
+use mathlib.Core.Logic.{_≢_}
 use mathlib.Core.List.{List, [], _∷_}
 use Prim.Native.Nat.{ℕ, _+_, _-_, _*_, _/_, _%_, _^_, _≤_, _<_}
 use native.Mathlib.Nat.{lt-of-lt-of-le}
 use native.Mathlib.Omega.{arith}
+use borrow.Author.Tests.{ne-eqb}
+use lib.Dec.{T, eqb, eqb→eq}
 use Rattle.bc7_format.specs.declared.Split.{Split}
 use Rattle.bc7_format.specs.declared.Split.the-variants.{Three, Two}
 use Rattle.laws.specs.Digits.{total}
 use Rattle.bcn_format.specs.Block.{field}
 use Rattle.bc7_format.specs.Modes.{firstBits}
-use Rattle.bcn_format.specs.Partitions.{anchors2, anchors3, subset2, subset3}
+use Rattle.bcn_format.specs.Partitions.{among, anchors2, anchors3, subset2, subset3}
 use Rattle.bc7_format.specs.Splits.{anchors, isVector, splitAt, subset}
-use Rattle.bc7_format.proofs.Starts.{index-start, start}
+use Rattle.bc7_format.proofs.Modes.{or-false}
+use Rattle.bc7_format.proofs.Starts.{index-start, indexStart, start}
 use Rattle.bc7_format.proofs.Subsets.{subset-below}
 use Rattle.bits.specs.declared.stream.BitStream.{BitStream}
 use Rattle.bits.specs.Stream.{nextBits}
@@ -29,7 +33,13 @@ use Rattle.partitions.proofs.SetWords.{anchor-of2, second-of3, subset-of2, subs
 use Rattle.drawing.specs.declared.keys.Keys.{Keys}
 use Rattle.drawing.specs.Keys.{keyAt, keysOf}
 use Rattle.drawing.proofs.keys.KeyWords.{key-at}
-use Rattle.bc7_reads.proofs.Whole.{indexStart}
+
+-- a number among two or three that is none of the others is the last
+pub last-of-2 : (m a b : ℕ) → T (among m (a ∷ b ∷ [])) → m ≢ a → m ≡ b
+last-of-2 m a b h not-a = eqb→eq m b (or-false (eqb m b) (rw (ne-eqb m a not-a) at h))
+
+pub last-of-3 : (m a b c : ℕ) → T (among m (a ∷ b ∷ c ∷ [])) → m ≢ a → m ≢ b → m ≡ c
+last-of-3 m a b c h not-a = last-of-2 m b c (rw (ne-eqb m a not-a) at h)
 
 -- a word that has w bits for the subset of each pixel
 pub record Maps (w : ℕ) (of : ℕ → ℕ) (word : ℕ) : Type 0 where

@@ -2,12 +2,14 @@
 // positions and masks fold away. A channel of both endpoints of a subset is read as one value, for they are stored side by side.
 // Subsets 0 and 1 share words; the third has its own, whose other half no key reaches.
 ghost use mathlib.Core.Path.{_≡_};
-ghost use Rattle.bits.specs.Stream.{held};
+ghost use mathlib.Core.List.{[], _∷_};
+ghost use Prim.Native.Nat.{_+_, _-_, _*_, _/_, _%_, _^_, _≤_, _<_};
+ghost use lib.Dec.{T};
+ghost use Rattle.bcn_format.specs.Partitions.{among};
+ghost use Rattle.bcn_format.specs.Indexes.{expanded};
+ghost use Rattle.bits.specs.Stream.{held, nextBits};
 ghost use Rattle.bc7_format.specs.Fields.{directPixels};
-use bc7_reads::extract_partition_set_id;
-use bc7_reads::indexes_3;
-use bc7_reads::values_1;
-use bc7_reads::values_2;
+use crate::extract_partition_set_id;
 use bits::stream::BitStream;
 use drawing::color::Stored;
 use drawing::color::opaque;
@@ -18,37 +20,61 @@ use drawing::keys::paint_3_3;
 use drawing::keys::paint_4;
 use drawing::palette::palette_3_2;
 use drawing::palette::palette_3_3;
+use indexes::Indexes;
 use partitions::sets::set_3_2;
 use partitions::sets::set_3_3;
 
+// Any of them by its number, with which the decoder calls it as a literal: the `match` goes where this is inlined.
+pub fn mode_subset_3(mode: u8, stream: BitStream) -> [[u8; 4]; 16]
+    requires { ⌜ T (among mode (0 ∷ 2 ∷ [])) × (stream .at ≡ mode + 1) ⌝ }
+    ensures { λ r. ⌜ r ≡ directPixels mode (held stream) ⌝ }
+{
+    match mode {
+        0 => mode_0(stream),
+        _ => mode_2(stream),
+    }
+}
+
+// Sixteen indexes, read whole and expanded. The anchors behind pixel 0 stand in the partition's word from bit 48 on, four bits each.
+fn indexes_3(bits: u32, stream: BitStream, set: u64) -> u64
+    requires { ⌜ (2 ≤ bits) × (bits ≤ 3) × (0 < set / 2 ^ 48 % 16) × (set / 2 ^ 48 % 16 < set / 2 ^ 52) × (set / 2 ^ 52 < 16) × (stream .at + 64 < 2 ^ 32) ⌝ }
+    ensures { λ r. ⌜ r ≡ expanded bits (0 ∷ set / 2 ^ 48 % 16 ∷ set / 2 ^ 52 ∷ []) (nextBits stream (16 * bits - 3)) ⌝ }
+{
+    let second = ((set >> 48) % 16) as u32;
+    let third = (set >> 52) as u32;
+    let read = Indexes::new_p3(bits, stream, second, third);
+    let indexes = read.indexes;
+    indexes.uncompressed
+}
+
 // Only the first sixteen partitions; a p bit for each of the six endpoints.
-pub fn mode_0(stream: BitStream) -> [[u8; 4]; 16]
+fn mode_0(stream: BitStream) -> [[u8; 4]; 16]
     requires { ⌜ stream .at ≡ 1 ⌝ }
     ensures { λ r. ⌜ r ≡ directPixels 0 (held stream) ⌝ }
 {
     let id = extract_partition_set_id(0, stream);
     let set = set_3_3(id.value);
-    let r = values_2(id.stream, 8);
-    let r3 = values_1(r.stream, 8);
-    let g = values_2(r3.stream, 8);
-    let g3 = values_1(g.stream, 8);
-    let b = values_2(g3.stream, 8);
-    let b3 = values_1(b.stream, 8);
-    let p = values_2(b3.stream, 2);
-    let p3 = values_1(p.stream, 2);
+    let r = id.stream.consume_2(8);
+    let r3 = r.stream.take(8);
+    let g = r3.stream.consume_2(8);
+    let g3 = g.stream.take(8);
+    let b = g3.stream.consume_2(8);
+    let b3 = b.stream.take(8);
+    let p = b3.stream.consume_2(2);
+    let p3 = p.stream.take(2);
     let first = Stored {
-        r: r.a,
-        g: g.a,
-        b: b.a,
+        r: r.first,
+        g: g.first,
+        b: b.first,
         a: 0,
-        p: p.a,
+        p: p.first,
     };
     let second = Stored {
-        r: r.b,
-        g: g.b,
-        b: b.b,
+        r: r.second,
+        g: g.second,
+        b: b.second,
         a: 0,
-        p: p.b,
+        p: p.second,
     };
     let third = Stored {
         r: r3.value,
@@ -70,29 +96,29 @@ pub fn mode_0(stream: BitStream) -> [[u8; 4]; 16]
 }
 
 // All 64 partitions, no p bits.
-pub fn mode_2(stream: BitStream) -> [[u8; 4]; 16]
+fn mode_2(stream: BitStream) -> [[u8; 4]; 16]
     requires { ⌜ stream .at ≡ 3 ⌝ }
     ensures { λ r. ⌜ r ≡ directPixels 2 (held stream) ⌝ }
 {
     let id = extract_partition_set_id(2, stream);
     let set = set_3_2(id.value);
-    let r = values_2(id.stream, 10);
-    let r3 = values_1(r.stream, 10);
-    let g = values_2(r3.stream, 10);
-    let g3 = values_1(g.stream, 10);
-    let b = values_2(g3.stream, 10);
-    let b3 = values_1(b.stream, 10);
+    let r = id.stream.consume_2(10);
+    let r3 = r.stream.take(10);
+    let g = r3.stream.consume_2(10);
+    let g3 = g.stream.take(10);
+    let b = g3.stream.consume_2(10);
+    let b3 = b.stream.take(10);
     let first = Stored {
-        r: r.a,
-        g: g.a,
-        b: b.a,
+        r: r.first,
+        g: g.first,
+        b: b.first,
         a: 0,
         p: 0,
     };
     let second = Stored {
-        r: r.b,
-        g: g.b,
-        b: b.b,
+        r: r.second,
+        g: g.second,
+        b: b.second,
         a: 0,
         p: 0,
     };

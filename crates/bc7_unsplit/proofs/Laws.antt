@@ -1,4 +1,4 @@
--- A vector and its scalar: from what modes 4 and 5 read and paint to what their number shows.
+-- From what modes 4, 5 and 6 read and paint to what their number shows.
 -- Assumes nothing.
 use mathlib.Core.Path.{_≡_, refl, sym, ap, ap₂, _∙_}
 use mathlib.Core.Bool.{Bool, true, false, not}
@@ -8,7 +8,7 @@ use native.Mathlib.Nat.{add-comm}
 use native.Mathlib.Omega.{arith}
 use lib.Dec.{eqb}
 use lib.ListN.{getD, replicate, take}
-use Rattle.bc7_format.specs.declared.Split.the-variants.{Vector}
+use Rattle.bc7_format.specs.declared.Split.the-variants.{Vector, Whole}
 use Rattle.laws.specs.Digits.{Fit}
 use Rattle.laws.specs.Tables.{pick, table}
 use Rattle.laws.proofs.Joining.{table-same}
@@ -16,21 +16,30 @@ use Rattle.laws.proofs.Part.{getD-table}
 use Rattle.bcn_format.specs.Block.{field}
 use Rattle.bcn_format.specs.Drawing.{drawn, weightOf}
 use Rattle.bc7_format.specs.Lines.{rotated}
-use Rattle.bc7_format.specs.Modes.{indexBits}
+use Rattle.bc7_format.specs.Modes.{firstBits, indexBits}
 use Rattle.bc7_format.specs.Splits.{splitAt}
-use Rattle.bc7_format.proofs.Starts.{start}
+use Rattle.bc7_format.proofs.Starts.{index-start, indexStart, start}
 use Rattle.bcn_format.specs.Indexes.{expanded, part}
 use Rattle.bcn_format.proofs.Expanding.{size-1}
 use Rattle.bc7_format.specs.Fields.{directPixels, endByte}
 use Rattle.bcn_format.specs.Painting.{four, between, painted}
 use Rattle.bc7_format.specs.Rotating.{merged, swapped}
-use Rattle.bc7_format.proofs.Pictures.{Picture, indexes-at, part-lt, vector-law}
+use Rattle.bc7_format.proofs.Pictures.{Palette, Picture, indexes-at, keyed-law, part-lt, vector-law}
 use Rattle.drawing.specs.declared.color.Ends.{Ends}
 use Rattle.drawing.specs.Words.{Alone, endpoint, wordBytes}
 use Rattle.drawing.specs.Keys.{keyAt, keysOf}
 use Rattle.drawing.proofs.keys.KeyWords.{key-at}
 use Rattle.bc7_unsplit.specs.Crossing.{Apart, crossed, keptWord}
 use Rattle.bc7_unsplit.proofs.Crossing.{between-fits, sum-bytes, sum-lt}
+
+-- one subset, by the word of its indexes, which are stored without the top bit of pixel 0's
+pub whole-keys : (m n b : ℕ) → m < 8 → firstBits m ≡ b → 0 < b → splitAt m n ≡ Whole → {p : List (List ℕ)} → Palette m n b 1 0 p
+    → painted (part (expanded b (0 ∷ []) (field n (indexStart m) (16 * b - 1))) b) p ≡ directPixels m n
+whole-keys m n b hm eb some es palette =
+    keyed-law m n b 1 0 Whole eb es refl (λ q hq. omega arith) palette (expanded b (0 ∷ []) (field n (indexStart m) (16 * b - 1))) _
+    (λ q hq. omega arith)
+    (indexes-at m Whole 0 n b (16 * b - 1) (0 ∷ []) (omega arith) eb refl (size-1 b some)
+    (ap (λ (a : ℕ). expanded b (0 ∷ []) (field n a (16 * b - 1))) (sym (index-start m Whole hm))))
 
 -- the channels chosen one by one
 pub chosen-one-by-one : (r : ℕ) → r < 4 → (p : List ℕ)

@@ -1,5 +1,5 @@
-// The modes with a vector and its scalar, 4 and 5. Each pixel takes red, green and blue by one index and alpha by the other, and
-// the rotation comes last.
+// The modes without partitions: 4 and 5, a vector and its scalar, and 6, which is whole. In 4 and 5 each pixel takes red, green and
+// blue by one index and alpha by the other, and the rotation comes last.
 ghost use mathlib.Core.Path.{_≡_};
 ghost use mathlib.Core.List.{[], _∷_, _++_};
 ghost use Prim.Native.Nat.{_+_, _*_, _/_, _%_, _^_, _≤_, _<_};
@@ -14,20 +14,20 @@ ghost use Rattle.bcn_format.specs.Painting.{four, between};
 ghost use Rattle.bc7_format.specs.Rotating.{swapped};
 ghost use Rattle.drawing.specs.Words.{Alone, endpoint, wordBytes};
 ghost use Rattle.bc7_unsplit.specs.Crossing.{Apart, crossed, kept, keptWord};
-use bc7_reads::indexes_1;
-use bc7_reads::value;
-use bc7_reads::values_1;
 use bits::stream::BitStream;
 use drawing::color::Ends;
 use drawing::color::Stored;
 use drawing::color::alone;
+use drawing::color::alone_p;
 use drawing::color::high_color;
 use drawing::color::low_color;
 use drawing::keys::keys_2;
 use drawing::keys::paint_4;
 use drawing::palette::get_weight_2;
 use drawing::palette::get_weight_3;
+use drawing::palette::mix_16;
 use drawing::palette::two_shades;
+use indexes::Indexes;
 
 fn chosen(yes: bool, x: u8, y: u8) -> u8
     ensures { λ r. ⌜ r ≡ pick yes x y ⌝ }
@@ -126,22 +126,15 @@ fn words_3(e: Ends, color: bool) -> [u32; 8]
     q
 }
 
-// The number of pixel i in a word of `bits` bits for each pixel.
-fn part_of(x: u64, bits: u32, i: usize) -> usize
-    requires { ⌜ (bits ≤ 4) × (i < 16) ⌝ }
-    ensures { λ r. ⌜ (r ≡ part x bits i) × (r < 2 ^ bits) ⌝ }
-{
-    ((x >> ((i as u32) * bits)) % (1u64 << bits)) as usize
-}
-
 // Each pixel is the sum of one word of either kind.
-fn paint_2_and_3(p: [u32; 4], q: [u32; 8], x: u64, y: u64) -> [[u8; 4]; 16]
-    requires { ⌜ Apart p q ⌝ }
-    ensures { λ r. ⌜ r ≡ table 16 (λ i. take 4 (wordBytes (getD p (part x 2 i) 0 + getD q (part y 3 i) 0))) ⌝ }
+fn paint_2_and_3(p: [u32; 4], q: [u32; 8], x: Indexes, y: Indexes) -> [[u8; 4]; 16]
+    requires { ⌜ Apart p q × (x .bits ≡ 2) × (y .bits ≡ 3) ⌝ }
+    ensures { λ r. ⌜ r ≡ table 16 (λ i. take 4 (wordBytes (getD p (part (x .uncompressed) 2 i) 0 + getD q (part (y .uncompressed) 3 i) 0))) ⌝ }
 {
     let mut output = [[0u8; 4]; 16];
     for i in 0..16usize {
-        let word = p[part_of(x, 2, i)] + q[part_of(y, 3, i)];
+        let pixel_index = i as u32;
+        let word = p[x.get_index(pixel_index) as usize] + q[y.get_index(pixel_index) as usize];
         output[i] = low_color(word as u64);
     }
     output
@@ -185,12 +178,12 @@ pub fn mode_4(stream: BitStream) -> [[u8; 4]; 16]
     requires { ⌜ stream .at ≡ 5 ⌝ }
     ensures { λ r. ⌜ r ≡ directPixels 4 (held stream) ⌝ }
 {
-    let rotation = value(stream, 2);
-    let index_mode = value(rotation.stream, 1);
-    let r = values_1(index_mode.stream, 10);
-    let g = values_1(r.stream, 10);
-    let b = values_1(g.stream, 10);
-    let a = values_1(b.stream, 12);
+    let rotation = stream.consume_bits(2);
+    let index_mode = rotation.stream.consume_bits(1);
+    let r = index_mode.stream.take(10);
+    let g = r.stream.take(10);
+    let b = g.stream.take(10);
+    let a = b.stream.take(12);
     let stored = Stored {
         r: r.value,
         g: g.value,
@@ -199,11 +192,14 @@ pub fn mode_4(stream: BitStream) -> [[u8; 4]; 16]
         p: 0,
     };
     let e = alone(stored, 5, 6);
-    let x = indexes_1(2, a.stream);
-    let y = indexes_1(3, a.stream.skip(31));
+    let x = Indexes::new_p1(2, a.stream);
+    let y = Indexes::new_p1(3, x.stream);
     let first = words_2(e, index_mode.value == 0);
     let second = words_3(e, index_mode.value != 0);
-    swap_channels(paint_2_and_3(first, second, x, y), rotation.value)
+    swap_channels(
+        paint_2_and_3(first, second, x.indexes, y.indexes),
+        rotation.value,
+    )
 }
 
 // Both sets have two bits, the first serves colour.
@@ -211,11 +207,11 @@ pub fn mode_5(stream: BitStream) -> [[u8; 4]; 16]
     requires { ⌜ stream .at ≡ 6 ⌝ }
     ensures { λ r. ⌜ r ≡ directPixels 5 (held stream) ⌝ }
 {
-    let rotation = value(stream, 2);
-    let r = values_1(rotation.stream, 14);
-    let g = values_1(r.stream, 14);
-    let b = values_1(g.stream, 14);
-    let a = values_1(b.stream, 16);
+    let rotation = stream.consume_bits(2);
+    let r = rotation.stream.take(14);
+    let g = r.stream.take(14);
+    let b = g.stream.take(14);
+    let a = b.stream.take(16);
     let stored = Stored {
         r: r.value,
         g: g.value,
@@ -224,7 +220,34 @@ pub fn mode_5(stream: BitStream) -> [[u8; 4]; 16]
         p: 0,
     };
     let e = alone(stored, 7, 8);
-    let x = indexes_1(2, a.stream);
-    let y = indexes_1(2, a.stream.skip(31));
-    swap_channels(paint_4(palette_2_and_2(e), keys_2(y, 2, x)), rotation.value)
+    let x = Indexes::new_p1(2, a.stream);
+    let y = Indexes::new_p1(2, x.stream);
+    swap_channels(
+        paint_4(
+            palette_2_and_2(e),
+            keys_2(y.indexes.uncompressed, 2, x.indexes.uncompressed),
+        ),
+        rotation.value,
+    )
+}
+
+// One subset, four channels, a p bit for each endpoint, sixteen weights.
+pub fn mode_6(stream: BitStream) -> [[u8; 4]; 16]
+    requires { ⌜ stream .at ≡ 7 ⌝ }
+    ensures { λ r. ⌜ r ≡ directPixels 6 (held stream) ⌝ }
+{
+    let r = stream.take(14);
+    let g = r.stream.take(14);
+    let b = g.stream.take(14);
+    let a = b.stream.take(14);
+    let p = a.stream.take(2);
+    let stored = Stored {
+        r: r.value,
+        g: g.value,
+        b: b.value,
+        a: a.value,
+        p: p.value,
+    };
+    let x = Indexes::new_p1(4, p.stream);
+    mix_16(alone_p(stored, 7), x.indexes.uncompressed)
 }

@@ -7,3 +7,4 @@ pub mod Anchors
 pub mod Trailing
 pub mod Theorems
 pub mod Attested
+pub mod Fields

@@ -16,12 +16,13 @@ use Rattle.bits.specs.declared.stream.BitStream.{BitStream}
 use Rattle.bits.specs.declared.stream.Bit.{Bit}
 use Rattle.bits.specs.declared.stream.Bits8.{Bits8}
 use Rattle.bits.specs.declared.stream.Bits64.{Bits64}
+use Rattle.bits.specs.declared.stream.Values2.{Values2}
 use Rattle.laws.specs.Digits.{Fit, join, more, none}
 use Rattle.laws.proofs.Cases.{lt-or}
 use Rattle.laws.proofs.Digits.{join-lt}
 use Rattle.bcn_format.specs.Block.{bitsOf, bitsOfBytes, eights, field, number, valueOfBits}
-use Rattle.bits.specs.Stream.{consumed1, consumed64, consumed8, held}
-use Rattle.bits.proofs.On.{On, got-8, got-on, got-v, next-is, on-8, on-skipped}
+use Rattle.bits.specs.Stream.{consumed1, consumed2, consumed64, consumed8, held, On}
+use Rattle.bits.proofs.On.{got-64, got-8, got-first, got-second, next-is, on-2, on-64, on-8, on-skipped}
 
 -- the bits of a number
 value-of-bits : (k n : ℕ) → valueOfBits (bitsOf k n) ≡ n % 2 ^ k
@@ -112,4 +113,9 @@ module _ {bs : List ℕ} (block : Fit eights bs) where
     consume-bits-bits w e = (got-8 o w e ∙ field-is-bits a w, on-8 o w e)
 
     pub consume-bits-64-bits : {r : Bits64} (w : ℕ) → r ≡ consumed64 s w → (r .value ≡ valueOfBits (take w (drop a (bitsOfBytes bs)))) × On (number bs) (a + w) (r .stream)
-    consume-bits-64-bits w e = (got-v o w e ∙ field-is-bits a w, got-on o w e)
+    consume-bits-64-bits w e = (got-64 o w e ∙ field-is-bits a w, on-64 o w e)
+
+    pub consume-2-bits : {r : Values2} (w : ℕ) → r ≡ consumed2 s w
+        → (r .first ≡ valueOfBits (take w (drop a (bitsOfBytes bs)))) × (r .second ≡ valueOfBits (take w (drop (a + w) (bitsOfBytes bs))))
+        × On (number bs) (a + 2 * w) (r .stream)
+    consume-2-bits w e = (got-first o w e ∙ field-is-bits a w, got-second o w e ∙ field-is-bits (a + w) w, on-2 o w e)

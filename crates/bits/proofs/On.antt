@@ -1,10 +1,8 @@
 -- Reads one after the other, over one number.
 -- Assumes nothing.
-use mathlib.Core.Path.{_≡_, ap, ap₂}
-use Prim.Native.Nat.{ℕ, _+_, _*_, _≤_, _<_, _^_}
-use native.Mathlib.Nat.{mod-lt, lt-of-lt-of-le}
+use mathlib.Core.Path.{_≡_, refl, ap, ap₂}
+use Prim.Native.Nat.{ℕ, _+_, _*_}
 use native.Mathlib.Omega.{arith}
-use lib.Pow.{pow-pos, pow-mono}
 use Rattle.bits.specs.declared.stream.BitStream.{BitStream}
 use Rattle.bits.specs.declared.stream.Bits8.{Bits8}
 use Rattle.bits.specs.declared.stream.Bits64.{Bits64}
@@ -13,28 +11,27 @@ use Rattle.laws.specs.Digits.{split, total}
 use Rattle.laws.specs.Tables.{table}
 use Rattle.laws.proofs.Rows.{split-table}
 use Rattle.bcn_format.specs.Block.{field}
-use Rattle.bits.specs.Stream.{consumed2, consumed64, consumed8, held, skipped}
+pub use Rattle.bcn_format.proofs.Fields.{field-below, field-lt}
+use Rattle.bits.specs.Stream.{consumed2, consumed64, consumed8, held, skipped, Taken2, Taken64, Taken8}
+pub use Rattle.bits.specs.Stream.{On}
 
-pub field-lt : (n s w : ℕ) → field n s w < 2 ^ w
-unfolding field
-field-lt n s w = mod-lt _ (pow-pos w)
+-- the clauses that follow from what is read
+module _ (s : BitStream) (w : ℕ) where
+  pub taken-8 : {r : Bits8} → r ≡ consumed8 s w → Taken8 s w r
+  taken-8 e = record { same = e; small = rw e (field-lt _ _ _); moved = rw e refl }
 
-pub field-below : (n s w k : ℕ) → w ≤ k → field n s w < 2 ^ k
-field-below n s w k h = lt-of-lt-of-le (field-lt n s w) (pow-mono {i = w} {j = k} h)
+  pub taken-64 : {r : Bits64} → r ≡ consumed64 s w → Taken64 s w r
+  taken-64 e = record { same = e; small = rw e (field-lt _ _ _); moved = rw e refl }
 
--- two reads of one width
-pub two-reads : (s : BitStream) (w : ℕ) {x y : Bits64} → x ≡ consumed64 s w → y ≡ consumed64 (x .stream) w
-    → record { a = x .value; b = y .value; stream = y .stream } ≡ consumed2 s w
-unfolding held
-two-reads s w p q =
-    let e : s .at + w + w ≡ s .at + 2 * w = omega arith in
-    rw (q, p, e)
+  -- two reads of one width
+  pub taken-2 : {x y : Bits64} → x ≡ consumed64 s w → y ≡ consumed64 (x .stream) w
+      → Taken2 s w (record { first = x .value; second = y .value; stream = y .stream })
+  unfolding held
+  taken-2 p q =
+      let e : s .at + w + w ≡ s .at + 2 * w = omega arith in
+      record { same = rw (q, p, e); small-first = rw p (field-lt _ _ _); small-second = rw q (field-lt _ _ _); moved = rw (q, p, e) refl }
 
--- the stream s stands at bit a of n
-pub record On (n a : ℕ) (s : BitStream) : Type 0 where
-  pub of : held s ≡ n
-  pub stands : s .at ≡ a
-
+-- where a stream stands that skips, and what comes next
 module _ {n a : ℕ} {s : BitStream} (o : On n a s) where
   pub on-skipped : (w : ℕ) → On n (a + w) (skipped s w)
   unfolding held
@@ -51,17 +48,17 @@ module _ {n a : ℕ} {s : BitStream} (o : On n a s) (w : ℕ) where
   pub on-8 : {r : Bits8} → r ≡ consumed8 s w → On n (a + w) (r .stream)
   on-8 e = rw e (on-skipped o w)
 
-  pub got-v : {r : Bits64} → r ≡ consumed64 s w → r .value ≡ field n a w
-  got-v e = rw e (next-is o w)
+  pub got-64 : {r : Bits64} → r ≡ consumed64 s w → r .value ≡ field n a w
+  got-64 e = rw e (next-is o w)
 
-  pub got-on : {r : Bits64} → r ≡ consumed64 s w → On n (a + w) (r .stream)
-  got-on e = rw e (on-skipped o w)
+  pub on-64 : {r : Bits64} → r ≡ consumed64 s w → On n (a + w) (r .stream)
+  on-64 e = rw e (on-skipped o w)
 
-  pub got-a : {r : Values2} → r ≡ consumed2 s w → r .a ≡ field n a w
-  got-a e = rw e (next-is o w)
+  pub got-first : {r : Values2} → r ≡ consumed2 s w → r .first ≡ field n a w
+  got-first e = rw e (next-is o w)
 
-  pub got-b : {r : Values2} → r ≡ consumed2 s w → r .b ≡ field n (a + w) w
-  got-b e = rw e (next-is (on-skipped o w) w)
+  pub got-second : {r : Values2} → r ≡ consumed2 s w → r .second ≡ field n (a + w) w
+  got-second e = rw e (next-is (on-skipped o w) w)
 
   pub on-2 : {r : Values2} → r ≡ consumed2 s w → On n (a + 2 * w) (r .stream)
   on-2 e = rw e (on-skipped o (2 * w))

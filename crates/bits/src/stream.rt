@@ -6,7 +6,7 @@ ghost use Prim.Native.Nat.{_+_, _*_, _/_, _%_, _^_, _≤_, _<_};
 ghost use lib.ListN.{replicate};
 ghost use Rattle.laws.specs.Digits.{join};
 ghost use Rattle.bcn_format.specs.Block.{number, field};
-ghost use Rattle.bits.specs.Stream.{held, skipped, consumed1, consumed8, consumed64, consumed2};
+ghost use Rattle.bits.specs.Stream.{held, skipped, On, TakenBit, Taken8, Taken64, Taken2};
 
 // Bits count from the lowest of `low`, which is byte 0's, to the highest of `high`. Past 128 there are zeros.
 pub struct BitStream {
@@ -31,10 +31,10 @@ pub struct Bits64 {
     pub stream: BitStream,
 }
 
-// Values of one width, read one after the other.
+// Two values of one width, read one after the other.
 pub struct Values2 {
-    pub a: u64,
-    pub b: u64,
+    pub first: u64,
+    pub second: u64,
     pub stream: BitStream,
 }
 
@@ -67,7 +67,7 @@ fn window(low: u64, high: u64, at: u32) -> u64
 
 impl BitStream {
     pub fn new(block: [u8; 16]) -> Self
-        ensures { λ r. ⌜ (held r ≡ number block) × (r .at ≡ 0) ⌝ }
+        ensures { λ r. ⌜ On (number block) 0 r ⌝ }
     {
         BitStream {
             low: word(
@@ -114,7 +114,7 @@ impl BitStream {
 
     pub fn consume_bit(self) -> Bit
         requires { ⌜ self .at + 1 < 2 ^ 32 ⌝ }
-        ensures { λ r. ⌜ r ≡ consumed1 self ⌝ }
+        ensures { λ r. ⌜ TakenBit self r ⌝ }
     {
         let bit = window(self.low, self.high, self.at) % 2;
         let stream = self.skip(1);
@@ -127,7 +127,7 @@ impl BitStream {
     // Fewer than 64 bits, and none where a width comes from a table in which it may be 0.
     pub fn take(self, count: u32) -> Bits64
         requires { ⌜ (count < 64) × (self .at + count < 2 ^ 32) ⌝ }
-        ensures { λ r. ⌜ r ≡ consumed64 self count ⌝ }
+        ensures { λ r. ⌜ Taken64 self count r ⌝ }
     {
         let bits = window(self.low, self.high, self.at) % (1u64 << count);
         let stream = self.skip(count);
@@ -139,7 +139,7 @@ impl BitStream {
 
     pub fn consume_bits(self, count: u32) -> Bits8
         requires { ⌜ (0 < count) × (count ≤ 8) × (self .at + count < 2 ^ 32) ⌝ }
-        ensures { λ r. ⌜ r ≡ consumed8 self count ⌝ }
+        ensures { λ r. ⌜ Taken8 self count r ⌝ }
     {
         let bits = self.take(count);
         let stream = bits.stream;
@@ -151,7 +151,7 @@ impl BitStream {
 
     pub fn consume_bits_64(self, count: u32) -> Bits64
         requires { ⌜ (0 < count) × (count ≤ 64) × (self .at + count < 2 ^ 32) ⌝ }
-        ensures { λ r. ⌜ r ≡ consumed64 self count ⌝ }
+        ensures { λ r. ⌜ Taken64 self count r ⌝ }
     {
         if count < 64 {
             return self.take(count);
@@ -167,15 +167,15 @@ impl BitStream {
     // Two values of one width. Made of single reads, and no loop, so that literal positions fold away.
     pub fn consume_2(self, count: u32) -> Values2
         requires { ⌜ (count < 64) × (self .at + 2 * count < 2 ^ 32) ⌝ }
-        ensures { λ r. ⌜ r ≡ consumed2 self count ⌝ }
+        ensures { λ r. ⌜ Taken2 self count r ⌝ }
     {
         let x = self.take(count);
         let s = x.stream;
         let y = s.take(count);
         let stream = y.stream;
         Values2 {
-            a: x.value,
-            b: y.value,
+            first: x.value,
+            second: y.value,
             stream: stream,
         }
     }

@@ -48,12 +48,14 @@ pub record Beside : Type 2 where
   pub stays : Stays (slots 1) (kepts 1)
   pub go : {M : Type 1} (𝓤 : URA M) (H : Heap 𝓤) (A : Atoms 𝓤) (W : Given 𝓤 H A) → AllGo 𝓤 H A W 1 (slots 1) (kepts 1) stays
 
--- a function by value: its answer's type, what it asks, and what it gives
+-- a function by value: its answer's type, what it asks, what it promises, and what that promise says it gives
 pub record Read (B : Beside) : Type 2 where
   pub b : Builtin
   pub answer : Answer b
   pub asks : BitStream → B .Args → Type 0
   pub gives : BitStream → B .Args → answer .R .Denot
+  pub Promise : BitStream → B .Args → answer .R .Denot → Type 0
+  pub given : (s : BitStream) (n : B .Args) (r : answer .R .Denot) → Promise s n r → r ≡ gives s n
 
 module _ (B : Beside) where
   -- the values beside the stream, their machine values, and that these are those
@@ -73,7 +75,7 @@ module _ {B : Beside} (f : Read B) where
   by-ended = record { signature = record { lifetimes = 0; outlives = []; params = plain (λ _. T.the-row) ∷ B .slots 0; result = plain (λ _. f .answer .R) }; kept = (yes, B .kepts 0) }
 
   abbrev by-clauses : {M : Type 1} (𝓤 : URA M) → Clauses 𝓤 by-ended
-  by-clauses 𝓤 κs a = record { ghost = Unit {0}; requires = λ _. fact 𝓤 (f .asks (a .0) (B .args 0 κs (a .1))); ensures = λ _ r _. fact 𝓤 (r ≡ f .gives (a .0) (B .args 0 κs (a .1))) }
+  by-clauses 𝓤 κs a = record { ghost = Unit {0}; requires = λ _. fact 𝓤 (f .asks (a .0) (B .args 0 κs (a .1))); ensures = λ _ r _. fact 𝓤 (f .Promise (a .0) (B .args 0 κs (a .1)) r) }
 
   module _ {M : Type 1} (𝓤 : URA M) (H : Heap 𝓤) (A : Atoms 𝓤) where
     abbrev pub by-value : Contract 𝓤
@@ -89,7 +91,7 @@ module _ {B : Beside} (f : Read B) where
           owned ! T.the-row (Is T.the-row) (LL.makes T.the-type T′.the-plain 𝓤 H A) h _ is $ fjoin ! $ done !
 
       abbrev Said : f .answer .R .Denot → Type 0
-      Said r = r ≡ f .gives h (B .args 0 tt ns)
+      Said r = f .Promise h (B .args 0 tt ns) r
 
       pub answered : (u : Val) → ent 𝓤 (by-value .post passing u) (H .⇛ (ex 𝓤 (λ (r : f .answer .R .Denot). sep 𝓤 (sem 𝓤 H A (f .answer .R .own r (u ∷ []))) (fact 𝓤 (Said r)))))
       answered u =

@@ -1,5 +1,5 @@
 // The reader lent, as in the Rust: each function moves its caller's stream forward. It takes the stream out, calls the
-// function by value of `bcn_util`, and stores the stream that comes back; its promise names what that function gives. The
+// function by value of `bits`, and stores the stream that comes back; its promise names what that function gives. The
 // decoder reads by value.
 ghost use mathlib.Core.Path.{_≡_};
 ghost use Prim.Native.Nat.{_+_, _^_, _≤_, _<_};

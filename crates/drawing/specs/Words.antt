@@ -7,8 +7,7 @@ use lib.Dec.{eqb}
 use lib.ListN.{getD, replicate}
 use Rattle.laws.specs.Digits.{Fit, join, split}
 use Rattle.laws.specs.Tables.{pick}
-use Rattle.bcn_format.specs.Block.{field}
-use Rattle.bcn_format.specs.Drawing.{promoted}
+use Rattle.bcn_format.specs.Painting.{endOf, endOfP}
 use Rattle.drawing.specs.declared.color.Ends.{Ends}
 use Rattle.drawing.specs.declared.color.Stored.{Stored}
 
@@ -64,13 +63,6 @@ pub record Fitting (x : Stored) : Type 0 where
   pub alpha : x .a < 2 ^ 16
   pub ps : x .p < 2 ^ 16
 
--- endpoint k of a value that has both, as eight bits: n bits of the value, and with the p bit below them
-abbrev pub endOf : ℕ → ℕ → ℕ → ℕ
-endOf n k v = promoted n (field v (n * k) n)
-
-abbrev pub endOfP : ℕ → ℕ → ℕ → ℕ → ℕ
-endOfP n k v p = promoted (n + 1) (field v (n * k) n * 2 + field p k 1)
-
 -- channel c of endpoint k of what is stored: without p bits and with them
 abbrev pub plain : ℕ → Stored → ℕ → ℕ → ℕ
 plain n x k c = endOf n k (channel x c)
@@ -81,10 +73,6 @@ withP n x k c = endOfP n k (channel x c) (x .p)
 -- where alpha has a width of its own, w
 abbrev pub withAlpha : ℕ → ℕ → Stored → ℕ → ℕ → ℕ
 withAlpha n w x k c = endOf (pick (eqb c 3) w n) k (channel x c)
-
--- and where no alpha is stored
-abbrev pub solid : (ℕ → ℕ → ℕ) → ℕ → ℕ → ℕ
-solid f k c = pick (eqb c 3) 255 (f k c)
 
 -- the ends of two colours: what they are, and that they are bytes
 pub record Holds (f : ℕ → ℕ → ℕ → ℕ) (e : Ends) : Type 0 where

@@ -10,7 +10,8 @@ ghost use Rattle.laws.specs.Digits.{Fit};
 ghost use Rattle.laws.specs.Tables.{pick};
 ghost use Rattle.bcn_format.specs.Block.{field};
 ghost use Rattle.bcn_format.specs.Drawing.{promoted};
-ghost use Rattle.drawing.specs.Words.{blend, blends, endOf, endOfP, endsP, Fitting, Holds, HoldsOne, laned, Lanes, lanesOf, plain, solid, withAlpha, withP, wordBytes, woven};
+ghost use Rattle.bcn_format.specs.Painting.{endOf, endOfP, solid};
+ghost use Rattle.drawing.specs.Words.{blend, blends, endsP, Fitting, Holds, HoldsOne, laned, Lanes, lanesOf, plain, withAlpha, withP, wordBytes, woven};
 
 // What a block stores of a colour: each value has a channel of both endpoints, the first one's in the low bits, and p both p bits.
 pub struct Stored {

@@ -1,12 +1,18 @@
 -- The indexes that stand in a number, and in the next bits of a stream.
 -- Assumes nothing.
+use mathlib.Core.Path.{_≡_}
 use mathlib.Core.List.{List}
-use Prim.Native.Nat.{ℕ}
+use Prim.Native.Nat.{ℕ, _^_, _<_}
 use Rattle.indexes.specs.declared.Indexes.{Indexes}
 use Rattle.indexes.specs.declared.NewIndexes.{NewIndexes}
 use Rattle.bits.specs.declared.stream.BitStream.{BitStream}
 use Rattle.bits.specs.Stream.{nextBits, skipped}
-use Rattle.bcn_format.specs.Indexes.{expanded}
+use Rattle.bcn_format.specs.Indexes.{expanded, part}
+
+-- index i, which is within its width
+pub record Index (x : Indexes) (i r : ℕ) : Type 0 where
+  pub same : r ≡ part (x .uncompressed) (x .bits) i
+  pub small : r < 2 ^ x .bits
 
 abbrev pub indexesOf : ℕ → List ℕ → ℕ → Indexes
 indexesOf w an n = record { uncompressed = expanded w an n; bits = w }

@@ -5,8 +5,7 @@ ghost use mathlib.Core.Path.{_≡_};
 ghost use mathlib.Core.List.{[], _∷_};
 ghost use Prim.Native.Nat.{_+_, _-_, _*_, _^_, _≤_, _<_};
 ghost use Rattle.laws.specs.Digits.{inserted};
-ghost use Rattle.indexes.specs.Reading.{indexesOf, newIndexes};
-ghost use Rattle.bcn_format.specs.Indexes.{part};
+ghost use Rattle.indexes.specs.Reading.{Index, indexesOf, newIndexes};
 use bits::stream::BitStream;
 
 pub mod storing;
@@ -109,7 +108,7 @@ impl Indexes {
 
     pub fn get_index(self, pixel_index: u32) -> u8
         requires { ⌜ (self .bits ≤ 4) × («pixel_index» < 16) ⌝ }
-        ensures { λ r. ⌜ r ≡ part (self .uncompressed) (self .bits) «pixel_index» ⌝ }
+        ensures { λ r. ⌜ Index self «pixel_index» r ⌝ }
     {
         ((self.uncompressed >> (pixel_index * self.bits)) % (1u64 << self.bits)) as u8
     }

@@ -30,8 +30,8 @@ fn two_at(s: BitStream, at: u32, width: u32) -> Two
 {
     let both = standing_at(s, at).consume_2(width);
     Two {
-        a: both.a as u8,
-        b: both.b as u8,
+        a: both.first as u8,
+        b: both.second as u8,
     }
 }
 

@@ -24,7 +24,7 @@ byte s i = search needs
 
 -- behind the count of the mode each arm is the same: the stream stands where the mode's function wants it
 skipped-to : (at : tie.After-extract-mode) (k : ℕ) {t : BitStream} → t ≡ skipped (at .before .new .result) k → t .at ≡ k
-skipped-to at k e = rw e (omega (arith, at .before .new .ensures .1))
+skipped-to at k e = rw e (omega (arith, at .before .new .ensures .stands))
 
 -- and what that function shows is what the block shows
 shows : (at : tie.After-extract-mode) (m : ℕ) → at .extract-mode .result ≡ m → m < 8 → {t : BitStream} → t ≡ skipped (at .before .new .result) (m + 1) → {r : List (List ℕ)} → r ≡ directPixels m (held t)
@@ -32,7 +32,7 @@ shows : (at : tie.After-extract-mode) (m : ℕ) → at .extract-mode .result ≡
 shows at m is low et er =
     let new = at .before in
     let s = new .before in
-    by-mode (s .args .block) (size s) (λ i. byte s i .fits) (new .new .result) (new .new .ensures .0) (new .new .ensures .1) (at .extract-mode .ensures) is low et er
+    by-mode (s .args .block) (size s) (λ i. byte s i .fits) (new .new .result) (new .new .ensures .of) (new .new .ensures .stands) (at .extract-mode .ensures) is low et er
 
 new-requires : tie.Need-new-requires
 new-requires c κs = search needs
@@ -43,38 +43,38 @@ extract-mode-requires c κs = search needs
 skip-requires : tie.Need-skip-requires
 skip-requires c κs = search needs
 
-mode-0-requires : tie.Need-mode-0-requires
-mode-0-requires c κs = skipped-to (c .before .before) 1 (c .skip .ensures)
+mode-subset-3-requires : tie.Need-mode-subset-3-requires
+mode-subset-3-requires c κs = (tt, skipped-to (c .before .before) 1 (c .skip .ensures))
 
 returns : tie.Need-returns
-returns c = shows (c .before .before .before) 0 (c .before .before .match .keys1) (omega arith) (c .before .skip .ensures) (c .mode-0 .ensures)
+returns c = shows (c .before .before .before) 0 (c .before .before .match .keys1) (omega arith) (c .before .skip .ensures) (c .mode-subset-3 .ensures)
 
 skip-requires-2 : tie.Need-skip-requires-2
 skip-requires-2 c κs = search needs
 
-mode-1-requires : tie.Need-mode-1-requires
-mode-1-requires c κs = skipped-to (c .before .before) 2 (c .skip2 .ensures)
+mode-subset-2-requires : tie.Need-mode-subset-2-requires
+mode-subset-2-requires c κs = (tt, skipped-to (c .before .before) 2 (c .skip2 .ensures))
 
 returns-2 : tie.Need-returns-2
-returns-2 c = shows (c .before .before .before) 1 (c .before .before .match .keys2) (omega arith) (c .before .skip2 .ensures) (c .mode-1 .ensures)
+returns-2 c = shows (c .before .before .before) 1 (c .before .before .match .keys2) (omega arith) (c .before .skip2 .ensures) (c .mode-subset-2 .ensures)
 
 skip-requires-3 : tie.Need-skip-requires-3
 skip-requires-3 c κs = search needs
 
-mode-2-requires : tie.Need-mode-2-requires
-mode-2-requires c κs = skipped-to (c .before .before) 3 (c .skip3 .ensures)
+mode-subset-3-requires-2 : tie.Need-mode-subset-3-requires-2
+mode-subset-3-requires-2 c κs = (tt, skipped-to (c .before .before) 3 (c .skip3 .ensures))
 
 returns-3 : tie.Need-returns-3
-returns-3 c = shows (c .before .before .before) 2 (c .before .before .match .keys3) (omega arith) (c .before .skip3 .ensures) (c .mode-2 .ensures)
+returns-3 c = shows (c .before .before .before) 2 (c .before .before .match .keys3) (omega arith) (c .before .skip3 .ensures) (c .mode-subset-32 .ensures)
 
 skip-requires-4 : tie.Need-skip-requires-4
 skip-requires-4 c κs = search needs
 
-mode-3-requires : tie.Need-mode-3-requires
-mode-3-requires c κs = skipped-to (c .before .before) 4 (c .skip4 .ensures)
+mode-subset-2-requires-2 : tie.Need-mode-subset-2-requires-2
+mode-subset-2-requires-2 c κs = (tt, skipped-to (c .before .before) 4 (c .skip4 .ensures))
 
 returns-4 : tie.Need-returns-4
-returns-4 c = shows (c .before .before .before) 3 (c .before .before .match .keys4) (omega arith) (c .before .skip4 .ensures) (c .mode-3 .ensures)
+returns-4 c = shows (c .before .before .before) 3 (c .before .before .match .keys4) (omega arith) (c .before .skip4 .ensures) (c .mode-subset-22 .ensures)
 
 skip-requires-5 : tie.Need-skip-requires-5
 skip-requires-5 c κs = search needs
@@ -106,11 +106,11 @@ returns-7 c = shows (c .before .before .before) 6 (c .before .before .match .key
 skip-requires-8 : tie.Need-skip-requires-8
 skip-requires-8 c κs = search needs
 
-mode-7-requires : tie.Need-mode-7-requires
-mode-7-requires c κs = skipped-to (c .before .before) 8 (c .skip8 .ensures)
+mode-subset-2-requires-3 : tie.Need-mode-subset-2-requires-3
+mode-subset-2-requires-3 c κs = (tt, skipped-to (c .before .before) 8 (c .skip8 .ensures))
 
 returns-8 : tie.Need-returns-8
-returns-8 c = shows (c .before .before .before) 7 (c .before .before .match .keys8) (omega arith) (c .before .skip8 .ensures) (c .mode-7 .ensures)
+returns-8 c = shows (c .before .before .before) 7 (c .before .before .match .keys8) (omega arith) (c .before .skip8 .ensures) (c .mode-subset-23 .ensures)
 
 returns-9 : tie.Need-returns-9
 returns-9 c =
@@ -119,9 +119,9 @@ returns-9 c =
     let s = new .before in
     let rest = c .match .rest in
     let none =
-    eight _ (mode-8 (s .args .block) (size s) (λ i. byte s i .fits) (new .new .result) (new .new .ensures .0) (new .new .ensures .1) (mode .extract-mode .ensures) refl)
+    eight _ (mode-8 (s .args .block) (size s) (λ i. byte s i .fits) (new .new .result) (new .new .ensures .of) (new .new .ensures .stands) (mode .extract-mode .ensures) refl)
     (rest .0 .0 .0 .0 .0 .0 .0 .1) (rest .0 .0 .0 .0 .0 .0 .1) (rest .0 .0 .0 .0 .0 .1) (rest .0 .0 .0 .0 .1) (rest .0 .0 .0 .1) (rest .0 .0 .1) (rest .0 .1) (rest .1) in
-    by-none (s .args .block) (size s) (λ i. byte s i .fits) (new .new .result) (new .new .ensures .0) (new .new .ensures .1) (mode .extract-mode .ensures) refl none
+    by-none (s .args .block) (size s) (λ i. byte s i .fits) (new .new .result) (new .new .ensures .of) (new .new .ensures .stands) (mode .extract-mode .ensures) refl none
 
 pub decode-bc7-block-spec : {M : Type 1} → statement M
 decode-bc7-block-spec =
@@ -130,16 +130,16 @@ decode-bc7-block-spec =
     new-requires
     extract-mode-requires
     skip-requires
-    mode-0-requires
+    mode-subset-3-requires
     returns
     skip-requires-2
-    mode-1-requires
+    mode-subset-2-requires
     returns-2
     skip-requires-3
-    mode-2-requires
+    mode-subset-3-requires-2
     returns-3
     skip-requires-4
-    mode-3-requires
+    mode-subset-2-requires-2
     returns-4
     skip-requires-5
     mode-4-requires
@@ -151,6 +151,6 @@ decode-bc7-block-spec =
     mode-6-requires
     returns-7
     skip-requires-8
-    mode-7-requires
+    mode-subset-2-requires-3
     returns-8
     returns-9)

@@ -12,8 +12,9 @@ use Rattle.bc7_format.specs.Modes.{endpointCount, kindOfMode, modeRow}
 use Rattle.bc7_format.specs.Splits.{splitAt}
 use Rattle.bc7_format.proofs.Starts.{index-start}
 use Rattle.bits.specs.Stream.{held}
-use Rattle.bits.proofs.On.{On, field-lt, got-8, got-on, got-v, next-is, on-8, on-skipped}
-use Rattle.bcn_format.specs.Indexes.{expanded, part}
+use Rattle.bits.proofs.On.{On, field-lt, got-64, got-8, on-64, on-8}
+use Rattle.bcn_format.specs.Indexes.{part}
+use Rattle.indexes.proofs.Reading.{got-indexes, on-indexes}
 use Rattle.bc7_format.specs.Fields.{endByte, headEnd, valueStart}
 use Rattle.bcn_format.specs.Painting.{four, between}
 use Rattle.bc7_format.specs.Rotating.{swapped}
@@ -22,41 +23,38 @@ use Rattle.bc7_format.proofs.Fields.{second-4, split-4}
 use Rattle.drawing.specs.declared.color.Stored.{Stored}
 use Rattle.drawing.specs.Words.{endpoint, withAlpha}
 use Rattle.drawing.proofs.color.Words.{endpoint-one}
-use Rattle.bc7_reads.proofs.Reading.{clear-shown}
+use Rattle.bc7_format.proofs.Ends.{clear-shown}
 use Rattle.bc7_unsplit.specs.Crossing.{crossed}
 use Rattle.bc7_unsplit.proofs.Laws.{by-set, vector-either, words-apart, words-summed}
 use Rattle.bc7_unsplit.proofs.mode_4.Statement.{statement}
 use Rattle.bc7_unsplit.proofs.mode_4.Tie as tie
 
-value-requires : tie.Need-value-requires
-value-requires c κs = search needs
+consume-bits-requires : tie.Need-consume-bits-requires
+consume-bits-requires c κs = search needs
 
-value-requires-2 : tie.Need-value-requires-2
-value-requires-2 c κs = search needs
+consume-bits-requires-2 : tie.Need-consume-bits-requires-2
+consume-bits-requires-2 c κs = search needs
 
-values-1-requires : tie.Need-values-1-requires
-values-1-requires c κs = search needs
+take-requires : tie.Need-take-requires
+take-requires c κs = search needs
 
-values-1-requires-2 : tie.Need-values-1-requires-2
-values-1-requires-2 c κs = search needs
+take-requires-2 : tie.Need-take-requires-2
+take-requires-2 c κs = search needs
 
-values-1-requires-3 : tie.Need-values-1-requires-3
-values-1-requires-3 c κs = search needs
+take-requires-3 : tie.Need-take-requires-3
+take-requires-3 c κs = search needs
 
-values-1-requires-4 : tie.Need-values-1-requires-4
-values-1-requires-4 c κs = search needs
+take-requires-4 : tie.Need-take-requires-4
+take-requires-4 c κs = search needs
 
 alone-requires : tie.Need-alone-requires
 alone-requires c κs = search needs
 
-indexes-1-requires : tie.Need-indexes-1-requires
-indexes-1-requires c κs = search needs
+new-p1-requires : tie.Need-new-p1-requires
+new-p1-requires c κs = search needs
 
-skip-requires : tie.Need-skip-requires
-skip-requires c κs = search needs
-
-indexes-1-requires-2 : tie.Need-indexes-1-requires-2
-indexes-1-requires-2 c κs = rw (c .skip .ensures) (let a = c .before .before .before in omega (arith, a, a .before .before .before))
+new-p1-requires-2 : tie.Need-new-p1-requires-2
+new-p1-requires-2 c κs = (omega arith, omega arith, rw (c .new-p1 .ensures) (let a = c .before .before in omega (arith, a, a .before .before .before)))
 
 words-2-requires : tie.Need-words-2-requires
 words-2-requires c κs = search needs
@@ -67,13 +65,18 @@ words-3-requires c κs = search needs
 paint-2-and-3-requires : tie.Need-paint-2-and-3-requires
 paint-2-and-3-requires c κs =
     let first = c .before .before in
-    let ends = first .before .before .before .before .before in
-    words-apart _ (ends .alone .result) (ends .alone .ensures .one) (first .words-2 .ensures) (c .words-3 .ensures)
+    let y = first .before .before in
+    let x = y .before in
+    let ends = x .before in (
+      words-apart _ (ends .alone .result) (ends .alone .ensures .one) (first .words-2 .ensures) (c .words-3 .ensures),
+      rw (x .new-p1 .ensures) refl,
+      rw (y .new-p12 .ensures) refl,
+    )
 
 swap-channels-requires : tie.Need-swap-channels-requires
 swap-channels-requires c κs =
     let rotation =
-    c .before .before .before .before .before .before .before .before .before .before .before .before .before .before .value .ensures in
+    c .before .before .before .before .before .before .before .before .before .before .before .before .before .consume-bits .ensures in
     omega (arith, rotation .small)
 
 returns : tie.Need-returns
@@ -82,7 +85,7 @@ returns c =
     let third = c .before .before in
     let first = third .before .before in
     let y = first .before .before in
-    let x = y .before .before in
+    let x = y .before in
     let ends = x .before in
     let a = ends .before in
     let b = a .before in
@@ -94,45 +97,44 @@ returns c =
     let n = held (s .args .stream) in
     let small = field-lt n 5 2 in
     let on-rotation : On n 5 (s .args .stream) = record { of = refl; stands = s .pre } in
-    let on-mode = on-8 on-rotation 2 (rotation .value .ensures .same) in
-    let on-r = on-8 on-mode 1 (index-mode .value2 .ensures .same) in
-    let on-g = got-on on-r 10 (r .values-1 .ensures .same) in
-    let on-b = got-on on-g 10 (g .values-12 .ensures .same) in
-    let on-a = got-on on-b 10 (b .values-13 .ensures .same) in
-    let on-x = got-on on-a 12 (a .values-14 .ensures .same) in
+    let on-mode = on-8 on-rotation 2 (rotation .consume-bits .ensures .same) in
+    let on-r = on-8 on-mode 1 (index-mode .consume-bits2 .ensures .same) in
+    let on-g = on-64 on-r 10 (r .take .ensures .same) in
+    let on-b = on-64 on-g 10 (g .take2 .ensures .same) in
+    let on-a = on-64 on-b 10 (b .take3 .ensures .same) in
+    let on-x = on-64 on-a 12 (a .take4 .ensures .same) in
     let e = ends .alone .result in
     let stored : Stored =
     record {
-      r = r .values-1 .result .value;
-      g = g .values-12 .result .value;
-      b = b .values-13 .result .value;
-      a = a .values-14 .result .value;
+      r = r .take .result .value;
+      g = g .take2 .result .value;
+      b = b .take3 .result .value;
+      a = a .take4 .result .value;
       p = 0;
     } in
     let shown =
-    clear-shown 4 n {l = 0} {x = stored} refl
+    clear-shown 4 n {l = 0} {p = 0} refl
     (record {
-      red = got-v on-r 10 (r .values-1 .ensures .same);
-      green = got-v on-g 10 (g .values-12 .ensures .same);
-      blue = got-v on-b 10
-          (b .values-13 .ensures .same);
+      red = got-64 on-r 10 (r .take .ensures .same);
+      green = got-64 on-g 10 (g .take2 .ensures .same);
+      blue = got-64 on-b 10
+          (b .take3 .ensures .same);
     })
-    refl (got-v on-a 12 (a .values-14 .ensures .same)) refl in
+    refl (got-64 on-a 12 (a .take4 .ensures .same)) refl in
     let end : (k : ℕ) → k < 2 → endpoint e 0 k ≡ four (endByte 4 n (2 * 0 + k)) =
     λ k hk. endpoint-one (withAlpha 5 6 stored) (ends .alone .ensures .each) (ends .alone .ensures .same) k hk
     ∙ four-ext _ _ (λ c hc. shown k c hk hc) in
-    let first-is : x .indexes-1 .result ≡ expanded 2 (0 ∷ []) (field n 50 31) = x .indexes-1 .ensures ∙ ap (expanded 2 (0 ∷ [])) (next-is on-x 31) in
-    let on-y : On n 81 (y .before .skip .result) = rw (y .before .skip .ensures) (on-skipped on-x 31) in
-    let second-is : y .indexes-12 .result ≡ expanded 3 (0 ∷ []) (field n 81 47) =
-    y .indexes-12 .ensures ∙ ap (expanded 3 (0 ∷ [])) (next-is on-y 47) in
-    let f : ℕ → List ℕ = λ q. between 2 (endpoint e 0 0) (endpoint e 0 1) (part (x .indexes-1 .result) 2 q) in
-    let h : ℕ → List ℕ = λ q. between 3 (endpoint e 0 0) (endpoint e 0 1) (part (y .indexes-12 .result) 3 q) in
+    let first-is = got-indexes on-x 2 (0 ∷ []) 31 (x .new-p1 .ensures) in
+    let on-y = on-indexes on-x 2 (0 ∷ []) 31 (x .new-p1 .ensures) in
+    let second-is = got-indexes on-y 3 (0 ∷ []) 47 (y .new-p12 .ensures) in
+    let f : ℕ → List ℕ = λ q. between 2 (endpoint e 0 0) (endpoint e 0 1) (part (x .new-p1 .result .indexes .uncompressed) 2 q) in
+    let h : ℕ → List ℕ = λ q. between 3 (endpoint e 0 0) (endpoint e 0 1) (part (y .new-p12 .result .indexes .uncompressed) 3 q) in
     c .swap-channels .ensures
-    ∙ ap₂ swapped (got-8 on-rotation 2 (rotation .value .ensures .same))
+    ∙ ap₂ swapped (got-8 on-rotation 2 (rotation .consume-bits .ensures .same))
     (c .before .paint-2-and-3 .ensures ∙ words-summed _ e (ends .alone .ensures .one) (first .words-2 .ensures) (third .words-3 .ensures)
-    (x .indexes-1 .result) (y .indexes-12 .result)
+    (x .new-p1 .result .indexes .uncompressed) (y .new-p12 .result .indexes .uncompressed)
     ∙ ap (λ (i : ℕ). table 16 (λ q. pick (eqb i 0) (crossed (f q) (h q)) (crossed (h q) (f q))))
-    (got-8 on-mode 1 (index-mode .value2 .ensures .same)))
+    (got-8 on-mode 1 (index-mode .consume-bits2 .ensures .same)))
     ∙ vector-either 4 n (field n 5 2) (field n 7 1) small (split-4 n) (field-lt n 7 1) f h
     (by-set 4 n _ _ small (split-4 n) (end 0 (omega arith)) (end 1 (omega arith)) 0 2 50 (omega arith) refl (omega arith)
     (index-start 4 _ (omega arith)) first-is)
@@ -142,16 +144,15 @@ pub mode-4-spec : {M : Type 1} → statement M
 mode-4-spec =
     tie.close
     (tie.spec
-    value-requires
-    value-requires-2
-    values-1-requires
-    values-1-requires-2
-    values-1-requires-3
-    values-1-requires-4
+    consume-bits-requires
+    consume-bits-requires-2
+    take-requires
+    take-requires-2
+    take-requires-3
+    take-requires-4
     alone-requires
-    indexes-1-requires
-    skip-requires
-    indexes-1-requires-2
+    new-p1-requires
+    new-p1-requires-2
     words-2-requires
     words-3-requires
     paint-2-and-3-requires

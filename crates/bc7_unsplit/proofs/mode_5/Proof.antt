@@ -10,8 +10,8 @@ use Rattle.bc7_format.specs.Modes.{endpointCount, kindOfMode, modeRow}
 use Rattle.bc7_format.specs.Splits.{splitAt}
 use Rattle.bc7_format.proofs.Starts.{index-start}
 use Rattle.bits.specs.Stream.{held}
-use Rattle.bits.proofs.On.{On, field-lt, got-8, got-on, got-v, next-is, on-8, on-skipped}
-use Rattle.bcn_format.specs.Indexes.{expanded}
+use Rattle.bits.proofs.On.{On, field-lt, got-64, got-8, on-64, on-8}
+use Rattle.indexes.proofs.Reading.{got-indexes, on-indexes}
 use Rattle.bc7_format.specs.Fields.{endByte, headEnd, valueStart}
 use Rattle.bcn_format.specs.Painting.{four, between, painted}
 use Rattle.bc7_format.specs.Rotating.{swapped}
@@ -22,37 +22,34 @@ use Rattle.drawing.specs.Words.{endpoint, withAlpha}
 use Rattle.drawing.proofs.color.Words.{endpoint-one}
 use Rattle.drawing.specs.declared.keys.Keys.{Keys}
 use Rattle.drawing.specs.Keys.{keyAt}
-use Rattle.bc7_reads.proofs.Reading.{clear-shown}
+use Rattle.bc7_format.proofs.Ends.{clear-shown}
 use Rattle.bc7_unsplit.proofs.Laws.{by-set, paired, vector-either}
 use Rattle.bc7_unsplit.proofs.mode_5.Statement.{statement}
 use Rattle.bc7_unsplit.proofs.mode_5.Tie as tie
 
-value-requires : tie.Need-value-requires
-value-requires c κs = search needs
+consume-bits-requires : tie.Need-consume-bits-requires
+consume-bits-requires c κs = search needs
 
-values-1-requires : tie.Need-values-1-requires
-values-1-requires c κs = search needs
+take-requires : tie.Need-take-requires
+take-requires c κs = search needs
 
-values-1-requires-2 : tie.Need-values-1-requires-2
-values-1-requires-2 c κs = search needs
+take-requires-2 : tie.Need-take-requires-2
+take-requires-2 c κs = search needs
 
-values-1-requires-3 : tie.Need-values-1-requires-3
-values-1-requires-3 c κs = search needs
+take-requires-3 : tie.Need-take-requires-3
+take-requires-3 c κs = search needs
 
-values-1-requires-4 : tie.Need-values-1-requires-4
-values-1-requires-4 c κs = search needs
+take-requires-4 : tie.Need-take-requires-4
+take-requires-4 c κs = search needs
 
 alone-requires : tie.Need-alone-requires
 alone-requires c κs = search needs
 
-indexes-1-requires : tie.Need-indexes-1-requires
-indexes-1-requires c κs = search needs
+new-p1-requires : tie.Need-new-p1-requires
+new-p1-requires c κs = search needs
 
-skip-requires : tie.Need-skip-requires
-skip-requires c κs = search needs
-
-indexes-1-requires-2 : tie.Need-indexes-1-requires-2
-indexes-1-requires-2 c κs = rw (c .skip .ensures) (omega arith)
+new-p1-requires-2 : tie.Need-new-p1-requires-2
+new-p1-requires-2 c κs = (omega arith, omega arith, rw (c .new-p1 .ensures) (omega arith))
 
 palette-2-and-2-requires : tie.Need-palette-2-and-2-requires
 palette-2-and-2-requires c κs = search needs
@@ -65,7 +62,7 @@ paint-4-requires c κs = search needs
 
 swap-channels-requires : tie.Need-swap-channels-requires
 swap-channels-requires c κs =
-    let rotation = c .before .before .before .before .before .before .before .before .before .before .before .value .ensures in
+    let rotation = c .before .before .before .before .before .before .before .before .before .before .consume-bits .ensures in
     omega (arith, rotation .small)
 
 returns : tie.Need-returns
@@ -74,7 +71,7 @@ returns c =
     let keys = c .before .before in
     let palette = keys .before in
     let y = palette .before in
-    let x = y .before .before in
+    let x = y .before in
     let ends = x .before in
     let a = ends .before in
     let b = a .before in
@@ -85,39 +82,39 @@ returns c =
     let n = held (s .args .stream) in
     let small = field-lt n 6 2 in
     let on-rotation : On n 6 (s .args .stream) = record { of = refl; stands = s .pre } in
-    let on-r = on-8 on-rotation 2 (rotation .value .ensures .same) in
-    let on-g = got-on on-r 14 (r .values-1 .ensures .same) in
-    let on-b = got-on on-g 14 (g .values-12 .ensures .same) in
-    let on-a = got-on on-b 14 (b .values-13 .ensures .same) in
-    let on-x = got-on on-a 16 (a .values-14 .ensures .same) in
+    let on-r = on-8 on-rotation 2 (rotation .consume-bits .ensures .same) in
+    let on-g = on-64 on-r 14 (r .take .ensures .same) in
+    let on-b = on-64 on-g 14 (g .take2 .ensures .same) in
+    let on-a = on-64 on-b 14 (b .take3 .ensures .same) in
+    let on-x = on-64 on-a 16 (a .take4 .ensures .same) in
     let e = ends .alone .result in
     let stored : Stored =
     record {
-      r = r .values-1 .result .value;
-      g = g .values-12 .result .value;
-      b = b .values-13 .result .value;
-      a = a .values-14 .result .value;
+      r = r .take .result .value;
+      g = g .take2 .result .value;
+      b = b .take3 .result .value;
+      a = a .take4 .result .value;
       p = 0;
     } in
     let shown =
-    clear-shown 5 n {l = 0} {x = stored} refl
+    clear-shown 5 n {l = 0} {p = 0} refl
     (record {
-      red = got-v on-r 14 (r .values-1 .ensures .same);
-      green = got-v on-g 14 (g .values-12 .ensures .same);
-      blue = got-v on-b 14
-          (b .values-13 .ensures .same);
+      red = got-64 on-r 14 (r .take .ensures .same);
+      green = got-64 on-g 14 (g .take2 .ensures .same);
+      blue = got-64 on-b 14
+          (b .take3 .ensures .same);
     })
-    refl (got-v on-a 16 (a .values-14 .ensures .same)) refl in
+    refl (got-64 on-a 16 (a .take4 .ensures .same)) refl in
     let end : (k : ℕ) → k < 2 → endpoint e 0 k ≡ four (endByte 5 n (2 * 0 + k)) =
     λ k hk. endpoint-one (withAlpha 7 8 stored) (ends .alone .ensures .each) (ends .alone .ensures .same) k hk
     ∙ four-ext _ _ (λ c hc. shown k c hk hc) in
-    let first : x .indexes-1 .result ≡ expanded 2 (0 ∷ []) (field n 66 31) = x .indexes-1 .ensures ∙ ap (expanded 2 (0 ∷ [])) (next-is on-x 31) in
-    let on-y : On n 97 (y .before .skip .result) = rw (y .before .skip .ensures) (on-skipped on-x 31) in
-    let second : y .indexes-12 .result ≡ expanded 2 (0 ∷ []) (field n 97 31) = y .indexes-12 .ensures ∙ ap (expanded 2 (0 ∷ [])) (next-is on-y 31) in
+    let first = got-indexes on-x 2 (0 ∷ []) 31 (x .new-p1 .ensures) in
+    let on-y = on-indexes on-x 2 (0 ∷ []) 31 (x .new-p1 .ensures) in
+    let second = got-indexes on-y 2 (0 ∷ []) 31 (y .new-p12 .ensures) in
     c .swap-channels .ensures
-    ∙ ap₂ swapped (got-8 on-rotation 2 (rotation .value .ensures .same))
+    ∙ ap₂ swapped (got-8 on-rotation 2 (rotation .consume-bits .ensures .same))
     (c .before .paint-4 .ensures ∙ ap₂ (λ (k : Keys) (p : List (List ℕ)). painted (keyAt 2 2 k) p) (keys .keys-2 .ensures)
-    (palette .palette-2-and-2 .ensures) ∙ paired (x .indexes-1 .result) (y .indexes-12 .result) (between 2 (endpoint e 0 0) (endpoint e 0 1)))
+    (palette .palette-2-and-2 .ensures) ∙ paired (x .new-p1 .result .indexes .uncompressed) (y .new-p12 .result .indexes .uncompressed) (between 2 (endpoint e 0 0) (endpoint e 0 1)))
     ∙ vector-either 5 n (field n 6 2) 0 small (split-5 n) (omega arith) _ _
     (by-set 5 n _ 0 small (split-5 n) (end 0 (omega arith)) (end 1 (omega arith)) 0 2 66 (omega arith) refl (omega arith)
     (index-start 5 _ (omega arith)) first)
@@ -127,15 +124,14 @@ pub mode-5-spec : {M : Type 1} → statement M
 mode-5-spec =
     tie.close
     (tie.spec
-    value-requires
-    values-1-requires
-    values-1-requires-2
-    values-1-requires-3
-    values-1-requires-4
+    consume-bits-requires
+    take-requires
+    take-requires-2
+    take-requires-3
+    take-requires-4
     alone-requires
-    indexes-1-requires
-    skip-requires
-    indexes-1-requires-2
+    new-p1-requires
+    new-p1-requires-2
     palette-2-and-2-requires
     keys-2-requires
     paint-4-requires

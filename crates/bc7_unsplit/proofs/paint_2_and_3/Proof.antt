@@ -1,18 +1,28 @@
 -- Sixteen pixels, each the sum of two words: the loop fills them in order.
 -- Assumes nothing.
-use mathlib.Core.Path.{refl, ap₂, _∙_}
-use Prim.Native.Nat.{ℕ, _+_, _-_}
+use mathlib.Core.Path.{_≡_, refl, ap, ap₂, _∙_}
+use Prim.Native.Nat.{ℕ, _+_, _-_, _^_, _<_}
 use native.Mathlib.Omega.{arith}
 use borrow.Author.Needs.{needs}
 use lib.ListN.{getD, take}
 use Rattle.bcn_format.specs.Indexes.{part}
 use Rattle.bcn_format.proofs.Making.{Made, made-all, made-next, made-none}
 use Rattle.drawing.specs.Words.{wordBytes}
+use Rattle.indexes.specs.declared.Indexes.{Indexes}
+use Rattle.indexes.specs.Reading.{Index}
 use Rattle.bc7_unsplit.proofs.paint_2_and_3.Statement.{statement}
 use Rattle.bc7_unsplit.proofs.paint_2_and_3.Tie as tie
 
+-- an index of a known width
+module _ {x : Indexes} {b i r : ℕ} (wide : x .bits ≡ b) (index : Index x i r) where
+  below : r < 2 ^ b
+  below = rw wide at (index .small)
+
+  is : r ≡ part (x .uncompressed) b i
+  is = index .same ∙ ap (λ (w : ℕ). part (x .uncompressed) w i) wide
+
 abbrev Inv-loop : tie.InvT-loop
-Inv-loop x y p q output₀ i₀ output i = Made (λ n. take 4 (wordBytes (getD p (part x 2 n) 0 + getD q (part y 3 n) 0))) i output
+Inv-loop x y p q output₀ i₀ output i = Made (λ n. take 4 (wordBytes (getD p (part (x .uncompressed) 2 n) 0 + getD q (part (y .uncompressed) 3 n) 0))) i output
 
 abbrev μ-loop : tie.MeasureT-loop
 μ-loop x y p q output₀ i₀ output i = 16 - i
@@ -20,33 +30,46 @@ abbrev μ-loop : tie.MeasureT-loop
 loop-holds : tie.Need-loop-holds Inv-loop μ-loop
 loop-holds c = made-none refl
 
-part-of-requires : tie.Need-part-of-requires Inv-loop μ-loop
-part-of-requires c κs = omega arith
+cast-pixel-index : tie.Need-cast-pixel-index Inv-loop μ-loop
+cast-pixel-index c = search needs
+
+get-index-requires : tie.Need-get-index-requires Inv-loop μ-loop
+get-index-requires c κs = let s = c .before .before in (omega (arith, s .pre .1), omega arith)
+
+cast-word : tie.Need-cast-word Inv-loop μ-loop
+cast-word c = search needs
 
 mul-word : tie.Need-mul-word Inv-loop μ-loop
-mul-word c = omega arith
+mul-word c = let s = c .before .before .before in omega (arith, below (s .pre .1) (c .get-index .ensures))
 
 array-read-word : tie.Need-array-read-word Inv-loop μ-loop
-array-read-word c = omega arith
+array-read-word c = let s = c .before .before .before in omega (arith, below (s .pre .1) (c .get-index .ensures))
 
-part-of-requires-2 : tie.Need-part-of-requires-2 Inv-loop μ-loop
-part-of-requires-2 c κs = omega arith
+get-index-requires-2 : tie.Need-get-index-requires-2 Inv-loop μ-loop
+get-index-requires-2 c κs = let s = c .before .before .before in (omega (arith, s .pre .2), omega arith)
+
+cast-word-2 : tie.Need-cast-word-2 Inv-loop μ-loop
+cast-word-2 c = search needs
 
 mul-word-2 : tie.Need-mul-word-2 Inv-loop μ-loop
-mul-word-2 c = omega arith
+mul-word-2 c = let s = c .before .before .before .before in omega (arith, below (s .pre .2) (c .get-index2 .ensures))
 
 array-read-word-2 : tie.Need-array-read-word-2 Inv-loop μ-loop
-array-read-word-2 c = omega arith
+array-read-word-2 c = let s = c .before .before .before .before in omega (arith, below (s .pre .2) (c .get-index2 .ensures))
+
+-- the sum of any two words is within 32 bits
+fits : (c : tie.After-get-index2 Inv-loop μ-loop)
+    → getD (c .before .before .before .before .args .t1) (c .before .get-index .result) 0
+    + getD (c .before .before .before .before .args .t2) (c .get-index2 .result) 0 < 2 ^ 32
+fits c =
+    let s = c .before .before .before .before in
+    s .pre .0 _ _ (below (s .pre .1) (c .before .get-index .ensures)) (below (s .pre .2) (c .get-index2 .ensures))
 
 add-word : tie.Need-add-word Inv-loop μ-loop
-add-word c =
-    let s = c .before .before .before .before in
-    record { fits = s .pre (c .before .part-of .result) (c .part-of2 .result) (c .before .part-of .ensures .1) (c .part-of2 .ensures .1) }
+add-word c = record { fits = fits c }
 
 cast-low-color : tie.Need-cast-low-color Inv-loop μ-loop
-cast-low-color c =
-    let s = c .before .before .before .before in
-    omega (arith, s .pre (c .before .part-of .result) (c .part-of2 .result) (c .before .part-of .ensures .1) (c .part-of2 .ensures .1))
+cast-low-color c = omega (arith, fits c)
 
 low-color-requires : tie.Need-low-color-requires Inv-loop μ-loop
 low-color-requires c κs = search needs
@@ -70,8 +93,8 @@ loop-again c =
     let at = x .before in
     let s = at .before .before in
     made-next (at .before .loop .inv) (at .loop-test .taken)
-    (c .low-color .ensures ∙ ap₂ (λ (i j : ℕ). take 4 (wordBytes (getD (s .args .t1) i 0 + getD (s .args .t2) j 0))) (x .part-of .ensures .0)
-    (y .part-of2 .ensures .0))
+    (c .low-color .ensures ∙ ap₂ (λ (i j : ℕ). take 4 (wordBytes (getD (s .args .t1) i 0 + getD (s .args .t2) j 0))) (is (s .pre .1) (x .get-index .ensures))
+    (is (s .pre .2) (y .get-index2 .ensures)))
 
 returns : tie.Need-returns Inv-loop μ-loop
 returns c = made-all (c .before .loop .inv) (omega arith)
@@ -83,10 +106,13 @@ paint-2-and-3-spec =
     Inv-loop
     μ-loop
     loop-holds
-    part-of-requires
+    cast-pixel-index
+    get-index-requires
+    cast-word
     mul-word
     array-read-word
-    part-of-requires-2
+    get-index-requires-2
+    cast-word-2
     mul-word-2
     array-read-word-2
     add-word

@@ -12,7 +12,7 @@ read-opening-lent-requires : tie.Need-read-opening-lent-requires
 read-opening-lent-requires c κs = search needs
 
 returns : tie.Need-returns
-returns c = c .read-opening-lent .ensures ∙ opens-block _ (c .before .new .ensures .0) (c .before .new .ensures .1)
+returns c = c .read-opening-lent .ensures ∙ opens-block _ (c .before .new .ensures .of) (c .before .new .ensures .stands)
 
 pub mode-4-opening-spec : {M : Type 1} → statement M
 mode-4-opening-spec = tie.close (tie.spec new-requires read-opening-lent-requires returns)

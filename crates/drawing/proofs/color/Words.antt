@@ -18,7 +18,8 @@ use Rattle.laws.proofs.Lanes.{Within, lanes, mask-parts, more as more-within, n
 use Rattle.bcn_format.specs.Block.{field}
 use Rattle.bcn_format.specs.Drawing.{promoted}
 use Rattle.drawing.specs.declared.color.Ends.{Ends}
-use Rattle.drawing.specs.Words.{endOf, endOfP, endpoint, endsOf, first, Holds, HoldsOne, laned, Lanes, lanesOf, solid}
+use Rattle.bcn_format.specs.Painting.{endOf, endOfP, solid}
+use Rattle.drawing.specs.Words.{endpoint, endsOf, first, Holds, HoldsOne, laned, Lanes, lanesOf}
 
 -- a word and its lanes
 pub laned-lanes : {x : ℕ} → x < 2 ^ 64 → laned (lanesOf x) ≡ x

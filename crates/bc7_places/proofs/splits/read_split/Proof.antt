@@ -20,7 +20,7 @@ take-requires c κs = let b = small (c .before .before .pre .of-mode) .split in 
 cast-value : tie.Need-cast-value
 cast-value c =
     record {
-      fits = rw (c .before .before .take .ensures)
+      fits = rw (c .before .before .take .ensures .same)
           (field-below _ _ _ 8 (omega (arith, small (c .before .before .before .before .before .pre .of-mode) .split)));
     }
 
@@ -29,7 +29,7 @@ split-of-kind-requires c κs = search needs
 
 returns : tie.Need-returns
 returns c =
-    split-taken _ _ (c .before .before .before .before .before .before .pre .of-mode) (c .before .before .before .take .ensures) (c .split-of-kind .ensures)
+    split-taken _ _ (c .before .before .before .before .before .before .pre .of-mode) (c .before .before .before .take .ensures .same) (c .split-of-kind .ensures)
 
 pub read-split-spec : {M : Type 1} → statement M
 read-split-spec =

@@ -9,10 +9,12 @@ use Rattle.bcn_format.specs.Block.{field}
 use Rattle.bc7_format.specs.Modes.{endpointCount, kindOfMode, modeRow}
 use Rattle.bc7_format.specs.Splits.{splitAt}
 use Rattle.bits.specs.Stream.{held}
-use Rattle.bits.proofs.On.{On, got-8, got-a, got-b, on-2, on-8}
+use Rattle.bits.proofs.On.{On, got-8, got-first, got-second, on-2, on-8}
 use Rattle.bc7_format.specs.Fields.{headEnd, pStart, valueStart}
-use Rattle.drawing.specs.Words.{solid, withP}
-use Rattle.bc7_reads.proofs.Reading.{one-p, opaque-p-shown, two-palette}
+use Rattle.bcn_format.specs.Painting.{solid}
+use Rattle.drawing.specs.Words.{withP}
+use Rattle.bc7_format.proofs.Ends.{one-p, opaque-p-shown}
+use Rattle.bc7_subsets.proofs.Palettes.{two-palette}
 use Rattle.bc7_subsets.proofs.Laws.{fixes-2, two-keys}
 use Rattle.bc7_subsets.proofs.two.mode_1.Statement.{statement}
 use Rattle.bc7_subsets.proofs.two.mode_1.Tie as tie
@@ -23,17 +25,17 @@ extract-partition-set-id-requires c κs = search needs
 set-2-3-requires : tie.Need-set-2-3-requires
 set-2-3-requires c κs = search needs
 
-values-2-requires : tie.Need-values-2-requires
-values-2-requires c κs = search needs
+consume-2-requires : tie.Need-consume-2-requires
+consume-2-requires c κs = search needs
 
-values-2-requires-2 : tie.Need-values-2-requires-2
-values-2-requires-2 c κs = search needs
+consume-2-requires-2 : tie.Need-consume-2-requires-2
+consume-2-requires-2 c κs = search needs
 
-values-2-requires-3 : tie.Need-values-2-requires-3
-values-2-requires-3 c κs = search needs
+consume-2-requires-3 : tie.Need-consume-2-requires-3
+consume-2-requires-3 c κs = search needs
 
-values-2-requires-4 : tie.Need-values-2-requires-4
-values-2-requires-4 c κs = search needs
+consume-2-requires-4 : tie.Need-consume-2-requires-4
+consume-2-requires-4 c κs = search needs
 
 mul-t12 : tie.Need-mul-t12
 mul-t12 c = search needs
@@ -75,23 +77,23 @@ returns c =
     let n = held (s .args .stream) in
     let start : On n 2 (s .args .stream) = record { of = refl; stands = s .pre } in
     let on-r = on-8 start 6 (id .same) in
-    let r = at-r .values-2 .ensures .same in
+    let r = at-r .consume-2 .ensures .same in
     let on-g = on-2 on-r 12 r in
-    let g = at-g .values-22 .ensures .same in
+    let g = at-g .consume-22 .ensures .same in
     let on-b = on-2 on-g 12 g in
-    let b = at-b .values-23 .ensures .same in
+    let b = at-b .consume-23 .ensures .same in
     let on-p = on-2 on-b 12 b in
-    let p = at-p .values-24 .ensures .same in
+    let p = at-p .consume-24 .ensures .same in
     let on-x = on-2 on-p 1 p in
     two-keys 1 n 3 (omega arith) refl (omega arith) (omega arith) (omega (arith, id .small)) on-x (ap Two (sym (got-8 start 6 (id .same))))
     (set .set-2-3 .ensures) (c .before .before .indexes-2 .ensures) (c .before .keys-3 .ensures)
     (two-palette 1 n 3 (λ x. solid (withP 6 x)) _ _ (colors .before .opaque-p .ensures)
     (opaque-p-shown 1 n {l = 0} refl
-    (record { red = got-a on-r 12 r; green = got-a on-g 12 g; blue = got-a on-b 12 b })
-    refl (one-p 1 n 0 refl (ap (λ (v : ℕ). 3 * v) (got-a on-p 1 p))) refl)
+    (record { red = got-first on-r 12 r; green = got-first on-g 12 g; blue = got-first on-b 12 b })
+    refl (one-p 1 n 0 refl (ap (λ (v : ℕ). 3 * v) (got-first on-p 1 p))) refl)
     (opaque-p-shown 1 n {l = 1} refl
-    (record { red = got-b on-r 12 r; green = got-b on-g 12 g; blue = got-b on-b 12 b })
-    refl (one-p 1 n 1 refl (ap (λ (v : ℕ). 3 * v) (got-b on-p 1 p))) refl)
+    (record { red = got-second on-r 12 r; green = got-second on-g 12 g; blue = got-second on-b 12 b })
+    refl (one-p 1 n 1 refl (ap (λ (v : ℕ). 3 * v) (got-second on-p 1 p))) refl)
     (colors .palette-2-3 .ensures))
     (c .paint-2-3 .ensures)
 
@@ -101,10 +103,10 @@ mode-1-spec =
     (tie.spec
     extract-partition-set-id-requires
     set-2-3-requires
-    values-2-requires
-    values-2-requires-2
-    values-2-requires-3
-    values-2-requires-4
+    consume-2-requires
+    consume-2-requires-2
+    consume-2-requires-3
+    consume-2-requires-4
     mul-t12
     mul-t12-2
     opaque-p-requires

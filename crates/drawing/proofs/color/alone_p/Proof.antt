@@ -3,7 +3,8 @@
 use mathlib.Core.Path.{ap, _∙_}
 use Prim.Native.Nat.{ℕ}
 use borrow.Author.Needs.{needs}
-use Rattle.drawing.specs.Words.{endOfP, withP}
+use Rattle.bcn_format.specs.Painting.{endOfP}
+use Rattle.drawing.specs.Words.{withP}
 use Rattle.drawing.proofs.color.Words.{end-p-lt, end-p-none, ends-first, holds-one, nothing}
 use Rattle.drawing.proofs.color.alone_p.Statement.{statement}
 use Rattle.drawing.proofs.color.alone_p.Tie as tie

@@ -6,7 +6,8 @@ use native.Mathlib.Omega.{arith}
 use borrow.Author.Needs.{needs}
 use lib.Dec.{eqb}
 use Rattle.laws.specs.Tables.{pick}
-use Rattle.drawing.specs.Words.{endOf, endsOf, laned, plain, solid}
+use Rattle.bcn_format.specs.Painting.{endOf, solid}
+use Rattle.drawing.specs.Words.{endsOf, laned, plain}
 use Rattle.drawing.proofs.color.Words.{end-lt, full, holds, lanes-four, solid-lt}
 use Rattle.drawing.proofs.color.opaque.Statement.{statement}
 use Rattle.drawing.proofs.color.opaque.Tie as tie

@@ -6,7 +6,8 @@ use native.Mathlib.Omega.{arith}
 use borrow.Author.Needs.{needs}
 use lib.Dec.{eqb}
 use Rattle.laws.specs.Tables.{pick}
-use Rattle.drawing.specs.Words.{endsOf, endsP, laned, solid, withP}
+use Rattle.bcn_format.specs.Painting.{solid}
+use Rattle.drawing.specs.Words.{endsOf, endsP, laned, withP}
 use Rattle.drawing.proofs.color.Words.{end-p-lt, full-p, holds, lanes-four, solid-lt}
 use Rattle.drawing.proofs.color.opaque_p.Statement.{statement}
 use Rattle.drawing.proofs.color.opaque_p.Tie as tie

@@ -40,7 +40,10 @@ cast-result-3 c =
 
 returns : tie.Need-returns
 unfolding part
-returns c = rw (one-shl (c .before .before .before .args .self .bits) (omega arith))
+returns c =
+    let w = c .before .before .before .args .self .bits in
+    let mask = one-shl w (omega arith) in
+    record { same = rw mask; small = rw mask (mod-lt _ (pow-pos w)) }
 
 pub get-index-spec : {M : Type 1} → statement M
 get-index-spec =

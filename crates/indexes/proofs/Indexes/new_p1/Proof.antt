@@ -1,7 +1,6 @@
 -- `Indexes::new_p1` meets its contract.
 -- Assumes nothing.
 use borrow.Author.Needs.{needs}
-use Rattle.bits.proofs.On.{field-lt}
 use Rattle.indexes.proofs.Indexes.new_p1.Statement.{statement}
 use Rattle.indexes.proofs.Indexes.new_p1.Tie as tie
 
@@ -17,10 +16,10 @@ consume-bits-64-requires c κs = search needs
 from-compressed-p1-requires : tie.Need-from-compressed-p1-requires
 from-compressed-p1-requires c κs =
     let s = c .before in
-    (s .pre .0, s .pre .1, rw (c .consume-bits-64 .ensures) (field-lt _ _ _))
+    (s .pre .0, s .pre .1, c .consume-bits-64 .ensures .small)
 
 returns : tie.Need-returns
-returns c = rw (c .before .from-compressed-p1 .ensures, c .before .before .consume-bits-64 .ensures)
+returns c = rw (c .before .from-compressed-p1 .ensures, c .before .before .consume-bits-64 .ensures .same)
 
 pub new-p1-spec : {M : Type 1} → statement M
 new-p1-spec =

@@ -1,7 +1,6 @@
 -- `Indexes::new_p3` meets its contract.
 -- Assumes nothing.
 use borrow.Author.Needs.{needs}
-use Rattle.bits.proofs.On.{field-lt}
 use Rattle.indexes.proofs.Indexes.new_p3.Statement.{statement}
 use Rattle.indexes.proofs.Indexes.new_p3.Tie as tie
 
@@ -17,10 +16,10 @@ consume-bits-64-requires c κs = search needs
 from-compressed-p3-requires : tie.Need-from-compressed-p3-requires
 from-compressed-p3-requires c κs =
     let s = c .before in
-    (s .pre .0, s .pre .1, rw (c .consume-bits-64 .ensures) (field-lt _ _ _), s .pre .2, s .pre .3, s .pre .4)
+    (s .pre .0, s .pre .1, c .consume-bits-64 .ensures .small, s .pre .2, s .pre .3, s .pre .4)
 
 returns : tie.Need-returns
-returns c = rw (c .before .from-compressed-p3 .ensures, c .before .before .consume-bits-64 .ensures)
+returns c = rw (c .before .from-compressed-p3 .ensures, c .before .before .consume-bits-64 .ensures .same)
 
 pub new-p3-spec : {M : Type 1} → statement M
 new-p3-spec =

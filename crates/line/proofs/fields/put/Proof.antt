@@ -25,7 +25,7 @@ shl-exchanged-2 c = search needs
 exchanged-requires : tie.Need-exchanged-requires
 exchanged-requires c κs =
     let s = c .before .before .before in
-    rw (read-at (s .args .s) (s .args .at) (s .args .count) (c .before .before .standing-at .ensures) (c .before .take .ensures))
+    rw (read-at (s .args .s) (s .args .at) (s .args .count) (c .before .before .standing-at .ensures) (c .before .take .ensures .same))
     (in-low (s .args .s .low) (s .args .s .high) (s .args .at) (s .args .count) (s .args .value) (search needs) (search needs) (s .pre .fits) (omega arith) (s .pre .room) .low)
 
 sub-exchanged : tie.Need-sub-exchanged
@@ -49,7 +49,7 @@ shr-exchanged-2 c = search needs
 exchanged-requires-2 : tie.Need-exchanged-requires-2
 exchanged-requires-2 c κs =
     let s = c .before .before .before .before in
-    rw (read-at (s .args .s) (s .args .at) (s .args .count) (c .before .before .before .standing-at .ensures) (c .before .before .take .ensures))
+    rw (read-at (s .args .s) (s .args .at) (s .args .count) (c .before .before .before .standing-at .ensures) (c .before .before .take .ensures .same))
     (in-low (s .args .s .low) (s .args .s .high) (s .args .at) (s .args .count) (s .args .value) (search needs) (search needs) (s .pre .fits) (omega arith) (s .pre .room) .high)
 
 returns : tie.Need-returns
@@ -58,7 +58,7 @@ returns c =
     let s = c .before .before .before .before .before in
     let e =
     read-at (s .args .s) (s .args .at) (s .args .count) (c .before .before .before .before .standing-at .ensures)
-    (c .before .before .before .take .ensures) in
+    (c .before .before .before .take .ensures .same) in
     rw (c .before .exchanged .ensures, c .exchanged2 .ensures, e)
     (in-low (s .args .s .low) (s .args .s .high) (s .args .at) (s .args .count) (s .args .value) (search needs) (search needs) (s .pre .fits) (omega arith) (s .pre .room) .whole)
 
@@ -77,7 +77,7 @@ shl-exchanged-4 c = search needs
 exchanged-requires-3 : tie.Need-exchanged-requires-3
 exchanged-requires-3 c κs =
     let s = c .before .before .before in
-    rw (read-at (s .args .s) (s .args .at) (s .args .count) (c .before .before .standing-at .ensures) (c .before .take .ensures))
+    rw (read-at (s .args .s) (s .args .at) (s .args .count) (c .before .before .standing-at .ensures) (c .before .take .ensures .same))
     (in-high (s .args .s .low) (s .args .s .high) (s .args .at) (s .args .count) (s .args .value) (search needs) (search needs) (s .pre .fits) (omega arith) (s .pre .room) .high)
 
 returns-2 : tie.Need-returns-2
@@ -85,7 +85,7 @@ unfolding held
 returns-2 c =
     let s = c .before .before .before .before in
     let e =
-    read-at (s .args .s) (s .args .at) (s .args .count) (c .before .before .before .standing-at .ensures) (c .before .before .take .ensures) in
+    read-at (s .args .s) (s .args .at) (s .args .count) (c .before .before .before .standing-at .ensures) (c .before .before .take .ensures .same) in
     rw (c .exchanged3 .ensures, e)
     (in-high (s .args .s .low) (s .args .s .high) (s .args .at) (s .args .count) (s .args .value) (search needs) (search needs) (s .pre .fits) (omega arith) (s .pre .room) .whole)
 

@@ -31,7 +31,7 @@ word c = search needs
 
 halves : (c : tie.After-new) → below 16 (λ i. ltb (getD (c .before .args .indexes) i 0) (2 ^ c .before .args .width))
     ≡ both (octetTest (c .before .args .width) (c .new .result .low)) (octetTest (c .before .args .width) (c .new .result .high))
-halves c = halves-test _ (sixteen (c .before)) (c .new .result) (c .new .ensures .0) (word c)
+halves c = halves-test _ (sixteen (c .before)) (c .new .result) (c .new .ensures .of) (word c)
 
 new-requires : tie.Need-new-requires
 new-requires c κs = search needs

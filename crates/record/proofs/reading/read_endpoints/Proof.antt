@@ -21,7 +21,7 @@ mul-take-2 c = omega (arith, small (c .before .before .before .before .before .p
 take-requires-2 : tie.Need-take-requires-2
 take-requires-2 c κs =
     let b = small (c .before .before .before .before .before .pre .of-mode) .colours in
-    (omega (arith, b), rw (c .before .before .take .ensures) (omega (arith, b, c .before .before .before .before .before .pre .within)))
+    (omega (arith, b), rw (c .before .before .take .ensures .same) (omega (arith, b, c .before .before .before .before .before .pre .within)))
 
 mul-take-3 : tie.Need-mul-take-3
 mul-take-3 c = omega (arith, small (c .before .before .before .before .before .before .before .before .pre .of-mode) .colours)
@@ -30,7 +30,7 @@ take-requires-3 : tie.Need-take-requires-3
 take-requires-3 c κs =
     let b = small (c .before .before .before .before .before .before .before .before .pre .of-mode) .colours in (
       omega (arith, b),
-      rw (c .before .before .take2 .ensures, c .before .before .before .before .before .take .ensures)
+      rw (c .before .before .take2 .ensures .same, c .before .before .before .before .before .take .ensures .same)
           (omega (arith, b, c .before .before .before .before .before .before .before .before .pre .within)),
     )
 
@@ -42,10 +42,10 @@ take-requires-4 c κs =
     let b = small (c .before .before .before .before .before .before .before .before .before .before .before .pre .of-mode) in (
       omega (arith, b .alphas),
       rw (
-        c .before .before .take3 .ensures,
-        c .before .before .before .before .before .take2 .ensures,
+        c .before .before .take3 .ensures .same,
+        c .before .before .before .before .before .take2 .ensures .same,
         c .before .before
-            .before .before .before .before .before .before .take .ensures,
+            .before .before .before .before .before .before .take .ensures .same,
       )
           (omega (arith, b .colours, b .alphas, c .before .before .before .before .before .before .before .before .before .before .before .pre .within)),
     )
@@ -55,9 +55,9 @@ endpoints-of-requires c κs = c .before .before .before .before .before .before 
 
 returns : tie.Need-returns
 returns c =
-    endpoints-read _ _ (c .before .before .before .before .before .before .before .before .before .before .before .take .ensures)
-    (c .before .before .before .before .before .before .before .before .take2 .ensures) (c .before .before .before .before .before .take3 .ensures)
-    (c .before .before .take4 .ensures) (c .endpoints-of .ensures)
+    endpoints-read _ _ (c .before .before .before .before .before .before .before .before .before .before .before .take .ensures .same)
+    (c .before .before .before .before .before .before .before .before .take2 .ensures .same) (c .before .before .before .before .before .take3 .ensures .same)
+    (c .before .before .take4 .ensures .same) (c .endpoints-of .ensures)
 
 pub read-endpoints-spec : {M : Type 1} → statement M
 read-endpoints-spec =

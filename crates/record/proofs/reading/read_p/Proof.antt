@@ -33,7 +33,7 @@ part-of-requires-6 c κs = search needs
 
 returns : tie.Need-returns
 returns c =
-    p-read _ _ (c .before .before .before .before .before .before .before .take .ensures)
+    p-read _ _ (c .before .before .before .before .before .before .before .take .ensures .same)
     (c .before .before .before .before .before .part-of .ensures) (c .before .before .before .before .part-of2 .ensures)
     (c .before .before .before .part-of3 .ensures) (c .before .before .part-of4 .ensures) (c .before .part-of5 .ensures) (c .part-of6 .ensures)
 

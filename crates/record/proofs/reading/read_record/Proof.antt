@@ -32,7 +32,7 @@ of-mode : (s : tie.Start) → OfMode (s .args .row)
 of-mode s = record { mode = _; low = s .pre .low; is = s .pre .row-is }
 
 behind : (c : tie.After-skip) → On (number (c .before .before .args .block)) (c .before .before .args .mode + 1) (c .skip .result)
-behind c = marker-on _ (c .before .new .ensures .0) (c .before .new .ensures .1) (c .skip .ensures)
+behind c = marker-on _ (c .before .new .ensures .of) (c .before .new .ensures .stands) (c .skip .ensures)
 
 split-of : (c : tie.After-read-split)
     → c .read-split .result .split ≡ splitAt (c .before .before .before .args .mode) (number (c .before .before .before .args .block))

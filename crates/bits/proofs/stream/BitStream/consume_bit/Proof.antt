@@ -1,5 +1,6 @@
 -- `BitStream::consume_bit` meets its contract.
 -- Assumes nothing.
+use mathlib.Core.Path.{refl}
 use native.Mathlib.Omega.{arith}
 use borrow.Author.Needs.{needs}
 use Rattle.bcn_format.specs.Block.{field}
@@ -16,7 +17,7 @@ skip-requires c κs = search needs
 
 returns : tie.Need-returns
 unfolding held field
-returns c = rw (c .before .window .ensures, c .skip .ensures, low-window _ 1 (omega arith))
+returns c = record { same = rw (c .before .window .ensures, c .skip .ensures, low-window _ 1 (omega arith)); moved = rw (c .skip .ensures) refl }
 
 pub consume-bit-spec : {M : Type 1} → statement M
 consume-bit-spec = tie.close (tie.spec window-requires skip-requires returns)

@@ -5,6 +5,7 @@ use mathlib.Core.Path.{_≡_}
 use borrow.Author.Needs.{needs}
 use Rattle.bcn_format.specs.Block.{field}
 use Rattle.bits.specs.Stream.{held}
+use Rattle.bits.proofs.On.{taken-64}
 use Rattle.bits.proofs.stream.BitStream.consume_bits_64.Statement.{statement}
 use Rattle.bits.proofs.stream.BitStream.consume_bits_64.Tie as tie
 
@@ -25,7 +26,7 @@ unfolding held field
 returns-2 c =
     let s = c .before .before .before in
     let all : s .args .count ≡ 64 = omega arith in
-    rw (c .before .window .ensures, c .skip .ensures, all)
+    taken-64 (s .args .self) (s .args .count) (rw (c .before .window .ensures, c .skip .ensures, all))
 
 pub consume-bits-64-spec : {M : Type 1} → statement M
 consume-bits-64-spec =

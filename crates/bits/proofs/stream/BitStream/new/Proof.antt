@@ -66,7 +66,7 @@ returns : tie.Need-returns
 unfolding held
 returns c =
     let words = ap₂ (λ (low high : ℕ). high * 2 ^ 64 + low) (c .before .word .ensures) (c .word2 .ensures) in
-    (words ∙ number-words (c .before .before .args .t1), search needs)
+    record { of = words ∙ number-words (c .before .before .args .t1); stands = search needs }
 
 pub new-spec : {M : Type 1} → statement M
 new-spec =

@@ -4,6 +4,7 @@ use lib.Pow.{pow-pos}
 use borrow.Author.Needs.{needs}
 use Rattle.bcn_format.specs.Block.{field}
 use Rattle.bits.specs.Stream.{held}
+use Rattle.bits.proofs.On.{taken-64}
 use Rattle.laws.proofs.Words.{one-shl, rem-window}
 use Rattle.bits.proofs.stream.BitStream.take.Statement.{statement}
 use Rattle.bits.proofs.stream.BitStream.take.Tie as tie
@@ -22,7 +23,9 @@ skip-requires c κs = search needs
 
 returns : tie.Need-returns
 unfolding held field
-returns c = rw (c .before .window .ensures, c .skip .ensures, rem-window _ (c .before .before .args .count) (c .before .before .pre .0))
+returns c =
+    let s = c .before .before in
+    taken-64 (s .args .self) (s .args .count) (rw (c .before .window .ensures, c .skip .ensures, rem-window _ (s .args .count) (s .pre .0)))
 
 pub take-spec : {M : Type 1} → statement M
 take-spec = tie.close (tie.spec window-requires shl-bits rem-bits skip-requires returns)

@@ -2,8 +2,8 @@
 -- Assumes nothing.
 use mathlib.Core.Path.{refl}
 use borrow.Author.Needs.{needs}
-use Rattle.bc7_reads.proofs.indexes_2.Statement.{statement}
-use Rattle.bc7_reads.proofs.indexes_2.Tie as tie
+use Rattle.bc7_subsets.proofs.two.indexes_2.Statement.{statement}
+use Rattle.bc7_subsets.proofs.two.indexes_2.Tie as tie
 
 cast-new-p2 : tie.Need-cast-new-p2
 cast-new-p2 c = search needs

@@ -2,8 +2,8 @@
 -- Assumes nothing.
 use mathlib.Core.Path.{refl}
 use borrow.Author.Needs.{needs}
-use Rattle.bc7_reads.proofs.indexes_3.Statement.{statement}
-use Rattle.bc7_reads.proofs.indexes_3.Tie as tie
+use Rattle.bc7_subsets.proofs.three.indexes_3.Statement.{statement}
+use Rattle.bc7_subsets.proofs.three.indexes_3.Tie as tie
 
 cast-second : tie.Need-cast-second
 cast-second c = search needs

@@ -10,35 +10,36 @@ use Rattle.bcn_format.specs.Block.{field}
 use Rattle.bc7_format.specs.Modes.{endpointCount, kindOfMode, modeRow}
 use Rattle.bc7_format.specs.Splits.{splitAt}
 use Rattle.bits.specs.Stream.{held}
-use Rattle.bits.proofs.On.{On, got-on, got-v, next-is}
-use Rattle.bcn_format.specs.Indexes.{expanded, part}
+use Rattle.bits.proofs.On.{On, got-64, on-64}
+use Rattle.bcn_format.specs.Indexes.{part}
+use Rattle.indexes.proofs.Reading.{got-indexes}
 use Rattle.bc7_format.specs.Fields.{endByte, headEnd, pStart, valueStart}
 use Rattle.bcn_format.specs.Painting.{four, between, painted}
 use Rattle.bc7_format.proofs.Pictures.{drawn-each, four-ext, one-palette}
 use Rattle.drawing.specs.Words.{endpoint, withP}
 use Rattle.drawing.proofs.color.Words.{endpoint-one}
-use Rattle.bc7_reads.proofs.Reading.{clear-p-shown, two-ps}
-use Rattle.bc7_reads.proofs.Whole.{whole-keys}
-use Rattle.bc7.proofs.mode_6.Statement.{statement}
-use Rattle.bc7.proofs.mode_6.Tie as tie
+use Rattle.bc7_format.proofs.Ends.{clear-p-shown, two-ps}
+use Rattle.bc7_unsplit.proofs.Laws.{whole-keys}
+use Rattle.bc7_unsplit.proofs.mode_6.Statement.{statement}
+use Rattle.bc7_unsplit.proofs.mode_6.Tie as tie
 
-values-1-requires : tie.Need-values-1-requires
-values-1-requires c κs = search needs
+take-requires : tie.Need-take-requires
+take-requires c κs = search needs
 
-values-1-requires-2 : tie.Need-values-1-requires-2
-values-1-requires-2 c κs = search needs
+take-requires-2 : tie.Need-take-requires-2
+take-requires-2 c κs = search needs
 
-values-1-requires-3 : tie.Need-values-1-requires-3
-values-1-requires-3 c κs = search needs
+take-requires-3 : tie.Need-take-requires-3
+take-requires-3 c κs = search needs
 
-values-1-requires-4 : tie.Need-values-1-requires-4
-values-1-requires-4 c κs = search needs
+take-requires-4 : tie.Need-take-requires-4
+take-requires-4 c κs = search needs
 
-values-1-requires-5 : tie.Need-values-1-requires-5
-values-1-requires-5 c κs = search needs
+take-requires-5 : tie.Need-take-requires-5
+take-requires-5 c κs = search needs
 
-indexes-1-requires : tie.Need-indexes-1-requires
-indexes-1-requires c κs = search needs
+new-p1-requires : tie.Need-new-p1-requires
+new-p1-requires c κs = search needs
 
 alone-p-requires : tie.Need-alone-p-requires
 alone-p-requires c κs = search needs
@@ -59,39 +60,39 @@ returns c =
     let s = r .before in
     let n = held (s .args .stream) in
     let on-r : On n 7 (s .args .stream) = record { of = refl; stands = s .pre } in
-    let on-g = got-on on-r 14 (r .values-1 .ensures .same) in
-    let on-b = got-on on-g 14 (g .values-12 .ensures .same) in
-    let on-a = got-on on-b 14 (b .values-13 .ensures .same) in
-    let on-p = got-on on-a 14 (a .values-14 .ensures .same) in
-    let on-x = got-on on-p 2 (p .values-15 .ensures .same) in
+    let on-g = on-64 on-r 14 (r .take .ensures .same) in
+    let on-b = on-64 on-g 14 (g .take2 .ensures .same) in
+    let on-a = on-64 on-b 14 (b .take3 .ensures .same) in
+    let on-p = on-64 on-a 14 (a .take4 .ensures .same) in
+    let on-x = on-64 on-p 2 (p .take5 .ensures .same) in
     let shown =
     clear-p-shown 6 n {l = 0} refl
     (record {
-      red = got-v on-r 14 (r .values-1 .ensures .same);
-      green = got-v on-g 14 (g .values-12 .ensures .same);
-      blue = got-v on-b 14
-          (b .values-13 .ensures .same);
+      red = got-64 on-r 14 (r .take .ensures .same);
+      green = got-64 on-g 14 (g .take2 .ensures .same);
+      blue = got-64 on-b 14
+          (b .take3 .ensures .same);
     })
-    refl (two-ps 6 n 0 refl (got-v on-p 2 (p .values-15 .ensures .same))) refl (got-v on-a 14 (a .values-14 .ensures .same)) in
+    refl (two-ps 6 n 0 refl (got-64 on-p 2 (p .take5 .ensures .same))) refl (got-64 on-a 14 (a .take4 .ensures .same)) in
     let end : (k : ℕ) → k < 2 → endpoint (c .before .alone-p .result) 0 k ≡ four (endByte 6 n (2 * 0 + k)) =
     λ k hk. endpoint-one (withP 7 _) (ends .each) (ends .same) k hk ∙ four-ext _ _ (λ c hc. shown k c hk hc) in
     c .mix-16 .ensures
     ∙ drawn-each 4 _ _ _
     ∙ ap (λ (y : ℕ). painted (part y 4)
-    (table 16 (between 4 (endpoint (c .before .alone-p .result) 0 0) (endpoint (c .before .alone-p .result) 0 1)))) (x .indexes-1 .ensures ∙ ap
-    (expanded 4 (0 ∷ [])) (next-is on-x 63))
+    (table 16 (between 4 (endpoint (c .before .alone-p .result) 0 0) (endpoint (c .before .alone-p .result) 0 1))))
+    (got-indexes on-x 4 (0 ∷ []) 63 (x .new-p1 .ensures))
     ∙ whole-keys 6 n 4 (omega arith) refl (omega arith) refl (one-palette 6 n 4 (end 0 (omega arith)) (end 1 (omega arith)))
 
 pub mode-6-spec : {M : Type 1} → statement M
 mode-6-spec =
     tie.close
     (tie.spec
-    values-1-requires
-    values-1-requires-2
-    values-1-requires-3
-    values-1-requires-4
-    values-1-requires-5
-    indexes-1-requires
+    take-requires
+    take-requires-2
+    take-requires-3
+    take-requires-4
+    take-requires-5
+    new-p1-requires
     alone-p-requires
     mix-16-requires
     returns)

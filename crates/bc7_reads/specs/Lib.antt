@@ -1,2 +1,0 @@
--- The definitions that the contracts cite, beside those of the crates below.
-pub mod Taken

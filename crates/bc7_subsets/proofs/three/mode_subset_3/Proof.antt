@@ -1,0 +1,27 @@
+-- `mode_subset_3`: what the function of the mode shows.
+-- Assumes nothing.
+use mathlib.Core.Path.{_≡_}
+use native.Mathlib.Omega.{arith}
+use borrow.Author.Needs.{needs}
+use Rattle.bc7_subsets.proofs.Laws.{last-of-2}
+use Rattle.bc7_subsets.proofs.three.mode_subset_3.Statement.{statement}
+use Rattle.bc7_subsets.proofs.three.mode_subset_3.Tie as tie
+
+-- behind the other arms
+the-last : (c : tie.At-match-rest) → c .before .args .mode ≡ 2
+the-last c = last-of-2 _ 0 2 (c .before .pre .0) (c .match .rest .1)
+
+mode-0-requires : tie.Need-mode-0-requires
+mode-0-requires c κs = search needs
+
+mode-2-requires : tie.Need-mode-2-requires
+mode-2-requires c κs = omega (arith, the-last c)
+
+returns : tie.Need-returns
+returns c = rw (c .before .match .keys1) (c .mode-0 .ensures)
+
+returns-2 : tie.Need-returns-2
+returns-2 c = rw (the-last (c .before)) (c .mode-2 .ensures)
+
+pub mode-subset-3-spec : {M : Type 1} → statement M
+mode-subset-3-spec = tie.close (tie.spec mode-0-requires mode-2-requires returns returns-2)
