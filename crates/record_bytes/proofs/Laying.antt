@@ -1,22 +1,24 @@
 -- Rows of bytes made of arrays laid one behind the other.
 -- Assumes nothing.
-use mathlib.Core.Path.{_≡_, refl, ap, subst, sym}
-use mathlib.Core.List.{List}
+use mathlib.Core.Path.{_≡_, refl, ap, subst, sym, _∙_}
+use mathlib.Core.List.{List, _++_, append-nil}
 use Prim.Native.Nat.{ℕ, _+_, _-_, _<_, _≤_}
-use native.Mathlib.Nat.{zero-add}
+use native.Mathlib.Nat.{zero-add, le-of-eq, le-refl}
 use native.Mathlib.Omega.{arith}
 use borrow.Author.Tests.{lt-ltb, le-ltb}
 use lib.Dec.{lit<}
-use lib.ListN.{length, getD, set}
+use lib.ListN.{length, getD, set, take, drop, drop-of-length-le, length-drop}
 use Rattle.line_rules.specs.declared.Replacement.{Replacement}
 use Rattle.record_rules.specs.declared.Record.{Record}
 use Rattle.laws.specs.Tables.{over}
 use Rattle.laws.proofs.Filled.{Filled, filled-next, filled-none}
-use Rattle.laws.proofs.Over.{filled-run}
+use Rattle.laws.proofs.Over.{filled-run, over-spliced}
 use Rattle.bc7_format.specs.Splits.{indexMode, kindOf}
 use Rattle.line_rules.specs.Read.{valueAt}
-use Rattle.record_bytes.specs.Wire.{recordByte, splitByte}
+use Rattle.record_bytes.specs.Wire.{recordByte, splitByte, bytesFrom}
 use Rattle.bc7_format.specs.Places.{valuesFrom, psFrom, firstFrom, secondFrom, placeCount}
+use lib.Seq.{drop-drop, drop-length, getD-drop, getD-take, length-take-le, take-all, ext-getD}
+use Rattle.laws.proofs.Part.{getD-table, length-table}
 
 -- i places behind o
 pub behind : (o i : ℕ) (xs : List ℕ) → getD xs (o + i - o) 0 ≡ getD xs i 0
@@ -69,3 +71,27 @@ module _ (r : Record) (i : ℕ) where
   unfolding recordByte
   second-at h =
       rw (le-ltb (secondFrom + i) valuesFrom (omega arith), le-ltb (secondFrom + i) psFrom (omega arith), le-ltb (secondFrom + i) firstFrom (omega arith), le-ltb (secondFrom + i) secondFrom (omega arith)) (behind secondFrom i (r .second))
+
+-- a part of a list that is copied into a list of its length
+pub copied-part : (bs vs : List ℕ) (at : ℕ) → at + length vs ≤ length bs
+    → take (length (take (at + length vs - at) (drop at bs))) (take (at + length vs - at) (drop at bs)) ++ drop (length (take (at + length vs - at) (drop at bs))) vs
+    ≡ bytesFrom bs at (length vs)
+copied-part bs vs at h =
+    let n : ℕ = length vs in
+    let e : at + n - at ≡ n = omega arith in
+    let long : length (take n (drop at bs)) ≡ n = length-take-le n (drop at bs) (omega (arith, length-drop at bs)) in
+    rw (e, long, drop-length vs, take-all n (take n (drop at bs)) (le-of-eq long))
+    (append-nil (take n (drop at bs))
+    ∙ ext-getD 0 _ _ (long ∙ sym (length-table n _)) (λ i l.
+    let l' : i < n = rw long at l in
+    getD-take n (drop at bs) i 0 l' ∙ getD-drop at bs i 0 ∙ sym (getD-table n (λ j. getD bs (at + j) 0) 0 i l')))
+
+-- a list copied over the rest of another, from a place on
+pub copied-over : (l vs : List ℕ) (at : ℕ) → at + length vs ≤ length l
+    → take at l ++ ((take (length vs) vs ++ drop (length vs) (take (length l - at) (drop at l))) ++ drop (length l - at) (drop at l))
+    ≡ over l at (length vs) (λ i. getD vs i 0)
+copied-over l vs at h =
+    let m : ℕ = length l - at in
+    let rest : length (drop at l) ≡ m = length-drop at l in
+    rw (take-all m (drop at l) (le-of-eq rest), drop-of-length-le (drop at l) {i = m} (le-of-eq rest), drop-drop (length vs) at l, append-nil (take (length vs) vs ++ drop (at + length vs) l))
+    (sym (over-spliced l vs at (length vs) 0 h (le-refl (length vs))))

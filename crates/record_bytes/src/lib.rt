@@ -37,13 +37,11 @@ fn split_byte(split: Split) -> u8
 }
 
 // Bytes laid over others from a place on.
-fn lay(values: &[u8], at: usize, bytes: &mut [u8])
-    requires { ⌜ at + length (now values) ≤ length (now bytes) ⌝ }
-    ensures { λ _. ⌜ now (bytes .exit) ≡ over (now (bytes .entry)) at (length (now (values .entry))) (λ i. getD (now (values .entry)) i 0) ⌝ }
+fn lay(values: &[u8], at: usize, into: &mut [u8])
+    requires { ⌜ at + length (now values) ≤ length (now into) ⌝ }
+    ensures { λ _. ⌜ now (into .exit) ≡ over (now (into .entry)) at (length (now (values .entry))) (λ i. getD (now (values .entry)) i 0) ⌝ }
 {
-    for i in 0..values.len() {
-        bytes[at + i] = values[i];
-    }
+    bytes::copy(values, &mut into[at..]);
 }
 
 // The bytes of a record.
@@ -68,13 +66,12 @@ pub fn record_bytes(from: Record) -> [u8; PLACES]
 }
 
 // The bytes from a place on, as many as there is room for.
-fn copy_from(bytes: &[u8], at: usize, values: &mut [u8])
-    requires { ⌜ at + length (now values) ≤ length (now bytes) ⌝ }
-    ensures { λ _. ⌜ now (values .exit) ≡ bytesFrom (now (bytes .entry)) at (length (now (values .entry))) ⌝ }
+fn copy_from(from: &[u8], at: usize, values: &mut [u8])
+    requires { ⌜ at + length (now values) ≤ length (now from) ⌝ }
+    ensures { λ _. ⌜ now (values .exit) ≡ bytesFrom (now (from .entry)) at (length (now (values .entry))) ⌝ }
 {
-    for i in 0..values.len() {
-        values[i] = bytes[at + i];
-    }
+    let end = at + values.len();
+    bytes::copy(&from[at..end], values);
 }
 
 // The record of 66 bytes. A kind above 3 is read as 3: `pack_bytes` refuses it before.

@@ -1,20 +1,21 @@
 -- Words of four lanes: masks, sums and products that work on each lane by itself.
 -- Assumes nothing.
-use mathlib.Core.Path.{_≡_, refl, sym, ap, ap₂, _∙_, subst}
+use mathlib.Core.Path.{_≡_, refl, sym, ap, ap₂, _∙_}
 use mathlib.Core.Bool.{Bool, true, false}
 use mathlib.Core.List.{List, [], _∷_, map, zipWith}
 use Prim.Native.Nat.{ℕ, zero, suc, _+_, _-_, _*_, _/_, _%_, _^_, _≤_, _<_}
-use native.Mathlib.Nat.{div-one, le-of-suc-le-suc, lt-of-lt-of-le, mod-eq-of-lt, mod-lt, mul-comm, mul-le-mul-left, mul-one, mul-zero, one-mul, zero-div, zero-lt-suc, zero-mod}
+use native.Mathlib.Nat.{add-comm, div-one, le-of-suc-le-suc, lt-of-lt-of-le, mod-eq-of-lt, mod-lt, mul-comm, mul-le-mul-left, mul-one, mul-zero, one-mul, zero-div, zero-lt-suc, zero-mod}
 use native.Mathlib.Omega.{arith}
 use lib.Bits.{bitAnd}
 use lib.Dec.{eqb}
 use lib.ListN.{getD, replicate}
-use lib.Pow.{high, low, ones-lt, ones-split, pow-add, pow-mono, pow-pos}
-use Rattle.laws.specs.Digits.{Fit, more, none, split}
-use Rattle.laws.specs.Tables.{pick}
+use lib.Pow.{field as pow-field, high, low, mod-mod-pow, ones-lt, ones-split, pow-add, pow-mono, pow-pos, shr-shr}
+use Rattle.laws.specs.Digits.{Fit, join, more, none, row}
+use Rattle.laws.specs.Tables.{pick, table, tableFrom}
 use Rattle.laws.proofs.Cases.{pick-lt}
 use Rattle.laws.proofs.Digits.{join-lt, join-split, split-fits, split-join}
-use Rattle.laws.proofs.Lanes.{Within, lanes, mask-parts, more as more-within, none as none-within, onesIn, scale}
+use Rattle.laws.proofs.Lanes.{lanes, scale}
+use Rattle.laws.proofs.EqualRows.{row-mask}
 use Rattle.bcn_format.specs.Block.{field}
 use Rattle.bcn_format.specs.Drawing.{promoted}
 use Rattle.drawing.specs.declared.color.Ends.{Ends}
@@ -64,20 +65,31 @@ pub lanes-le : (n : ℕ) {x : ℕ} → n ≤ 8 → x < 2 ^ 64 → Lanes n x → 
 lanes-le n h hx small = rw (laned-lanes hx) at (bytes-le (wider 4 n 8 h small))
 
 -- part of each lane: a shift and a mask
-module _ (x at bits : ℕ) (room : at + bits ≤ 16) (hx : x < 2 ^ 64) where
+module _ (x at bits : ℕ) (room : at + bits ≤ 16) where
+  -- what the shifted word has at a lane, whose value is y, are bits of that lane alone
+  lane : (y s : ℕ) → x / 2 ^ s ≡ y → x / 2 ^ at / 2 ^ s % 2 ^ bits ≡ y % 2 ^ 16 / 2 ^ at % 2 ^ bits
+  lane y s e =
+      let above : 16 ≡ 16 - at + at = omega arith in
+      let over : 16 - at ≡ 16 - (at + bits) + bits = omega arith in
+      ap (λ (z : ℕ). z % 2 ^ bits) (shr-shr x at s ∙ ap (λ (t : ℕ). x / 2 ^ t) (add-comm at s) ∙ sym (shr-shr x s at) ∙ ap (λ (z : ℕ). z / 2 ^ at) e)
+      ∙ sym (mod-mod-pow (y / 2 ^ at) (16 - (at + bits)) bits)
+      ∙ ap (λ (t : ℕ). y / 2 ^ at % 2 ^ t % 2 ^ bits) (sym over)
+      ∙ ap (λ (z : ℕ). z % 2 ^ bits) (sym (pow-field y (16 - at) at))
+      ∙ ap (λ (t : ℕ). y % 2 ^ t / 2 ^ at % 2 ^ bits) (sym above)
+
   pub and-parts : bitAnd (x / 2 ^ at) (0x0001_0001_0001_0001 * (2 ^ bits - 1)) ≡ laned (map (λ v. field v at bits) (lanesOf x))
-  unfolding laned lanesOf field
+  unfolding laned lanesOf field row table tableFrom
   and-parts =
-      let e : 16 - (at + bits) + (bits + at) ≡ 16 = omega arith in
-      let ds : List ℕ = split (replicate 4 16) x in
-      let all : Within 16 ds =
-      more-within (mod-lt x (pow-pos 16))
-      (more-within (mod-lt _ (pow-pos 16)) (more-within (mod-lt _ (pow-pos 16)) (more-within (mod-lt _ (pow-pos 16)) none-within))) in
-      let ones : 0x0001_0001_0001_0001 * (2 ^ bits - 1) ≡ onesIn 16 bits ds = omega arith in
-      ap (λ (m : ℕ). bitAnd (x / 2 ^ at) m) ones
-      ∙ ap (λ (y : ℕ). bitAnd (y / 2 ^ at) (onesIn 16 bits ds)) (sym (laned-lanes hx))
-      ∙ subst (λ (k : ℕ). Within k ds → bitAnd (lanes k ds / 2 ^ at) (onesIn k bits ds) ≡ lanes k (map (λ d. d / 2 ^ at % 2 ^ bits) ds)) e
-      (mask-parts (16 - (at + bits)) at bits) all
+      let ones : 0x0001_0001_0001_0001 * (2 ^ bits - 1) ≡ row 4 16 (λ i. 2 ^ bits - 1) = omega arith in
+      ap (bitAnd (x / 2 ^ at)) ones
+      ∙ row-mask 4 16 bits (omega arith) (x / 2 ^ at)
+      ∙
+      (λ j. join (replicate 4 16) (
+      lane x 0 (div-one x) j ∷
+      lane (x / 2 ^ 16) 16 refl j ∷
+      lane (x / 2 ^ 16 / 2 ^ 16) 32 (sym (shr-shr x 16 16)) j ∷
+      lane (x / 2 ^ 16 / 2 ^ 16 / 2 ^ 16) 48 (sym (ap (λ (z : ℕ). z / 2 ^ 16) (shr-shr x 16 16) ∙ shr-shr x 32 16)) j ∷
+      []))
 
 -- and the lanes of what is left
 pub lanes-16 : (x : ℕ) → Lanes 16 x

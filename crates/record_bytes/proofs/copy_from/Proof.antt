@@ -1,58 +1,32 @@
--- `copy_from`: what is copied so far stands at its place.
+-- `copy_from` meets its contract.
 -- Assumes nothing.
-use mathlib.Core.Path.{refl}
-use Prim.Native.Nat.{_+_, _-_, _≤_}
-use native.Mathlib.Omega.{arith}
-use lib.ListN.{length, getD}
-use Rattle.laws.proofs.Filled.{Filled, filled-all, filled-next, filled-none}
+use borrow.Author.Needs.{needs}
+use Rattle.record_bytes.proofs.Laying.{copied-part}
 use Rattle.record_bytes.proofs.copy_from.Statement.{statement}
 use Rattle.record_bytes.proofs.copy_from.Tie as tie
 
-abbrev Inv-loop : tie.InvT-loop
-Inv-loop bytes at values₀ i₀ i-end values i = (i ≤ i-end) × Filled (length values₀) 0 (λ k. getD bytes (at + k) 0) i values
+add-end : tie.Need-add-end
+add-end c = search needs
 
-abbrev μ-loop : tie.MeasureT-loop
-μ-loop bytes at values₀ i₀ i-end values i = i-end - i
+sub-copy : tie.Need-sub-copy
+sub-copy c = search needs
 
-loop-holds : tie.Need-loop-holds Inv-loop μ-loop
-loop-holds c = (omega arith, filled-none refl)
+part-copy-start : tie.Need-part-copy-start
+part-copy-start c = search needs
 
-add-values : tie.Need-add-values Inv-loop μ-loop
-add-values c = omega arith
+part-copy-end : tie.Need-part-copy-end
+part-copy-end c = search needs
 
-shared-slice-read-values : tie.Need-shared-slice-read-values Inv-loop μ-loop
-shared-slice-read-values c = omega arith
+copy-requires : tie.Need-copy-requires
+copy-requires c κs = search needs
 
-slice-write-values : tie.Need-slice-write-values Inv-loop μ-loop
-slice-write-values c = omega (arith, c .before .before .loop .inv .1 .long)
+same-length : tie.Need-same-length
+same-length c = search needs
 
-add-i : tie.Need-add-i Inv-loop μ-loop
-add-i c = omega arith
-
-loop-less : tie.Need-loop-less Inv-loop μ-loop
-loop-less c = omega arith
-
-loop-again : tie.Need-loop-again Inv-loop μ-loop
-loop-again c = (omega arith, filled-next (c .before .before .loop .i) _ (c .before .before .loop .inv .1) (omega arith) refl)
-
-same-length : tie.Need-same-length Inv-loop μ-loop
-same-length c = c .before .loop .inv .1 .long
-
-returns : tie.Need-returns Inv-loop μ-loop
-returns c = filled-all (c .before .loop .inv .1) (omega arith)
+returns : tie.Need-returns
+returns c =
+    let s = c .before .before .before .before .before .before .before in
+    rw (c .before .before .copy .ensures .1) (copied-part (s .args .from .now) (s .args .values .now) (s .args .at) (s .pre))
 
 pub copy-from-spec : {M : Type 1} → statement M
-copy-from-spec =
-    tie.close
-    (tie.spec
-    Inv-loop
-    μ-loop
-    loop-holds
-    add-values
-    shared-slice-read-values
-    slice-write-values
-    add-i
-    loop-less
-    loop-again
-    same-length
-    returns)
+copy-from-spec = tie.close (tie.spec add-end sub-copy part-copy-start part-copy-end copy-requires same-length returns)

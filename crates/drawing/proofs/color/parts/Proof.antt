@@ -21,7 +21,7 @@ mul-result : tie.Need-mul-result
 mul-result c = rw (one-shl (c .args .bits) (omega arith)) (omega (arith, pow-mono {i = c .args .bits} {j = 16} (omega arith)))
 
 returns : tie.Need-returns
-returns c = rw (one-shl (c .args .bits) (omega arith)) (and-parts (c .args .x) (c .args .at) (c .args .bits) (c .pre) (search needs))
+returns c = rw (one-shl (c .args .bits) (omega arith)) (and-parts (c .args .x) (c .args .at) (c .args .bits) (c .pre))
 
 pub parts-spec : {M : Type 1} → statement M
 parts-spec = tie.close (tie.spec shr-result shl-result sub-result mul-result returns)
