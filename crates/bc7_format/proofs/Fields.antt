@@ -95,15 +95,18 @@ module _ (m : ℕ) (s : Split) (a : ℕ) (ha : a < 2) where
   unfolding table tableFrom
   begins zero h = omega arith
   begins (suc q) h =
-      let next : start m s (suc (firstFrom + (16 * a + q))) ≡ start m s (firstFrom + (16 * a + q)) + width m (anchors s) (placeAt (firstFrom + (16 * a + q))) = start-next m s (firstFrom + (16 * a + q)) (omega arith) in
+      let next : start m s (suc (firstFrom + (16 * a + q))) ≡ start m s (firstFrom + (16 * a + q)) + width m (anchors s) (placeAt (firstFrom + (16 * a + q))) =
+      start-next m s (firstFrom + (16 * a + q)) (omega arith) in
       let before : start m s (firstFrom + (16 * a + q)) ≡ start m s (firstFrom + (16 * a + 0)) + total (table q wide) = begins q (omega arith) in
       let e : firstFrom + (16 * a + suc q) ≡ suc (firstFrom + (16 * a + q)) = omega arith in
       ap (start m s) e
-      ∙ (let z : start m s (suc (firstFrom + (16 * a + q))) ≡ start m s (firstFrom + (16 * a + 0)) + total (table (suc q) wide) = omega (arith, wide-is q h, total-more q wide) in z)
+      ∙ (let z : start m s (suc (firstFrom + (16 * a + q))) ≡ start m s (firstFrom + (16 * a + 0)) + total (table (suc q) wide) =
+      omega (arith, wide-is q h, total-more q wide) in z)
 
   -- a word of indexes, read whole and expanded
   pub index-at : (n q : ℕ) → q < 16
-      → part (expanded (indexBits m a) (anchors s) (field n (start m s (firstFrom + (16 * a + 0))) (total (indexWidths (indexBits m a) (anchors s))))) (indexBits m a) q ≡ atPlace m s n (index a q)
+      → part (expanded (indexBits m a) (anchors s) (field n (start m s (firstFrom + (16 * a + 0))) (total (indexWidths (indexBits m a) (anchors s)))))
+      (indexBits m a) q ≡ atPlace m s n (index a q)
   unfolding field expanded pos width
   index-at n q hq =
       let w : ℕ = indexBits m a in

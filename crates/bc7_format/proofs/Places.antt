@@ -49,7 +49,8 @@ placeAt-pos (value c e) h =
     let he : e < 6 = ltb→lt e 6 (both-right (ltb c 4) (ltb e 6) h) in
     let i : ℕ = valuesFrom + (6 * c + e) in
     rw (le-ltb (valuesFrom + (6 * c + e)) valuesFrom (omega arith), lt-ltb (valuesFrom + (6 * c + e)) psFrom (omega arith))
-    (ap₂ value (let z : (valuesFrom + (6 * c + e) - valuesFrom) / 6 ≡ c = omega arith in z) (let z : (valuesFrom + (6 * c + e) - valuesFrom) % 6 ≡ e = omega arith in z))
+    (ap₂ value (let z : (valuesFrom + (6 * c + e) - valuesFrom) / 6 ≡ c = omega arith in z)
+    (let z : (valuesFrom + (6 * c + e) - valuesFrom) % 6 ≡ e = omega arith in z))
 placeAt-pos (pbit k) h =
     let hk : k < 6 = ltb→lt k 6 h in
     rw (le-ltb (psFrom + k) valuesFrom (omega arith), le-ltb (psFrom + k) psFrom (omega arith), lt-ltb (psFrom + k) firstFrom (omega arith))
@@ -57,8 +58,13 @@ placeAt-pos (pbit k) h =
 placeAt-pos (index a q) h =
     let ha : a < 2 = ltb→lt a 2 (both-left (ltb a 2) (ltb q 16) h) in
     let hq : q < 16 = ltb→lt q 16 (both-right (ltb a 2) (ltb q 16) h) in
-    rw (le-ltb (firstFrom + (16 * a + q)) valuesFrom (omega arith), le-ltb (firstFrom + (16 * a + q)) psFrom (omega arith), le-ltb (firstFrom + (16 * a + q)) firstFrom (omega arith))
-    (ap₂ index (let z : (firstFrom + (16 * a + q) - firstFrom) / 16 ≡ a = omega arith in z) (let z : (firstFrom + (16 * a + q) - firstFrom) % 16 ≡ q = omega arith in z))
+    rw (
+      le-ltb (firstFrom + (16 * a + q)) valuesFrom (omega arith),
+      le-ltb (firstFrom + (16 * a + q)) psFrom (omega arith),
+      le-ltb (firstFrom + (16 * a + q)) firstFrom (omega arith),
+    )
+    (ap₂ index (let z : (firstFrom + (16 * a + q) - firstFrom) / 16 ≡ a = omega arith in z)
+    (let z : (firstFrom + (16 * a + q) - firstFrom) % 16 ≡ q = omega arith in z))
 
 pub pos-placeAt : (i : ℕ) → i < placeCount → pos (placeAt i) ≡ i
 unfolding pos placeAt

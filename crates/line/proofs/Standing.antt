@@ -72,7 +72,8 @@ module _ {m : ℕ} {s : Split} {f : Place → ℕ} (g : WellFormed m s f) (l : �
   unfolding widthsIn widthsOf
   widths-are =
       given-of (widthsOf m s l)
-      (eight (widthsOf m s l .value) (value 0 0 (omega arith) (omega arith)) (value 0 1 (omega arith) (omega arith)) (value 0 2 (omega arith) (omega arith)) (value 0 3 (omega arith) (omega arith))
+      (eight (widthsOf m s l .value) (value 0 0 (omega arith) (omega arith)) (value 0 1 (omega arith) (omega arith))
+      (value 0 2 (omega arith) (omega arith)) (value 0 3 (omega arith) (omega arith))
       (value 1 0 (omega arith) (omega arith)) (value 1 1 (omega arith) (omega arith)) (value 1 2 (omega arith) (omega arith))
       (value 1 3 (omega arith) (omega arith)))
       (two (widthsOf m s l .p) (sym (is .p 0 (omega arith))) (sym (is .p 1 (omega arith))))
@@ -133,13 +134,16 @@ module _ {m : ℕ} {s : Split} {f : Place → ℕ} (g : WellFormed m s f) (l : �
             ∙ ap (λ (b : Bool). start m s (psFrom + pick b l (2 * l + 0))) (sym (ne-eqb m 1 n1))
 
         go : (b : Bool) → eqb m 1 ≡ b
-            → pick b (record { a = field n (at .p + l) 1; b = field n (at .p + l) 1 }) (twoAt n (at .p + 2 * l) (x .p)) ≡ record { a = mine (pPlace m l 0); b = mine (pPlace m l 1) }
+            → pick b (record { a = field n (at .p + l) 1; b = field n (at .p + l) 1 }) (twoAt n (at .p + 2 * l) (x .p))
+            ≡ record { a = mine (pPlace m l 0); b = mine (pPlace m l 1) }
         go true t = ap₂ (λ (y z : ℕ). record { a = y; b = z }) (one t 0 (omega arith)) (one t 1 (omega arith))
         go false t =
             let n1 : m ≢ 1 = eqb-false m 1 t in
             ap₂ (λ (y z : ℕ). record { a = y; b = z })
-            (first-read m s l f n fn (pPlace m l 0) (pPlace m l 1) (x .p) (p-there g l hl 0 (omega arith)) (p-there g l hl 1 (omega arith)) (p-next g l hl n1) (is .p 0 (omega arith)) (is .p 1 (omega arith)) refl refl (at .p + 2 * l) (starts n1))
-            (second-read m s l f n fn (pPlace m l 0) (pPlace m l 1) (x .p) (p-there g l hl 0 (omega arith)) (p-there g l hl 1 (omega arith)) (p-next g l hl n1) (is .p 0 (omega arith)) (is .p 1 (omega arith)) refl refl (at .p + 2 * l) (starts n1))
+            (first-read m s l f n fn (pPlace m l 0) (pPlace m l 1) (x .p) (p-there g l hl 0 (omega arith)) (p-there g l hl 1 (omega arith))
+            (p-next g l hl n1) (is .p 0 (omega arith)) (is .p 1 (omega arith)) refl refl (at .p + 2 * l) (starts n1))
+            (second-read m s l f n fn (pPlace m l 0) (pPlace m l 1) (x .p) (p-there g l hl 0 (omega arith)) (p-there g l hl 1 (omega arith))
+            (p-next g l hl n1) (is .p 0 (omega arith)) (is .p 1 (omega arith)) refl refl (at .p + 2 * l) (starts n1))
 
     -- the indexes
     index-there : (q : ℕ) → q < 16 → T (inside (indexPlace s l q))
@@ -182,7 +186,8 @@ module _ {m : ℕ} {s : Split} {f : Place → ℕ} (g : WellFormed m s f) (l : �
       stands-as-read =
           rw (hq, fields-are, er, ps-are, set-are)
           (given-of (lineOf m s l f)
-          (eight (lineOf m s l f .value) (channel-first 0 (omega arith)) (channel-first 1 (omega arith)) (channel-first 2 (omega arith)) (channel-first 3 (omega arith))
+          (eight (lineOf m s l f .value) (channel-first 0 (omega arith)) (channel-first 1 (omega arith)) (channel-first 2 (omega arith))
+          (channel-first 3 (omega arith))
           (channel-second 0 (omega arith)) (channel-second 1 (omega arith)) (channel-second 2 (omega arith)) (channel-second 3 (omega arith)))
           (two (lineOf m s l f .p) refl refl) refl)
 
@@ -216,4 +221,5 @@ module _ {m : ℕ} {s : Split} {f : Place → ℕ} (g : WellFormed m s f) (l : �
         where
           set-low : start m s (firstFrom + (16 * arrayOf s l + 0)) ≤ 128
           set-low =
-              rw (← (whole-start g)) (start-le m s (firstFrom + (16 * arrayOf s l + 0)) placeCount (omega (arith, array-lt s l (good-index-mode g))) (omega arith))
+              rw (← (whole-start g))
+              (start-le m s (firstFrom + (16 * arrayOf s l + 0)) placeCount (omega (arith, array-lt s l (good-index-mode g))) (omega arith))

@@ -42,7 +42,8 @@ module _ (m : ℕ) (s : Split) (l : ℕ) (ln : Line) where
   pub within-fits : Within m s l ln → lineFits m s l ln ≡ true
   unfolding lineFits valueFits pFits indexFits
   within-fits w =
-      let a = below-intro 2 (λ k. below 4 (valueFits m s l ln k)) (λ k hk. below-intro 4 (valueFits m s l ln k) (λ c hc. lt→ltb _ _ (w .value k c hk hc))) in
+      let a = below-intro 2 (λ k. below 4 (valueFits m s l ln k))
+      (λ k hk. below-intro 4 (valueFits m s l ln k) (λ c hc. lt→ltb _ _ (w .value k c hk hc))) in
       let b = below-intro 2 (pFits m s l ln) (λ k hk. lt→ltb _ _ (w .p k hk)) in
       let c = below-intro 16 (indexFits m s l ln) (λ q hq. lt→ltb _ _ (w .index q hq)) in
       T-true _ (both-intro (below 2 (λ k. below 4 (valueFits m s l ln k))) _ a (both-intro (below 2 (pFits m s l ln)) _ b c))
@@ -55,11 +56,13 @@ module _ (m : ℕ) (s : Split) (l : ℕ) (ln : Line) where
       go true e = rw (eq-eqb (ln .p 0) (ln .p 1) (f (eqb-true m 1 e)))
       go false e = refl
 
-  behind-1 : Tests (refuse 2 (not (ltb l (lines m))) ∷ refuse 3 (not (lineFits m s l ln)) ∷ refuse 4 (both (eqb m 1) (not (eqb (ln .p 0) (ln .p 1)))) ∷ []) (lineRules m s l ln)
+  behind-1 : Tests (refuse 2 (not (ltb l (lines m))) ∷ refuse 3 (not (lineFits m s l ln)) ∷
+      refuse 4 (both (eqb m 1) (not (eqb (ln .p 0) (ln .p 1)))) ∷ []) (lineRules m s l ln)
   behind-1 =
       rule (by-not-ltb tt l (lines m)) λ h.
       rule (by-not tt (lineFits m s l ln) fits-within within-fits) λ w.
-      rule (by-test tt (both (eqb m 1) (not (eqb (ln .p 0) (ln .p 1)))) (λ e z. eqb-true _ _ (not-false _ (second (eqb m 1) _ (eq-eqb m 1 z) e))) differ) λ p.
+      rule (by-test tt (both (eqb m 1) (not (eqb (ln .p 0) (ln .p 1))))
+      (λ e z. eqb-true _ _ (not-false _ (second (eqb m 1) _ (eq-eqb m 1 z) e))) differ) λ p.
       none
 
   answering : Answers (refusalIn m s l ln) (unless 1 (m ≢ 8) ∷ lineRules m s l ln)
@@ -72,7 +75,9 @@ module _ (m : ℕ) (s : Split) (l : ℕ) (ln : Line) where
 
 -- on a block: mode 8 is a first byte of zero
 pub open-is : (bs : List ℕ) → Fit eights bs → Decided (refuse 1 (eqb (modeOf bs) 8)) 1 (getD bs 0 0 ≢ 0)
-open-is bs sixteen = by-test tt (eqb (modeOf bs) 8) (λ e z. eqb-false (modeOf bs) 8 e (reserved-mode bs z)) (λ n. ne-eqb (modeOf bs) 8 (λ z. n (zero-byte bs sixteen z)))
+open-is bs sixteen =
+    by-test tt (eqb (modeOf bs) 8) (λ e z. eqb-false (modeOf bs) 8 e (reserved-mode bs z))
+    (λ n. ne-eqb (modeOf bs) 8 (λ z. n (zero-byte bs sixteen z)))
 
 pub on-block : (bs : List ℕ) → Fit eights bs → (c : Call) → Answers (refusal bs c) (callRules bs c)
 unfolding refusal refusalIn

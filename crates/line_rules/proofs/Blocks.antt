@@ -132,13 +132,15 @@ module _ (bs : List ℕ) (sixteen : Fit eights bs) where
   places-stored c x e i h = opened-after c x (accepted-open bs c e) i ∙ rw (eq-eqb (refusalIn (modeOf bs) (splitOf bs) (c .line) (c .given)) 0 e, h)
 
   -- the pixels after a call
-  shown-after : (c : Call) (q ch : ℕ) → modeOf bs < 8 → pixel (after bs c) q ch ≡ shown (modeOf bs) (splitOf bs) (step (modeOf bs) (splitOf bs) c (opened bs)) q ch
+  shown-after : (c : Call) (q ch : ℕ) → modeOf bs < 8 → pixel (after bs c) q ch
+      ≡ shown (modeOf bs) (splitOf bs) (step (modeOf bs) (splitOf bs) c (opened bs)) q ch
   unfolding pixel
   shown-after c q ch l =
       let g = step-good (good l) c in
       let n : modeOf bs ≢ 8 = λ z. omega arith in
       rw (after-is l c, mode-block g, split-block g, ne-eqb (modeOf bs) 8 n)
-      (shown-ext (modeOf bs) (splitOf bs) (opened (blockOf (modeOf bs) (splitOf bs) (step (modeOf bs) (splitOf bs) c (opened bs)))) _ q ch (opened-block g))
+      (shown-ext (modeOf bs) (splitOf bs) (opened (blockOf (modeOf bs) (splitOf bs) (step (modeOf bs) (splitOf bs) c (opened bs)))) _ q ch
+      (opened-block g))
 
   -- an accepted call draws, wherever its line draws, what was given
   pub given-drawn : (c : Call) (q ch : ℕ) → refusal bs c ≡ 0 → q < 16 → ch < 4 → draws (modeOf bs) (splitOf bs) (c .line) q ch ≡ true
@@ -148,7 +150,8 @@ module _ (bs : List ℕ) (sixteen : Fit eights bs) where
       let l = accepted-open bs c e in
       let p = drawn-by (modeOf bs) (splitOf bs) (c .line) q ch dr in
       shown-after c q ch l
-      ∙ ap (λ (b : Bool). shown (modeOf bs) (splitOf bs) (pick b (put (modeOf bs) (splitOf bs) (c .line) (c .given) (opened bs)) (opened bs)) q ch) (eq-eqb _ 0 e)
+      ∙ ap (λ (b : Bool). shown (modeOf bs) (splitOf bs) (pick b (put (modeOf bs) (splitOf bs) (c .line) (c .given) (opened bs)) (opened bs)) q ch)
+      (eq-eqb _ 0 e)
       ∙ shown-given (good l) (c .line) (c .given) q ch e hq hc (p .0) (p .1)
 
   -- every other channel of every pixel is as it was
@@ -164,7 +167,9 @@ module _ (bs : List ℕ) (sixteen : Fit eights bs) where
       s = splitOf bs
 
       unlocked : modeOf bs < 8 → pixel (after bs c) q ch ≡ pixel bs q ch
-      unlocked l = shown-after c q ch l ∙ go (isAccepted m s c) (isDrawn m (rotated (rotation s) ch)) refl ∙ sym (rw (ne-eqb m 8 (λ z. let y : ⊥ = omega arith in y)))
+      unlocked l =
+          shown-after c q ch l ∙ go (isAccepted m s c) (isDrawn m (rotated (rotation s) ch)) refl
+          ∙ sym (rw (ne-eqb m 8 (λ z. let y : ⊥ = omega arith in y)))
         where
           pc : Place → ℕ
           pc = withLine m s (c .line) (oriented m s (c .line) (c .given)) (opened bs)

@@ -43,7 +43,8 @@ module _ {m : ℕ} {s : Split} {f : Place → ℕ} (g : WellFormed m s f) where
   unfolding shown put lineOf lineAt
   shown-given l ln q c e hq hc dr at-l =
       rw (dr, at-l)
-      (means-ext m s l _ o q d values ps ix ∙ oriented-means m s l ln q d (line-bits g l .0) (line-bits g l .1) (bounded m s l ln (a .within) .index q hq))
+      (means-ext m s l _ o q d values ps ix
+      ∙ oriented-means m s l ln q d (line-bits g l .0) (line-bits g l .1) (bounded m s l ln (a .within) .index q hq))
     where
       d : ℕ
       d = rotated (rotation s) c
@@ -62,7 +63,8 @@ module _ {m : ℕ} {s : Split} {f : Place → ℕ} (g : WellFormed m s f) where
 
       values : (k : ℕ) → k < 2 → own m s l put-in (valuePlace s l k d) ≡ o .value k d
       values k hk =
-          own-same m s l o f (valuePlace s l k d) (has-value g l (a .line) k d hk hd (eqb-false (channelBits m d) 0 (not-true _ dr)) (λ v. rw v at at-l))
+          own-same m s l o f (valuePlace s l k d)
+          (has-value g l (a .line) k d hk hd (eqb-false (channelBits m d) 0 (not-true _ dr)) (λ v. rw v at at-l))
           ∙ laid-value m s l o k d hk
 
       ps : pCount m ≢ 0 → (k : ℕ) → k < 2 → own m s l put-in (pPlace m l k) ≡ o .p k

@@ -36,17 +36,20 @@ module _ {m : ℕ} {s : Split} {f : Place → ℕ} (g : WellFormed m s f) (l : �
   unfolding indexPlace
   outside q n = own-not m s l (index (arrayOf s l) q) n
 
-  value-bits : (k c : ℕ) → k < 2 → c < 4 → ownWidth m s l (valuePlace s l k c) ≡ pick (isVector s) (pick (eqb (pick (eqb c 3) 1 0) l) (channelBits m c) 0) (channelBits m c)
+  value-bits : (k c : ℕ) → k < 2 → c < 4
+      → ownWidth m s l (valuePlace s l k c) ≡ pick (isVector s) (pick (eqb (pick (eqb c 3) 1 0) l) (channelBits m c) 0) (channelBits m c)
   unfolding valuePlace width
   value-bits k c hk hc = go (isVector s) refl (eqb (pick (eqb c 3) 1 0) l) refl
     where
       go : (v : Bool) → isVector s ≡ v → (b : Bool) → eqb (pick (eqb c 3) 1 0) l ≡ b
           → ownWidth m s l (value c (pick v k (2 * l + k))) ≡ pick v (pick b (channelBits m c) 0) (channelBits m c)
       go true v true b =
-          own-is m s l (value c k) (inside-value {e = k} hc (omega arith)) (rw v (eqb-true (pick (eqb c 3) 1 0) l b)) ∙ rw (lt-ltb k (endpointCount m) (omega (arith, good-vector g v .ends)))
+          own-is m s l (value c k) (inside-value {e = k} hc (omega arith)) (rw v (eqb-true (pick (eqb c 3) 1 0) l b))
+          ∙ rw (lt-ltb k (endpointCount m) (omega (arith, good-vector g v .ends)))
       go true v false b = own-not m s l (value c k) (λ e. eqb-false (pick (eqb c 3) 1 0) l b (rw v at e))
       go false v b e =
-          own-is m s l (value c (2 * l + k)) (inside-value {e = 2 * l + k} hc (omega (arith, h3))) (rw v (let z : (2 * l + k) / 2 ≡ l = omega arith in z))
+          own-is m s l (value c (2 * l + k)) (inside-value {e = 2 * l + k} hc (omega (arith, h3)))
+          (rw v (let z : (2 * l + k) / 2 ≡ l = omega arith in z))
           ∙ rw (lt-ltb (2 * l + k) (endpointCount m) (omega (arith, good-subset g v .ends)))
 
   p-bits : (k : ℕ) → k < 2 → ownWidth m s l (pPlace m l k) ≡ pick (eqb (pCount m) 0) 0 1
@@ -65,13 +68,15 @@ module _ {m : ℕ} {s : Split} {f : Place → ℕ} (g : WellFormed m s f) (l : �
       line false e = rw e (let z : (2 * l + k) / 2 ≡ l = omega arith in z)
 
       own-p : (o : Bool) → eqb m 1 ≡ o → ownWidth m s l (pbit (pick o l (2 * l + k))) ≡ pick (ltb (pick o l (2 * l + k)) (pCount m)) 1 0
-      own-p o e = own-is m s l (pbit (pick o l (2 * l + k))) (inside-pbit (pick-lt o l (2 * l + k) 6 (omega (arith, h3)) (omega (arith, h3)))) (line o e)
+      own-p o e =
+          own-is m s l (pbit (pick o l (2 * l + k))) (inside-pbit (pick-lt o l (2 * l + k) 6 (omega (arith, h3)) (omega (arith, h3)))) (line o e)
 
       go : (b : Bool) → eqb (pCount m) 0 ≡ b → (o : Bool) → eqb m 1 ≡ o → ownWidth m s l (pbit (pick o l (2 * l + k))) ≡ pick b 0 1
       go true z o e = own-p o e ∙ none _ (eqb-true (pCount m) 0 z)
       go false z o e = own-p o e ∙ rw (lt-ltb (pick o l (2 * l + k)) (pCount m) (some o e (eqb-false (pCount m) 0 z)))
 
-  index-bits : (q : ℕ) → q < 16 → ownWidth m s l (indexPlace s l q) ≡ pick (isVector s) (lineBits m s l) (pick (eqb (subset s q) l) (lineBits m s l) 0)
+  index-bits : (q : ℕ) → q < 16
+      → ownWidth m s l (indexPlace s l q) ≡ pick (isVector s) (lineBits m s l) (pick (eqb (subset s q) l) (lineBits m s l) 0)
   unfolding ownWidth lineBits
   index-bits q hq = go (isVector s) refl (eqb (subset s q) l) refl
     where

@@ -46,7 +46,8 @@ own-width-le m s l x = or-zero (has m s l x) (width m [] x)
 module _ (m : ℕ) (s : Split) (l : ℕ) (ln : Line) where
   value-width : (k c : ℕ) → ownWidth m s l (valuePlace s l k c) ≤ channelBits m c
   unfolding width valuePlace
-  value-width k c = le-trans (own-width-le m s l (valuePlace s l k c)) (or-zero (ltb (pick (isVector s) k (2 * l + k)) (endpointCount m)) (channelBits m c))
+  value-width k c =
+      le-trans (own-width-le m s l (valuePlace s l k c)) (or-zero (ltb (pick (isVector s) k (2 * l + k)) (endpointCount m)) (channelBits m c))
 
   p-width : (k : ℕ) → ownWidth m s l (pPlace m l k) ≤ 1
   unfolding width pPlace
@@ -96,7 +97,8 @@ module _ (m : ℕ) (s : Split) (l : ℕ) (ln : Line) where
       go false e = leb-false _ _ e
 
 -- the array of a line, from a place that it has
-array-is : (v : Bool) (a i l sub : ℕ) → a < 2 → i < 2 → pick v (pick (eqb a i) 0 1) sub ≡ l → (v ≡ false → a ≡ 0) → a ≡ pick v (pick (eqb l 0) i (1 - i)) 0
+array-is : (v : Bool) (a i l sub : ℕ) → a < 2 → i < 2 → pick v (pick (eqb a i) 0 1) sub ≡ l → (v ≡ false → a ≡ 0)
+    → a ≡ pick v (pick (eqb l 0) i (1 - i)) 0
 array-is false a i l sub ha hi e z = z refl
 array-is true a i l sub ha hi e z = go (eqb a i) refl e
   where

@@ -193,7 +193,8 @@ module _ (bs : List ℕ) (sixteen : Fit eights bs) where
         let a = read-acceptable good l line-there in
         let e : refusal bs c ≡ 0 =
         rw line-is
-        (accepted-when (on-block bs sixteen (callOf l _)) .1 (accepted-when (read-answers bs sixteen l) .0 ok .0, (a .line, (a .within, (a .same-p, tt))))) in
+        (accepted-when (on-block bs sixteen (callOf l _)) .1
+        (accepted-when (read-answers bs sixteen l) .0 ok .0, (a .line, (a .within, (a .same-p, tt))))) in
         rw (e, line-is)
         (ap (replacedAs 0) (block-ext (modeOf bs) (splitOf bs) _ (opened bs) (put-read good l line-there) ∙ block-opened bs sixteen open-mode-is))
 
@@ -208,7 +209,8 @@ module _ (bs : List ℕ) (sixteen : Fit eights bs) where
         let p = drawn-by (modeOf bs) (splitOf bs) l q ch dr in
         let a = given-line (lineOf (modeOf bs) (splitOf bs) l (opened bs)) in
         rw (line-is, ne-eqb (modeOf bs) 8 (λ z. let y : ⊥ = omega (arith, open-mode-is) in y), p .0, p .1)
-        (means-ext (modeOf bs) (splitOf bs) l _ _ q (rotated (rotation (splitOf bs)) ch) (λ k hk. a .value k _ hk (rotated-lt _ ch (good-rotation good) hc)) (λ n k hk. a .p k hk) (a .index q hq))
+        (means-ext (modeOf bs) (splitOf bs) l _ _ q (rotated (rotation (splitOf bs)) ch)
+        (λ k hk. a .value k _ hk (rotated-lt _ ch (good-rotation good) hc)) (λ n k hk. a .p k hk) (a .index q hq))
 
 module _ (bs : List ℕ) (sixteen : Fit eights bs) where
   -- after a call on another line a line reads as before

@@ -37,12 +37,19 @@ pub record Stays (m : ℕ) (s : Split) (bs : List ℕ) : Type 0 where
 
 module _ (m : ℕ) (s : Split) where
   stays : (bs : List ℕ) (c : Call) → Stays m s bs → Stays m s (after bs c)
-  stays bs c g = record { sixteen = after-sixteen bs (g .sixteen) c; mode = after-mode bs (g .sixteen) c ∙ g .mode; split = after-split bs (g .sixteen) c ∙ g .split }
+  stays bs c g =
+      record {
+        sixteen = after-sixteen bs (g .sixteen) c;
+        mode = after-mode bs (g .sixteen) c ∙ g .mode;
+        split = after-split bs (g .sixteen) c ∙ g .split;
+      }
 
   -- an accepted call of line l, or a refused one, or one of another line
   is-of : (bs : List ℕ) (c : Call) (l : ℕ) → Stays m s bs → isOf m s l c ≡ true → (refusal bs c ≡ 0) × (c .line ≡ l)
   unfolding refusal isAccepted
-  is-of bs c l g e = let p = both-true (isAccepted m s c) (eqb (c .line) l) e in (rw (g .mode, g .split) (eqb-true _ 0 (p .0)), eqb-true (c .line) l (p .1))
+  is-of bs c l g e =
+      let p = both-true (isAccepted m s c) (eqb (c .line) l) e in
+      (rw (g .mode, g .split) (eqb-true _ 0 (p .0)), eqb-true (c .line) l (p .1))
 
   not-of : {A : Type 0} (view : List ℕ → A) (bs : List ℕ) (c : Call) (l : ℕ) → Stays m s bs → isOf m s l c ≡ false
       → (c .line ≢ l → view (after bs c) ≡ view bs) → view (after bs c) ≡ view bs
@@ -92,10 +99,12 @@ module _ (m : ℕ) (s : Split) where
         let i : has m s (c .line) (x .0) ≡ true = rw (p .1) (owner-has (x .0) _ refl (of-line _ c e)) in
         rw (g .mode, g .split) at (places-stored bs (g .sixteen) c (x .0) (p .0) (x .1) (rw (g .mode, g .split) i));
     kept = λ bs c x g e. not-of (λ b. opened b (x .0)) bs c (ownerOf (x .0)) g e (λ n.
-        places-kept bs (g .sixteen) c (x .0) (x .1) (rw (g .mode, g .split) (not-so (has m s (c .line) (x .0)) (λ t. n (sym (owned (x .0) (c .line) t))))));
+        places-kept bs (g .sixteen) c (x .0) (x .1)
+        (rw (g .mode, g .split) (not-so (has m s (c .line) (x .0)) (λ t. n (sym (owned (x .0) (c .line) t))))));
     whole = λ a b g k e. sym (opens h a g) ∙ block-ext m s _ _ (λ x i. e (x, i)) ∙ opens h b k;
     slots = λ l c e. lt-ltb l (lines m) (of-line l c e);
-    single = λ l k c e f. sym (eqb-true (c .line) l (both-true (isAccepted m s c) _ e .1)) ∙ eqb-true (c .line) k (both-true (isAccepted m s c) _ f .1);
+    single =
+        λ l k c e f. sym (eqb-true (c .line) l (both-true (isAccepted m s c) _ e .1)) ∙ eqb-true (c .line) k (both-true (isAccepted m s c) _ f .1);
   }
 
 -- what stands in a list, as the law has it
@@ -120,19 +129,27 @@ module _ (bs : List ℕ) (sixteen : Fit eights bs) where
   by-store : (cs ds : List Call) → (modeOf bs < 8 → afterAll bs cs ≡ afterAll bs ds) → afterAll bs cs ≡ afterAll bs ds
   by-store cs ds f = ⊎-elim (λ z. reserved-all bs cs z ∙ sym (reserved-all bs ds z)) f (reserved-or bs)
 
-  pub same-lasts : (cs ds : List Call) → ((l : ℕ) → l < lines (modeOf bs) → last (modeOf bs) (splitOf bs) l cs ≡ last (modeOf bs) (splitOf bs) l ds) → afterAll bs cs ≡ afterAll bs ds
+  pub same-lasts : (cs ds : List Call) → ((l : ℕ) → l < lines (modeOf bs) → last (modeOf bs) (splitOf bs) l cs ≡ last (modeOf bs) (splitOf bs) l ds)
+      → afterAll bs cs ≡ afterAll bs ds
   same-lasts cs ds e = by-store cs ds (λ o. same-last (store _ _ o) cs ds bs first-stays (λ l q. e l (ltb-true l _ q)))
 
-  pub lasts : (cs : List Call) (ls : List ℕ) → ((l : ℕ) → l < lines (modeOf bs) → T (among l ls)) → afterAll bs cs ≡ afterAll bs (lastOfEach (modeOf bs) (splitOf bs) ls cs)
+  pub lasts : (cs : List Call) (ls : List ℕ) → ((l : ℕ) → l < lines (modeOf bs) → T (among l ls))
+      → afterAll bs cs ≡ afterAll bs (lastOfEach (modeOf bs) (splitOf bs) ls cs)
   lasts cs ls all = by-store cs _ (λ o. last-calls (store _ _ o) cs ls bs first-stays (λ l q. member l ls (all l (ltb-true l _ q))))
 
   pub bytes-trade : (c d : Call) → c .line ≢ d .line → after (after bs c) d ≡ after (after bs d) c
   unfolding calls.run
   bytes-trade c d n =
-      by-store (c ∷ d ∷ []) (d ∷ c ∷ []) (λ o. trade (store _ _ o) c d bs first-stays (λ l x y. n (is-of _ _ bs c l first-stays x .1 ∙ sym (is-of _ _ bs d l first-stays y .1))))
+      by-store (c ∷ d ∷ []) (d ∷ c ∷ [])
+      (λ o. trade (store _ _ o) c d bs first-stays (λ l x y. n (is-of _ _ bs c l first-stays x .1 ∙ sym (is-of _ _ bs d l first-stays y .1))))
 
 pub trading : (m : ℕ) (s : Split) → Trade after refusal (Stays m s) (λ c d. c .line ≢ d .line)
-trading m s = record { good = stays m s; bytes = λ bs c d g n. bytes-trade bs (g .sixteen) c d n; unseen = λ bs c d g n. same-refusal bs (g .sixteen) c d }
+trading m s =
+    record {
+      good = stays m s;
+      bytes = λ bs c d g n. bytes-trade bs (g .sixteen) c d n;
+      unseen = λ bs c d g n. same-refusal bs (g .sixteen) c d;
+    }
 
 -- a list of calls changes neither the mode nor the split, and leaves sixteen bytes
 pub all-stays : (cs : List Call) (bs : List ℕ) → Fit eights bs → Stays (modeOf bs) (splitOf bs) (afterAll bs cs)
@@ -144,6 +161,9 @@ pub sequence-draws : (m : ℕ) (s : Split) (l q ch : ℕ) → q < 16 → ch < 4 
 sequence-draws m s l q ch hq hc dr = last-seen (stays m s) (record {
   set = λ bs c g e.
       let p = is-of m s bs c l g e in
-      (rw (g .mode, g .split) at (given-drawn bs (g .sixteen) c q ch (p .0) hq hc (rw (g .mode, g .split, p .1) dr))) ∙ ap (λ (k : ℕ). meant m s k (c .given) q ch) (p .1);
-  kept = λ bs c g e. not-of m s (λ b. pixel b q ch) bs c l g e (λ n. others-kept bs (g .sixteen) c q ch (rw (g .mode, g .split) (drawn-by-one m s l (c .line) q ch (λ z. n (sym z)) dr)));
+      (rw (g .mode, g .split) at (given-drawn bs (g .sixteen) c q ch (p .0) hq hc (rw (g .mode, g .split, p .1) dr)))
+      ∙ ap (λ (k : ℕ). meant m s k (c .given) q ch) (p .1);
+  kept =
+      λ bs c g e. not-of m s (λ b. pixel b q ch) bs c l g e
+      (λ n. others-kept bs (g .sixteen) c q ch (rw (g .mode, g .split) (drawn-by-one m s l (c .line) q ch (λ z. n (sym z)) dr)));
 })

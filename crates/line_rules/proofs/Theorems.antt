@@ -37,7 +37,8 @@ use Rattle.line_rules.specs.Promises.{ReadsLine, Replaces}
 
 -- a call is accepted exactly when the first byte isn't zero, the line number is below the mode's count, every value is within
 -- the width that it has in that line, and in mode 1 the p bits are equal
-pub accepted-when : (bs : List ℕ) → Fit eights bs → (c : Call) → (refusal bs c ≡ 0) ↔ ((getD bs 0 0 ≢ 0) × Acceptable (modeOf bs) (splitOf bs) (c .line) (c .given))
+pub accepted-when : (bs : List ℕ) → Fit eights bs → (c : Call)
+    → (refusal bs c ≡ 0) ↔ ((getD bs 0 0 ≢ 0) × Acceptable (modeOf bs) (splitOf bs) (c .line) (c .given))
 accepted-when bs h c =
     let a = met-when (on-block bs h c) in (
       λ e. let (n, (l, (w, (p, u)))) = a .0 e in (n, record { line = l; within = w; same-p = p }),
@@ -59,7 +60,8 @@ accepted-draws bs h c q ch hq hc e d = given-drawn bs h c q ch e hq hc d
 
 -- it stores, at every place that the line has, the line as it is given, or turned round where the index at its anchor has its top
 -- bit set (`oriented`), also where both endpoints are equal
-pub stored-as-oriented : (bs : List ℕ) → Fit eights bs → (c : Call) (x : Place) → refusal bs c ≡ 0 → T (inside x) → has (modeOf bs) (splitOf bs) (c .line) x ≡ true
+pub stored-as-oriented : (bs : List ℕ) → Fit eights bs → (c : Call) (x : Place) → refusal bs c ≡ 0 → T (inside x)
+    → has (modeOf bs) (splitOf bs) (c .line) x ≡ true
     → opened (after bs c) x ≡ laid (modeOf bs) (oriented (modeOf bs) (splitOf bs) (c .line) (c .given)) x
 stored-as-oriented = places-stored
 
@@ -91,15 +93,21 @@ pub refused-same : (bs : List ℕ) (c : Call) → refusal bs c ≢ 0 → after b
 refused-same = unchanged
 
 -- what a call is answered goes by the first block's mode and split alone, whatever calls came before it
-pub same-answer : (a bs : List ℕ) → Fit eights bs → modeOf a ≡ modeOf bs → splitOf a ≡ splitOf bs → (cs : List Call) (d : Call) → refusal (afterAll bs cs) d ≡ refusal a d
+pub same-answer : (a bs : List ℕ) → Fit eights bs → modeOf a ≡ modeOf bs → splitOf a ≡ splitOf bs → (cs : List Call) (d : Call)
+    → refusal (afterAll bs cs) d ≡ refusal a d
 unfolding refusal
 same-answer a bs h em es cs d = rw (all-stays cs bs h .mode, all-stays cs bs h .split, em, es)
 
 -- the first byte stays nonzero, so all this holds again at every step
-pub first-byte-stays : (bs : List ℕ) → Fit eights bs → (cs : List Call) → Fit eights (afterAll bs cs) × ((getD (afterAll bs cs) 0 0 ≡ 0) ↔ (getD bs 0 0 ≡ 0))
+pub first-byte-stays : (bs : List ℕ) → Fit eights bs → (cs : List Call)
+    → Fit eights (afterAll bs cs) × ((getD (afterAll bs cs) 0 0 ≡ 0) ↔ (getD bs 0 0 ≡ 0))
 first-byte-stays bs h cs = (
   all-stays cs bs h .sixteen,
-  (λ z. zero-byte bs h (sym (all-stays cs bs h .mode) ∙ reserved-mode (afterAll bs cs) z), λ z. zero-byte (afterAll bs cs) (all-stays cs bs h .sixteen) (all-stays cs bs h .mode ∙ reserved-mode bs z)),
+  (
+    λ z. zero-byte bs h (sym (all-stays cs bs h .mode) ∙ reserved-mode (afterAll bs cs) z),
+    λ z. zero-byte (afterAll bs cs)
+        (all-stays cs bs h .sixteen) (all-stays cs bs h .mode ∙ reserved-mode bs z),
+  ),
 )
 
 -- two neighbouring calls that name different lines: the same answers in either order, equal final bytes, and either order draws
@@ -116,11 +124,13 @@ pub record Traded (bs : List ℕ) (c d : Call) : Type 0 where
   pub rest : (q ch : ℕ) → draws (modeOf bs) (splitOf bs) (c .line) q ch ≡ false → draws (modeOf bs) (splitOf bs) (d .line) q ch ≡ false
       → pixel (after (after bs c) d) q ch ≡ pixel bs q ch
 
-kept-twice : (bs : List ℕ) → Fit eights bs → (c d : Call) (q ch : ℕ) → draws (modeOf bs) (splitOf bs) (d .line) q ch ≡ false → pixel (after (after bs c) d) q ch ≡ pixel (after bs c) q ch
+kept-twice : (bs : List ℕ) → Fit eights bs → (c d : Call) (q ch : ℕ) → draws (modeOf bs) (splitOf bs) (d .line) q ch ≡ false
+    → pixel (after (after bs c) d) q ch ≡ pixel (after bs c) q ch
 kept-twice bs h c d q ch n = others-kept (after bs c) (after-sixteen bs h c) d q ch (rw (after-mode bs h c, after-split bs h c) n)
 
 seen-first : (bs : List ℕ) → Fit eights bs → (c d : Call) → c .line ≢ d .line → (q ch : ℕ) → q < 16 → ch < 4 → refusal bs c ≡ 0
-    → draws (modeOf bs) (splitOf bs) (c .line) q ch ≡ true → pixel (after (after bs c) d) q ch ≡ meant (modeOf bs) (splitOf bs) (c .line) (c .given) q ch
+    → draws (modeOf bs) (splitOf bs) (c .line) q ch ≡ true
+    → pixel (after (after bs c) d) q ch ≡ meant (modeOf bs) (splitOf bs) (c .line) (c .given) q ch
 seen-first bs h c d n q ch hq hc e z =
     kept-twice bs h c d q ch (drawn-by-one (modeOf bs) (splitOf bs) (c .line) (d .line) q ch n z) ∙ accepted-draws bs h c q ch hq hc e z
 
@@ -136,7 +146,8 @@ trade-places bs h c d n = record {
 }
 
 -- also inside a longer list
-pub trade-inside : (bs : List ℕ) → Fit eights bs → (xs : List Call) (c d : Call) (ys : List Call) → c .line ≢ d .line → afterAll bs (xs ++ (c ∷ d ∷ ys)) ≡ afterAll bs (xs ++ (d ∷ c ∷ ys))
+pub trade-inside : (bs : List ℕ) → Fit eights bs → (xs : List Call) (c d : Call) (ys : List Call) → c .line ≢ d .line
+    → afterAll bs (xs ++ (c ∷ d ∷ ys)) ≡ afterAll bs (xs ++ (d ∷ c ∷ ys))
 trade-inside bs h xs c d ys n = inside-list (trading (modeOf bs) (splitOf bs)) xs c d ys bs (first-stays bs h) n
 
 -- any list of calls leaves the block that the last accepted call of each line makes of the first one, in whichever order ls names
@@ -146,7 +157,8 @@ pub last-calls-decide : (bs : List ℕ) → Fit eights bs → (cs : List Call) (
 last-calls-decide = lasts
 
 -- so do two lists of calls whose last accepted calls are the same
-pub same-last-calls : (bs : List ℕ) → Fit eights bs → (cs ds : List Call) → ((l : ℕ) → l < lines (modeOf bs) → last (modeOf bs) (splitOf bs) l cs ≡ last (modeOf bs) (splitOf bs) l ds)
+pub same-last-calls : (bs : List ℕ) → Fit eights bs → (cs ds : List Call)
+    → ((l : ℕ) → l < lines (modeOf bs) → last (modeOf bs) (splitOf bs) l cs ≡ last (modeOf bs) (splitOf bs) l ds)
     → afterAll bs cs ≡ afterAll bs ds
 same-last-calls = same-lasts
 
@@ -161,7 +173,8 @@ unfolding lineRead
 read-refused-when bs h l = exactly (read-answers bs h l)
 
 -- it draws what the block shows
-pub read-draws : (bs : List ℕ) → Fit eights bs → (l : ℕ) → lineRead bs l .refusal ≡ 0 → (q ch : ℕ) → q < 16 → ch < 4 → draws (modeOf bs) (splitOf bs) l q ch ≡ true
+pub read-draws : (bs : List ℕ) → Fit eights bs → (l : ℕ) → lineRead bs l .refusal ≡ 0 → (q ch : ℕ) → q < 16 → ch < 4
+    → draws (modeOf bs) (splitOf bs) l q ch ≡ true
     → meant (modeOf bs) (splitOf bs) l (lineGiven (lineRead bs l .line)) q ch ≡ pixel bs q ch
 unfolding lineRead
 read-draws = read-drawn
@@ -177,12 +190,15 @@ read-and-replaced bs h l e = (replaced-by-read bs h l e, read-not-turned bs h l 
 pub record PutAndRead (bs : List ℕ) (l : ℕ) (g : Replacement) : Type 0 where
   pub refusal : lineRead (after bs (callOf l g)) l .refusal ≡ 0
   pub given : topSet (modeOf bs) (splitOf bs) l (lineGiven g) ≡ false → lineRead (after bs (callOf l g)) l .line ≡ g
-  pub turned : topSet (modeOf bs) (splitOf bs) l (lineGiven g) ≡ true → lineRead (after bs (callOf l g)) l .line ≡ givenAs (turnedIn (modeOf bs) (splitOf bs) l (lineGiven g))
+  pub turned : topSet (modeOf bs) (splitOf bs) l (lineGiven g) ≡ true
+      → lineRead (after bs (callOf l g)) l .line ≡ givenAs (turnedIn (modeOf bs) (splitOf bs) l (lineGiven g))
   pub draws-the-same : (q ch : ℕ) → q < 16 → ch < 4 → draws (modeOf bs) (splitOf bs) l q ch ≡ true
-      → meant (modeOf bs) (splitOf bs) l (lineGiven (lineRead (after bs (callOf l g)) l .line)) q ch ≡ meant (modeOf bs) (splitOf bs) l (lineGiven g) q ch
+      → meant (modeOf bs) (splitOf bs) l (lineGiven (lineRead (after bs (callOf l g)) l .line)) q ch
+      ≡ meant (modeOf bs) (splitOf bs) l (lineGiven g) q ch
 
 -- (g is a replacement of 8 values, 2 p bits and 16 indexes)
-pub put-and-read : (bs : List ℕ) → Fit eights bs → (l : ℕ) (g : Replacement) → length (g .endpoints) ≡ 8 → length (g .p) ≡ 2 → length (g .indexes) ≡ 16
+pub put-and-read : (bs : List ℕ) → Fit eights bs → (l : ℕ) (g : Replacement) → length (g .endpoints) ≡ 8 → length (g .p) ≡ 2
+    → length (g .indexes) ≡ 16
     → refusal bs (callOf l g) ≡ 0 → PutAndRead bs l g
 unfolding lineRead
 put-and-read bs h l g he hp hi e = record {
@@ -198,7 +214,8 @@ others-read-as-before = other-read
 
 -- the widths are what 3 looks at: a replacement is refused with 3 exactly when the line can be read and one of its 26 values needs
 -- more than its width
-pub refused-with-3-when : (bs : List ℕ) (l : ℕ) (g : Replacement) → (refusal bs (callOf l g) ≡ 3) ↔ ((lineRead bs l .refusal ≡ 0) × TooWide g (lineRead bs l .widths))
+pub refused-with-3-when : (bs : List ℕ) (l : ℕ) (g : Replacement)
+    → (refusal bs (callOf l g) ≡ 3) ↔ ((lineRead bs l .refusal ≡ 0) × TooWide g (lineRead bs l .widths))
 unfolding lineRead
 refused-with-3-when = refused-with-3
 

@@ -70,7 +70,8 @@ module _ (m : ℕ) (s : Split) (l : ℕ) (g : Replacement) where
           let hk : i / 4 < 2 = omega arith in
           let hc : i % 4 < 4 = mod-lt i (lit< tt) in
           subst Narrow (let z : 4 * (i / 4) + i % 4 ≡ i = omega arith in z)
-          (rw (at-endpoint g (i / 4) (i % 4) hk hc, at-endpoint ws (i / 4) (i % 4) hk hc, given-line (widthsOf m s l) .value (i / 4) (i % 4) hk hc) (w .value (i / 4) (i % 4) hk hc))
+          (rw (at-endpoint g (i / 4) (i % 4) hk hc, at-endpoint ws (i / 4) (i % 4) hk hc, given-line (widthsOf m s l) .value (i / 4) (i % 4) hk hc)
+          (w .value (i / 4) (i % 4) hk hc))
 
       p : 8 ≤ i → i < 10 → Narrow i
       p a b =

@@ -1,5 +1,4 @@
-// A block taken apart into a record, and a record packed into a block. The record is what the lines of a block are read from
-// and replaced in.
+// A block taken apart into a record, and a record packed into a block.
 ghost use mathlib.Core.Path.{_≡_};
 ghost use lib.ListN.{replicate};
 ghost use Rattle.record_rules.specs.Records.{packedAs, zeroRecord};

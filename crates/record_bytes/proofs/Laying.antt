@@ -28,7 +28,9 @@ behind o i xs = ap (λ (k : ℕ). getD xs k 0) (let z : o + i - o ≡ i = omega 
 pub laid : {N : ℕ} {F : ℕ → ℕ} {out next : List ℕ} (o k : ℕ) (vs : List ℕ) → length vs ≡ k → next ≡ over out o (length vs) (λ i. getD vs i 0)
     → Filled N 0 F o out → o + k ≤ N → ((j : ℕ) → j < k → F (o + j) ≡ getD vs j 0) → Filled N 0 F (o + k) next
 laid {N} {F} {out} o k vs long e h l is =
-    subst (Filled N 0 F (o + k)) (sym e) (subst (λ (n : ℕ). Filled N 0 F (o + k) (over out o n (λ i. getD vs i 0))) (sym long) (filled-run o k (λ i. getD vs i 0) h l (λ j b. sym (is j b))))
+    subst (Filled N 0 F (o + k)) (sym e)
+    (subst (λ (n : ℕ). Filled N 0 F (o + k) (over out o n (λ i. getD vs i 0))) (sym long)
+    (filled-run o k (λ i. getD vs i 0) h l (λ j b. sym (is j b))))
 
 -- where the values of a replacement stand
 module _ (g : Replacement) (j : ℕ) where
@@ -45,36 +47,51 @@ module _ (g : Replacement) (j : ℕ) where
   index-at h = rw (le-ltb (10 + j) 8 (omega arith), le-ltb (10 + j) 10 (omega arith)) (behind 10 j (g .indexes))
 
 -- the four bytes before them
-pub head-laid : (r : Record) (k s i : ℕ) (out : List ℕ) → length out ≡ placeCount → k ≡ kindOf (r .split) → s ≡ splitByte (r .split) → i ≡ indexMode (r .split)
+pub head-laid : (r : Record) (k s i : ℕ) (out : List ℕ) → length out ≡ placeCount → k ≡ kindOf (r .split) → s ≡ splitByte (r .split)
+    → i ≡ indexMode (r .split)
     → Filled placeCount 0 (recordByte r) valuesFrom (set (set (set (set out 0 (r .mode)) 1 k) 2 s) 3 i)
 unfolding recordByte
 head-laid r k s i out long ek es ei =
-    filled-next 3 i (filled-next 2 s (filled-next 1 k (filled-next {out = out} 0 (r .mode) (filled-none long) (lit< tt) refl) (lit< tt) ek) (lit< tt) es) (lit< tt) ei
+    filled-next 3 i (filled-next 2 s (filled-next 1 k (filled-next {out = out} 0 (r .mode) (filled-none long) (lit< tt) refl) (lit< tt) ek)
+    (lit< tt) es) (lit< tt) ei
 
 -- where the values of a record stand
 module _ (r : Record) (i : ℕ) where
   pub value-at : i < 24 → recordByte r (valuesFrom + i) ≡ getD (r .endpoints) i 0
   unfolding recordByte
-  value-at h = rw (le-ltb (valuesFrom + i) valuesFrom (omega arith), lt-ltb (valuesFrom + i) psFrom (omega arith)) (behind valuesFrom i (r .endpoints))
+  value-at h =
+      rw (le-ltb (valuesFrom + i) valuesFrom (omega arith), lt-ltb (valuesFrom + i) psFrom (omega arith)) (behind valuesFrom i (r .endpoints))
 
   pub p-bit-at : i < 6 → recordByte r (psFrom + i) ≡ getD (r .p) i 0
   unfolding recordByte
   p-bit-at h =
-      rw (le-ltb (psFrom + i) valuesFrom (omega arith), le-ltb (psFrom + i) psFrom (omega arith), lt-ltb (psFrom + i) firstFrom (omega arith)) (behind psFrom i (r .p))
+      rw (le-ltb (psFrom + i) valuesFrom (omega arith), le-ltb (psFrom + i) psFrom (omega arith), lt-ltb (psFrom + i) firstFrom (omega arith))
+      (behind psFrom i (r .p))
 
   pub first-at : i < 16 → recordByte r (firstFrom + i) ≡ getD (r .first) i 0
   unfolding recordByte
   first-at h =
-      rw (le-ltb (firstFrom + i) valuesFrom (omega arith), le-ltb (firstFrom + i) psFrom (omega arith), le-ltb (firstFrom + i) firstFrom (omega arith), lt-ltb (firstFrom + i) secondFrom (omega arith)) (behind firstFrom i (r .first))
+      rw (
+        le-ltb (firstFrom + i) valuesFrom (omega arith),
+        le-ltb (firstFrom + i) psFrom (omega arith),
+        le-ltb (firstFrom + i) firstFrom (omega arith),
+        lt-ltb (firstFrom + i) secondFrom (omega arith),
+      ) (behind firstFrom i (r .first))
 
   pub second-at : i < 16 → recordByte r (secondFrom + i) ≡ getD (r .second) i 0
   unfolding recordByte
   second-at h =
-      rw (le-ltb (secondFrom + i) valuesFrom (omega arith), le-ltb (secondFrom + i) psFrom (omega arith), le-ltb (secondFrom + i) firstFrom (omega arith), le-ltb (secondFrom + i) secondFrom (omega arith)) (behind secondFrom i (r .second))
+      rw (
+        le-ltb (secondFrom + i) valuesFrom (omega arith),
+        le-ltb (secondFrom + i) psFrom (omega arith),
+        le-ltb (secondFrom + i) firstFrom (omega arith),
+        le-ltb (secondFrom + i) secondFrom (omega arith),
+      ) (behind secondFrom i (r .second))
 
 -- a part of a list that is copied into a list of its length
 pub copied-part : (bs vs : List ℕ) (at : ℕ) → at + length vs ≤ length bs
-    → take (length (take (at + length vs - at) (drop at bs))) (take (at + length vs - at) (drop at bs)) ++ drop (length (take (at + length vs - at) (drop at bs))) vs
+    → take (length (take (at + length vs - at) (drop at bs))) (take (at + length vs - at) (drop at bs))
+    ++ drop (length (take (at + length vs - at) (drop at bs))) vs
     ≡ bytesFrom bs at (length vs)
 copied-part bs vs at h =
     let n : ℕ = length vs in
@@ -93,5 +110,10 @@ pub copied-over : (l vs : List ℕ) (at : ℕ) → at + length vs ≤ length l
 copied-over l vs at h =
     let m : ℕ = length l - at in
     let rest : length (drop at l) ≡ m = length-drop at l in
-    rw (take-all m (drop at l) (le-of-eq rest), drop-of-length-le (drop at l) {i = m} (le-of-eq rest), drop-drop (length vs) at l, append-nil (take (length vs) vs ++ drop (at + length vs) l))
+    rw (
+      take-all m (drop at l) (le-of-eq rest),
+      drop-of-length-le (drop at l) {i = m} (le-of-eq rest),
+      drop-drop (length vs) at l,
+      append-nil (take (length vs) vs ++ drop (at + length vs) l),
+    )
     (sym (over-spliced l vs at (length vs) 0 h (le-refl (length vs))))

@@ -49,7 +49,8 @@ module _ (r : Record) where
   byte i h = getD-table placeCount (recordByte r) 0 i h
 
   -- n bytes from o on that are the values xs
-  part : (n o : ℕ) (xs : List ℕ) → length xs ≡ n → o + n ≤ placeCount → ((i : ℕ) → i < n → recordByte r (o + i) ≡ getD xs i 0) → bytesFrom (recordBytes r) o n ≡ xs
+  part : (n o : ℕ) (xs : List ℕ) → length xs ≡ n → o + n ≤ placeCount → ((i : ℕ) → i < n → recordByte r (o + i) ≡ getD xs i 0)
+      → bytesFrom (recordBytes r) o n ≡ xs
   part n o xs long room is =
       ext-getD 0 _ xs (length-table n _ ∙ sym long) (λ i l.
       let l' : i < n = subst (λ (m : ℕ). i < m) (length-table n (λ k. getD (recordBytes r) (o + k) 0)) l in
@@ -60,7 +61,8 @@ module _ (r : Record) where
   unfolding recordOfBytes recordByte
   record-of-its-bytes sh =
       let bs : List ℕ = recordBytes r in
-      let e : ofKind (getD bs 1 0) (getD bs 2 0) (getD bs 2 0) (getD bs 3 0) ≡ r .split = rw (byte 1 (lit< tt), byte 2 (lit< tt), byte 3 (lit< tt)) (same-split (r .split)) in
+      let e : ofKind (getD bs 1 0) (getD bs 2 0) (getD bs 2 0) (getD bs 3 0) ≡ r .split =
+      rw (byte 1 (lit< tt), byte 2 (lit< tt), byte 3 (lit< tt)) (same-split (r .split)) in
       λ j. record {
         mode = byte 0 (lit< tt) j;
         split = e j;
@@ -107,15 +109,18 @@ module _ (bs : List ℕ) (long : length bs ≡ placeCount) (k : getD bs 1 0 ≤ 
   r = recordOfBytes bs
 
   at-group : (n o i : ℕ) → o ≤ i → i < o + n → getD (bytesFrom bs o n) (i - o) 0 ≡ getD bs i 0
-  at-group n o i l h = getD-table n (λ j. getD bs (o + j) 0) 0 (i - o) (omega arith) ∙ ap (λ (j : ℕ). getD bs j 0) (let z : o + (i - o) ≡ i = omega arith in z)
+  at-group n o i l h =
+      getD-table n (λ j. getD bs (o + j) 0) 0 (i - o) (omega arith) ∙ ap (λ (j : ℕ). getD bs j 0) (let z : o + (i - o) ≡ i = omega arith in z)
 
   -- the first four
   head-byte : (i : ℕ) → i < valuesFrom → recordByte r i ≡ getD bs i 0
   unfolding recordByte recordOfBytes spelt
   head-byte zero h = refl
   head-byte (suc zero) h = kind-of-kind (getD bs 1 0) (getD bs 2 0) (getD bs 3 0) k
-  head-byte (suc (suc zero)) h = sym (eqb→eq _ _ (both-left (eqb (getD bs 2 0) (splitByte (r .split))) (eqb (getD bs 3 0) (indexMode (r .split))) (true-T _ said)))
-  head-byte (suc (suc (suc zero))) h = sym (eqb→eq _ _ (both-right (eqb (getD bs 2 0) (splitByte (r .split))) (eqb (getD bs 3 0) (indexMode (r .split))) (true-T _ said)))
+  head-byte (suc (suc zero)) h =
+      sym (eqb→eq _ _ (both-left (eqb (getD bs 2 0) (splitByte (r .split))) (eqb (getD bs 3 0) (indexMode (r .split))) (true-T _ said)))
+  head-byte (suc (suc (suc zero))) h =
+      sym (eqb→eq _ _ (both-right (eqb (getD bs 2 0) (splitByte (r .split))) (eqb (getD bs 3 0) (indexMode (r .split))) (true-T _ said)))
   head-byte (suc (suc (suc (suc i)))) h = absurd (let y : ⊥ = omega arith in y)
 
   -- and those of the arrays
@@ -127,7 +132,8 @@ module _ (bs : List ℕ) (long : length bs ≡ placeCount) (k : getD bs 1 0 ≤ 
       (λ b. rw (le-ltb i psFrom b)
       (⊎-elim (λ a. rw (lt-ltb i firstFrom a) (at-group 6 psFrom i b (omega arith)))
       (λ c. rw (le-ltb i firstFrom c)
-      (⊎-elim (λ a. rw (lt-ltb i secondFrom a) (at-group 16 firstFrom i c (omega arith))) (λ d. rw (le-ltb i secondFrom d) (at-group 16 secondFrom i d (omega arith))) (lt-or i secondFrom)))
+      (⊎-elim (λ a. rw (lt-ltb i secondFrom a) (at-group 16 firstFrom i c (omega arith)))
+      (λ d. rw (le-ltb i secondFrom d) (at-group 16 secondFrom i d (omega arith))) (lt-or i secondFrom)))
       (lt-or i firstFrom)))
       (lt-or i psFrom))
 
@@ -150,11 +156,14 @@ pub pack-unpack-bytes : (bs : List ℕ) → Fit eights bs → getD bs 0 0 ≢ 0 
 pack-unpack-bytes bs h n =
     let r : Record = taken bs .«record» in
     let same : recordOfBytes (recordBytes r) ≡ r = record-of-its-bytes r (taken-shaped bs (open-mode bs h n)) in
-    let accepted : packRefusal (recordOfBytes (recordBytes r)) ≡ 0 = ap packRefusal same ∙ packing-is r ∙ ap (λ (p : Packed). p .refusal) (pack-unpack bs h n) in
-    sym (as-record (recordBytes r) (kind-named r) (λ e. let y : ⊥ = omega (arith, e, accepted) in y) (its-bytes-spell r same)) ∙ ap packed same ∙ pack-unpack bs h n
+    let accepted : packRefusal (recordOfBytes (recordBytes r)) ≡ 0 = ap packRefusal same ∙ packing-is r
+    ∙ ap (λ (p : Packed). p .refusal) (pack-unpack bs h n) in
+    sym (as-record (recordBytes r) (kind-named r) (λ e. let y : ⊥ = omega (arith, e, accepted) in y) (its-bytes-spell r same)) ∙ ap packed same
+    ∙ pack-unpack bs h n
 
 -- and taking apart what packing made of accepted bytes gives those bytes
-pub unpack-pack-bytes : (bs : List ℕ) → length bs ≡ placeCount → packedBytes bs .refusal ≡ 0 → recordBytes (taken (packedBytes bs .block) .«record») ≡ bs
+pub unpack-pack-bytes : (bs : List ℕ) → length bs ≡ placeCount → packedBytes bs .refusal ≡ 0
+    → recordBytes (taken (packedBytes bs .block) .«record») ≡ bs
 unfolding packedBytes
 unpack-pack-bytes bs long e =
     let (k, (low, (kind, (said, (w, (c, u)))))) = bytes-packing bs .met e in

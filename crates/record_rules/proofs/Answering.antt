@@ -30,7 +30,8 @@ fits-at m an f e x h =
 
 pub fits-of : (m : ℕ) (an : List ℕ) (f : Place → ℕ) → ((x : Place) → T (inside x) → f x < 2 ^ width m an x) → fits m an f ≡ true
 unfolding fits
-fits-of m an f h = T-true _ (below-intro placeCount (λ i. ltb (f (placeAt i)) (2 ^ width m an (placeAt i))) (λ k l. lt→ltb _ _ (h (placeAt k) (inside-placeAt k l))))
+fits-of m an f h =
+    T-true _ (below-intro placeCount (λ i. ltb (f (placeAt i)) (2 ^ width m an (placeAt i))) (λ k l. lt→ltb _ _ (h (placeAt k) (inside-placeAt k l))))
 
 module _ (r : Record) where
   abbrev m : ℕ
@@ -65,7 +66,8 @@ module _ (r : Record) where
       rule (by-ltb tt 7 m) λ low.
       rule (by-not-eqb tt (kindOf s) (kindOfMode m)) λ kind.
       rule (by-not tt (fits m [] (says r)) (fits-at m [] (says r)) (fits-of m [] (says r))) λ w.
-      rule (by-not tt (fits m (anchors s) (says r)) (λ e. stored-clear (fits-at m (anchors s) (says r) e)) (λ c. fits-of m (anchors s) (says r) (clear-stored w c))) λ c.
+      rule (by-not tt (fits m (anchors s) (says r)) (λ e. stored-clear (fits-at m (anchors s) (says r) e))
+      (λ c. fits-of m (anchors s) (says r) (clear-stored w c))) λ c.
       none)
 
   -- what the code answers, by the rules on its way

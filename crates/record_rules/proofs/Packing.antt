@@ -49,7 +49,9 @@ module _ {m : ℕ} {s : Split} {f : Place → ℕ} (g : WellFormed m s f) where
   says-made (pbit k) h = getD-table 6 (λ k. f (pbit k)) 0 k (ltb→lt k 6 h)
   says-made (index zero q) h = getD-table 16 (λ q. f (index 0 q)) 0 q (ltb→lt q 16 (both-right (ltb 0 2) (ltb q 16) h))
   says-made (index (suc zero) q) h = getD-table 16 (λ q. f (index 1 q)) 0 q (ltb→lt q 16 (both-right (ltb 1 2) (ltb q 16) h))
-  says-made (index (suc (suc a)) q) h = absurd (let l = ltb→lt (suc (suc a)) 2 (both-left (ltb (suc (suc a)) 2) (ltb q 16) h) in let z : ⊥ = omega arith in z)
+  says-made (index (suc (suc a)) q) h =
+      absurd
+      (let l = ltb→lt (suc (suc a)) 2 (both-left (ltb (suc (suc a)) 2) (ltb q 16) h) in let z : ⊥ = omega arith in z)
 
 -- a record goes by the places there are
 pub made-ext : (m : ℕ) (s : Split) (f g : Place → ℕ) → ((x : Place) → T (inside x) → f x ≡ g x) → made m s f ≡ made m s g
@@ -67,7 +69,8 @@ pub made-says : (r : Record) → Shaped r → made (r .mode) (r .split) (says r)
 unfolding made says
 made-says r sh =
     let v : table 24 (λ i. getD (r .endpoints) (4 * (i / 4) + i % 4) 0) ≡ r .endpoints =
-    table-is 24 _ (r .endpoints) (sh .endpoints) (λ i l. ap (λ (j : ℕ). getD (r .endpoints) j 0) (let z : 4 * (i / 4) + i % 4 ≡ i = omega arith in z)) in
+    table-is 24 _ (r .endpoints) (sh .endpoints)
+    (λ i l. ap (λ (j : ℕ). getD (r .endpoints) j 0) (let z : 4 * (i / 4) + i % 4 ≡ i = omega arith in z)) in
     let p : table 6 (λ k. getD (r .p) k 0) ≡ r .p = table-is 6 _ (r .p) (sh .p) (λ i l. refl) in
     let a : table 16 (λ k. getD (r .first) k 0) ≡ r .first = table-is 16 _ (r .first) (sh .first) (λ i l. refl) in
     let b : table 16 (λ k. getD (r .second) k 0) ≡ r .second = table-is 16 _ (r .second) (sh .second) (λ i l. refl) in
@@ -75,7 +78,10 @@ made-says r sh =
 
 -- a record packs if what it says stands in a block
 good-met : (r : Record) → WellFormed (r .mode) (r .split) (says r) → Met (packRules r)
-good-met r g = (omega (arith, g .mode), (good-kind g, (λ x i. lt-of-lt-of-le (g .fits x i) (pow-mono (width-le (r .mode) (anchors (r .split)) x)), (stored-clear r (g .fits), tt))))
+good-met r g = (
+  omega (arith, g .mode),
+  (good-kind g, (λ x i. lt-of-lt-of-le (g .fits x i) (pow-mono (width-le (r .mode) (anchors (r .split)) x)), (stored-clear r (g .fits), tt))),
+)
 
 pub good-accepted : (r : Record) → WellFormed (r .mode) (r .split) (says r) → packRefusal r ≡ 0
 good-accepted r g = accepted-when (packing r) .1 (good-met r g)
@@ -92,7 +98,9 @@ good-ext {m} {s} {f} {h} e g = record {
 -- what stands in a block is accepted
 pub good-packs : {m : ℕ} {s : Split} {f : Place → ℕ} → WellFormed m s f → packed (made m s f) ≡ packedAs 0 (blockOf m s f)
 unfolding made
-good-packs {m} {s} {f} g = sym (packed-as (made m s f) (good-met (made m s f) (good-ext (says-made g) g))) ∙ ap (packedAs 0) (block-ext m s (says (made m s f)) f (says-made g))
+good-packs {m} {s} {f} g =
+    sym (packed-as (made m s f) (good-met (made m s f) (good-ext (says-made g) g)))
+    ∙ ap (packedAs 0) (block-ext m s (says (made m s f)) f (says-made g))
 
 -- a record that packing accepts is what stands in a block
 pub packs-good : (r : Record) → packRefusal r ≡ 0 → WellFormed (r .mode) (r .split) (says r)

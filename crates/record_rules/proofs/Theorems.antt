@@ -33,7 +33,9 @@ use Rattle.record_rules.specs.Promises.{Packs, Unpacks}
 -- taking apart refuses a block exactly when it is reserved, and then answers 1 and the zero record
 pub refused-when-reserved : (bs : List ℕ) → Fit eights bs → (taken bs ≡ unpackedAs 1 zeroRecord) ↔ (getD bs 0 0 ≡ 0)
 refused-when-reserved bs h = (
-  λ e. ⊎-elim (λ z. z) (λ p. absurd (let n = ap (λ (u : Unpacked). u .refusal) (sym e ∙ taken-open bs (open-mode bs h (λ z. omega arith))) in let y : ⊥ = omega (arith, n) in y)) (eq-zero-or-pos (getD bs 0 0)),
+  λ e. ⊎-elim (λ z. z) (λ p. absurd
+      (let n = ap (λ (u : Unpacked). u .refusal) (sym e ∙ taken-open bs (open-mode bs h (λ z. omega arith))) in let y : ⊥ = omega (arith, n) in y))
+      (eq-zero-or-pos (getD bs 0 0)),
   λ z. taken-reserved bs (reserved-mode bs z),
 )
 
@@ -54,7 +56,8 @@ unfolding packed recordOf
 unpack-pack r sh e =
     let g : WellFormed (r .mode) (r .split) (says r) = packs-good r e in
     let bs : List ℕ = blockOf (r .mode) (r .split) (says r) in
-    rw e (taken-open bs (rw (mode-block g) (g .mode)) ∙ ap (unpackedAs 0) (rw (mode-block g, split-block g) (made-ext (r .mode) (r .split) (opened bs) (says r) (opened-block g) ∙ made-says r sh)))
+    rw e (taken-open bs (rw (mode-block g) (g .mode))
+    ∙ ap (unpackedAs 0) (rw (mode-block g, split-block g) (made-ext (r .mode) (r .split) (opened bs) (says r) (opened-block g) ∙ made-says r sh)))
 
 -- a record is accepted exactly if what it says is what a block holds
 pub well-formed-is-accepted : (r : Record) → (packed r .refusal ≡ 0) ↔ WellFormed (r .mode) (r .split) (says r)
@@ -67,7 +70,8 @@ unfolding packed
 packing-refused-when r = exactly (packing r)
 
 -- drawing the record of a block gives the block's pixels
-pub record-draws-block : (bs : List ℕ) → Fit eights bs → getD bs 0 0 ≢ 0 → (q c : ℕ) → shown (recordOf bs .mode) (recordOf bs .split) (says (recordOf bs)) q c ≡ pixel bs q c
+pub record-draws-block : (bs : List ℕ) → Fit eights bs → getD bs 0 0 ≢ 0 → (q c : ℕ)
+    → shown (recordOf bs .mode) (recordOf bs .split) (says (recordOf bs)) q c ≡ pixel bs q c
 unfolding recordOf made pixel
 record-draws-block bs h n q c =
     let o : modeOf bs < 8 = open-mode bs h n in

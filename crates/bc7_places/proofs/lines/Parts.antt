@@ -65,11 +65,13 @@ module _ {m : ℕ} {s : Split} {f : Place → ℕ} (g : WellFormed m s f) (l : �
   anchored = rw (← (good-kind g)) (anchor-is s l (good-64 g) (by-kind 1 refl) (by-kind 2 refl))
 
   -- the width of a channel in the line: of a vector and its scalar, red, green and blue are line 0's and alpha is line 1's
-  pub value-widths : (c : ℕ) → pick (isVector s) (pick (eqb (pick (eqb c 3) 1 0) l) (channelBits m c) 0) (channelBits m c) ≡ pick (eqb c 3) (partOf (rowOf m) s l .alpha) (partOf (rowOf m) s l .colour)
+  pub value-widths : (c : ℕ) → pick (isVector s) (pick (eqb (pick (eqb c 3) 1 0) l) (channelBits m c) 0) (channelBits m c)
+      ≡ pick (eqb c 3) (partOf (rowOf m) s l .alpha) (partOf (rowOf m) s l .colour)
   value-widths c = rw (vector-mode g) (go (isVector s) refl (eqb c 3))
     where
       line : (l : ℕ) (b : Bool) → l < 2
-          → pick (eqb (pick b 1 0) l) (pick b (alphaBits m) (colourBits m)) 0 ≡ pick b (pick (eqb l 0) 0 (alphaBits m)) (pick (eqb l 1) 0 (colourBits m))
+          → pick (eqb (pick b 1 0) l) (pick b (alphaBits m) (colourBits m)) 0
+          ≡ pick b (pick (eqb l 0) 0 (alphaBits m)) (pick (eqb l 1) 0 (colourBits m))
       line zero true h = refl
       line zero false h = refl
       line (suc zero) true h = refl
@@ -85,7 +87,8 @@ module _ {m : ℕ} {s : Split} {f : Place → ℕ} (g : WellFormed m s f) (l : �
 
   -- and that of its index at a pixel
   pub index-widths : (q : ℕ) → q < 16
-      → pick (isVector s) (lineBits m s l) (pick (eqb (subset s q) l) (lineBits m s l) 0) ≡ pick (ownPixel (linePixels s l) q) (partOf (rowOf m) s l .index) 0
+      → pick (isVector s) (lineBits m s l) (pick (eqb (subset s q) l) (lineBits m s l) 0)
+      ≡ pick (ownPixel (linePixels s l) q) (partOf (rowOf m) s l .index) 0
   index-widths q hq = rw (bits-is, own-pixel s l q (good-64 g) hq) (go (isVector s))
     where
       go : (v : Bool)

@@ -100,14 +100,17 @@ module _ {m : ℕ} {s : Split} {f : Place → ℕ} (g : WellFormed m s f) (l : �
   unfolding pTest
   p-starts n =
       eqb→eq _ _
-      (implied (not (eqb (pCount m) 0)) _ (both-left (implies (not (eqb (pCount m) 0)) (eqb (at-line m l .p + pick (eqb m 1) l (2 * l + 0)) (start m s (psFrom + pick (eqb m 1) l (2 * l + 0))))) _ a-p)
+      (implied (not (eqb (pCount m) 0)) _
+      (both-left (implies (not (eqb (pCount m) 0))
+      (eqb (at-line m l .p + pick (eqb m 1) l (2 * l + 0)) (start m s (psFrom + pick (eqb m 1) l (2 * l + 0))))) _ a-p)
       (rw (ne-eqb (pCount m) 0 n) tt))
 
   rest : T (both (leb (at-line m l .p) 100) (eqb (at-line m l .indexes) (start m s firstFrom)))
   unfolding pTest
   rest =
       both-right
-      (implies (not (eqb (pCount m) 0)) (eqb (at-line m l .p + pick (eqb m 1) l (2 * l + 0)) (start m s (psFrom + pick (eqb m 1) l (2 * l + 0))))) _ a-p
+      (implies (not (eqb (pCount m) 0)) (eqb (at-line m l .p + pick (eqb m 1) l (2 * l + 0)) (start m s (psFrom + pick (eqb m 1) l (2 * l + 0))))) _
+      a-p
 
   pub p-low : at-line m l .p ≤ 100
   p-low = leb→le _ 100 (both-left (leb (at-line m l .p) 100) _ rest)
@@ -123,7 +126,8 @@ module _ {m : ℕ} {s : Split} {f : Place → ℕ} (g : WellFormed m s f) (l : �
       behind : isVector s ≡ true → start m s secondFrom ≡ start m s firstFrom + (16 * firstBits m - 1)
       behind v =
           begins m s 0 (omega arith) 16 (omega arith)
-          ∙ ap (λ (t : ℕ). start m s firstFrom + t) (ap (λ (an : List ℕ). total (table 16 (indexWidth (firstBits m) an))) (vector-anchors s v) ∙ size-first)
+          ∙ ap (λ (t : ℕ). start m s firstFrom + t)
+          (ap (λ (an : List ℕ). total (table 16 (indexWidth (firstBits m) an))) (vector-anchors s v) ∙ size-first)
         where
           size-first : total (table 16 (indexWidth (firstBits m) (0 ∷ []))) ≡ 16 * firstBits m - 1
           size-first = one-anchor (firstBits m) (omega (arith, good-vector g v .least1))

@@ -84,8 +84,10 @@ module _ (m : ℕ) (s : Split) (l : ℕ) (o : Line) (f : Place → ℕ) where
               → v / 2 ^ (start m s (pos p) - start m s (pos a)) % 2 ^ width m (anchors s) p ≡ withLine m s l o f p
           holds p i q r =
               ⊎-elim
-              (λ c. subst (λ (p : Place). v / 2 ^ (start m s (pos p) - start m s (pos a)) % 2 ^ width m (anchors s) p ≡ withLine m s l o f p) (pos-one a p ia i c) at-a)
-              (λ c. subst (λ (p : Place). v / 2 ^ (start m s (pos p) - start m s (pos a)) % 2 ^ width m (anchors s) p ≡ withLine m s l o f p) (pos-one b p ib i (omega arith)) at-b)
+              (λ c. subst (λ (p : Place). v / 2 ^ (start m s (pos p) - start m s (pos a)) % 2 ^ width m (anchors s) p ≡ withLine m s l o f p)
+              (pos-one a p ia i c) at-a)
+              (λ c. subst (λ (p : Place). v / 2 ^ (start m s (pos p) - start m s (pos a)) % 2 ^ width m (anchors s) p ≡ withLine m s l o f p)
+              (pos-one b p ib i (omega arith)) at-b)
               (eq-or-lt-of-le q)
 
           others : (p : Place) → T (inside p) → k ≤ pos p → pos p < k' → (pos p < pos a) ⊎ (pos a + 2 ≤ pos p) → has m s l p ≡ false

@@ -64,7 +64,8 @@ module _ (lo hi a c v : ℕ) (hl : lo < 2 ^ 64) (hh : hi < 2 ^ 64) (hv : v < 2 ^
   pub record InLow : Type 0 where
     pub low : Step lo ((old * 2 ^ a) % 2 ^ 64) ((v * 2 ^ a) % 2 ^ 64)
     pub high : Step hi (old / 2 ^ 1 / 2 ^ (63 - a)) (v / 2 ^ 1 / 2 ^ (63 - a))
-    pub whole : (hi - old / 2 ^ 1 / 2 ^ (63 - a) + v / 2 ^ 1 / 2 ^ (63 - a)) * 2 ^ 64 + (lo - (old * 2 ^ a) % 2 ^ 64 + (v * 2 ^ a) % 2 ^ 64) ≡ replacedAt n a c v
+    pub whole : (hi - old / 2 ^ 1 / 2 ^ (63 - a) + v / 2 ^ 1 / 2 ^ (63 - a)) * 2 ^ 64 + (lo - (old * 2 ^ a) % 2 ^ 64 + (v * 2 ^ a) % 2 ^ 64)
+        ≡ replacedAt n a c v
 
   module _ (h : a < 64) where
     e : 64 - a + a ≡ 64
@@ -104,7 +105,8 @@ module _ (lo hi a c v : ℕ) (hl : lo < 2 ^ 64) (hh : hi < 2 ^ 64) (hv : v < 2 ^
         ∙ ap (λ (x : ℕ). x % 2 ^ c) (sym (rw e at (low-bits n (64 - a) a)) ∙ ap (λ (x : ℕ). x / 2 ^ a) lower) in
         both c 0 v 0 k (omega arith) hv (pow-pos 0) (mod-eq-of-lt (small k hv)) (div-eq-of-lt (small k hv)) (mod-eq-of-lt (small k o) ∙ same)
         (div-eq-of-lt (small k o) ∙ sym (mod-one hi))
-        (in-lower n a c v 64 k ∙ ap₂ (λ (x y : ℕ). x * 2 ^ 64 + replacedAt y a c v) (upper ∙ sym (at-zero hi 0 0 ∙ add-zero _ ∙ mul-one _ ∙ div-one hi)) lower)
+        (in-lower n a c v 64 k
+        ∙ ap₂ (λ (x y : ℕ). x * 2 ^ 64 + replacedAt y a c v) (upper ∙ sym (at-zero hi 0 0 ∙ add-zero _ ∙ mul-one _ ∙ div-one hi)) lower)
 
     -- it lies in both
     crossing : 64 ≤ a + c → a + c ≤ 128 → InLow
@@ -116,7 +118,8 @@ module _ (lo hi a c v : ℕ) (hl : lo < 2 ^ 64) (hh : hi < 2 ^ 64) (hv : v < 2 ^
         (shr-lt {n = v} d (64 - a) (rw f hv)) refl refl
         ((rw f at (mod-mod-pow (n / 2 ^ a) d (64 - a))) ∙ in-word)
         ((rw f at (low-bits (n / 2 ^ a) d (64 - a))) ∙ ap (λ (x : ℕ). x % 2 ^ d) ((rw g at (shr-shr n a (64 - a))) ∙ upper))
-        (across n a c v 64 (omega arith) k ∙ ap₂ (λ (x y : ℕ). replacedAt x 0 d (v / 2 ^ (64 - a)) * 2 ^ 64 + replacedAt y a (64 - a) (v % 2 ^ (64 - a))) upper lower)
+        (across n a c v 64 (omega arith) k
+        ∙ ap₂ (λ (x y : ℕ). replacedAt x 0 d (v / 2 ^ (64 - a)) * 2 ^ 64 + replacedAt y a (64 - a) (v % 2 ^ (64 - a))) upper lower)
 
     pub in-low : a + c ≤ 128 → InLow
     in-low m = ⊎-elim (λ k. below (omega arith)) (λ k. crossing (omega arith) m) (lt-or (a + c) 65)

@@ -163,7 +163,8 @@ module _ {m : ℕ} {s : Split} {f : Place → ℕ} (g : WellFormed m s f) (l : �
     unfolding stored
     stored-split = split-join stand-fits
 
-    module _ (n b : ℕ) {mask new : ℕ} (eb : b ≡ start m s (firstFrom + (16 * a + 0))) (e : (q : ℕ) → q < 16 → atPlace m s n (indexPlace s l q) ≡ stood q)
+    module _ (n b : ℕ) {mask new : ℕ} (eb : b ≡ start m s (firstFrom + (16 * a + 0)))
+        (e : (q : ℕ) → q < 16 → atPlace m s n (indexPlace s l q) ≡ stood q)
         (em : mask ≡ word w (maskPart x)) (en : new ≡ word w (λ q. pick (own q) (o .index q) 0)) where
       after-split : split (indexWidths w []) (setAfter n k b x mask new) ≡ table 16 stands
       after-split = rw (after-word n b (before-word n b eb e) em en) (word-split w stands stands-small)
@@ -181,6 +182,7 @@ module _ {m : ℕ} {s : Split} {f : Place → ℕ} (g : WellFormed m s f) (l : �
         fits = rw (after-split, anchors-are, bits) stand-fits;
       }
 
-      pub set-put : setPut n k b x mask new ≡ replacedAt n (start m s (firstFrom + (16 * a + 0))) (total (indexWidths (indexBits m a) (anchors s))) stored
+      pub set-put : setPut n k b x mask new
+          ≡ replacedAt n (start m s (firstFrom + (16 * a + 0))) (total (indexWidths (indexBits m a) (anchors s))) stored
       unfolding setPut stored
       set-put = rw (after-split, anchors-are, size-is, bits, eb)

@@ -104,7 +104,8 @@ module _ {m : ℕ} {s : Split} {f : Place → ℕ} (g : WellFormed m s f) (l : �
       → Until (valuesFrom + 6 * c + 6) n'
   unfolding valuePlace pos width
   channel-put c w n n' hc hw h0 h1 e u =
-      pair-put m s l o f (valuePlace s l 0 c) (valuePlace s l 1 c) (valuesFrom + 6 * c) (valuesFrom + 6 * c + 6) w (value-there g l hl 0 c (omega arith) hc)
+      pair-put m s l o f (valuePlace s l 0 c) (valuePlace s l 1 c) (valuesFrom + 6 * c) (valuesFrom + 6 * c + 6) w
+      (value-there g l hl 0 c (omega arith) hc)
       (value-there g l hl 1 c (omega arith) hc) (value-next g l hl c) (omega arith) (room (isVector s)) (omega arith)
       hw (ws g l hl .value 1 c (omega arith) hc ∙ sym (ws g l hl .value 0 c (omega arith) hc) ∙ hw) refl refl only
       (o .value 0 c) (o .value 1 c) n n' h0 h1 (laid-value m s l o 0 c (omega arith)) (laid-value m s l o 1 c (omega arith)) e u
@@ -129,7 +130,8 @@ module _ {m : ℕ} {s : Split} {f : Place → ℕ} (g : WellFormed m s f) (l : �
   p-only (head k) i p q h = absurd (let k4 : k < 4 = ltb→lt k 4 i in let y : ⊥ = omega arith in y)
   p-only (value c e) i p q h =
       absurd
-      (let c4 : c < 4 = ltb→lt c 4 (both-left (ltb c 4) (ltb e 6) i) in let e6 : e < 6 = ltb→lt e 6 (both-right (ltb c 4) (ltb e 6) i) in let y : ⊥ = omega arith in y)
+      (let c4 : c < 4 = ltb→lt c 4 (both-left (ltb c 4) (ltb e 6) i) in
+      let e6 : e < 6 = ltb→lt e 6 (both-right (ltb c 4) (ltb e 6) i) in let y : ⊥ = omega arith in y)
   p-only (pbit k) i p q h = (k, refl)
   p-only (index a q') i p q h = absurd (let y : ⊥ = omega arith in y)
 
@@ -137,7 +139,8 @@ module _ {m : ℕ} {s : Split} {f : Place → ℕ} (g : WellFormed m s f) (l : �
       → n' ≡ replacedAt n (start m s (pos (pPlace m l 0))) (2 * w) (o .p 1 * 2 ^ w + o .p 0) → Until psFrom n → Until firstFrom n'
   unfolding pPlace pos width
   p-put w n n' n1 hw h0 h1 e u =
-      pair-put m s l o f (pPlace m l 0) (pPlace m l 1) psFrom firstFrom w (p-there g l hl 0 (omega arith)) (p-there g l hl 1 (omega arith)) (p-next g l hl n1)
+      pair-put m s l o f (pPlace m l 0) (pPlace m l 1) psFrom firstFrom w (p-there g l hl 0 (omega arith)) (p-there g l hl 1 (omega arith))
+      (p-next g l hl n1)
       (omega arith) room (omega arith)
       (ws g l hl .p 0 (omega arith) ∙ hw) (ws g l hl .p 1 (omega arith) ∙ hw) refl refl only
       (o .p 0) (o .p 1) n n' h0 h1 (laid-p m l o 0 (omega arith) (λ z. absurd (n1 z))) (laid-p m l o 1 (omega arith) (λ z. absurd (n1 z))) e u
@@ -155,10 +158,12 @@ module _ {m : ℕ} {s : Split} {f : Place → ℕ} (g : WellFormed m s f) (l : �
           (ap (λ (b : Bool). pPlace m l (pick b 0 (k % 2))) (sym not-1) ∙ own-pbit m s l k (rw ex at h) ∙ sym ex)
 
   -- in mode 1 the line has one
-  pub p-put-1 : (n n' : ℕ) → m ≡ 1 → pCount m ≢ 0 → o .p 0 < 2 → n' ≡ replacedAt n (start m s (psFrom + l)) 1 (o .p 0) → Until psFrom n → Until firstFrom n'
+  pub p-put-1 : (n n' : ℕ) → m ≡ 1 → pCount m ≢ 0 → o .p 0 < 2 → n' ≡ replacedAt n (start m s (psFrom + l)) 1 (o .p 0) → Until psFrom n
+      → Until firstFrom n'
   unfolding pos width
   p-put-1 n n' e1 some h0 e u =
-      more m s l o f (psFrom + l) (psFrom + l + 1) firstFrom (o .p 0) n' (omega arith) (omega arith) (omega (arith, h3 g l hl)) (omega arith) (rw one h0)
+      more m s l o f (psFrom + l) (psFrom + l + 1) firstFrom (o .p 0) n' (omega arith) (omega arith) (omega (arith, h3 g l hl)) (omega arith)
+      (rw one h0)
       (rw one e) u holds others
     where
       here : pPlace m l 0 ≡ pbit l
@@ -199,11 +204,13 @@ module _ {m : ℕ} {s : Split} {f : Place → ℕ} (g : WellFormed m s f) (l : �
   -- the set of indexes, as they are stored
   pub indexes-put : (v n n' : ℕ) → v < 2 ^ total (indexWidths (indexBits m (arrayOf s l)) (anchors s))
       → split (indexWidths (indexBits m (arrayOf s l)) (anchors s)) v ≡ table 16 (λ q. withLine m s l o f (indexPlace s l q))
-      → n' ≡ replacedAt n (start m s (firstFrom + (16 * arrayOf s l + 0))) (total (indexWidths (indexBits m (arrayOf s l)) (anchors s))) v → Until firstFrom n
+      → n' ≡ replacedAt n (start m s (firstFrom + (16 * arrayOf s l + 0))) (total (indexWidths (indexBits m (arrayOf s l)) (anchors s))) v
+      → Until firstFrom n
       → Until placeCount n'
   unfolding indexWidths indexPlace pos width
   indexes-put v n n' hv sv e u =
-      more m s l o f (firstFrom + (16 * a + 0)) (firstFrom + (16 * a + 16)) placeCount v n' (omega arith) (omega arith) (omega (arith, ha)) (omega arith) (rw all hv)
+      more m s l o f (firstFrom + (16 * a + 0)) (firstFrom + (16 * a + 16)) placeCount v n' (omega arith) (omega arith) (omega (arith, ha))
+      (omega arith) (rw all hv)
       (rw all e) u holds others
     where
       a : ℕ
@@ -233,11 +240,13 @@ module _ {m : ℕ} {s : Split} {f : Place → ℕ} (g : WellFormed m s f) (l : �
           subst (λ (x : Place). v / 2 ^ (start m s (pos x) - start m s (firstFrom + (16 * a + 0))) % 2 ^ width m (anchors s) x ≡ withLine m s l o f x)
           (pos-one (index a k) x (inside-index ha hk) i (let z : firstFrom + (16 * a + k) ≡ pos x = omega arith in z)) (at-pixel k hk)
 
-      others : (x : Place) → T (inside x) → firstFrom ≤ pos x → pos x < placeCount → (pos x < firstFrom + (16 * a + 0)) ⊎ (firstFrom + (16 * a + 16) ≤ pos x) → has m s l x ≡ false
+      others : (x : Place) → T (inside x) → firstFrom ≤ pos x → pos x < placeCount
+          → (pos x < firstFrom + (16 * a + 0)) ⊎ (firstFrom + (16 * a + 16) ≤ pos x) → has m s l x ≡ false
       others (head k) i p q r = absurd (let k4 : k < 4 = ltb→lt k 4 i in let y : ⊥ = omega arith in y)
       others (value c e) i p q r =
           absurd
-          (let c4 : c < 4 = ltb→lt c 4 (both-left (ltb c 4) (ltb e 6) i) in let e6 : e < 6 = ltb→lt e 6 (both-right (ltb c 4) (ltb e 6) i) in let y : ⊥ = omega arith in y)
+          (let c4 : c < 4 = ltb→lt c 4 (both-left (ltb c 4) (ltb e 6) i) in
+          let e6 : e < 6 = ltb→lt e 6 (both-right (ltb c 4) (ltb e 6) i) in let y : ⊥ = omega arith in y)
       others (pbit k) i p q r = absurd (let k6 : k < 6 = ltb→lt k 6 i in let y : ⊥ = omega arith in y)
       others (index b k) i p q r =
           not-so (has m s l (index b k)) (λ t.
@@ -250,5 +259,6 @@ module _ {m : ℕ} {s : Split} {f : Place → ℕ} (g : WellFormed m s f) (l : �
   unfolding blockOf atPlace
   put-whole n hn u =
       ap bytesOf
-      (sym (join-split (widths m s) n (rw (good-total g) hn)) ∙ ap (join (widths m s)) (sym (list-at (split (widths m s) n) (length-split (widths m s) n ∙ length-widths m s))
+      (sym (join-split (widths m s) n (rw (good-total g) hn))
+      ∙ ap (join (widths m s)) (sym (list-at (split (widths m s) n) (length-split (widths m s) n ∙ length-widths m s))
       ∙ list-ext _ _ (λ x i. u .done x i (pos-lt x i))))

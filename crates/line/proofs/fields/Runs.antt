@@ -51,7 +51,8 @@ module _ (m : ℕ) (s : Split) where
         let e : start m s i + d ≡ start m s (pos x) = omega (arith, start-le m s i (pos x) l (omega arith)) in
         at-field m s run x h
         ∙
-        (rw e at (is-inside n (start m s i) (start m s j - start m s i) v hv d (wide x) (omega (arith, room x j h k hj, start-le m s i (pos x) l (omega arith)))))
+        (rw e at (is-inside n (start m s i) (start m s j - start m s i) v hv d (wide x)
+        (omega (arith, room x j h k hj, start-le m s i (pos x) l (omega arith)))))
 
 -- no bits put
 pub nothing-put : (n a : ℕ) → replacedAt n a 0 0 ≡ n
@@ -85,7 +86,8 @@ module _ (m : ℕ) (s : Split) (l : ℕ) (o : Line) (f : Place → ℕ) where
   pub more : {k n : ℕ} (i j k' v n' : ℕ) → k ≤ i → i ≤ j → j ≤ k' → k' ≤ placeCount → v < 2 ^ (start m s j - start m s i)
       → n' ≡ replacedAt n (start m s i) (start m s j - start m s i) v
       → Upto m s l o f k n
-      → ((x : Place) → T (inside x) → i ≤ pos x → pos x < j → v / 2 ^ (start m s (pos x) - start m s i) % 2 ^ width m (anchors s) x ≡ withLine m s l o f x)
+      → ((x : Place) → T (inside x) → i ≤ pos x → pos x < j → v / 2 ^ (start m s (pos x) - start m s i) % 2 ^ width m (anchors s) x
+      ≡ withLine m s l o f x)
       → ((x : Place) → T (inside x) → k ≤ pos x → pos x < k' → (pos x < i) ⊎ (j ≤ pos x) → has m s l x ≡ false)
       → Upto m s l o f k' n'
   more {k} {n} i j k' v n' hi hj hk h66 hv e u own none = record { done = done'; rest = rest' }
@@ -102,5 +104,6 @@ module _ (m : ℕ) (s : Split) (l : ℕ) (o : Line) (f : Place → ℕ) where
       done' : (x : Place) → T (inside x) → pos x < k' → atPlace m s n' x ≡ withLine m s l o f x
       done' x h p =
           ⊎-elim (λ q. outside x h p (inl q))
-          (λ q. ⊎-elim (λ r. ap (λ (y : ℕ). atPlace m s y x) e ∙ in-run m s n i j v hj (le-trans hk h66) hv x h q r ∙ own x h q r) (λ r. outside x h p (inr r)) (lt-or (pos x) j))
+          (λ q. ⊎-elim (λ r. ap (λ (y : ℕ). atPlace m s y x) e ∙ in-run m s n i j v hj (le-trans hk h66) hv x h q r ∙ own x h q r)
+          (λ r. outside x h p (inr r)) (lt-or (pos x) j))
           (lt-or (pos x) i)

@@ -47,4 +47,5 @@ module _ (m : ℕ) (s : Split) (l : ℕ) (f : Place → ℕ) (n : ℕ) (fn : (x 
             let h : has m s l a ≡ true = own-some m s l a (λ z. some (sym wa ∙ z)) in
             ap (λ (v : ℕ). v + w) (e some)
             ∙ sym
-            (ap (start m s) next ∙ start-next m s (pos a) (pos-lt a ia) ∙ ap (λ (v : ℕ). start m s (pos a) + v) (ap (width m (anchors s)) (placeAt-pos a ia) ∙ fa ∙ sym (has-width m s l a h) ∙ wa))
+            (ap (start m s) next ∙ start-next m s (pos a) (pos-lt a ia)
+            ∙ ap (λ (v : ℕ). start m s (pos a) + v) (ap (width m (anchors s)) (placeAt-pos a ia) ∙ fa ∙ sym (has-width m s l a h) ∙ wa))

@@ -130,9 +130,12 @@ module _ {m : ℕ} {s : Split} {f : Place → ℕ} (g : WellFormed m s f) (l : �
     after-values n u =
         channel 3 (x .alpha) (at .alpha) (e 3) (e 7) _ _ (omega arith) refl refl (ist .value 0 3 (omega arith) (omega arith))
         (ist .value 1 3 (omega arith) (omega arith)) refl
-        (channel 2 (x .colour) (at .blue) (e 2) (e 6) _ _ (omega arith) refl refl (ist .value 0 2 (omega arith) (omega arith)) (ist .value 1 2 (omega arith) (omega arith)) refl
-        (channel 1 (x .colour) (at .green) (e 1) (e 5) _ _ (omega arith) refl refl (ist .value 0 1 (omega arith) (omega arith)) (ist .value 1 1 (omega arith) (omega arith)) refl
-        (channel 0 (x .colour) (at .red) (e 0) (e 4) _ _ (omega arith) refl refl (ist .value 0 0 (omega arith) (omega arith)) (ist .value 1 0 (omega arith) (omega arith)) refl u)))
+        (channel 2 (x .colour) (at .blue) (e 2) (e 6) _ _ (omega arith) refl refl (ist .value 0 2 (omega arith) (omega arith))
+        (ist .value 1 2 (omega arith) (omega arith)) refl
+        (channel 1 (x .colour) (at .green) (e 1) (e 5) _ _ (omega arith) refl refl (ist .value 0 1 (omega arith) (omega arith))
+        (ist .value 1 1 (omega arith) (omega arith)) refl
+        (channel 0 (x .colour) (at .red) (e 0) (e 4) _ _ (omega arith) refl refl (ist .value 0 0 (omega arith) (omega arith))
+        (ist .value 1 0 (omega arith) (omega arith)) refl u)))
 
     p-is : pick (eqb (pCount m) 0) 0 1 ≡ x .p
     p-is = sym (own-widths g l hl .p 0 (omega arith)) ∙ is .p 0 (omega arith)
@@ -188,12 +191,12 @@ module _ {m : ℕ} {s : Split} {f : Place → ℕ} (g : WellFormed m s f) (l : �
       abbrev n' : ℕ
       n' = psPut (endpointsPut n at x (st .endpoints)) m (at .p) l (x .p) (st .p)
 
-      until-34 : Until firstFrom n'
-      until-34 = after-ps _ (after-values n (after-head g l hl o n fn))
+      until-first : Until firstFrom n'
+      until-first = after-ps _ (after-values n (after-head g l hl o n fn))
 
       as-stood : (q : ℕ) → q < 16 → atPlace m s n' (indexPlace s l q) ≡ f (indexPlace s l q)
       unfolding indexPlace pos
-      as-stood q h = until-34 .rest (index (arrayOf s l) q) (inside-index (array-lt s l (good-index-mode g)) h) (omega arith)
+      as-stood q h = until-first .rest (index (arrayOf s l) q) (inside-index (array-lt s l (good-index-mode g)) h) (omega arith)
 
       -- the set ends where the block does, at the latest
       set-room : start m s (firstFrom + (16 * arrayOf s l + 0)) + total (indexWidths (indexBits m (arrayOf s l)) (anchors s)) ≤ 128
@@ -234,16 +237,20 @@ module _ {m : ℕ} {s : Split} {f : Place → ℕ} (g : WellFormed m s f) (l : �
           line = l3;
           red =
               rw fields-are
-              (pair 0 (x .colour) 0 4 (at .red) (omega arith) refl (is .colour-small) refl (ist .value 0 0 (omega arith) (omega arith)) (ist .value 1 0 (omega arith) (omega arith)));
+              (pair 0 (x .colour) 0 4 (at .red) (omega arith) refl (is .colour-small) refl (ist .value 0 0 (omega arith) (omega arith))
+              (ist .value 1 0 (omega arith) (omega arith)));
           green =
               rw fields-are
-              (pair 1 (x .colour) 1 5 (at .green) (omega arith) refl (is .colour-small) refl (ist .value 0 1 (omega arith) (omega arith)) (ist .value 1 1 (omega arith) (omega arith)));
+              (pair 1 (x .colour) 1 5 (at .green) (omega arith) refl (is .colour-small) refl (ist .value 0 1 (omega arith) (omega arith))
+              (ist .value 1 1 (omega arith) (omega arith)));
           blue =
               rw fields-are
-              (pair 2 (x .colour) 2 6 (at .blue) (omega arith) refl (is .colour-small) refl (ist .value 0 2 (omega arith) (omega arith)) (ist .value 1 2 (omega arith) (omega arith)));
+              (pair 2 (x .colour) 2 6 (at .blue) (omega arith) refl (is .colour-small) refl (ist .value 0 2 (omega arith) (omega arith))
+              (ist .value 1 2 (omega arith) (omega arith)));
           alpha =
               rw fields-are
-              (pair 3 (x .alpha) 3 7 (at .alpha) (omega arith) refl (is .alpha-small) refl (ist .value 0 3 (omega arith) (omega arith)) (ist .value 1 3 (omega arith) (omega arith)));
+              (pair 3 (x .alpha) 3 7 (at .alpha) (omega arith) refl (is .alpha-small) refl (ist .value 0 3 (omega arith) (omega arith))
+              (ist .value 1 3 (omega arith) (omega arith)));
           p-start = rw fields-are p-at-low;
           p-width = is .p-small;
           p-first = rw (ist .p 0 (omega arith)) (o-p 0 (omega arith));
@@ -258,4 +265,5 @@ module _ {m : ℕ} {s : Split} {f : Place → ℕ} (g : WellFormed m s f) (l : �
         line-block r hlo hhi e =
             put-whole g l hl o (held r) (digits-lt {m = 2 ^ 64} {c = 2 ^ 64} hhi hlo)
             (indexes-put g l hl o (stored g l is o stands-fits) n' (held r) (stored-lt g l is o stands-fits) (stored-split g l is o stands-fits)
-            (e ∙ rw (values-are, fields-are, er) (set-put g l is o stands-fits n' (at .indexes) (set-starts g l hl l3) as-stood em (ist .indexes))) until-34)
+            (e ∙ rw (values-are, fields-are, er) (set-put g l is o stands-fits n' (at .indexes) (set-starts g l hl l3) as-stood em (ist .indexes)))
+            until-first)

@@ -42,7 +42,8 @@ read-split-requires c κs =
 line-part-requires : tie.Need-line-part-requires
 line-part-requires c κs =
     let s = c .before .before .before .before in
-    asks (s .args .block) (s .pre .0 .mode-is) (s .pre .0 .row-is) (c .before .before .before .new .ensures .of) (c .before .before .before .new .ensures .stands)
+    asks (s .args .block) (s .pre .0 .mode-is) (s .pre .0 .row-is) (c .before .before .before .new .ensures .of)
+    (c .before .before .before .new .ensures .stands)
     (c .before .before .skip .ensures) (c .before .read-split .ensures) (sixteen s) (s .pre .0 .low) (s .args .line) (s .pre .1)
 
 returns : tie.Need-returns

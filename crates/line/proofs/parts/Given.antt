@@ -96,7 +96,8 @@ module _ {m : ℕ} {s : Split} {l : ℕ} {x : LinePart} (is : IsPart m s l x) (g
         value = λ k c hk hc.
             let z : (4 * k + c) % 4 ≡ c = omega arith in
             rw (is .value k c hk hc)
-            (rw z at (ltb→lt (getD (g .endpoints) (4 * k + c) 0) (2 ^ pick (eqb ((4 * k + c) % 4) 3) (x .alpha) (x .colour)) (at 8 value-test (true-T _ (b .1)) (4 * k + c) (omega arith))));
+            (rw z at (ltb→lt (getD (g .endpoints) (4 * k + c) 0) (2 ^ pick (eqb ((4 * k + c) % 4) 3) (x .alpha) (x .colour))
+            (at 8 value-test (true-T _ (b .1)) (4 * k + c) (omega arith))));
         p = λ k hk. rw (is .p k hk) (ltb→lt _ _ (at 2 p-test (true-T _ (b .0)) k hk));
         index = λ q hq. rw (is .index q hq) (go (own q) (kept q hq) (small-indexes e q hq));
       }

@@ -122,6 +122,7 @@ module _ {m : ℕ} {s : Split} {l : ℕ} {x : LinePart} (is : IsPart m s l x) (g
     is-stored e = rw e (go (eqb (field (word w v) (a * w + (w - 1)) 1) 0) refl)
       where
         go : (b : Bool) → eqb (field (word w v) (a * w + (w - 1)) 1) 0 ≡ b
-            → IsStored x (pick b (asGiven g (word w v)) (turnedRound g (word w (maskPart x) - word w v))) (pick (topSet m s l (lineGiven g)) (turned (lineBits m s l) (lineGiven g)) (lineGiven g))
+            → IsStored x (pick b (asGiven g (word w v)) (turnedRound g (word w (maskPart x) - word w v)))
+            (pick (topSet m s l (lineGiven g)) (turned (lineBits m s l) (lineGiven g)) (lineGiven g))
         go true t = rw (top-zero (eqb-true _ 0 t)) as-given
         go false t = rw (top-one (eqb-false _ 0 t)) turned-round

@@ -59,7 +59,8 @@ counted : (c : tie.Else2) → call (unreserved c) .args .line < lines (modeOf (c
 counted c = rw (row-is c) at (c .if2 .left)
 
 line-is : (c : tie.After-open-line)
-    → IsPart (modeOf (call (unreserved (c .before)) .args .block)) (splitOf (call (unreserved (c .before)) .args .block)) (call (unreserved (c .before)) .args .line) (c .open-line .result .part)
+    → IsPart (modeOf (call (unreserved (c .before)) .args .block)) (splitOf (call (unreserved (c .before)) .args .block))
+    (call (unreserved (c .before)) .args .line) (c .open-line .result .part)
 line-is c =
     let d = unreserved (c .before) in
     is _ (sixteen (call d)) _ (call d .args .new) (long (call d)) (low d) (counted (c .before)) (c .open-line .ensures)
@@ -85,7 +86,8 @@ alone c = sym (c .before .only-own .ensures) ∙ not-false _ (c .if4 .left)
 -- and the p bits to be as the mode wants them
 same : (c : tie.Else5)
     → both (eqb (modeOf (call (unreserved (opening (fit (c .before .before)) .before)) .args .block)) 1)
-    (not (eqb (getD (call (unreserved (opening (fit (c .before .before)) .before)) .args .new .p) 0 0) (getD (call (unreserved (opening (fit (c .before .before)) .before)) .args .new .p) 1 0))) ≡ false
+    (not (eqb (getD (call (unreserved (opening (fit (c .before .before)) .before)) .args .new .p) 0 0)
+    (getD (call (unreserved (opening (fit (c .before .before)) .before)) .args .new .p) 1 0))) ≡ false
 same c = rw (mode-is (unreserved (opening (fit (c .before .before)) .before))) at (sym (c .before .p-bits-differ .ensures) ∙ c .if5 .left)
 
 halves : (c : tie.After-put-line) → (c .put-line .result .low < 2 ^ 64) × (c .put-line .result .high < 2 ^ 64)
@@ -197,7 +199,8 @@ put-line-requires c κs =
     let o = opening (fit k) in
     let d = unreserved (o .before) in
     rw (mode-is d)
-    (ready _ (sixteen (call d)) _ _ (long (call d)) (low d) (counted (o .before)) (o .open-line .ensures) (fitting (fit k)) (masking k .before .before .word-of .ensures) (masking k .mask-of .ensures) (alone k)
+    (ready _ (sixteen (call d)) _ _ (long (call d)) (low d) (counted (o .before)) (o .open-line .ensures) (fitting (fit k))
+    (masking k .before .before .word-of .ensures) (masking k .mask-of .ensures) (alone k)
     (same (c .before)) (c .oriented .ensures) (row-is (o .before)))
 
 bytes-of-requires : tie.Need-bytes-of-requires

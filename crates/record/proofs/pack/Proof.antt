@@ -84,7 +84,11 @@ returns-4 c =
     (then (f .kind) (then (f .within) (here (tops-set f (sym (c .before .before .anchors-fit .ensures) ∙ not-true _ (c .before .if4 .taken)))))))
 
 write-record-requires : tie.Need-write-record-requires
-write-record-requires c κs = record { packs = packs (full (c .before .before .before)) (sym (c .before .anchors-fit .ensures) ∙ not-false _ (c .if4 .left)); anchors-are = c .before .before .anchors-of .ensures }
+write-record-requires c κs =
+    record {
+      packs = packs (full (c .before .before .before)) (sym (c .before .anchors-fit .ensures) ∙ not-false _ (c .if4 .left));
+      anchors-are = c .before .before .anchors-of .ensures;
+    }
 
 returns-5 : tie.Need-returns-5
 returns-5 c =

@@ -21,7 +21,11 @@ mode-row-requires c κs = mode-low _ (c .before .mode-of .ensures) (c .if1 .left
 
 read-record-requires : tie.Need-read-record-requires
 read-record-requires c κs =
-    record { mode-is = c .before .before .mode-of .ensures; low = mode-low _ (c .before .before .mode-of .ensures) (c .before .if1 .left); row-is = c .mode-row .ensures }
+    record {
+      mode-is = c .before .before .mode-of .ensures;
+      low = mode-low _ (c .before .before .mode-of .ensures) (c .before .if1 .left);
+      row-is = c .mode-row .ensures;
+    }
 
 returns-2 : tie.Need-returns-2
 returns-2 c = ap (unpackedAs 0) (c .read-record .ensures) ∙ accepted _ (c .before .before .before .mode-of .ensures) (c .before .before .if1 .left)

@@ -66,7 +66,8 @@ unfolding spelt
 spelt-is c =
     let bs = given (packing c) in
     c .spells .ensures
-    ∙ ap (λ (r : Record). both (eqb (getD bs 2 0) (splitByte (r .split))) (eqb (getD bs 3 0) (indexMode (r .split)))) (packing c .before .record-of-bytes .ensures)
+    ∙ ap (λ (r : Record). both (eqb (getD bs 2 0) (splitByte (r .split))) (eqb (getD bs 3 0) (indexMode (r .split))))
+    (packing c .before .record-of-bytes .ensures)
 
 not-5 : (c : tie.After-spells) → packRefusal (recordOfBytes (given (packing c))) ≢ 5
 not-5 c e = c .before .if2 .left (refusal-is (packing c) ∙ e)

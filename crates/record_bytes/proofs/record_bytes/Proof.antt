@@ -62,7 +62,8 @@ filled-values c =
     let set = c .before .before .before .before in
     let r = from-1 c .args .from in
     laid valuesFrom 24 (r .endpoints) (endpoints-long (from-1 c)) (c .lay .ensures)
-    (head-laid r _ _ _ (replicate placeCount 0) refl (set .before .before .kind-of .ensures) (set .before .split-byte .ensures) (set .index-mode-of .ensures))
+    (head-laid r _ _ _ (replicate placeCount 0) refl (set .before .before .kind-of .ensures) (set .before .split-byte .ensures)
+    (set .index-mode-of .ensures))
     (omega arith) (value-at r)
 
 slice-aggregate-lay-3 : tie.Need-slice-aggregate-lay-3
@@ -113,7 +114,8 @@ unfolding recordBytes
 returns c =
     let at = c .before .before .before .before .before .before in
     let s = from-1 (from-2 (from-3 at)) in
-    filled-all (laid secondFrom 16 (s .args .from .second) (second-long s) (c .before .lay4 .ensures) (filled-first at) (omega arith) (second-at (s .args .from))) (omega arith)
+    filled-all (laid secondFrom 16 (s .args .from .second) (second-long s) (c .before .lay4 .ensures) (filled-first at) (omega arith)
+    (second-at (s .args .from))) (omega arith)
 
 pub record-bytes-spec : {M : Type 1} → statement M
 record-bytes-spec =

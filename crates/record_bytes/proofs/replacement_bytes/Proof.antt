@@ -68,7 +68,10 @@ unfolding replacementBytes
 returns c =
     let at = c .before .before .before .before .before .before in
     let s = from-1 (from-2 at) in
-    filled-all (laid 10 16 (s .args .from .indexes) (indexes-long s) (c .before .lay3 .ensures) (filled-10 at) (omega arith) (index-at (s .args .from))) (omega arith)
+    filled-all (laid 10 16 (s .args .from .indexes) (indexes-long s) (c .before .lay3 .ensures) (filled-10 at) (omega arith)
+    (index-at (s .args .from))) (omega arith)
 
 pub replacement-bytes-spec : {M : Type 1} → statement M
-replacement-bytes-spec = tie.close (tie.spec slice-aggregate-lay slice-aggregate-lay-2 lay-requires slice-aggregate-lay-3 slice-aggregate-lay-4 lay-requires-2 slice-aggregate-lay-5 slice-aggregate-lay-6 lay-requires-3 returns)
+replacement-bytes-spec =
+    tie.close (tie.spec slice-aggregate-lay slice-aggregate-lay-2 lay-requires slice-aggregate-lay-3 slice-aggregate-lay-4 lay-requires-2
+    slice-aggregate-lay-5 slice-aggregate-lay-6 lay-requires-3 returns)

@@ -31,13 +31,16 @@ rotation-of-requires : tie.Need-rotation-of-requires
 rotation-of-requires c κs = search needs
 
 returns : tie.Need-returns
-returns c = c .rotation-of .ensures ∙ of-vector (c .before .before .before .args .split) (sym (c .before .before .kind-of .ensures) ∙ c .before .if1 .taken)
+returns c =
+    c .rotation-of .ensures ∙ of-vector (c .before .before .before .args .split) (sym (c .before .before .kind-of .ensures) ∙ c .before .if1 .taken)
 
 partition-of-requires : tie.Need-partition-of-requires
 partition-of-requires c κs = search needs
 
 returns-2 : tie.Need-returns-2
-returns-2 c = c .partition-of .ensures ∙ of-subsets (c .before .before .before .args .split) (λ e. c .before .if1 .left (c .before .before .kind-of .ensures ∙ e))
+returns-2 c =
+    c .partition-of .ensures
+    ∙ of-subsets (c .before .before .before .args .split) (λ e. c .before .if1 .left (c .before .before .kind-of .ensures ∙ e))
 
 pub split-byte-spec : {M : Type 1} → statement M
 split-byte-spec = tie.close (tie.spec kind-of-requires rotation-of-requires returns partition-of-requires returns-2)

@@ -29,7 +29,8 @@ split-of-kind-requires c κs = search needs
 
 returns : tie.Need-returns
 returns c =
-    split-taken _ _ (c .before .before .before .before .before .before .pre .of-mode) (c .before .before .before .take .ensures .same) (c .split-of-kind .ensures)
+    split-taken _ _ (c .before .before .before .before .before .before .pre .of-mode) (c .before .before .before .take .ensures .same)
+    (c .split-of-kind .ensures)
 
 pub read-split-spec : {M : Type 1} → statement M
 read-split-spec =

@@ -26,7 +26,8 @@ exchanged-requires : tie.Need-exchanged-requires
 exchanged-requires c κs =
     let s = c .before .before .before in
     rw (read-at (s .args .s) (s .args .at) (s .args .count) (c .before .before .standing-at .ensures) (c .before .take .ensures .same))
-    (in-low (s .args .s .low) (s .args .s .high) (s .args .at) (s .args .count) (s .args .value) (search needs) (search needs) (s .pre .fits) (omega arith) (s .pre .room) .low)
+    (in-low (s .args .s .low) (s .args .s .high) (s .args .at) (s .args .count) (s .args .value) (search needs) (search needs) (s .pre .fits)
+    (omega arith) (s .pre .room) .low)
 
 sub-exchanged : tie.Need-sub-exchanged
 sub-exchanged c = search needs
@@ -50,7 +51,8 @@ exchanged-requires-2 : tie.Need-exchanged-requires-2
 exchanged-requires-2 c κs =
     let s = c .before .before .before .before in
     rw (read-at (s .args .s) (s .args .at) (s .args .count) (c .before .before .before .standing-at .ensures) (c .before .before .take .ensures .same))
-    (in-low (s .args .s .low) (s .args .s .high) (s .args .at) (s .args .count) (s .args .value) (search needs) (search needs) (s .pre .fits) (omega arith) (s .pre .room) .high)
+    (in-low (s .args .s .low) (s .args .s .high) (s .args .at) (s .args .count) (s .args .value) (search needs) (search needs) (s .pre .fits)
+    (omega arith) (s .pre .room) .high)
 
 returns : tie.Need-returns
 unfolding held
@@ -60,7 +62,8 @@ returns c =
     read-at (s .args .s) (s .args .at) (s .args .count) (c .before .before .before .before .standing-at .ensures)
     (c .before .before .before .take .ensures .same) in
     rw (c .before .exchanged .ensures, c .exchanged2 .ensures, e)
-    (in-low (s .args .s .low) (s .args .s .high) (s .args .at) (s .args .count) (s .args .value) (search needs) (search needs) (s .pre .fits) (omega arith) (s .pre .room) .whole)
+    (in-low (s .args .s .low) (s .args .s .high) (s .args .at) (s .args .count) (s .args .value) (search needs) (search needs) (s .pre .fits)
+    (omega arith) (s .pre .room) .whole)
 
 cast-exchanged-3 : tie.Need-cast-exchanged-3
 cast-exchanged-3 c = search needs
@@ -78,7 +81,8 @@ exchanged-requires-3 : tie.Need-exchanged-requires-3
 exchanged-requires-3 c κs =
     let s = c .before .before .before in
     rw (read-at (s .args .s) (s .args .at) (s .args .count) (c .before .before .standing-at .ensures) (c .before .take .ensures .same))
-    (in-high (s .args .s .low) (s .args .s .high) (s .args .at) (s .args .count) (s .args .value) (search needs) (search needs) (s .pre .fits) (omega arith) (s .pre .room) .high)
+    (in-high (s .args .s .low) (s .args .s .high) (s .args .at) (s .args .count) (s .args .value) (search needs) (search needs) (s .pre .fits)
+    (omega arith) (s .pre .room) .high)
 
 returns-2 : tie.Need-returns-2
 unfolding held
@@ -87,7 +91,8 @@ returns-2 c =
     let e =
     read-at (s .args .s) (s .args .at) (s .args .count) (c .before .before .before .standing-at .ensures) (c .before .before .take .ensures .same) in
     rw (c .exchanged3 .ensures, e)
-    (in-high (s .args .s .low) (s .args .s .high) (s .args .at) (s .args .count) (s .args .value) (search needs) (search needs) (s .pre .fits) (omega arith) (s .pre .room) .whole)
+    (in-high (s .args .s .low) (s .args .s .high) (s .args .at) (s .args .count) (s .args .value) (search needs) (search needs) (s .pre .fits)
+    (omega arith) (s .pre .room) .whole)
 
 pub put-spec : {M : Type 1} → statement M
 put-spec =

@@ -16,7 +16,9 @@ use Rattle.line.proofs.fields.put_indexes.Tie as tie
 
 -- the set as it stands
 before : (c : tie.After-read-indexes)
-    → c .read-indexes .result .indexes .uncompressed ≡ setBefore (held (c .before .before .before .args .s)) (c .before .before .before .args .kind) (c .before .before .before .args .at) (c .before .before .before .args .part)
+    → c .read-indexes .result .indexes .uncompressed
+    ≡ setBefore (held (c .before .before .before .args .s)) (c .before .before .before .args .kind) (c .before .before .before .args .at)
+    (c .before .before .before .args .part)
 before c =
     let s = c .before .before .before in before-is (s .args .s) (s .args .kind) (s .args .at) (s .args .part) (s .args .mask) (s .args .new)
     (c .before .standing-at .ensures) (c .read-indexes .ensures)
@@ -26,14 +28,23 @@ standing-at-requires c κs = search needs
 
 read-indexes-requires : tie.Need-read-indexes-requires
 read-indexes-requires c κs =
-    let s = c .before .before in record { least = s .pre .least; most = s .pre .most; rising = s .pre .rising; within = rw (c .standing-at .ensures) (le-of-lt (s .pre .below)) }
+    let s = c .before .before in
+    record {
+      least = s .pre .least;
+      most = s .pre .most;
+      rising = s .pre .rising;
+      within = rw (c .standing-at .ensures) (le-of-lt (s .pre .below));
+    }
 
 sub-after : tie.Need-sub-after
 sub-after c = and-le-l _ _
 
 add-after : tie.Need-add-after
 add-after c =
-    let s = c .before .before .before .before in record { fits = after-fits (s .args .s) (s .args .kind) (s .args .at) (s .args .part) (s .args .mask) (s .args .new) (before (c .before)) (s .pre) }
+    let s = c .before .before .before .before in
+    record {
+      fits = after-fits (s .args .s) (s .args .kind) (s .args .at) (s .args .part) (s .args .mask) (s .args .new) (before (c .before)) (s .pre);
+    }
 
 cast-compressed : tie.Need-cast-compressed
 cast-compressed c = search needs
@@ -53,15 +64,22 @@ compressed-requires c κs =
 stored : (c : tie.After-compressed)
     → c .compressed .result
     ≡ join
-    (indexWidths (c .before .before .before .before .before .before .before .args .part .index) (anchorsIn (c .before .before .before .before .before .before .before .args .kind) (c .before .before .before .before .before .before .before .args .part)))
+    (indexWidths (c .before .before .before .before .before .before .before .args .part .index)
+    (anchorsIn (c .before .before .before .before .before .before .before .args .kind)
+    (c .before .before .before .before .before .before .before .args .part)))
     (split (indexWidths (c .before .before .before .before .before .before .before .args .part .index) [])
-    (setAfter (held (c .before .before .before .before .before .before .before .args .s)) (c .before .before .before .before .before .before .before .args .kind) (c .before .before .before .before .before .before .before .args .at) (c .before .before .before .before .before .before .before .args .part) (c .before .before .before .before .before .before .before .args .mask) (c .before .before .before .before .before .before .before .args .new)))
+    (setAfter (held (c .before .before .before .before .before .before .before .args .s))
+    (c .before .before .before .before .before .before .before .args .kind) (c .before .before .before .before .before .before .before .args .at)
+    (c .before .before .before .before .before .before .before .args .part) (c .before .before .before .before .before .before .before .args .mask)
+    (c .before .before .before .before .before .before .before .args .new)))
 stored c =
     let s = c .before .before .before .before .before .before .before in
     c .compressed .ensures
     ∙ ap
-    (λ (y : ℕ). join (indexWidths (s .args .part .index) (anchorsIn (s .args .kind) (s .args .part))) (split (indexWidths (s .args .part .index) []) y))
-    (after-is (s .args .s) (s .args .kind) (s .args .at) (s .args .part) (s .args .mask) (s .args .new) (before (c .before .before .before .before)) (s .pre))
+    (λ (y : ℕ). join (indexWidths (s .args .part .index) (anchorsIn (s .args .kind) (s .args .part)))
+    (split (indexWidths (s .args .part .index) []) y))
+    (after-is (s .args .s) (s .args .kind) (s .args .at) (s .args .part) (s .args .mask) (s .args .new) (before (c .before .before .before .before))
+    (s .pre))
 
 stored-bits-requires : tie.Need-stored-bits-requires
 stored-bits-requires c κs = search needs

@@ -19,7 +19,12 @@ wide-requires c κs = search needs
 put-requires : tie.Need-put-requires
 put-requires c κs =
     let s = c .before .before in
-    record { width = omega arith; below = omega arith; room = omega arith; fits = rw (c .wide .ensures) (rw (s .pre .5 (c .before .if1 .taken)) at (s .pre .3)) }
+    record {
+      width = omega arith;
+      below = omega arith;
+      room = omega arith;
+      fits = rw (c .wide .ensures) (rw (s .pre .5 (c .before .if1 .taken)) at (s .pre .3));
+    }
 
 returns : tie.Need-returns
 unfolding psPut

@@ -21,7 +21,10 @@ wide-requires-2 c κs = search needs
 add-put : tie.Need-add-put
 add-put c =
     let s = c .before .before in
-    record { fits = rw (pair-is (s .args .width) (s .args .a) (s .args .b) (s .pre .width) (s .pre .second) (c .before .wide .ensures) (c .wide2 .ensures)) (pair-fits (s .args .width) (s .args .a) (s .args .b) (s .pre .width) (s .pre .first) (s .pre .second)) }
+    record {
+      fits = rw (pair-is (s .args .width) (s .args .a) (s .args .b) (s .pre .width) (s .pre .second) (c .before .wide .ensures) (c .wide2 .ensures))
+          (pair-fits (s .args .width) (s .args .a) (s .args .b) (s .pre .width) (s .pre .first) (s .pre .second));
+    }
 
 put-requires : tie.Need-put-requires
 put-requires c κs =
@@ -30,13 +33,16 @@ put-requires c κs =
       width = omega (arith, s .pre .width);
       below = s .pre .below;
       room = s .pre .room;
-      fits = rw (pair-is (s .args .width) (s .args .a) (s .args .b) (s .pre .width) (s .pre .second) (c .before .wide .ensures) (c .wide2 .ensures)) (pair-lt (s .args .width) (s .args .a) (s .args .b) (s .pre .first) (s .pre .second));
+      fits =
+          rw (pair-is (s .args .width) (s .args .a) (s .args .b) (s .pre .width) (s .pre .second) (c .before .wide .ensures) (c .wide2 .ensures))
+          (pair-lt (s .args .width) (s .args .a) (s .args .b) (s .pre .first) (s .pre .second));
     }
 
 returns : tie.Need-returns
 returns c =
     let s = c .before .before .before in
-    rw (pair-is (s .args .width) (s .args .a) (s .args .b) (s .pre .width) (s .pre .second) (c .before .before .wide .ensures) (c .before .wide2 .ensures)) at
+    rw (pair-is (s .args .width) (s .args .a) (s .args .b) (s .pre .width) (s .pre .second) (c .before .before .wide .ensures)
+    (c .before .wide2 .ensures)) at
     (c .put .ensures)
 
 pub put-two-spec : {M : Type 1} → statement M

@@ -44,15 +44,18 @@ at-own-requires c κs = (c .before .before .pre .0, omega arith)
 
 -- the part that comes next, and what it makes of the word
 part-is : (c : tie.After-at-own Inv-loop μ-loop)
-    → c .at-own .result ≡ getD (parts (c .before .before .before .args .pixels) (c .before .before .before .args .width)) (c .before .before .loop .i - 1) 0
+    → c .at-own .result ≡ getD (parts (c .before .before .before .args .pixels) (c .before .before .before .args .width))
+    (c .before .before .loop .i - 1) 0
 part-is c =
     c .at-own .ensures
     ∙ ap (λ (v : ℕ). pick (ownPixel (c .before .before .before .args .pixels) (c .before .before .loop .i - 1)) v 0) (c .before .before .loop .inv .1)
     ∙ sym
-    (getD-table 16 (λ q. pick (ownPixel (c .before .before .before .args .pixels) q) (2 ^ c .before .before .before .args .width - 1) 0) 0 (c .before .before .loop .i - 1) (omega arith))
+    (getD-table 16 (λ q. pick (ownPixel (c .before .before .before .args .pixels) q) (2 ^ c .before .before .before .args .width - 1) 0) 0
+    (c .before .before .loop .i - 1) (omega arith))
 
 step : (c : tie.After-at-own Inv-loop μ-loop)
-    → Next (c .before .before .before .args .width) (parts (c .before .before .before .args .pixels) (c .before .before .before .args .width)) (c .before .before .loop .i) (c .before .before .loop .mask)
+    → Next (c .before .before .before .args .width) (parts (c .before .before .before .args .pixels) (c .before .before .before .args .width))
+    (c .before .before .loop .i) (c .before .before .loop .mask)
 step c =
     let s = c .before .before .before in
     upper-next _ _ (mask-fits (s .args .pixels) (s .args .width)) (s .pre .1) (c .before .before .loop .i) (c .before .before .loop .mask)

@@ -24,7 +24,11 @@ at-own-requires c κs = (c .before .before .pre .0, omega arith)
 
 cast-widths : tie.Need-cast-widths Inv-loop μ-loop
 cast-widths c =
-    let s = c .before .before .before in record { fits = rw (c .at-own .ensures) (pick-lt (ownPixel (s .args .pixels) (c .before .before .loop .i)) (s .args .width) 0 256 (omega arith) (omega arith)) }
+    let s = c .before .before .before in
+    record {
+      fits = rw (c .at-own .ensures)
+          (pick-lt (ownPixel (s .args .pixels) (c .before .before .loop .i)) (s .args .width) 0 256 (omega arith) (omega arith));
+    }
 
 array-write-widths : tie.Need-array-write-widths Inv-loop μ-loop
 array-write-widths c = omega arith

@@ -15,7 +15,13 @@ standing-at-requires c κs = search needs
 
 read-indexes-requires : tie.Need-read-indexes-requires
 read-indexes-requires c κs =
-    let s = c .before .before .before .before in record { least = s .pre .least; most = s .pre .most; rising = s .pre .rising; within = rw (c .standing-at .ensures) (s .pre .below) }
+    let s = c .before .before .before .before in
+    record {
+      least = s .pre .least;
+      most = s .pre .most;
+      rising = s .pre .rising;
+      within = rw (c .standing-at .ensures) (s .pre .below);
+    }
 
 parts-of-requires : tie.Need-parts-of-requires
 parts-of-requires c κs = search needs
@@ -26,7 +32,8 @@ returns c =
     let s = c .before .before .before .before .before .before .before .before in
     c .parts-of .ensures
     ∙ rw (
-      before-is (s .args .s) (s .args .kind) (s .args .at) (s .args .part) 0 0 (c .before .before .before .before .standing-at .ensures) (c .before .before .before .read-indexes .ensures),
+      before-is (s .args .s) (s .args .kind) (s .args .at) (s .args .part) 0 0 (c .before .before .before .before .standing-at .ensures)
+          (c .before .before .before .read-indexes .ensures),
       c .before .before .before .before .before .mask-of .ensures,
     )
 

@@ -17,11 +17,17 @@ consume-2-requires c κs = (omega arith, rw (c .standing-at .ensures) (omega ari
 
 cast-t6 : tie.Need-cast-t6
 cast-t6 c =
-    let s = c .before .before .before in record { fits = rw (ap (λ (v : Values2). v .first) (c .before .consume-2 .ensures .same)) (field-below _ _ (s .args .width) 8 (s .pre .1)) }
+    let s = c .before .before .before in
+    record {
+      fits = rw (ap (λ (v : Values2). v .first) (c .before .consume-2 .ensures .same)) (field-below _ _ (s .args .width) 8 (s .pre .1));
+    }
 
 cast-t7 : tie.Need-cast-t7
 cast-t7 c =
-    let s = c .before .before .before .before in record { fits = rw (ap (λ (v : Values2). v .second) (c .before .before .consume-2 .ensures .same)) (field-below _ _ (s .args .width) 8 (s .pre .1)) }
+    let s = c .before .before .before .before in
+    record {
+      fits = rw (ap (λ (v : Values2). v .second) (c .before .before .consume-2 .ensures .same)) (field-below _ _ (s .args .width) 8 (s .pre .1));
+    }
 
 returns : tie.Need-returns
 unfolding held

@@ -13,15 +13,20 @@ of-mode : (s : tie.Start) → OfMode (s .args .row)
 of-mode s = record { mode = _; low = s .pre .full .low; is = s .pre .full .is }
 
 tops-clear-requires : tie.Need-tops-clear-requires
-tops-clear-requires c κs = let b = small (of-mode (c .before)) in (omega (arith, b .least), b .most, pixels (c .before .pre .full) (c .before .pre .anchors-are))
+tops-clear-requires c κs =
+    let b = small (of-mode (c .before)) in
+    (omega (arith, b .least), b .most, pixels (c .before .pre .full) (c .before .pre .anchors-are))
 
 returns : tie.Need-returns
-returns c = let s = c .before .before .before in first-not (s .pre .full) (s .pre .anchors-are) (sym (c .before .tops-clear .ensures) ∙ not-true _ (c .if1 .taken))
+returns c =
+    let s = c .before .before .before in
+    first-not (s .pre .full) (s .pre .anchors-are) (sym (c .before .tops-clear .ensures) ∙ not-true _ (c .if1 .taken))
 
 returns-2 : tie.Need-returns-2
 returns-2 c =
     let s = c .before .before .before .before .before in
-    first-only (s .pre .full) (s .pre .anchors-are) (sym (c .before .before .before .tops-clear .ensures) ∙ not-false _ (c .before .before .if1 .left))
+    first-only (s .pre .full) (s .pre .anchors-are)
+    (sym (c .before .before .before .tops-clear .ensures) ∙ not-false _ (c .before .before .if1 .left))
     (c .if2 .taken)
 
 tops-clear-requires-2 : tie.Need-tops-clear-requires-2

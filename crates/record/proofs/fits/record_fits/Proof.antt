@@ -19,7 +19,8 @@ split-fits-requires c κs = of-mode c
 returns : tie.Need-returns
 returns c =
     let s = c .before .before in
-    one-fails _ (s .pre .low) (s .pre .is) _ (split-from _ (s .pre .low) (s .pre .is)) (sym (c .before .split-fits .ensures) ∙ not-true _ (c .if1 .taken))
+    one-fails _ (s .pre .low) (s .pre .is) _ (split-from _ (s .pre .low) (s .pre .is))
+    (sym (c .before .split-fits .ensures) ∙ not-true _ (c .if1 .taken))
 
 endpoints-fit-requires : tie.Need-endpoints-fit-requires
 endpoints-fit-requires c κs = of-mode (c .before .before .before)
@@ -44,7 +45,8 @@ indexes-fit-requires c κs = omega (arith, small (of-mode (c .before .before .be
 returns-4 : tie.Need-returns-4
 returns-4 c =
     let s = c .before .before .before .before .before .before .before .before .before .before .before in
-    one-fails _ (s .pre .low) (s .pre .is) _ (first-from _ (s .pre .low) (s .pre .is)) (sym (c .before .indexes-fit .ensures) ∙ not-true _ (c .if4 .taken))
+    one-fails _ (s .pre .low) (s .pre .is) _ (first-from _ (s .pre .low) (s .pre .is))
+    (sym (c .before .indexes-fit .ensures) ∙ not-true _ (c .if4 .taken))
 
 indexes-fit-requires-2 : tie.Need-indexes-fit-requires-2
 indexes-fit-requires-2 c κs =

@@ -47,7 +47,12 @@ take-requires-4 c κs =
         c .before .before
             .before .before .before .before .before .before .take .ensures .same,
       )
-          (omega (arith, b .colours, b .alphas, c .before .before .before .before .before .before .before .before .before .before .before .pre .within)),
+          (omega (
+            arith,
+            b .colours,
+            b .alphas,
+            c .before .before .before .before .before .before .before .before .before .before .before .pre .within,
+          )),
     )
 
 endpoints-of-requires : tie.Need-endpoints-of-requires

@@ -50,12 +50,19 @@ skip-requires : tie.Need-skip-requires
 skip-requires c κs = search needs
 
 read-split-requires : tie.Need-read-split-requires
-read-split-requires c κs = record { of-mode = of-mode (c .before .before); within = rw (behind c .stands) (omega (arith, c .before .before .pre .low)) }
+read-split-requires c κs =
+    record {
+      of-mode = of-mode (c .before .before);
+      within = rw (behind c .stands) (omega (arith, c .before .before .pre .low));
+    }
 
 read-endpoints-requires : tie.Need-read-endpoints-requires
 read-endpoints-requires c κs =
     let s = c .before .before .before in
-    record { of-mode = of-mode s; within = values-room _ (sixteen s) (s .pre .mode-is) (s .pre .low) (s .pre .row-is) (behind (c .before)) (c .read-split .ensures) }
+    record {
+      of-mode = of-mode s;
+      within = values-room _ (sixteen s) (s .pre .mode-is) (s .pre .low) (s .pre .row-is) (behind (c .before)) (c .read-split .ensures);
+    }
 
 read-p-requires : tie.Need-read-p-requires
 read-p-requires c κs =
@@ -78,7 +85,9 @@ read-indexes-requires c κs =
     record {
       least = omega (arith, b .least);
       most = b .most;
-      rising = rise _ (sixteen s) (s .pre .mode-is) (s .pre .low) (s .pre .row-is) (split-of (c .before .before .before .before .before)) (c .anchors-of .ensures);
+      rising =
+          rise _ (sixteen s) (s .pre .mode-is) (s .pre .low) (s .pre .row-is) (split-of (c .before .before .before .before .before))
+          (c .anchors-of .ensures);
       within = first-room _ (sixteen s) (s .pre .mode-is) (s .pre .low) (s .pre .row-is) (behind (c .before .before .before .before .before .before))
           (c .before .before .before .before .before .read-split .ensures) (c .before .before .before .before .read-endpoints .ensures)
           (c .before .before .read-p .ensures);
@@ -92,7 +101,9 @@ read-second-requires c κs =
     let s = c .before .before .before .before .before .before .before .before .before .before .before in
     record {
       of-mode = of-mode s;
-      rising = rise _ (sixteen s) (s .pre .mode-is) (s .pre .low) (s .pre .row-is) (split-of (c .before .before .before .before .before .before .before .before))
+      rising =
+          rise _ (sixteen s) (s .pre .mode-is) (s .pre .low) (s .pre .row-is)
+          (split-of (c .before .before .before .before .before .before .before .before))
           (c .before .before .before .anchors-of .ensures);
       within = second-room _ (sixteen s) (s .pre .mode-is) (s .pre .low) (s .pre .row-is)
           (behind (c .before .before .before .before .before .before .before .before .before))

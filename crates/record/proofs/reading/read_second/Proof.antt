@@ -12,7 +12,14 @@ unfolding secondRead
 returns c = rw (ne-eqb _ _ (c .if1 .taken))
 
 read-indexes-requires : tie.Need-read-indexes-requires
-read-indexes-requires c κs = let s = c .before .before in record { least = second-bits (s .pre .of-mode) (c .if1 .left); most = small (s .pre .of-mode) .second; rising = s .pre .rising; within = s .pre .within }
+read-indexes-requires c κs =
+    let s = c .before .before in
+    record {
+      least = second-bits (s .pre .of-mode) (c .if1 .left);
+      most = small (s .pre .of-mode) .second;
+      rising = s .pre .rising;
+      within = s .pre .within;
+    }
 
 parts-of-requires : tie.Need-parts-of-requires
 parts-of-requires c κs = small (c .before .before .before .before .pre .of-mode) .second

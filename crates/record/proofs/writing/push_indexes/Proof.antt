@@ -34,7 +34,8 @@ push-set-requires c κs =
     let b = small (of-mode (s .pre .packs)) in
     let w = ap (λ (x : ModeRow). x .first) (s .pre .packs .is) in
     let l : 0 < s .args .row .first = omega (arith, b .least) in
-    let ask = set-asks (s .pre .packs) (s .pre .anchors-are) 0 (omega arith) w l (s .args .«record» .first) (long-1 s) (λ q h. refl) (s .pre .before) in
+    let ask = set-asks (s .pre .packs) (s .pre .anchors-are) 0 (omega arith) w l (s .args .«record» .first) (long-1 s) (λ q h. refl)
+    (s .pre .before) in
     record {
       least = l;
       most = b .most;

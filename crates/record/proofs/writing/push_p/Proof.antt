@@ -16,7 +16,9 @@ push-requires : tie.Need-push-requires
 push-requires c κs = let s = c .before .before .before in bits-ask (s .pre .packs) (s .pre .before) (c .before .p-word .ensures)
 
 returns : tie.Need-returns
-returns c = let s = c .before .before .before .before in bits-next (s .pre .packs) (s .pre .before) (c .before .before .p-word .ensures) (c .push .ensures)
+returns c =
+    let s = c .before .before .before .before in
+    bits-next (s .pre .packs) (s .pre .before) (c .before .before .p-word .ensures) (c .push .ensures)
 
 pub push-p-spec : {M : Type 1} → statement M
 push-p-spec = tie.close (tie.spec p-word-requires cast-push push-requires returns)

@@ -16,7 +16,12 @@ push-p-requires : tie.Need-push-p-requires
 push-p-requires c κs = record { packs = c .before .before .pre .packs; before = c .push-endpoints .ensures }
 
 push-indexes-requires : tie.Need-push-indexes-requires
-push-indexes-requires c κs = record { packs = c .before .before .before .pre .packs; anchors-are = c .before .before .before .pre .anchors-are; before = c .push-p .ensures }
+push-indexes-requires c κs =
+    record {
+      packs = c .before .before .before .pre .packs;
+      anchors-are = c .before .before .before .pre .anchors-are;
+      before = c .push-p .ensures;
+    }
 
 finish-requires : tie.Need-finish-requires
 finish-requires c κs = search needs
