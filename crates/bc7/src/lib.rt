@@ -1,5 +1,5 @@
 // One block to sixteen pixels: the port of the Rust's src/decode/bc7.rs, whose modes stand in bc7_unsplit and bc7_subsets. Here the
-// mode is found and its function called, with the mode and the width of the marker as literals.
+// mode is found and its function called.
 ghost use mathlib.Core.Path.{_≡_};
 ghost use Rattle.bcn_format.specs.Block.{field, trailing};
 ghost use Rattle.bc7_format.specs.Lines.{pixels};
@@ -16,22 +16,20 @@ pub fn decode_bc7_block(block: [u8; 16]) -> [[u8; 4]; 16]
     ensures { λ r. ⌜ r ≡ pixels block ⌝ }
 {
     let stream = BitStream::new(block);
-    match extract_mode(stream) {
-        0 => return mode_subset_3(0, stream.skip(1)),
-        1 => return mode_subset_2(1, stream.skip(2)),
-        2 => return mode_subset_3(2, stream.skip(3)),
-        3 => return mode_subset_2(3, stream.skip(4)),
+    let mode = extract_mode(stream);
+    match mode {
+        0 | 2 => return mode_subset_3(mode, stream),
+        1 | 3 | 7 => return mode_subset_2(mode, stream),
         4 => return mode_4(stream.skip(5)),
         5 => return mode_5(stream.skip(6)),
         6 => return mode_6(stream.skip(7)),
-        7 => return mode_subset_2(7, stream.skip(8)),
         _ => return [[0u8; 4]; 16],
     }
 }
 
-// The stream isn't moved: each arm above skips the marker of its mode, so that positions are literals.
-fn extract_mode(stream: BitStream) -> u32
+// The stream isn't moved: each mode skips its own marker, so that positions are literals.
+fn extract_mode(stream: BitStream) -> u8
     ensures { λ r. ⌜ r ≡ trailing 8 (field (held stream) (stream .at) 8) ⌝ }
 {
-    u8::trailing_zeros(stream.low_u8())
+    u8::trailing_zeros(stream.low_u8()) as u8
 }

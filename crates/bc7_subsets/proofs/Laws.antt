@@ -4,7 +4,7 @@ use mathlib.Core.Path.{_≡_, refl, sym, ap, _∙_}
 use mathlib.Core.Bool.{false}
 use mathlib.Core.Logic.{_≢_}
 use mathlib.Core.List.{List, [], _∷_}
-use Prim.Native.Nat.{ℕ, _+_, _-_, _*_, _/_, _%_, _^_, _≤_, _<_}
+use Prim.Native.Nat.{ℕ, _+_, _-_, _*_, _^_, _≤_, _<_}
 use native.Mathlib.Nat.{lt-of-lt-of-le}
 use native.Mathlib.Omega.{arith}
 use borrow.Author.Tests.{ne-eqb}
@@ -27,7 +27,7 @@ use Rattle.bcn_format.proofs.Expanding.{size-2, size-3}
 use Rattle.bc7_format.specs.Fields.{directPixels}
 use Rattle.bcn_format.specs.Painting.{painted}
 use Rattle.bc7_format.proofs.Pictures.{Palette, indexes-at, keyed-law}
-use Rattle.partitions.specs.Sets.{set2, set3}
+use Rattle.partitions.specs.Sets.{anchorIn2, secondIn3, set2, set3, thirdIn3}
 use Rattle.partitions.proofs.Maps.{anchors-in2, anchors-in3}
 use Rattle.partitions.proofs.SetWords.{anchor-of2, second-of3, subset-of2, subset-of3, third-of3}
 use Rattle.drawing.specs.declared.keys.Keys.{Keys}
@@ -64,7 +64,7 @@ module _ {w id set : ℕ} (hid : id < 64) (most : w ≤ 3) where
     unfolding part
     maps-2 = record { at = λ q hq. rw e (subset-of2 w id hid most least q hq) }
 
-    pub fixes-2 : Fixes2 id (set / 2 ^ 48)
+    pub fixes-2 : Fixes2 id (anchorIn2 set)
     fixes-2 =
         let a = anchors-in2 id hid in
         rw (e, anchor-of2 w id hid most least) (record { are = a .are; above = a .above; last = a .last })
@@ -74,7 +74,7 @@ module _ {w id set : ℕ} (hid : id < 64) (most : w ≤ 3) where
     unfolding part
     maps-3 = record { at = λ q hq. rw e (subset-of3 w id hid most least q hq) }
 
-    pub fixes-3 : Fixes3 id (set / 2 ^ 48 % 16) (set / 2 ^ 52)
+    pub fixes-3 : Fixes3 id (secondIn3 set) (thirdIn3 set)
     fixes-3 =
         let a = anchors-in3 id hid in
         rw (e, second-of3 w id hid most least, third-of3 w id hid most least)
@@ -92,20 +92,21 @@ module _ (m n b : ℕ) (hm : m < 8) (eb : firstBits m ≡ b) (least : 2 ≤ b) (
       ap (expanded b an) (next-is on c ∙ ap (λ (a : ℕ). field n a c) (sym (index-start m s hm))) in
       drawn
       ∙ keyed-law m n b k t s eb es flat subsets palette x _
-      (λ q hq. ap (λ (keys : Keys). keyAt b t keys q) ek ∙ key-at b t x set narrow small q hq ∙ ap (λ (l : ℕ). part x b q * 2 ^ t + l) (maps .at q hq))
+      (λ q hq. ap (λ (keys : Keys). keyAt b t keys q) ek ∙ key-at b t x set narrow small q hq
+      ∙ ap (λ (l : ℕ). part x b q * 2 ^ t + l) (maps .at q hq))
       (indexes-at m s 0 n b c an (omega arith) eb ea et (ex ∙ first))
 
-  pub two-keys : splitAt m n ≡ Two id → set ≡ set2 b id → x ≡ expanded b (0 ∷ set / 2 ^ 48 ∷ []) (nextBits stream (16 * b - 2))
+  pub two-keys : splitAt m n ≡ Two id → set ≡ set2 b id → x ≡ expanded b (0 ∷ anchorIn2 set ∷ []) (nextBits stream (16 * b - 2))
       → keys ≡ keysOf b 1 x set → Palette m n b 2 1 p → picture ≡ painted (keyAt b 1 keys) p → picture ≡ directPixels m n
   two-keys es e =
-      let fixes : Fixes2 id (set / 2 ^ 48) = fixes-2 hid most (omega arith) e in
-      by-keys (Two id) 2 1 (16 * b - 2) (0 ∷ set / 2 ^ 48 ∷ []) es refl (λ q. subset-below (Two id) q hid) (omega arith) (omega arith)
-      (fixes .are) (size-2 b (set / 2 ^ 48) (omega arith) (fixes .above) (fixes .last)) (maps-2 hid most (omega arith) e)
+      let fixes : Fixes2 id (anchorIn2 set) = fixes-2 hid most (omega arith) e in
+      by-keys (Two id) 2 1 (16 * b - 2) (0 ∷ anchorIn2 set ∷ []) es refl (λ q. subset-below (Two id) q hid) (omega arith) (omega arith)
+      (fixes .are) (size-2 b (anchorIn2 set) (omega arith) (fixes .above) (fixes .last)) (maps-2 hid most (omega arith) e)
 
   pub three-keys : splitAt m n ≡ Three id → set ≡ set3 b id
-      → x ≡ expanded b (0 ∷ set / 2 ^ 48 % 16 ∷ set / 2 ^ 52 ∷ []) (nextBits stream (16 * b - 3))
+      → x ≡ expanded b (0 ∷ secondIn3 set ∷ thirdIn3 set ∷ []) (nextBits stream (16 * b - 3))
       → keys ≡ keysOf b 2 x set → Palette m n b 3 2 p → picture ≡ painted (keyAt b 2 keys) p → picture ≡ directPixels m n
   three-keys es e =
-      let fixes : Fixes3 id (set / 2 ^ 48 % 16) (set / 2 ^ 52) = fixes-3 hid most least e in
-      by-keys (Three id) 3 2 (16 * b - 3) (0 ∷ set / 2 ^ 48 % 16 ∷ set / 2 ^ 52 ∷ []) es refl (λ q. subset-below (Three id) q hid) (omega arith) least
-      (fixes .are) (size-3 b (set / 2 ^ 48 % 16) (set / 2 ^ 52) (omega arith) (fixes .above) (fixes .next) (fixes .last)) (maps-3 hid most least e)
+      let fixes : Fixes3 id (secondIn3 set) (thirdIn3 set) = fixes-3 hid most least e in
+      by-keys (Three id) 3 2 (16 * b - 3) (0 ∷ secondIn3 set ∷ thirdIn3 set ∷ []) es refl (λ q. subset-below (Three id) q hid) (omega arith) least
+      (fixes .are) (size-3 b (secondIn3 set) (thirdIn3 set) (omega arith) (fixes .above) (fixes .next) (fixes .last)) (maps-3 hid most least e)

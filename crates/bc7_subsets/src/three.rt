@@ -3,12 +3,13 @@
 // Subsets 0 and 1 share words; the third has its own, whose other half no key reaches.
 ghost use mathlib.Core.Path.{_≡_};
 ghost use mathlib.Core.List.{[], _∷_};
-ghost use Prim.Native.Nat.{_+_, _-_, _*_, _/_, _%_, _^_, _≤_, _<_};
+ghost use Prim.Native.Nat.{_+_, _-_, _*_, _^_, _≤_, _<_};
 ghost use lib.Dec.{T};
 ghost use Rattle.bcn_format.specs.Partitions.{among};
 ghost use Rattle.bcn_format.specs.Indexes.{expanded};
 ghost use Rattle.bits.specs.Stream.{held, nextBits};
 ghost use Rattle.bc7_format.specs.Fields.{directPixels};
+ghost use Rattle.partitions.specs.Sets.{secondIn3, thirdIn3};
 use crate::extract_partition_set_id;
 use bits::stream::BitStream;
 use drawing::color::Stored;
@@ -24,21 +25,22 @@ use indexes::Indexes;
 use partitions::sets::set_3_2;
 use partitions::sets::set_3_3;
 
-// Any of them by its number, with which the decoder calls it as a literal: the `match` goes where this is inlined.
+// The mode's number is the Rust's constant parameter. The stream stands at the marker, which each arm skips, so that positions are
+// literals; and the decoder calls this at one place, so that the compiler folds the `match` into its own.
 pub fn mode_subset_3(mode: u8, stream: BitStream) -> [[u8; 4]; 16]
-    requires { ⌜ T (among mode (0 ∷ 2 ∷ [])) × (stream .at ≡ mode + 1) ⌝ }
+    requires { ⌜ T (among mode (0 ∷ 2 ∷ [])) × (stream .at ≡ 0) ⌝ }
     ensures { λ r. ⌜ r ≡ directPixels mode (held stream) ⌝ }
 {
     match mode {
-        0 => mode_0(stream),
-        _ => mode_2(stream),
+        0 => mode_0(stream.skip(1)),
+        _ => mode_2(stream.skip(3)),
     }
 }
 
 // Sixteen indexes, read whole and expanded. The anchors behind pixel 0 stand in the partition's word from bit 48 on, four bits each.
 fn indexes_3(bits: u32, stream: BitStream, set: u64) -> u64
-    requires { ⌜ (2 ≤ bits) × (bits ≤ 3) × (0 < set / 2 ^ 48 % 16) × (set / 2 ^ 48 % 16 < set / 2 ^ 52) × (set / 2 ^ 52 < 16) × (stream .at + 64 < 2 ^ 32) ⌝ }
-    ensures { λ r. ⌜ r ≡ expanded bits (0 ∷ set / 2 ^ 48 % 16 ∷ set / 2 ^ 52 ∷ []) (nextBits stream (16 * bits - 3)) ⌝ }
+    requires { ⌜ (2 ≤ bits) × (bits ≤ 3) × (0 < secondIn3 set) × (secondIn3 set < thirdIn3 set) × (thirdIn3 set < 16) × (stream .at + 64 < 2 ^ 32) ⌝ }
+    ensures { λ r. ⌜ r ≡ expanded bits (0 ∷ secondIn3 set ∷ thirdIn3 set ∷ []) (nextBits stream (16 * bits - 3)) ⌝ }
 {
     let second = ((set >> 48) % 16) as u32;
     let third = (set >> 52) as u32;

@@ -2,12 +2,13 @@
 // positions and masks fold away. A channel of both endpoints of a subset is read as one value, for they are stored side by side.
 ghost use mathlib.Core.Path.{_≡_};
 ghost use mathlib.Core.List.{[], _∷_};
-ghost use Prim.Native.Nat.{_+_, _-_, _*_, _/_, _^_, _≤_, _<_};
+ghost use Prim.Native.Nat.{_+_, _-_, _*_, _^_, _≤_, _<_};
 ghost use lib.Dec.{T};
 ghost use Rattle.bcn_format.specs.Partitions.{among};
 ghost use Rattle.bcn_format.specs.Indexes.{expanded};
 ghost use Rattle.bits.specs.Stream.{held, nextBits};
 ghost use Rattle.bc7_format.specs.Fields.{directPixels};
+ghost use Rattle.partitions.specs.Sets.{anchorIn2};
 use crate::extract_partition_set_id;
 use bits::stream::BitStream;
 use drawing::color::Stored;
@@ -23,22 +24,23 @@ use indexes::Indexes;
 use partitions::sets::set_2_2;
 use partitions::sets::set_2_3;
 
-// Any of them by its number, with which the decoder calls it as a literal: the `match` goes where this is inlined.
+// The mode's number is the Rust's constant parameter. The stream stands at the marker, which each arm skips, so that positions are
+// literals; and the decoder calls this at one place, so that the compiler folds the `match` into its own.
 pub fn mode_subset_2(mode: u8, stream: BitStream) -> [[u8; 4]; 16]
-    requires { ⌜ T (among mode (1 ∷ 3 ∷ 7 ∷ [])) × (stream .at ≡ mode + 1) ⌝ }
+    requires { ⌜ T (among mode (1 ∷ 3 ∷ 7 ∷ [])) × (stream .at ≡ 0) ⌝ }
     ensures { λ r. ⌜ r ≡ directPixels mode (held stream) ⌝ }
 {
     match mode {
-        1 => mode_1(stream),
-        3 => mode_3(stream),
-        _ => mode_7(stream),
+        1 => mode_1(stream.skip(2)),
+        3 => mode_3(stream.skip(4)),
+        _ => mode_7(stream.skip(8)),
     }
 }
 
 // Sixteen indexes, read whole and expanded. The anchor behind pixel 0 stands in the partition's word from bit 48 on.
 fn indexes_2(bits: u32, stream: BitStream, set: u64) -> u64
-    requires { ⌜ (2 ≤ bits) × (bits ≤ 3) × (0 < set / 2 ^ 48) × (set / 2 ^ 48 < 16) × (stream .at + 64 < 2 ^ 32) ⌝ }
-    ensures { λ r. ⌜ r ≡ expanded bits (0 ∷ set / 2 ^ 48 ∷ []) (nextBits stream (16 * bits - 2)) ⌝ }
+    requires { ⌜ (2 ≤ bits) × (bits ≤ 3) × (0 < anchorIn2 set) × (anchorIn2 set < 16) × (stream .at + 64 < 2 ^ 32) ⌝ }
+    ensures { λ r. ⌜ r ≡ expanded bits (0 ∷ anchorIn2 set ∷ []) (nextBits stream (16 * bits - 2)) ⌝ }
 {
     let read = Indexes::new_p2(bits, stream, (set >> 48) as u32);
     let indexes = read.indexes;

@@ -1,11 +1,14 @@
 -- Colours of which a part is kept, and colour and alpha of two put together.
 -- Assumes nothing.
 use mathlib.Core.Bool.{Bool}
-use mathlib.Core.List.{List, [], _∷_}
+use mathlib.Core.List.{List, [], _∷_, _++_}
 use Prim.Native.Nat.{ℕ, _+_, _^_, _<_}
-use lib.ListN.{getD, replicate}
+use lib.ListN.{drop, getD, replicate, take}
 use Rattle.laws.specs.Digits.{join}
 use Rattle.laws.specs.Tables.{pick}
+use Rattle.bcn_format.specs.Painting.{between}
+use Rattle.drawing.specs.declared.color.Ends.{Ends}
+use Rattle.drawing.specs.Words.{endpoint, wordBytes}
 
 -- red, green and blue of a colour, or its alpha, and 0 in place of the others
 unfoldable pub kept : Bool → List ℕ → List ℕ
@@ -17,6 +20,16 @@ keptWord color l = join (replicate 4 8) (kept color l)
 -- red, green and blue of one colour with the alpha of another
 unfoldable pub crossed : List ℕ → List ℕ → List ℕ
 crossed l a = getD l 0 0 ∷ getD l 1 0 ∷ getD l 2 0 ∷ getD a 3 0 ∷ []
+
+-- of two colours in a word, each with the alpha of another word
+abbrev pub crossedBoth : ℕ → ℕ → List ℕ
+crossedBoth colors alpha =
+    let a = take 4 (wordBytes alpha) in
+    crossed (take 4 (wordBytes colors)) a ++ crossed (drop 4 (wordBytes colors)) a
+
+-- the colour of endpoints that stand alone, at the index k of b bits
+abbrev pub colorOf : ℕ → Ends → ℕ → List ℕ
+colorOf b e k = between b (endpoint e 0 0) (endpoint e 0 1) k
 
 -- any word of one kind with any of the other is within 32 bits
 abbrev pub Apart : List ℕ → List ℕ → Type 0

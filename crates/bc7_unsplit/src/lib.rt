@@ -1,5 +1,6 @@
 // The modes without partitions: 4 and 5, a vector and its scalar, and 6, which is whole. In 4 and 5 each pixel takes red, green and
-// blue by one index and alpha by the other, and the rotation comes last.
+// blue by one index and alpha by the other, and the rotation comes last. A channel of both endpoints is read as one value, for they are
+// stored side by side: ten bits of it are two values of five.
 ghost use mathlib.Core.Path.{_≡_};
 ghost use mathlib.Core.List.{[], _∷_, _++_};
 ghost use Prim.Native.Nat.{_+_, _*_, _/_, _%_, _^_, _≤_, _<_};
@@ -10,10 +11,10 @@ ghost use Rattle.bc7_format.specs.Lines.{rotated};
 ghost use Rattle.bits.specs.Stream.{held};
 ghost use Rattle.bcn_format.specs.Indexes.{part};
 ghost use Rattle.bc7_format.specs.Fields.{directPixels};
-ghost use Rattle.bcn_format.specs.Painting.{four, between};
+ghost use Rattle.bcn_format.specs.Painting.{four};
 ghost use Rattle.bc7_format.specs.Rotating.{swapped};
-ghost use Rattle.drawing.specs.Words.{Alone, endpoint, wordBytes};
-ghost use Rattle.bc7_unsplit.specs.Crossing.{Apart, crossed, kept, keptWord};
+ghost use Rattle.drawing.specs.Words.{Alone, wordBytes};
+ghost use Rattle.bc7_unsplit.specs.Crossing.{Apart, colorOf, crossed, crossedBoth, kept, keptWord};
 use bits::stream::BitStream;
 use drawing::color::Ends;
 use drawing::color::Stored;
@@ -35,7 +36,15 @@ fn chosen(yes: bool, x: u8, y: u8) -> u8
     if yes { x } else { y }
 }
 
-// One pixel's alpha exchanged with red, green or blue. Each channel is chosen by itself, so that no jump depends on the rotation.
+// One pixel's alpha exchanged with red, green or blue:
+//
+//     rotation   0   1   2   3
+//     red        R   A   R   R
+//     green      G   G   A   G
+//     blue       B   B   B   A
+//     alpha      A   R   G   B
+//
+// Each channel is chosen by itself, so that no jump depends on the rotation.
 fn swap_channel(p: [u8; 4], rotation: u8) -> [u8; 4]
     requires { ⌜ rotation < 4 ⌝ }
     ensures { λ r. ⌜ r ≡ four (λ c. getD p (rotated rotation c) 0) ⌝ }
@@ -61,7 +70,7 @@ fn swap_channels(pixels: [[u8; 4]; 16], rotation: u8) -> [[u8; 4]; 16]
     output
 }
 
-// Two colours side by side, of which only red, green and blue stay, or only alpha.
+// Two colours side by side, of which only red, green and blue stay, or only alpha, which is the upper byte of each.
 fn keep(x: u64, color: bool) -> u64
     ensures { λ r. ⌜ wordBytes r ≡ kept color (take 4 (wordBytes x)) ++ kept color (drop 4 (wordBytes x)) ⌝ }
 {
@@ -71,17 +80,17 @@ fn keep(x: u64, color: bool) -> u64
     x & 0xFF00_0000_FF00_0000
 }
 
-// The colours of the indexes 2 * k and 2 * k + 1.
+// The colours of the indexes 2 * k and 2 * k + 1: their weights stand 32 bits apart, as `two_shades` wants them.
 fn shades_2(e: Ends, k: usize) -> u64
     requires { ⌜ (k < 2) × Alone e ⌝ }
-    ensures { λ r. ⌜ wordBytes r ≡ between 2 (endpoint e 0 0) (endpoint e 0 1) (2 * k) ++ between 2 (endpoint e 0 0) (endpoint e 0 1) (2 * k + 1) ⌝ }
+    ensures { λ r. ⌜ wordBytes r ≡ colorOf 2 e (2 * k) ++ colorOf 2 e (2 * k + 1) ⌝ }
 {
     two_shades(e, get_weight_2(2 * k) + (get_weight_2(2 * k + 1) << 32))
 }
 
 fn shades_3(e: Ends, k: usize) -> u64
     requires { ⌜ (k < 4) × Alone e ⌝ }
-    ensures { λ r. ⌜ wordBytes r ≡ between 3 (endpoint e 0 0) (endpoint e 0 1) (2 * k) ++ between 3 (endpoint e 0 0) (endpoint e 0 1) (2 * k + 1) ⌝ }
+    ensures { λ r. ⌜ wordBytes r ≡ colorOf 3 e (2 * k) ++ colorOf 3 e (2 * k + 1) ⌝ }
 {
     two_shades(e, get_weight_3(2 * k) + (get_weight_3(2 * k + 1) << 32))
 }
@@ -99,10 +108,10 @@ fn high_word(x: u64) -> u32
 }
 
 // All colours by an index of two bits, and by one of three, as words, in which red, green and blue stay or only alpha. One of
-// each kind makes a whole colour, by a sum.
+// each kind makes a whole colour, by a sum: each byte of it is a byte of one word and 0 of the other.
 fn words_2(e: Ends, color: bool) -> [u32; 4]
     requires { ⌜ Alone e ⌝ }
-    ensures { λ r. ⌜ r ≡ table 4 (λ k. keptWord color (between 2 (endpoint e 0 0) (endpoint e 0 1) k)) ⌝ }
+    ensures { λ r. ⌜ r ≡ table 4 (λ k. keptWord color (colorOf 2 e k)) ⌝ }
 {
     let mut q = [0u32; 4];
     for k in 0..2usize {
@@ -115,7 +124,7 @@ fn words_2(e: Ends, color: bool) -> [u32; 4]
 
 fn words_3(e: Ends, color: bool) -> [u32; 8]
     requires { ⌜ Alone e ⌝ }
-    ensures { λ r. ⌜ r ≡ table 8 (λ k. keptWord color (between 3 (endpoint e 0 0) (endpoint e 0 1) k)) ⌝ }
+    ensures { λ r. ⌜ r ≡ table 8 (λ k. keptWord color (colorOf 3 e k)) ⌝ }
 {
     let mut q = [0u32; 8];
     for k in 0..4usize {
@@ -148,7 +157,7 @@ fn paint_2_and_3(p: [u32; 4], q: [u32; 8], x: Indexes, y: Indexes) -> [[u8; 4]; 
 //     alpha * (2^32 + 1)       | A  00 00 00 | A  00 00 00 |
 fn with_alphas(colors: u64, alpha: u32) -> u64
     requires { ⌜ Fit (8 ∷ 8 ∷ 8 ∷ 0 ∷ 8 ∷ 8 ∷ 8 ∷ 0 ∷ []) (wordBytes colors) × Fit (0 ∷ 0 ∷ 0 ∷ 8 ∷ []) (take 4 (wordBytes alpha)) ⌝ }
-    ensures { λ r. ⌜ wordBytes r ≡ crossed (take 4 (wordBytes colors)) (take 4 (wordBytes alpha)) ++ crossed (drop 4 (wordBytes colors)) (take 4 (wordBytes alpha)) ⌝ }
+    ensures { λ r. ⌜ wordBytes r ≡ crossedBoth colors alpha ⌝ }
 {
     colors + (alpha as u64) * 0x0001_0000_0001
 }
@@ -156,7 +165,7 @@ fn with_alphas(colors: u64, alpha: u32) -> u64
 // All sixteen pairs of a colour and an alpha, by two bits each: that of colour k and alpha j is at 4 * j + k.
 fn palette_2_and_2(e: Ends) -> [[u8; 4]; 16]
     requires { ⌜ Alone e ⌝ }
-    ensures { λ r. ⌜ r ≡ table 16 (λ i. crossed (between 2 (endpoint e 0 0) (endpoint e 0 1) (i % 4)) (between 2 (endpoint e 0 0) (endpoint e 0 1) (i / 4))) ⌝ }
+    ensures { λ r. ⌜ r ≡ table 16 (λ i. crossed (colorOf 2 e (i % 4)) (colorOf 2 e (i / 4))) ⌝ }
 {
     let alphas = words_2(e, false);
     let low = keep(shades_2(e, 0), true);

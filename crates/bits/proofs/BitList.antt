@@ -59,10 +59,12 @@ left-lt k s n h =
 -- the field of w bits at s, also where the list ends before it does
 field-bits : (k n s w : ℕ) → n < 2 ^ k → valueOfBits (take w (drop s (bitsOf k n))) ≡ n / 2 ^ s % 2 ^ w
 field-bits k n s w h =
-    ap (λ (l : List ℕ). valueOfBits (take w l)) (drop-bits s k n) ∙ ap valueOfBits (take-bits w (k - s) (n / 2 ^ s)) ∙ value-of-bits (min w (k - s)) (n / 2 ^ s)
+    ap (λ (l : List ℕ). valueOfBits (take w l)) (drop-bits s k n) ∙ ap valueOfBits (take-bits w (k - s) (n / 2 ^ s))
+    ∙ value-of-bits (min w (k - s)) (n / 2 ^ s)
     ∙ ⊎-elim
     (λ (l : w < k - s). ap (λ (x : ℕ). n / 2 ^ s % 2 ^ x) (min-eq-left (le-of-lt l)))
-    (λ (l : k - s ≤ w). ap (λ (x : ℕ). n / 2 ^ s % 2 ^ x) (min-eq-right l) ∙ mod-eq-of-lt (left-lt k s n h) ∙ sym (mod-eq-of-lt (lt-of-lt-of-le (left-lt k s n h) (pow-mono l))))
+    (λ (l : k - s ≤ w). ap (λ (x : ℕ). n / 2 ^ s % 2 ^ x) (min-eq-right l) ∙ mod-eq-of-lt (left-lt k s n h)
+    ∙ sym (mod-eq-of-lt (lt-of-lt-of-le (left-lt k s n h) (pow-mono l))))
     (lt-or w (k - s))
 
 -- the bits of bytes are the bits of their number
@@ -75,7 +77,8 @@ bits-append (suc j) k n =
 bits-low : (k a b : ℕ) → b < 2 ^ k → bitsOf k (a * 2 ^ k + b) ≡ bitsOf k b
 bits-low zero a b h = refl
 bits-low (suc k) a b h =
-    ap₂ {C = List ℕ} (λ x l. x ∷ l) (block-odd a k b) (ap (bitsOf k) (block-half a k b) ∙ bits-low k a (b / 2) (div-lt-iff-lt-mul (zero-lt-suc 1) .1 (rw (pow-suc 2 k) at h)))
+    ap₂ {C = List ℕ} (λ x l. x ∷ l) (block-odd a k b)
+    (ap (bitsOf k) (block-half a k b) ∙ bits-low k a (b / 2) (div-lt-iff-lt-mul (zero-lt-suc 1) .1 (rw (pow-suc 2 k) at h)))
 
 bytes-bits : (k : ℕ) {bs : List ℕ} → Fit (replicate k 8) bs → bitsOfBytes bs ≡ bitsOf (8 * k) (join (replicate k 8) bs)
 bytes-bits zero none = refl
@@ -86,12 +89,16 @@ bytes-bits (suc k) (more {v = b} {vs = bs} h f) =
     ∙ sym (bits-append 8 (8 * k) (n * 2 ^ 8 + b))
     ∙ ap (λ (x : ℕ). bitsOf x (n * 2 ^ 8 + b)) e
 
+-- the number of the w bits of the list from bit a on
+abbrev pub listed : List ℕ → ℕ → ℕ → ℕ
+listed bs a w = valueOfBits (take w (drop a (bitsOfBytes bs)))
+
 module _ {bs : List ℕ} (block : Fit eights bs) where
   pub bits-128 : length (bitsOfBytes bs) ≡ 128
   bits-128 = ap length (bytes-bits 16 block) ∙ length-bits 128 (join eights bs)
 
   -- a field of the block's number is the next bits of the list
-  pub field-is-bits : (at w : ℕ) → field (number bs) at w ≡ valueOfBits (take w (drop at (bitsOfBytes bs)))
+  pub field-is-bits : (at w : ℕ) → field (number bs) at w ≡ listed bs at w
   unfolding field number
   field-is-bits at w =
       sym (field-bits 128 (join eights bs) at w (join-lt block)) ∙ ap (λ (l : List ℕ). valueOfBits (take w (drop at l))) (sym (bytes-bits 16 block))
@@ -99,23 +106,24 @@ module _ {bs : List ℕ} (block : Fit eights bs) where
   -- and zero past its end
   pub field-past-end : (at w : ℕ) → 128 ≤ at → field (number bs) at w ≡ 0
   unfolding field number
-  field-past-end at w h = ap (λ (x : ℕ). x % 2 ^ w) (div-eq-of-lt (lt-of-lt-of-le (join-lt block) (pow-mono {i = 128} {j = at} h))) ∙ mod-eq-of-lt (pow-pos w)
+  field-past-end at w h =
+      ap (λ (x : ℕ). x % 2 ^ w) (div-eq-of-lt (lt-of-lt-of-le (join-lt block) (pow-mono {i = 128} {j = at} h)))
+      ∙ mod-eq-of-lt (pow-pos w)
 
   -- each read of a stream that stands at bit a of the block
   module _ {a : ℕ} {s : BitStream} (o : On (number bs) a s) where
-    pub low-u8-bits : {r : ℕ} → r ≡ field (held s) (s .at) 8 → r ≡ valueOfBits (take 8 (drop a (bitsOfBytes bs)))
+    pub low-u8-bits : {r : ℕ} → r ≡ field (held s) (s .at) 8 → r ≡ listed bs a 8
     low-u8-bits e = e ∙ next-is o 8 ∙ field-is-bits a 8
 
-    pub consume-bit-bits : {r : Bit} → r ≡ consumed1 s → (r .value ≡ not (eqb (valueOfBits (take 1 (drop a (bitsOfBytes bs)))) 0)) × On (number bs) (a + 1) (r .stream)
+    pub consume-bit-bits : {r : Bit} → r ≡ consumed1 s → (r .value ≡ not (eqb (listed bs a 1) 0)) × On (number bs) (a + 1) (r .stream)
     consume-bit-bits e = rw e (ap (λ (x : ℕ). not (eqb x 0)) (next-is o 1 ∙ field-is-bits a 1), on-skipped o 1)
 
-    pub consume-bits-bits : {r : Bits8} (w : ℕ) → r ≡ consumed8 s w → (r .value ≡ valueOfBits (take w (drop a (bitsOfBytes bs)))) × On (number bs) (a + w) (r .stream)
+    pub consume-bits-bits : {r : Bits8} (w : ℕ) → r ≡ consumed8 s w → (r .value ≡ listed bs a w) × On (number bs) (a + w) (r .stream)
     consume-bits-bits w e = (got-8 o w e ∙ field-is-bits a w, on-8 o w e)
 
-    pub consume-bits-64-bits : {r : Bits64} (w : ℕ) → r ≡ consumed64 s w → (r .value ≡ valueOfBits (take w (drop a (bitsOfBytes bs)))) × On (number bs) (a + w) (r .stream)
+    pub consume-bits-64-bits : {r : Bits64} (w : ℕ) → r ≡ consumed64 s w → (r .value ≡ listed bs a w) × On (number bs) (a + w) (r .stream)
     consume-bits-64-bits w e = (got-64 o w e ∙ field-is-bits a w, on-64 o w e)
 
     pub consume-2-bits : {r : Values2} (w : ℕ) → r ≡ consumed2 s w
-        → (r .first ≡ valueOfBits (take w (drop a (bitsOfBytes bs)))) × (r .second ≡ valueOfBits (take w (drop (a + w) (bitsOfBytes bs))))
-        × On (number bs) (a + 2 * w) (r .stream)
+        → (r .first ≡ listed bs a w) × (r .second ≡ listed bs (a + w) w) × On (number bs) (a + 2 * w) (r .stream)
     consume-2-bits w e = (got-first o w e ∙ field-is-bits a w, got-second o w e ∙ field-is-bits (a + w) w, on-2 o w e)

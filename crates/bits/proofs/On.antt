@@ -31,7 +31,11 @@ module _ (s : BitStream) (w : ℕ) where
       let e : s .at + w + w ≡ s .at + 2 * w = omega arith in
       record { same = rw (q, p, e); small-first = rw p (field-lt _ _ _); small-second = rw q (field-lt _ _ _); moved = rw (q, p, e) refl }
 
--- where a stream stands that skips, and what comes next
+-- what a stream holds that skips, where it stands, and what comes next
+pub held-skipped : (s : BitStream) {t : BitStream} (w : ℕ) → t ≡ skipped s w → held t ≡ held s
+unfolding held
+held-skipped s w e = rw e refl
+
 module _ {n a : ℕ} {s : BitStream} (o : On n a s) where
   pub on-skipped : (w : ℕ) → On n (a + w) (skipped s w)
   unfolding held

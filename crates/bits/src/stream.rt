@@ -52,7 +52,9 @@ pub fn word(b0: u8, b1: u8, b2: u8, b3: u8, b4: u8, b5: u8, b6: u8, b7: u8) -> u
         | ((b7 as u64) << 56)
 }
 
-// The 64 bits of a block from a position on, zeros past its end. The double shift is defined at position 0 too.
+// The 64 bits of a block from a position on, zeros past its end. Below 64 they are what is left of `low` and, on top of it, `high`
+// moved up by 64 - at. That would be a shift by 64 at position 0, which isn't defined; a shift by 1 and then by 63 - at is, and
+// leaves nothing there.
 fn window(low: u64, high: u64, at: u32) -> u64
     ensures { λ r. ⌜ r ≡ (high * 2 ^ 64 + low) / 2 ^ at % 2 ^ 64 ⌝ }
 {

@@ -22,7 +22,8 @@ impl BitWriter {
         }
     }
 
-    // A value of `count` bits, put on top of what is written. The double shift is defined at position 0 too.
+    // A value of `count` bits, put on top of what is written. What is past bit 63 goes to `high`, moved down by 64 - at, in two shifts
+    // as in the reader's window.
     pub fn push(self, value: u64, count: u32) -> Self
         requires { ⌜ (value < 2 ^ count) × (self .at + count ≤ 128) × (written self < 2 ^ self .at) ⌝ }
         ensures { λ r. ⌜ r ≡ pushed self value count ⌝ }

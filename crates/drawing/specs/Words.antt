@@ -45,12 +45,16 @@ pub record Bytes (e : Ends) : Type 0 where
   pub rb1 : Lanes 8 (e .rb1)
   pub ga1 : Lanes 8 (e .ga1)
 
+-- the lanes of one colour, in a word where the other's are empty
+abbrev pub LanesOfOne : ℕ → Type 0
+LanesOfOne x = Fit (8 ∷ 8 ∷ 0 ∷ 0 ∷ []) (lanesOf x)
+
 -- the first of the two colours stands alone: no lane of the other is used
 pub record Alone (e : Ends) : Type 0 where
-  pub rb0 : Fit (8 ∷ 8 ∷ 0 ∷ 0 ∷ []) (lanesOf (e .rb0))
-  pub ga0 : Fit (8 ∷ 8 ∷ 0 ∷ 0 ∷ []) (lanesOf (e .ga0))
-  pub rb1 : Fit (8 ∷ 8 ∷ 0 ∷ 0 ∷ []) (lanesOf (e .rb1))
-  pub ga1 : Fit (8 ∷ 8 ∷ 0 ∷ 0 ∷ []) (lanesOf (e .ga1))
+  pub rb0 : LanesOfOne (e .rb0)
+  pub ga0 : LanesOfOne (e .ga0)
+  pub rb1 : LanesOfOne (e .rb1)
+  pub ga1 : LanesOfOne (e .ga1)
 
 -- a channel of what is stored of a colour, and that all of it fits lanes
 abbrev pub channel : Stored → ℕ → ℕ

@@ -6,12 +6,12 @@ ghost use mathlib.Core.List.{[], _∷_, map, zipWith};
 ghost use lib.Dec.{eqb};
 ghost use lib.ListN.{drop, take};
 ghost use Prim.Native.Nat.{_+_, _-_, _*_, _/_, _%_, _^_, _≤_, _<_};
-ghost use Rattle.laws.specs.Digits.{Fit};
 ghost use Rattle.laws.specs.Tables.{pick};
 ghost use Rattle.bcn_format.specs.Block.{field};
 ghost use Rattle.bcn_format.specs.Drawing.{promoted};
 ghost use Rattle.bcn_format.specs.Painting.{endOf, endOfP, solid};
-ghost use Rattle.drawing.specs.Words.{blend, blends, endsP, Fitting, Holds, HoldsOne, laned, Lanes, lanesOf, plain, withAlpha, withP, wordBytes, woven};
+ghost use Rattle.drawing.specs.Words.{laned, Lanes, lanesOf, LanesOfOne, wordBytes, woven};
+ghost use Rattle.drawing.specs.Words.{blend, blends, endsP, Fitting, Holds, HoldsOne, plain, withAlpha, withP};
 
 // What a block stores of a colour: each value has a channel of both endpoints, the first one's in the low bits, and p both p bits.
 pub struct Stored {
@@ -60,6 +60,13 @@ fn parts(x: u64, at: u32, bits: u32) -> u64
 //
 //     x << 3                   | abcde... |
 //     its three upper bits     | .....abc |
+//
+// Four lanes at once: one shift moves them all, and as a lane has sixteen bits and at most eight of them are used, none reaches the
+// next. The three upper bits are those from bit 2 on, so from `bits` - (8 - `bits`) on, which `parts` takes of each lane.
+//
+// Below four bits there would be too few to fill the places with, in the Rust and here. The Rust asks for 4 to 7 bits, since at eight it
+// would shift a byte by eight, and its modes leave values of eight bits as they are. Here eight is taken too: nothing is shifted,
+// `parts` takes no bits, and the value stays. So a mode whose values have eight bits, with or without a p bit, needs no other call.
 fn promote(x: u64, bits: u32) -> u64
     requires { ⌜ (4 ≤ bits) × (bits ≤ 8) × Lanes bits x ⌝ }
     ensures { λ r. ⌜ r ≡ laned (map (promoted bits) (lanesOf x)) ⌝ }
@@ -115,7 +122,8 @@ pub fn clear_p(x: Stored, y: Stored, bits: u32) -> Ends
     ends_p(rb, ga, p, p, bits)
 }
 
-// Two values of `bits` bits that are all ones: as alpha of both endpoints, they are promoted to 255.
+// Two values of `bits` bits that are all ones: as alpha of both endpoints they are promoted to 255, for the places that come empty
+// are filled with ones too.
 fn all_ones(bits: u32) -> u64
     requires { ⌜ bits ≤ 8 ⌝ }
     ensures { λ r. ⌜ (r ≡ 2 ^ (bits + bits) - 1) × (r < 2 ^ 16) ⌝ }
@@ -123,7 +131,7 @@ fn all_ones(bits: u32) -> u64
     (1u64 << (bits + bits)) - 1
 }
 
-// Two colours with p bits and without alpha.
+// Two colours with p bits and without alpha. The p bits of alpha are ones as its other bits are: 3, a one for each endpoint.
 pub fn opaque_p(x: Stored, y: Stored, bits: u32) -> Ends
     requires { ⌜ (3 ≤ bits) × (bits ≤ 7) × Fitting x × Fitting y ⌝ }
     ensures { λ e. ⌜ Holds (λ l. solid (withP bits (pick (eqb l 0) x y))) e ⌝ }
@@ -181,9 +189,12 @@ pub fn alone(x: Stored, bits: u32, alpha_bits: u32) -> Ends
     }
 }
 
-// Four channels of both endpoints in the proportion of a weight: 256 times their values, rounded. A lane is at most
-// 256 * 255 + 128, so no lane reaches the next; and as weight * e0 is at most 256 * e0 in each lane, no lane borrows either.
-// No difference of the endpoints is taken, and the first two terms don't depend on the weight.
+// Four channels of both endpoints in the proportion of a weight: 256 times their values, rounded by a half in each lane.
+//
+//     (256 - weight) * e0 + weight * e1 + 128  =  (256 * e0 + 128 - weight * e0) + weight * e1
+//
+// A lane is at most 256 * 255 + 128, so no lane reaches the next; and as weight * e0 is at most 256 * e0 in each lane, no lane borrows
+// either. No difference of the endpoints is taken, and the first two terms don't depend on the weight.
 pub fn mixed(weight: u64, e0: u64, e1: u64) -> u64
     requires { ⌜ (weight ≤ 256) × Lanes 8 e0 × Lanes 8 e1 ⌝ }
     ensures { λ r. ⌜ r ≡ laned (zipWith (blend weight) (lanesOf e0) (lanesOf e1)) ⌝ }
@@ -195,8 +206,10 @@ pub fn mixed(weight: u64, e0: u64, e1: u64) -> u64
 // four products, each in a lane of its own.
 //
 //     weights * e0 = (v * 2^32 + w) * (b * 2^16 + a)  =  v * b | v * a | w * b | w * a
+//
+// 256 * e0 has to stand in both halves too: it is e0 times the weights 256 and 256.
 pub fn mixed_2(weights: u64, e0: u64, e1: u64) -> u64
-    requires { ⌜ (weights % 2 ^ 32 ≤ 256) × (weights / 2 ^ 32 ≤ 256) × Fit (8 ∷ 8 ∷ 0 ∷ 0 ∷ []) (lanesOf e0) × Fit (8 ∷ 8 ∷ 0 ∷ 0 ∷ []) (lanesOf e1) ⌝ }
+    requires { ⌜ (weights % 2 ^ 32 ≤ 256) × (weights / 2 ^ 32 ≤ 256) × LanesOfOne e0 × LanesOfOne e1 ⌝ }
     ensures { λ r. ⌜ r ≡ laned (blends (weights % 2 ^ 32) (weights / 2 ^ 32) (lanesOf e0) (lanesOf e1)) ⌝ }
 {
     (0x0100_0000_0100 * e0 + HALVES - weights * e0) + weights * e1

@@ -18,6 +18,7 @@ pub struct Keys {
     pub odd: u64,
 }
 
+// The lower two bits of every four, and the lower three of every six: the fields of the even pixels.
 const EVEN_2: u64 = 0x3333_3333;
 
 const EVEN_3: u64 = 0x0000_1C71_C71C_71C7;
@@ -52,7 +53,7 @@ pub fn keys_3(x: u64, shift: u32, map: u64) -> Keys
     }
 }
 
-// Key i of a word that has `step` bits for each, of which there are `many` different ones.
+// Key i of a word that has `step` bits for each, of which there are `many` different ones, a power of two: so the rest is a mask.
 fn key_of(keys: u64, step: u32, i: usize, many: u64) -> usize
     requires { ⌜ (step ≤ 6) × (i < 8) × (0 < many) ⌝ }
     ensures { λ r. ⌜ (r ≡ keys / 2 ^ (i * step) % many) × (r < many) ⌝ }

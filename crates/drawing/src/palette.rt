@@ -17,8 +17,13 @@ use crate::color::mixed;
 use crate::color::mixed_2;
 use crate::color::two_colors;
 
-// Weights are all multiplied by 4 compared to the original ones. A `match` and no constant array: the compiler makes a read-only
-// table of it or folds it away, where an array would be laid on the stack at each call.
+// The format's weights are parts of 64; here they are four times as large, as in the Rust, and the sum is divided by 256:
+//
+//     ((64 - w) * e0 + w * e1 + 32) / 64  =  ((256 - 4 * w) * e0 + 4 * w * e1 + 128) / 256
+//
+// The sum is still below 2^16, so it has room in a lane, and the channel is the upper byte of the lane, with no shift of its own.
+// A `match` and no constant array: the compiler makes a read-only table of it or folds it away, where an array would be laid on the
+// stack at each call.
 pub fn get_weight_2(index: usize) -> u64
     requires { ⌜ index < 4 ⌝ }
     ensures { λ r. ⌜ r ≡ 4 * weightOf 2 index ⌝ }
@@ -128,7 +133,8 @@ pub fn palette_3_3(e: Ends, f: Ends) -> [[u8; 4]; 32]
 }
 
 // The weights of eight indexes of four bits, those of the even pixels, a byte each: four times an index, and one more for each
-// four, rounded. A sum is at most 17 and a weight 64, so no byte reaches the next.
+// four, rounded. A sum is at most 17 and a weight 64, so no byte reaches the next; the shift brings two bits of the byte above into
+// each byte, and those the mask takes away.
 //
 //     i     0  1  2  3  4  5  6  7  8  9 10 11 12 13 14 15
 //     4 i   0  4  8 12 16 20 24 28 32 36 40 44 48 52 56 60
@@ -141,7 +147,7 @@ fn weights_of(x: u64) -> u64
     4 * indexes + (((indexes + 0x0202_0202_0202_0202) >> 2) & 0x0707_0707_0707_0707)
 }
 
-// Of eight weights those at place i and i + 4, 32 bits apart, and times 4.
+// Of eight weights, a byte each, those at place i and i + 4. They stand 32 bits apart, as `two_shades` wants them, and are taken times 4.
 fn weights_at(weights: u64, i: usize) -> u64
     requires { ⌜ i < 4 ⌝ }
     ensures { λ r. ⌜ r ≡ row 2 32 (λ h. 4 * part weights 8 (i + 4 * h)) ⌝ }
@@ -150,7 +156,7 @@ fn weights_at(weights: u64, i: usize) -> u64
 }
 
 // Sixteen pixels by indexes of four bits. There are as many weights as pixels, so a palette would spare nothing: each pixel is
-// mixed at its own weight, two at a time.
+// mixed at its own weight, two at a time. Even pixel 2 * i is place i of its weights, and place i + 4 is pixel 2 * i + 8.
 pub fn mix_16(e: Ends, x: u64) -> [[u8; 4]; 16]
     requires { ⌜ Alone e ⌝ }
     ensures { λ r. ⌜ r ≡ table 16 (λ q. between 4 (endpoint e 0 0) (endpoint e 0 1) (part x 4 q)) ⌝ }

@@ -2,12 +2,16 @@
 -- Assumes nothing.
 use mathlib.Core.Path.{_≡_}
 use mathlib.Core.List.{List}
-use Prim.Native.Nat.{ℕ, _^_, _<_}
+use Prim.Native.Nat.{ℕ, _+_, _-_, _*_, _^_, _<_}
 use Rattle.indexes.specs.declared.Indexes.{Indexes}
 use Rattle.indexes.specs.declared.NewIndexes.{NewIndexes}
 use Rattle.bits.specs.declared.stream.BitStream.{BitStream}
 use Rattle.bits.specs.Stream.{nextBits, skipped}
 use Rattle.bcn_format.specs.Indexes.{expanded, part}
+
+-- the position behind sixteen indexes of w bits, k of them a bit shorter, can be counted
+abbrev pub Room : BitStream → ℕ → ℕ → Type 0
+Room s w k = s .at + (16 * w - k) < 2 ^ 32
 
 -- index i, which is within its width
 pub record Index (x : Indexes) (i r : ℕ) : Type 0 where

@@ -5,7 +5,7 @@ ghost use mathlib.Core.Path.{_≡_};
 ghost use mathlib.Core.List.{[], _∷_};
 ghost use Prim.Native.Nat.{_+_, _-_, _*_, _^_, _≤_, _<_};
 ghost use Rattle.laws.specs.Digits.{inserted};
-ghost use Rattle.indexes.specs.Reading.{Index, indexesOf, newIndexes};
+ghost use Rattle.indexes.specs.Reading.{Index, indexesOf, newIndexes, Room};
 use bits::stream::BitStream;
 
 pub mod storing;
@@ -34,7 +34,7 @@ fn decompress_single_index(bits: u32, compressed: u64, index: u32) -> u64
 
 impl Indexes {
     pub fn new_p1(bits: u32, stream: BitStream) -> NewIndexes
-        requires { ⌜ (0 < bits) × (bits ≤ 4) × (stream .at + (16 * bits - 1) < 2 ^ 32) ⌝ }
+        requires { ⌜ (0 < bits) × (bits ≤ 4) × Room stream bits 1 ⌝ }
         ensures { λ r. ⌜ r ≡ newIndexes bits (0 ∷ []) stream (16 * bits - 1) ⌝ }
     {
         let compressed = stream.consume_bits_64(16 * bits - 1);
@@ -47,7 +47,7 @@ impl Indexes {
     }
 
     pub fn new_p2(bits: u32, stream: BitStream, p2_fixup: u32) -> NewIndexes
-        requires { ⌜ (0 < bits) × (bits ≤ 4) × (0 < «p2_fixup») × («p2_fixup» < 16) × (stream .at + (16 * bits - 2) < 2 ^ 32) ⌝ }
+        requires { ⌜ (0 < bits) × (bits ≤ 4) × (0 < «p2_fixup») × («p2_fixup» < 16) × Room stream bits 2 ⌝ }
         ensures { λ r. ⌜ r ≡ newIndexes bits (0 ∷ «p2_fixup» ∷ []) stream (16 * bits - 2) ⌝ }
     {
         let compressed = stream.consume_bits_64(16 * bits - 2);
@@ -60,7 +60,7 @@ impl Indexes {
     }
 
     pub fn new_p3(bits: u32, stream: BitStream, p2_fixup: u32, p3_fixup: u32) -> NewIndexes
-        requires { ⌜ (0 < bits) × (bits ≤ 4) × (0 < «p2_fixup») × («p2_fixup» < «p3_fixup») × («p3_fixup» < 16) × (stream .at + (16 * bits - 3) < 2 ^ 32) ⌝ }
+        requires { ⌜ (0 < bits) × (bits ≤ 4) × (0 < «p2_fixup») × («p2_fixup» < «p3_fixup») × («p3_fixup» < 16) × Room stream bits 3 ⌝ }
         ensures { λ r. ⌜ r ≡ newIndexes bits (0 ∷ «p2_fixup» ∷ «p3_fixup» ∷ []) stream (16 * bits - 3) ⌝ }
     {
         let compressed = stream.consume_bits_64(16 * bits - 3);

@@ -5,7 +5,7 @@ ghost use Prim.Native.Nat.{_+_, _-_, _*_, _^_, _≤_, _<_};
 ghost use Rattle.laws.specs.Digits.{Fit, join, removed, split};
 ghost use Rattle.bcn_format.specs.Indexes.{Rising, anchorCount, anchorsOfKind, indexWidths};
 
-// The zero at the top of an index taken out: what is above moves down a bit.
+// The zero at the top of an index taken out: what is above moves down a bit, down to where that zero stood, and what is below stays.
 fn compress_single_index(bits: u32, word: u64, index: u32) -> u64
     requires { ⌜ (0 < bits) × (bits ≤ 4) × (index < 16) ⌝ }
     ensures { λ r. ⌜ r ≡ removed word (index * bits + (bits - 1)) ⌝ }

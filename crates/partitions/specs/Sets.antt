@@ -1,6 +1,6 @@
 -- A partition in one word.
 -- Assumes nothing.
-use Prim.Native.Nat.{ℕ, _+_, _*_, _^_}
+use Prim.Native.Nat.{ℕ, _+_, _*_, _/_, _%_, _^_}
 use Prim.Native.String.{String}
 use mathlib.Core.List.{[], _∷_}
 use lib.ListN.{getD, replicate}
@@ -16,3 +16,13 @@ set2 w a = setOf w (getD strings2 a "")
 
 abbrev pub set3 : ℕ → ℕ → ℕ
 set3 w a = setOf w (getD strings3 a "")
+
+-- the anchors behind pixel 0, out of that word: the one of two subsets, and both of three
+abbrev pub anchorIn2 : ℕ → ℕ
+anchorIn2 set = set / 2 ^ 48
+
+abbrev pub secondIn3 : ℕ → ℕ
+secondIn3 set = set / 2 ^ 48 % 16
+
+abbrev pub thirdIn3 : ℕ → ℕ
+thirdIn3 set = set / 2 ^ 52

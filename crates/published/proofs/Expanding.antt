@@ -9,7 +9,7 @@ use lib.Bits.{and-high, and-mask, bitAnd, bitOr, or-shifted}
 use lib.Pow.{field, pow-mono, pow-pos, shl-exact, shl-shr, shr-le, shr-lt, shr-mod, shr-shr}
 use Rattle.laws.specs.Digits.{inserted}
 use Rattle.bcn_format.specs.Block.{field as fieldOf}
-use Rattle.bits.proofs.On.{field-lt}
+use Rattle.bcn_format.proofs.Fields.{field-lt}
 use Rattle.bcn_format.specs.Indexes.{expanded, part}
 use Rattle.bcn_format.proofs.Expanding.{after-1, after-2, one-anchor, spare-bit, three-anchors, times-width, two-anchors}
 use Rattle.bcn_format.proofs.Insert.{inserted-high, inserted-low, inserted-lt}

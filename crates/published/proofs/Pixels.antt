@@ -23,7 +23,7 @@ use Rattle.bc7_format.specs.Places.{atPlace, index}
 use Rattle.bc7_format.specs.Splits.{anchors}
 use Rattle.bc7_format.proofs.Starts.{start}
 use Rattle.bcn_format.proofs.Theorems.{drawn-by-256, weight-is-four-times}
-use Rattle.bits.proofs.On.{field-lt}
+use Rattle.bcn_format.proofs.Fields.{field-lt}
 use Rattle.bcn_format.specs.Indexes.{expanded, indexWidths, part}
 use Rattle.bcn_format.proofs.Expanding.{size-1}
 use Rattle.bc7_format.specs.Fields.{endByte, pStart, valueStart}

@@ -1,6 +1,9 @@
 -- The mode, from the low byte.
 -- Assumes nothing.
+use native.Mathlib.Nat.{lt-of-le-of-lt}
 use borrow.Author.Needs.{needs}
+use lib.Count.{trailing-le}
+use lib.Dec.{lit<}
 use Rattle.bcn_format.proofs.Trailing.{trailing-count}
 use Rattle.bc7.proofs.extract_mode.Statement.{statement}
 use Rattle.bc7.proofs.extract_mode.Tie as tie
@@ -8,8 +11,11 @@ use Rattle.bc7.proofs.extract_mode.Tie as tie
 low-u8-requires : tie.Need-low-u8-requires
 low-u8-requires c κs = search needs
 
+cast-result : tie.Need-cast-result
+cast-result c = record { fits = lt-of-le-of-lt (trailing-le 8 _) (lit< tt) }
+
 returns : tie.Need-returns
 returns c = rw (c .low-u8 .ensures) (trailing-count 8 _)
 
 pub extract-mode-spec : {M : Type 1} → statement M
-extract-mode-spec = tie.close (tie.spec low-u8-requires returns)
+extract-mode-spec = tie.close (tie.spec low-u8-requires cast-result returns)

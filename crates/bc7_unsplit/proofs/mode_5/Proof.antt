@@ -114,7 +114,8 @@ returns c =
     c .swap-channels .ensures
     ∙ ap₂ swapped (got-8 on-rotation 2 (rotation .consume-bits .ensures .same))
     (c .before .paint-4 .ensures ∙ ap₂ (λ (k : Keys) (p : List (List ℕ)). painted (keyAt 2 2 k) p) (keys .keys-2 .ensures)
-    (palette .palette-2-and-2 .ensures) ∙ paired (x .new-p1 .result .indexes .uncompressed) (y .new-p12 .result .indexes .uncompressed) (between 2 (endpoint e 0 0) (endpoint e 0 1)))
+    (palette .palette-2-and-2 .ensures)
+    ∙ paired (x .new-p1 .result .indexes .uncompressed) (y .new-p12 .result .indexes .uncompressed) (between 2 (endpoint e 0 0) (endpoint e 0 1)))
     ∙ vector-either 5 n (field n 6 2) 0 small (split-5 n) (omega arith) _ _
     (by-set 5 n _ 0 small (split-5 n) (end 0 (omega arith)) (end 1 (omega arith)) 0 2 66 (omega arith) refl (omega arith)
     (index-start 5 _ (omega arith)) first)

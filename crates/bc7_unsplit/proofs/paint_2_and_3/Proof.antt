@@ -22,7 +22,8 @@ module _ {x : Indexes} {b i r : ℕ} (wide : x .bits ≡ b) (index : Index x i r
   is = index .same ∙ ap (λ (w : ℕ). part (x .uncompressed) w i) wide
 
 abbrev Inv-loop : tie.InvT-loop
-Inv-loop x y p q output₀ i₀ output i = Made (λ n. take 4 (wordBytes (getD p (part (x .uncompressed) 2 n) 0 + getD q (part (y .uncompressed) 3 n) 0))) i output
+Inv-loop x y p q output₀ i₀ output i =
+    Made (λ n. take 4 (wordBytes (getD p (part (x .uncompressed) 2 n) 0 + getD q (part (y .uncompressed) 3 n) 0))) i output
 
 abbrev μ-loop : tie.MeasureT-loop
 μ-loop x y p q output₀ i₀ output i = 16 - i
@@ -93,7 +94,8 @@ loop-again c =
     let at = x .before in
     let s = at .before .before in
     made-next (at .before .loop .inv) (at .loop-test .taken)
-    (c .low-color .ensures ∙ ap₂ (λ (i j : ℕ). take 4 (wordBytes (getD (s .args .t1) i 0 + getD (s .args .t2) j 0))) (is (s .pre .1) (x .get-index .ensures))
+    (c .low-color .ensures
+    ∙ ap₂ (λ (i j : ℕ). take 4 (wordBytes (getD (s .args .t1) i 0 + getD (s .args .t2) j 0))) (is (s .pre .1) (x .get-index .ensures))
     (is (s .pre .2) (y .get-index2 .ensures)))
 
 returns : tie.Need-returns Inv-loop μ-loop

@@ -6,7 +6,8 @@ use Rattle.indexes.proofs.Indexes.from_compressed_p1.Statement.{stateme
 use Rattle.indexes.proofs.Indexes.from_compressed_p1.Tie as tie
 
 decompress-single-index-requires : tie.Need-decompress-single-index-requires
-decompress-single-index-requires c κs = (c .pre .0, c .pre .1, omega arith, spare-bit (c .args .bits) 1 (c .args .compressed) (c .pre .1) (omega arith) (c .pre .2))
+decompress-single-index-requires c κs =
+    (c .pre .0, c .pre .1, omega arith, spare-bit (c .args .bits) 1 (c .args .compressed) (c .pre .1) (omega arith) (c .pre .2))
 
 returns : tie.Need-returns
 returns c =
