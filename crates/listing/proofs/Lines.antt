@@ -1,6 +1,6 @@
 -- Lines behind lines in the output.
 -- Assumes nothing.
-use mathlib.Core.Path.{ap, sym, subst}
+use mathlib.Core.Path.{sym, subst}
 use mathlib.Core.List.{List}
 use Prim.Native.Nat.{ℕ, _+_, _*_}
 use native.Mathlib.Numerals.{add-one}

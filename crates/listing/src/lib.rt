@@ -5,111 +5,38 @@ ghost use mathlib.Core.Bool.{true};
 ghost use mathlib.Core.Path.{_≡_};
 ghost use Prim.Native.Nat.{_+_, _-_, _*_, _/_, _^_, _≤_, _<_};
 ghost use lib.Dec.{eqb};
-ghost use lib.ListN.{length, take};
+ghost use lib.ListN.{length};
 ghost use Rattle.laws.specs.Tables.{pick};
-ghost use Rattle.sheet_head.specs.Heads.{Sized, limit, readHead};
+ghost use Rattle.sheet_head.specs.Heads.{Sized};
+ghost use Rattle.sheet_head.specs.Reader.{Going, hasEnded};
 ghost use Rattle.laws.specs.Padding.{Written};
-ghost use Rattle.sheet_rules.specs.Rows.{across};
-ghost use Rattle.listing_rules.specs.Listing.{blockText, listed, listing, unlessExact};
-ghost use Rattle.listing_rules.specs.Machine.{InRows, NextEnd, Ready, atHead, atStart, begun, ended, headText, inRows, nextAtHead, nextInRows, nextOf, spareOf, takenOf, textAtHead, textInRows, textOf, turnsOf, wantedOf};
-ghost use Rattle.listing_rules.specs.Taking.{fresh, goesOn, headTaken, withByte};
+ghost use Rattle.listing_rules.specs.Listing.{blockText, listed, unlessExact};
+ghost use Rattle.listing_rules.specs.Promises.{GoesOn, SaysListing, SaysNext, Wants};
+ghost use Rattle.listing_rules.specs.Machine.{InRows, NextEnd, Ready, atHead, atStart, begun, ended, headText, inRows, nextAtHead, nextInRows, nextOf, spareOf, takenOf, textAtHead, textInRows, turnsOf, wantedOf};
 use bc7::decode_bc7_block;
 use bc7_places::modes::mode_of;
-use listing_rules::HeadReader;
 use listing_rules::Machine;
 use listing_rules::Phase;
-use listing_rules::Taken;
 use sheet::blocks::load;
 use sheet_head::Head;
+use sheet_head::geometry::blocks_across;
+use sheet_head::reader::HeadReader;
+use sheet_head::reader::has_ended;
+use sheet_head::reader::refused_with;
+use sheet_head::reader::take_byte;
 
 pub mod text;
 
-// A reader that has taken nothing.
-fn fresh_reader() -> HeadReader
-    ensures { λ r. ⌜ r ≡ fresh ⌝ }
-    ensures { λ r. ⌜ r .count ≡ 0 ⌝ }
-{
-    HeadReader {
-        bytes: [0u8; 9],
-        count: 0,
-        numbers: 3,
-    }
-}
-
-// Whether the next byte is the head's too.
-fn goes_on(reader: HeadReader) -> bool
-    ensures { λ r. ⌜ r ≡ goesOn reader ⌝ }
-{
-    if reader.count >= 9 {
-        return false;
-    }
-    reader.numbers > 0
-}
-
-// One byte more. The last byte of a number is below 128.
-fn with_byte(reader: HeadReader, byte: u8) -> HeadReader
-    requires { ⌜ goesOn reader ≡ true ⌝ }
-    ensures { λ r. ⌜ r ≡ withByte reader byte ⌝ }
-    ensures { λ r. ⌜ (r .count ≡ reader .count + 1) × (r .count ≤ 9) ⌝ }
-{
-    let mut bytes = reader.bytes;
-    let at = reader.count as usize;
-    bytes[at] = byte;
-    let numbers = if byte < 128 {
-        reader.numbers - 1
-    } else {
-        reader.numbers
-    };
-    HeadReader {
-        bytes: bytes,
-        count: reader.count + 1,
-        numbers: numbers,
-    }
-}
-
-// The head that the first bytes of an array spell.
-fn head_in(bytes: [u8; 9], count: usize) -> Head
-    requires { ⌜ count ≤ 9 ⌝ }
-    ensures { λ r. ⌜ r ≡ readHead (take count bytes) ⌝ }
-{
-    sheet_head::read_head(&bytes[..count])
-}
-
-// The head that was taken. An accepted one has a width and a height.
-fn head_of(reader: HeadReader) -> Head
-    requires { ⌜ reader .count ≤ 9 ⌝ }
-    ensures { λ r. ⌜ r ≡ headTaken reader ⌝ }
-    ensures { λ r. ⌜ (r .refusal ≡ 0 → Sized (r .width) (r .height)) ⌝ }
-{
-    let bytes = reader.bytes;
-    head_in(bytes, reader.count as usize)
-}
-
-// What comes of the head's next byte.
-fn take_byte(reader: HeadReader, came: &[u8]) -> Taken
-    requires { ⌜ goesOn reader ≡ true ⌝ }
+// The reader of the head after what came of its next byte; the head is cut off where none came. An accepted head has a size.
+fn take_next(reader: HeadReader, came: &[u8]) -> HeadReader
+    requires { ⌜ Going reader ⌝ }
     ensures { λ r. ⌜ r ≡ takenOf reader (now (came .entry)) ⌝ }
-    ensures { λ r. ⌜ r .reader .count ≤ 9 ⌝ }
+    ensures { λ r. ⌜ (hasEnded r ≡ true → r .head .refusal ≡ 0 → Sized (r .head .width) (r .head .height)) ⌝ }
 {
     if came.len() == 0 {
-        return Taken {
-            reader: reader,
-            ends: true,
-        };
+        return refused_with(7);
     }
-    let longer = with_byte(reader, came[0]);
-    Taken {
-        reader: longer,
-        ends: !goes_on(longer),
-    }
-}
-
-// Columns of blocks in a width, rows of blocks in a height.
-fn blocks_across(side: u32) -> u32
-    requires { ⌜ side ≤ limit ⌝ }
-    ensures { λ r. ⌜ r ≡ across side ⌝ }
-{
-    (side + 3) / 4
+    take_byte(reader, came[0])
 }
 
 // A block's line to a place of the output; the place behind it.
@@ -155,14 +82,14 @@ pub fn start() -> Machine
     ensures { λ r. ⌜ r ≡ atStart ⌝ }
     ensures { λ r. ⌜ Ready r ⌝ }
 {
-    at_head(fresh_reader())
+    at_head(sheet_head::reader::start())
 }
 
 // Before so many rows.
 fn in_rows(columns: u32, rows: u32, from: u32) -> Machine
     ensures { λ r. ⌜ r ≡ inRows columns rows from ⌝ }
 {
-    let reader = fresh_reader();
+    let reader = sheet_head::reader::start();
     if rows == 0 {
         return Machine {
             phase: Phase::End,
@@ -185,7 +112,7 @@ fn in_rows(columns: u32, rows: u32, from: u32) -> Machine
 fn stopped(exact: bool) -> Machine
     ensures { λ r. ⌜ r ≡ ended exact ⌝ }
 {
-    let reader = fresh_reader();
+    let reader = sheet_head::reader::start();
     if exact {
         return Machine {
             phase: Phase::Listed,
@@ -216,15 +143,15 @@ fn behind_head(head: Head) -> Machine
 }
 
 fn next_at_head(reader: HeadReader, came: &[u8]) -> Machine
-    requires { ⌜ goesOn reader ≡ true ⌝ }
+    requires { ⌜ Going reader ⌝ }
     ensures { λ r. ⌜ r ≡ nextAtHead (takenOf reader (now (came .entry))) ⌝ }
 {
-    let taken = take_byte(reader, came);
-    let longer = taken.reader;
-    if taken.ends {
-        return behind_head(head_of(longer));
+    let taken = take_next(reader, came);
+    if has_ended(taken) {
+        let head = taken.head;
+        return behind_head(head);
     }
-    at_head(longer)
+    at_head(taken)
 }
 
 fn next_in_rows(columns: u32, rows: u32, from: u32, got: usize) -> Machine
@@ -240,7 +167,7 @@ fn next_in_rows(columns: u32, rows: u32, from: u32, got: usize) -> Machine
 // The next state, after what came.
 pub fn next(machine: Machine, came: &[u8]) -> Machine
     requires { ⌜ Ready machine ⌝ }
-    ensures { λ r. ⌜ r ≡ nextOf machine (now (came .entry)) ⌝ }
+    ensures { λ r. ⌜ GoesOn machine (now (came .entry)) r ⌝ }
     ensures { λ r. ⌜ Ready r × (turnsOf r ≤ turnsOf machine - 1) ⌝ }
 {
     let phase = machine.phase;
@@ -256,7 +183,7 @@ pub fn next(machine: Machine, came: &[u8]) -> Machine
 // How many bytes the machine wants next: never more than 16,384, and none at its end.
 pub fn wanted(machine: Machine) -> usize
     requires { ⌜ Ready machine ⌝ }
-    ensures { λ r. ⌜ r ≡ wantedOf machine ⌝ }
+    ensures { λ r. ⌜ Wants machine r ⌝ }
     ensures { λ r. ⌜ (r ≤ 16384) × (r ≤ 16384 * turnsOf machine) ⌝ }
 {
     let phase = machine.phase;
@@ -294,14 +221,14 @@ fn list_head(head: Head, at: usize, out: &mut [u8]) -> usize
 }
 
 fn list_at_head(reader: HeadReader, came: &[u8], at: usize, out: &mut [u8]) -> usize
-    requires { ⌜ (goesOn reader ≡ true) × (at + 80 ≤ length (now out)) ⌝ }
+    requires { ⌜ Going reader × (at + 80 ≤ length (now out)) ⌝ }
     ensures { λ r. ⌜ Written (now (out .entry)) at (textAtHead (takenOf reader (now (came .entry)))) (now (out .exit)) r ⌝ }
     ensures { λ r. ⌜ r + spareOf (nextAtHead (takenOf reader (now (came .entry)))) ≤ at + 80 ⌝ }
 {
-    let taken = take_byte(reader, came);
-    if taken.ends {
-        let whole = taken.reader;
-        return list_head(head_of(whole), at, out);
+    let taken = take_next(reader, came);
+    if has_ended(taken) {
+        let head = taken.head;
+        return list_head(head, at, out);
     }
     at
 }
@@ -319,7 +246,7 @@ fn list_row(columns: u32, from: u32, came: &[u8], at: usize, out: &mut [u8]) -> 
 // What is said of what came, to a place of the output; the place behind it.
 pub fn list(machine: Machine, came: &[u8], at: usize, out: &mut [u8]) -> usize
     requires { ⌜ Ready machine × (length (now came) ≤ wantedOf machine) × (at + 40 * (length (now came) / 16) + spareOf machine ≤ length (now out)) ⌝ }
-    ensures { λ r. ⌜ Written (now (out .entry)) at (textOf machine (now (came .entry))) (now (out .exit)) r ⌝ }
+    ensures { λ r. ⌜ SaysNext machine (now (came .entry)) (now (out .entry)) at (now (out .exit)) r ⌝ }
     ensures { λ r. ⌜ r + spareOf (nextOf machine (now (came .entry))) ≤ at + 40 * (length (now (came .entry)) / 16) + spareOf machine ⌝ }
 {
     let phase = machine.phase;
@@ -343,7 +270,7 @@ fn end_of(at: usize, n: usize, many: usize) -> usize
 // The listing of a sheet that is there whole, to the start of the output: the machine fed with it as it asks. How long it is.
 pub fn list_sheet(sheet: &[u8], out: &mut [u8]) -> usize
     requires { ⌜ 40 * (length (now sheet) / 16) + 80 ≤ length (now out) ⌝ }
-    ensures { λ r. ⌜ Written (now (out .entry)) 0 (listing (now (sheet .entry))) (now (out .exit)) r ⌝ }
+    ensures { λ r. ⌜ SaysListing (now (sheet .entry)) (now (out .entry)) 0 (now (out .exit)) r ⌝ }
     ensures { λ r. ⌜ r ≤ length (now (out .exit)) ⌝ }
 {
     let mut machine = start();

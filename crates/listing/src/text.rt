@@ -6,7 +6,8 @@ ghost use mathlib.Core.List.{[], _∷_};
 ghost use Prim.Native.Nat.{_+_, _%_, _<_, _≤_};
 ghost use lib.ListN.{length};
 ghost use Rattle.laws.specs.Padding.{Written};
-ghost use Rattle.listing_rules.specs.Text.{blockLine, channels, decimal, lastFour, opacityMark, refusedLine, sheetLine, spaced};
+ghost use Rattle.listing_rules.specs.Promises.{SaysBlock, SaysRefused, SaysSheet};
+ghost use Rattle.listing_rules.specs.Text.{channels, decimal, lastFour, opacityMark, spaced};
 
 // One byte.
 fn put(byte: u8, at: usize, out: &mut [u8]) -> usize
@@ -116,7 +117,7 @@ fn put_pixel(pixel: [u8; 4], at: usize, out: &mut [u8]) -> usize
 // The first line of a listing: `sheet`, width and height.
 pub fn sheet_line(width: u32, height: u32, at: usize, out: &mut [u8]) -> usize
     requires { ⌜ at + 40 ≤ length (now out) ⌝ }
-    ensures { λ r. ⌜ Written (now (out .entry)) at (sheetLine width height) (now (out .exit)) r ⌝ }
+    ensures { λ r. ⌜ SaysSheet width height (now (out .entry)) at (now (out .exit)) r ⌝ }
     ensures { λ r. ⌜ r ≤ at + 40 ⌝ }
 {
     let wide = put_number(width, put_word(b"sheet ", at, out), out);
@@ -134,7 +135,7 @@ fn opacity_mark(mode: u8) -> u8
 // The line of a block: its number, its mode, the four channels of its pixel 0, and its opacity mark.
 pub fn block_line(number: u32, mode: u8, pixel: [u8; 4], at: usize, out: &mut [u8]) -> usize
     requires { ⌜ at + 40 ≤ length (now out) ⌝ }
-    ensures { λ r. ⌜ Written (now (out .entry)) at (blockLine number mode pixel) (now (out .exit)) r ⌝ }
+    ensures { λ r. ⌜ SaysBlock number mode pixel (now (out .entry)) at (now (out .exit)) r ⌝ }
     ensures { λ r. ⌜ r ≤ at + 40 ⌝ }
 {
     let numbered = put_number(number, at, out);
@@ -146,7 +147,7 @@ pub fn block_line(number: u32, mode: u8, pixel: [u8; 4], at: usize, out: &mut [u
 // The line of a refusal.
 pub fn refused_line(refusal: u8, at: usize, out: &mut [u8]) -> usize
     requires { ⌜ at + 40 ≤ length (now out) ⌝ }
-    ensures { λ r. ⌜ Written (now (out .entry)) at (refusedLine refusal) (now (out .exit)) r ⌝ }
+    ensures { λ r. ⌜ SaysRefused refusal (now (out .entry)) at (now (out .exit)) r ⌝ }
     ensures { λ r. ⌜ r ≤ at + 40 ⌝ }
 {
     let said = put_spaced(refusal, put_word(b"refused", at, out), out);

@@ -16,11 +16,11 @@ use Rattle.bcn_format.specs.Partitions.{anchors2, anchors3, digits, marks, stri
 use Rattle.bc7_format.specs.Places.{atPlace, opened, placeAt, pos, width, widths}
 use Rattle.bc7_format.specs.Splits.{splitAt, splitOf}
 use Rattle.bc7_format.proofs.Examples.{block0, block3, block4}
+use Rattle.sheet_head.specs.Geometry.{blocksOf}
 use Rattle.sheet_head.specs.Heads.{formIn, headRefusal, heightIn, readHead, sizeRefusal, widthIn}
 use Rattle.sheet_head.specs.Numbers.{raised, readGroups, readNumber}
 use Rattle.listing_rules.specs.Text.{ascii, blockLine, channels, decimal, digitsIn, opacityMark, refusedLine, sheetLine}
 use Rattle.sheet_rules.specs.Rows.{blockAt}
-use Rattle.sheet_rules.specs.Sheets.{blocksOf}
 use Rattle.listing_rules.specs.Listing.{blockText, blocksListing, blocksText, listed, listing}
 
 -- lines of text; 10 ends each

@@ -1,7 +1,5 @@
 -- The laws that the proofs cite, and the theorems.
 pub mod Attested
-pub mod Taking
-pub mod Reader
 pub mod Rows
 pub mod Turns
 pub mod Room

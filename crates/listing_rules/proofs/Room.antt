@@ -7,15 +7,14 @@ use Prim.Native.Nat.{ℕ, zero, suc, _+_, _*_, _/_, _≤_}
 use native.Mathlib.Omega.{arith}
 use lib.Dec.{eqb}
 use lib.ListN.{length}
-use Rattle.listing_rules.specs.declared.HeadReader.{HeadReader}
 use Rattle.listing_rules.specs.declared.Machine.{Machine}
 use Rattle.listing_rules.specs.declared.Phase.{Phase}
 use Rattle.listing_rules.specs.declared.Phase.the-variants.{Head, Row, End, Listed, Refused}
+use Rattle.sheet_head.specs.Geometry.{across}
+use Rattle.sheet_head.specs.declared.Head.{Head as SheetHead}
 use Rattle.laws.specs.Padding.{Written}
 use Rattle.laws.specs.Tables.{pick}
 use Rattle.laws.proofs.Cases.{pick-either}
-use Rattle.sheet_rules.specs.Rows.{across}
-use Rattle.listing_rules.specs.Taking.{headTaken}
 use Rattle.listing_rules.specs.Machine.{ReadyIn, begun, ended, inRows, nextIn, nextInRows, nextOf, spareIn, spareOf, textIn, textOf, wantedIn}
 
 spare-rows : (c k from : ℕ) → spareOf (inRows c k from) ≡ 40
@@ -40,10 +39,10 @@ pub spare-most : (m : Machine) → spareOf m ≤ 80
 spare-most m = spare-in (m .phase)
 
 -- behind a head, and behind a row
-pub spare-begun : (r : HeadReader) → spareOf (begun (headTaken r)) ≤ 40
+pub spare-begun : (h : SheetHead) → spareOf (begun h) ≤ 40
 unfolding begun
-spare-begun r = pick-either (λ m. spareOf m ≤ 40) (eqb (headTaken r .refusal) 0)
-    (omega (arith, spare-rows (across (headTaken r .width)) (across (headTaken r .height)) 0)) (omega (arith, spare-ended false))
+spare-begun h = pick-either (λ m. spareOf m ≤ 40) (eqb (h .refusal) 0)
+    (omega (arith, spare-rows (across (h .width)) (across (h .height)) 0)) (omega (arith, spare-ended false))
 
 pub spare-next : (c k from got : ℕ) → spareOf (nextInRows c k from got) ≡ pick (eqb got (16 * c)) 40 0
 spare-next c k from got = go (eqb got (16 * c)) _ (spare-rows _ _ _)

@@ -13,13 +13,11 @@ use lib.Seq.{drop-append-add, drop-append-le, length-take-le, take-add, take-all
 use borrow.Author.Tests.{eq-eqb, eqb-false, eqb-true, le-leb, lt-leb, ne-eqb}
 use Rattle.laws.specs.Tables.{pick}
 use Rattle.laws.proofs.Cases.{lt-or}
+use Rattle.sheet_head.specs.Geometry.{across, blocksOf}
 use Rattle.sheet_head.specs.Heads.{readHead}
 use Rattle.listing_rules.specs.Text.{refusedLine, sheetLine}
-use Rattle.sheet_rules.specs.Rows.{across, blockAt}
-use Rattle.sheet_rules.specs.Sheets.{blocksOf}
+use Rattle.sheet_rules.specs.Rows.{blockAt}
 use Rattle.listing_rules.specs.Listing.{blockText, blocksListing, blocksText, listed, listing, rowsListing}
-use Rattle.listing_rules.specs.Taking.{headLength}
-use Rattle.listing_rules.proofs.Taking.{blocks-start}
 
 -- blocks in the first of two lists, and in the second
 module _ (xs ys : List ℕ) where
@@ -76,7 +74,14 @@ module _ (c from k : ℕ) (bs : List ℕ) where
   row-cut : length bs < 16 * c → rowsListing c from (suc k) bs ≡ blocksFrom from (suc k * c) bs
   unfolding rowsListing blocksFrom
   row-cut h =
-      rw (lt-leb (16 * c) (length bs) h, take-all (16 * c) bs (omega arith), take-all (16 * (suc k * c)) bs (omega (arith, more)), ne-eqb (length bs) (16 * (suc k * c)) (λ q. omega (arith, more)))
+      rw (
+        lt-leb (16 * c)
+            (length bs) h,
+        take-all (16 * c) bs (omega arith),
+        take-all (16 * (suc k * c)) bs (omega (arith, more)),
+        ne-eqb (length bs)
+            (16 * (suc k * c)) (λ q. omega (arith, more)),
+      )
 
   -- it is whole
   row-whole : 16 * c ≤ length bs → rowsListing c (from + c) k (drop (16 * c) bs) ≡ blocksFrom (from + c) (k * c) (drop (16 * c) bs)
@@ -88,8 +93,10 @@ module _ (c from k : ℕ) (bs : List ℕ) where
       rw (le-leb (16 * c) (length bs) h) (ap (λ (t : List ℕ). listed from row ++ t) e
       ∙ sym (append-assoc (listed from row) (listed (from + c) (take (16 * (k * c)) rest)) _)
       ∙ ap₂ (λ (t : List ℕ) (b : Bool). t ++ pick b [] (refusedLine 10))
-      (sym (ap (λ (m : ℕ). listed from (take m bs)) more ∙ ap (listed from) (take-add (16 * c) (16 * (k * c)) bs) ∙ listed-both row (take (16 * (k * c)) rest) from c (length-take-le (16 * c) bs h)))
-      (ap (λ (n : ℕ). eqb n (16 * (k * c))) (length-drop (16 * c) bs) ∙ same-test (16 * c) (length bs) (16 * (k * c)) h ∙ ap (eqb (length bs)) (sym more)))
+      (sym (ap (λ (m : ℕ). listed from (take m bs)) more ∙ ap (listed from) (take-add (16 * c) (16 * (k * c)) bs)
+      ∙ listed-both row (take (16 * (k * c)) rest) from c (length-take-le (16 * c) bs h)))
+      (ap (λ (n : ℕ). eqb n (16 * (k * c))) (length-drop (16 * c) bs) ∙ same-test (16 * c) (length bs) (16 * (k * c)) h ∙ ap (eqb (length bs))
+      (sym more)))
 
 no-rows : (c from : ℕ) (bs : List ℕ) → rowsListing c from 0 bs ≡ blocksFrom from (0 * c) bs
 unfolding rowsListing blocksFrom listed blocksText
@@ -113,10 +120,11 @@ module _ (s : List ℕ) where
 
   -- an accepted one its line, and then the rows of blocks, one at a time, from the byte behind those of the head on
   pub listing-by-rows : readHead s .refusal ≡ 0
-      → listing s ≡ sheetLine (readHead s .width) (readHead s .height) ++ rowsListing (across (readHead s .width)) 0 (across (readHead s .height)) (drop (headLength s) s)
+      → listing s ≡ sheetLine (readHead s .width) (readHead s .height) ++ rowsListing (across (readHead s .width)) 0 (across (readHead s .height))
+      (drop (readHead s .start) s)
   unfolding listing blocksOf
   listing-by-rows e =
       let w = readHead s .width in
       let h = readHead s .height in
       rw (eq-eqb (readHead s .refusal) 0 e) (ap (λ (t : List ℕ). sheetLine w h ++ t)
-      (ap (λ (n : ℕ). blocksListing (across h * across w) (drop n s)) (blocks-start s e) ∙ sym (rows-are-listing (across w) (across h) (drop (headLength s) s))))
+      (sym (rows-are-listing (across w) (across h) (drop (readHead s .start) s))))

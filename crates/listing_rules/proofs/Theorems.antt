@@ -1,6 +1,6 @@
 -- For every input the machine, fed with it as it asks, says `listing` of the input, and nothing else; and document 01's example.
 -- Assumes nothing.
-use mathlib.Core.Path.{_≡_, refl, ap, subst}
+use mathlib.Core.Path.{_≡_, refl, _∙_, ap, sym, subst}
 use mathlib.Core.List.{List, [], _∷_, _++_}
 use Prim.Native.Nat.{ℕ}
 use native.Mathlib.Nat.{le-refl}
@@ -14,13 +14,14 @@ use Rattle.bc7_format.specs.Lines.{eight, arrayOf, has, indexPlace, lineAt, lin
 use Rattle.bcn_format.specs.Partitions.{anchors2, anchors3, digits, marks, strings2, strings3, subset2, subset3}
 use Rattle.bc7_format.specs.Places.{atPlace, opened, placeAt, pos, width, widths}
 use Rattle.bc7_format.specs.Splits.{splitAt, splitOf}
+use Rattle.sheet_head.specs.Geometry.{blocksOf}
 use Rattle.sheet_head.specs.Heads.{formIn, headRefusal, heightIn, readHead, sizeRefusal, widthIn}
 use Rattle.sheet_head.specs.Numbers.{raised, readGroups, readNumber}
-use Rattle.listing_rules.specs.Text.{ascii, blockLine, channels, decimal, digitsIn, newline, opacityMark, refusedLine, sheetLine}
+use Rattle.listing_rules.specs.Text.{ascii, blockLine, channels, decimal, digitsIn, newline, opacityMark, sheetLine}
 use Rattle.sheet_rules.specs.Rows.{blockAt}
-use Rattle.sheet_rules.specs.Sheets.{blocksOf}
 use Rattle.listing_rules.specs.declared.Machine.{Machine}
 use Rattle.listing_rules.specs.Listing.{blockText, blocksListing, blocksText, listed, listing}
+use Rattle.listing_rules.specs.Promises.{GoesOn, Says, SaysBlock, SaysListing, SaysNext, SaysRefused, SaysSheet, Wants}
 use Rattle.listing_rules.specs.Machine.{Run, atStart, over, textOf, turn, turnsOf, wantedOf}
 use Rattle.listing_rules.proofs.Turns.{ready-start, rest-start, runs}
 
@@ -34,6 +35,38 @@ one-run (over e) (over f) = refl
 one-run (over e) (turn n r) = absurd (n e)
 one-run (turn n r) (over e) = absurd (n e)
 one-run {m} {s} (turn n r) (turn o q) = ap (λ (t : List ℕ). textOf m (take (wantedOf m) s) ++ t) (one-run r q)
+
+-- any two results that a promise admits coincide: the output whole, and the place behind the text
+says-one : {text before after after' : List ℕ} {at next next' : ℕ} → Says text before at after next → Says text before at after' next'
+    → (after ≡ after') × (next ≡ next')
+says-one p q = (p .bytes ∙ sym (q .bytes), p .ends ∙ sym (q .ends))
+
+module _ {before after after' : List ℕ} {at next next' : ℕ} where
+  pub determined-sheet-line : (w h : ℕ) → SaysSheet w h before at after next → SaysSheet w h before at after' next' → (after ≡ after')
+      × (next ≡ next')
+  determined-sheet-line w h = says-one
+
+  pub determined-block-line : (number m : ℕ) (px : List ℕ) → SaysBlock number m px before at after next → SaysBlock number m px before at after' next'
+      → (after ≡ after') × (next ≡ next')
+  determined-block-line number m px = says-one
+
+  pub determined-refused-line : (n : ℕ) → SaysRefused n before at after next → SaysRefused n before at after' next' → (after ≡ after')
+      × (next ≡ next')
+  determined-refused-line n = says-one
+
+  pub determined-list : (m : Machine) (came : List ℕ) → SaysNext m came before at after next → SaysNext m came before at after' next'
+      → (after ≡ after') × (next ≡ next')
+  determined-list m came = says-one
+
+  pub determined-list-sheet : (sheet : List ℕ) → SaysListing sheet before at after next → SaysListing sheet before at after' next'
+      → (after ≡ after') × (next ≡ next')
+  determined-list-sheet sheet = says-one
+
+pub determined-next : (m : Machine) (came : List ℕ) (a b : Machine) → GoesOn m came a → GoesOn m came b → a ≡ b
+determined-next m came a b p q = p ∙ sym q
+
+pub determined-wanted : (m : Machine) (a b : ℕ) → Wants m a → Wants m b → a ≡ b
+determined-wanted m a b p q = p ∙ sym q
 
 -- document 01's example: block D and a reserved block
 pub document-lists : listing (0x01 ∷ 0x05 ∷ 0x04 ∷ (0x60 ∷ (replicate 5 0 ++ (0xFC ∷ 0x03 ∷ replicate 24 0))))

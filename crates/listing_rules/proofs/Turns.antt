@@ -1,51 +1,58 @@
 -- The machine stays ready and comes to its end, and what it still has to say of an input, turn by turn.
 -- Assumes nothing.
-use mathlib.Core.Path.{_≡_, refl, _∙_, ap, ap₂, sym, subst}
-use mathlib.Core.Bool.{Bool, true, false, not}
-use mathlib.Core.List.{List, [], _∷_, _++_, append-assoc, append-nil}
-use Prim.Native.Nat.{ℕ, zero, suc, _+_, _-_, _*_, _/_, _≤_}
+use mathlib.Core.Path.{_≡_, refl, _∙_, ap, sym, subst}
+use mathlib.Core.Bool.{Bool, true, false}
+use mathlib.Core.List.{List, [], _∷_, _++_, append-nil}
+use Prim.Native.Nat.{ℕ, zero, suc, _+_, _-_, _*_, _≤_}
 use native.Mathlib.Nat.{not-suc-le-zero}
 use native.Mathlib.Omega.{arith}
 use lib.Dec.{eqb, leb}
 use lib.ListN.{length, getD, take, drop}
-use lib.Seq.{drop-nil, length-take-le, take-all}
+use lib.Seq.{length-take-le, take-all}
 use borrow.Author.Tests.{eq-eqb, eqb-false, eqb-true, leb-false, leb-true, ne-eqb}
-use Rattle.listing_rules.specs.declared.HeadReader.{HeadReader}
+use Rattle.sheet_head.specs.Geometry.{across}
+use Rattle.sheet_head.specs.declared.reader.HeadReader.{HeadReader}
 use Rattle.listing_rules.specs.declared.Machine.{Machine}
 use Rattle.listing_rules.specs.declared.Phase.{Phase}
 use Rattle.listing_rules.specs.declared.Phase.the-variants.{Head, Row, End, Listed, Refused}
 use Rattle.sheet_head.specs.declared.Head.{Head as SheetHead}
 use Rattle.laws.specs.Tables.{pick}
 use Rattle.laws.proofs.Cases.{pick-either}
-use Rattle.sheet_head.specs.Heads.{Sized, readHead}
-use Rattle.sheet_head.proofs.Theorems.{head-sized}
+use Rattle.sheet_head.specs.Heads.{Sized, headOf, readHead}
+use Rattle.sheet_head.specs.Reader.{Going, Reading, atForm, byteTaken, hasEnded, readBy, refusedWith}
+use Rattle.sheet_head.proofs.Bytewise.{Stepped, going-start, not-far, read-byte, read-cut, read-ended, stepped, stepped-refused}
+use Rattle.sheet_head.proofs.Theorems.{fold-leaves-the-blocks, read-head-is-the-fold}
 use Rattle.listing_rules.specs.Text.{refusedLine, sheetLine}
-use Rattle.sheet_rules.specs.Rows.{across}
-use Rattle.listing_rules.specs.Taking.{fed, fresh, goesOn, headLength, headTaken, reach, withByte}
 use Rattle.listing_rules.specs.Listing.{listed, listing, rowsListing, unlessExact}
-use Rattle.listing_rules.specs.Machine.{Ready, ReadyIn, Run, atHead, atStart, begun, ended, headText, inRows, nextIn, nextInRows, nextOf, over, rowsPhase, spareIn, spareOf, takenOf, textAtHead, textIn, textOf, turn, turnsIn, turnsOf, wantedIn, wantedOf}
-use Rattle.listing_rules.proofs.Reader.{goes-both, reach-step, reach-within, reader-reads-head, stops}
+use Rattle.listing_rules.specs.Machine.{Ready, ReadyIn, Run, atHead, atStart, begun, ended, headText, inRows, nextAtHead, nextIn, nextInRows, nextOf, over, rowsPhase, takenOf, textAtHead, textIn, textOf, turn, turnsIn, turnsOf, wantedIn, wantedOf}
 use Rattle.listing_rules.proofs.Rows.{listing-by-rows, listing-refused}
 
 -- what comes of the head's next byte
 module _ (r : HeadReader) (came : List ℕ) where
-  pub taken-none : length came ≡ 0 → record { reader = r; ends = true } ≡ takenOf r came
-  unfolding takenOf
+  pub taken-none : length came ≡ 0 → refusedWith 7 ≡ takenOf r came
   taken-none = go came
     where
-      go : (came : List ℕ) → length came ≡ 0 → record { reader = r; ends = true } ≡ takenOf r came
+      go : (came : List ℕ) → length came ≡ 0 → refusedWith 7 ≡ takenOf r came
       go [] e = refl
       go (b ∷ bs) e = absurd (let q : ⊥ = omega arith in q)
 
-  pub taken-one : (length came ≡ 0 → ⊥) → {q : HeadReader} {more : Bool} → q ≡ withByte r (getD came 0 0) → more ≡ goesOn q
-      → record { reader = q; ends = not more } ≡ takenOf r came
-  unfolding takenOf
+  pub taken-one : (length came ≡ 0 → ⊥) → byteTaken r (getD came 0 0) ≡ takenOf r came
   taken-one = go came
     where
-      go : (came : List ℕ) → (length came ≡ 0 → ⊥) → {q : HeadReader} {more : Bool} → q ≡ withByte r (getD came 0 0) → more ≡ goesOn q
-          → record { reader = q; ends = not more } ≡ takenOf r came
-      go [] n e f = absurd (n refl)
-      go (b ∷ bs) n e f = rw (f, e)
+      go : (came : List ℕ) → (length came ≡ 0 → ⊥) → byteTaken r (getD came 0 0) ≡ takenOf r came
+      go [] n = absurd (n refl)
+      go (b ∷ bs) n = refl
+
+  pub taken-stepped : Going r → Stepped r (takenOf r came)
+  taken-stepped g = go came
+    where
+      go : (came : List ℕ) → Stepped r (takenOf r came)
+      go [] = stepped-refused r 7 (λ q. omega arith)
+      go (b ∷ bs) = stepped g b
+
+pub head-sized : {r x : HeadReader} (came : List ℕ) → Going r → x ≡ takenOf r came
+    → (x ≡ takenOf r came) × (hasEnded x ≡ true → x .head .refusal ≡ 0 → Sized (x .head .width) (x .head .height))
+head-sized {r} {x} came g e = (e, subst (Stepped r) (sym e) (taken-stepped r came g) .sized-head)
 
 -- before rows: at one of them, or at the end of the input
 pub some-rows : (k : ℕ) → (k ≡ 0 → ⊥) → rowsPhase k ≡ Row
@@ -74,38 +81,31 @@ turns-ended true = refl
 turns-ended false = refl
 
 -- what holds before rows that a head declares, and at the end, holds behind the head
-behind-head : (P : Machine → Type 0) (r : HeadReader) → ((w h : ℕ) → Sized w h → P (inRows (across w) (across h) 0)) → P (ended false)
-    → P (begun (headTaken r))
-unfolding begun headTaken
-behind-head P r rows end = go (eqb (readHead taken .refusal) 0) refl
+behind-head : (P : Machine → Type 0) (h : SheetHead) → (h .refusal ≡ 0 → Sized (h .width) (h .height))
+    → ((w h : ℕ) → Sized w h → P (inRows (across w) (across h) 0)) → P (ended false) → P (begun h)
+unfolding begun
+behind-head P h sized rows end = go (eqb (h .refusal) 0) refl
   where
-    taken : List ℕ
-    taken = take (r .count) (r .bytes)
-
-    go : (t : Bool) → eqb (readHead taken .refusal) 0 ≡ t
-        → P (pick t (inRows (across (readHead taken .width)) (across (readHead taken .height)) 0) (ended false))
-    go true e = rows _ _ (head-sized taken (eqb-true _ 0 e))
+    go : (t : Bool) → eqb (h .refusal) 0 ≡ t → P (pick t (inRows (across (h .width)) (across (h .height)) 0) (ended false))
+    go true e = rows _ _ (sized (eqb-true _ 0 e))
     go false e = end
 
 -- and what holds there and at the head with a byte more holds after each byte of the head
-after-byte : (P : Machine → Type 0) (r : HeadReader) → ((q : HeadReader) → P (begun (headTaken q)))
-    → ((b : ℕ) → goesOn (withByte r b) ≡ true → P (atHead (withByte r b)))
-    → (came : List ℕ) → P (nextIn Head (atHead r) came)
-unfolding takenOf
-after-byte P r behind more [] = behind r
-after-byte P r behind more (b ∷ bs) = go (goesOn (withByte r b)) refl
+after-byte : (P : Machine → Type 0) (r : HeadReader) → Going r → ((h : SheetHead) → (h .refusal ≡ 0 → Sized (h .width) (h .height)) → P (begun h))
+    → ((x : HeadReader) → Stepped r x → hasEnded x ≡ false → P (atHead x)) → (came : List ℕ) → P (nextAtHead (takenOf r came))
+after-byte P r g behind more came = go (takenOf r came) (taken-stepped r came g) (hasEnded (takenOf r came)) refl
   where
-    go : (t : Bool) → goesOn (withByte r b) ≡ t → P (pick (not t) (begun (headTaken (withByte r b))) (atHead (withByte r b)))
-    go true e = more b e
-    go false e = behind (withByte r b)
+    go : (x : HeadReader) → Stepped r x → (t : Bool) → hasEnded x ≡ t → P (pick t (begun (x .head)) (atHead x))
+    go x s true e = behind (x .head) (s .sized-head e)
+    go x s false e = more x s e
 
 -- the next state is ready
 ready-next : (p : Phase) (m : Machine) (came : List ℕ) → ReadyIn p m → Ready (nextIn p m came)
 ready-next Head m came h =
-    after-byte Ready (m .reader)
-    (λ q. behind-head Ready q
+    after-byte Ready (m .reader) h
+    (λ q z. behind-head Ready q z
     (λ w h s. ready-rows (across w) (across h) 0 (omega (arith, s .within-wide)) (omega (arith, s .wide)) (omega (arith, s .within-high)))
-    (ready-ended false)) (λ b e. e) came
+    (ready-ended false)) (λ x s e. s .going e) came
 ready-next Row m came h = pick-either Ready (eqb (length came) _)
     (ready-rows _ _ _ (h .within) (h .some) (omega (arith, h .within, h .more, h .numbers))) (ready-ended false)
 ready-next End m came h = ready-ended (eqb (length came) 0)
@@ -114,12 +114,11 @@ ready-next Refused m came h = ready-ended false
 
 -- and has fewer turns to go
 turns-next : (p : Phase) (m : Machine) (came : List ℕ) → ReadyIn p m → turnsOf (nextIn p m came) ≤ turnsIn p m - 1
-unfolding withByte
 turns-next Head m came h =
-    after-byte (λ n. turnsOf n ≤ turnsIn Head m - 1) (m .reader)
-    (λ q. behind-head (λ n. turnsOf n ≤ turnsIn Head m - 1) q (λ w h s. turns-rows _ _ _ _ (omega (arith, s .within-high)))
+    after-byte (λ n. turnsOf n ≤ turnsIn Head m - 1) (m .reader) h
+    (λ q z. behind-head (λ n. turnsOf n ≤ turnsIn Head m - 1) q z (λ w h s. turns-rows _ _ _ _ (omega (arith, s .within-high)))
     (omega (arith, turns-ended false)))
-    (λ b e. omega (arith, goes-both (m .reader) h .0)) came
+    (λ x s e. omega (arith, s .on e, not-far h, h .few)) came
 turns-next Row m came h = pick-either (λ n. turnsOf n ≤ turnsIn Row m - 1) (eqb (length came) _) (turns-rows _ _ _ _ (omega (arith, h .more)))
     (omega (arith, turns-ended false))
 turns-next End m came h = omega (arith, turns-ended (eqb (length came) 0))
@@ -158,15 +157,11 @@ wants m h {p} {n} at e =
 behind : SheetHead → List ℕ → List ℕ
 behind h s = pick (eqb (h .refusal) 0) (rowsListing (across (h .width)) 0 (across (h .height)) s) []
 
-fromHead : HeadReader → List ℕ → List ℕ
-fromHead r s = headText (headTaken r) ++ behind (headTaken r) s
-
-inHead : HeadReader → List ℕ → List ℕ
-inHead r [] = fromHead r []
-inHead r (b ∷ bs) = pick (goesOn (withByte r b)) (inHead (withByte r b) bs) (fromHead (withByte r b) bs)
+fromHead : Reading → List ℕ
+fromHead t = headText (t .head) ++ behind (t .head) (t .rest)
 
 restIn : Phase → Machine → List ℕ → List ℕ
-restIn Head m s = inHead (m .reader) s
+restIn Head m s = fromHead (readBy (m .reader) s)
 restIn Row m s = rowsListing (m .columns) (m .from) (m .rows) s
 restIn End m s = rowsListing (m .columns) (m .from) 0 s
 restIn Listed m s = []
@@ -189,21 +184,22 @@ rest-begun : (h : SheetHead) (s : List ℕ) → restOf (begun h) s ≡ behind h 
 unfolding begun behind
 rest-begun h s = go (eqb (h .refusal) 0)
   where
-    go : (t : Bool) → restOf (pick t (inRows (across (h .width)) (across (h .height)) 0) (ended false)) s ≡ pick t (rowsListing (across (h .width)) 0 (across (h .height)) s) []
+    go : (t : Bool) → restOf (pick t (inRows (across (h .width)) (across (h .height)) 0) (ended false)) s
+        ≡ pick t (rowsListing (across (h .width)) 0 (across (h .height)) s) []
     go true = rest-rows _ _ 0 s
     go false = rest-ended false s
 
 -- a byte of the head, or none
-head-step : (r : HeadReader) (s : List ℕ) → inHead r s ≡ textAtHead (takenOf r (take 1 s)) ++ restOf (nextIn Head (atHead r) (take 1 s)) (drop 1 s)
-unfolding inHead fromHead takenOf restOf restIn
-head-step r [] = ap (λ (t : List ℕ). headText (headTaken r) ++ t) (sym (rest-begun (headTaken r) []))
-head-step r (b ∷ bs) = go (goesOn (withByte r b))
+head-step : (r : HeadReader) → hasEnded r ≡ false → (s : List ℕ)
+    → fromHead (readBy r s) ≡ textAtHead (takenOf r (take 1 s)) ++ restOf (nextAtHead (takenOf r (take 1 s))) (drop 1 s)
+unfolding fromHead restOf restIn
+head-step r un [] = ap fromHead (read-cut r un) ∙ ap (λ (t : List ℕ). headText (headOf 7 0 0 0) ++ t) (sym (rest-begun (headOf 7 0 0 0) []))
+head-step r un (b ∷ bs) = ap fromHead (read-byte r un b bs) ∙ go (byteTaken r b) (hasEnded (byteTaken r b)) refl
   where
-    go : (t : Bool)
-        → pick t (inHead (withByte r b) bs) (fromHead (withByte r b) bs)
-        ≡ pick (not t) (headText (headTaken (withByte r b))) [] ++ restOf (pick (not t) (begun (headTaken (withByte r b))) (atHead (withByte r b))) bs
-    go true = refl
-    go false = ap (λ (t : List ℕ). headText (headTaken (withByte r b)) ++ t) (sym (rest-begun (headTaken (withByte r b)) bs))
+    go : (x : HeadReader) (t : Bool) → hasEnded x ≡ t → fromHead (readBy x bs)
+        ≡ pick t (headText (x .head)) [] ++ restOf (pick t (begun (x .head)) (atHead x)) bs
+    go x true e = ap fromHead (read-ended x e bs) ∙ ap (λ (t : List ℕ). headText (x .head) ++ t) (sym (rest-begun (x .head) bs))
+    go x false e = refl
 
 -- of what was wanted all came exactly when the input has so much
 all-came : (n : ℕ) (s : List ℕ) → eqb (length (take n s)) n ≡ leb n (length s)
@@ -244,7 +240,7 @@ end-step c from s = rw (rest-ended, append-nil, none-came s)
 step-in : (p : Phase) (m : Machine) (s : List ℕ) → ReadyIn p m
     → let n = wantedIn p (m .columns) in restIn p m s ≡ textIn p m (take n s) ++ restOf (nextIn p m (take n s)) (drop n s)
 unfolding restIn
-step-in Head m s h = head-step (m .reader) s
+step-in Head m s h = head-step (m .reader) (h .unended) s
 step-in Row m s h = row-step (m .columns) (m .rows) (m .from) s (h .more)
 step-in End m s h = end-step (m .columns) (m .from) s
 step-in Listed m s h = sym (rest-ended true s)
@@ -283,48 +279,21 @@ runs (suc k) m s l h = go (wantedOf m) refl
     go (suc n) e r =
         let some : wantedOf m ≡ 0 → ⊥ = λ z. omega (arith, e, z) in subst (λ (t : List ℕ). Run m s t) (sym (step m s h)) (turn some (r some))
 
--- a reader that wants no byte more takes none
-fed-stopped : (r : HeadReader) (s : List ℕ) → goesOn r ≡ false → fed r s ≡ r
-unfolding fed
-fed-stopped r [] e = refl
-fed-stopped r (b ∷ bs) e = rw e
-
--- what is said from a byte of the head on is what is said of the head that is taken, and of the bytes behind it
-head-taken : (r : HeadReader) (s : List ℕ) → goesOn r ≡ true → inHead r s ≡ fromHead (fed r s) (drop (reach (9 - r .count) (r .numbers) s) s)
-unfolding inHead fed withByte
-head-taken r [] e = ap (fromHead r) (sym (drop-nil (reach (9 - r .count) (r .numbers) [])))
-head-taken r (b ∷ bs) e =
-    let g = goes-both r e in
-    let room : 9 - r .count - 1 ≡ 9 - (r .count + 1) = omega arith in
-    rw (e, reach-step (9 - r .count) (r .numbers) b bs (omega (arith, g .0)) (g .1), room)
-    (go (goesOn (withByte r b)) refl (head-taken (withByte r b) bs))
-  where
-    rest : ℕ
-    rest = reach (9 - withByte r b .count) (withByte r b .numbers) bs
-
-    go : (t : Bool) → goesOn (withByte r b) ≡ t
-        → (goesOn (withByte r b) ≡ true → inHead (withByte r b) bs ≡ fromHead (fed (withByte r b) bs) (drop rest bs))
-        → pick t (inHead (withByte r b) bs) (fromHead (withByte r b) bs) ≡ fromHead (fed (withByte r b) bs) (drop rest bs)
-    go true q more = more q
-    go false q more = sym (ap₂ fromHead (fed-stopped (withByte r b) bs q) (ap (λ (n : ℕ). drop n bs) (stops (withByte r b) bs q)))
-
 pub ready-start : Ready atStart
-unfolding goesOn fresh
-ready-start = refl
+ready-start = going-start
 
 -- from the start that is the listing
-listing-is : (s : List ℕ) → headText (readHead s) ++ behind (readHead s) (drop (headLength s) s) ≡ listing s
-unfolding headText behind
-listing-is s = go (eqb (readHead s .refusal) 0) refl
+pub rest-start : (s : List ℕ) → restOf atStart s ≡ listing s
+unfolding restOf restIn fromHead headText behind
+rest-start s =
+    ap (λ (h : SheetHead). headText h ++ behind h (readBy atForm s .rest)) (read-head-is-the-fold s) ∙ go (eqb (readHead s .refusal) 0) refl
   where
     go : (t : Bool) → eqb (readHead s .refusal) 0 ≡ t
         → pick t (sheetLine (readHead s .width) (readHead s .height)) (refusedLine (readHead s .refusal))
-        ++ pick t (rowsListing (across (readHead s .width)) 0 (across (readHead s .height)) (drop (headLength s) s)) [] ≡ listing s
-    go true e = sym (listing-by-rows s (eqb-true _ 0 e))
+        ++ pick t (rowsListing (across (readHead s .width)) 0 (across (readHead s .height)) (readBy atForm s .rest)) [] ≡ listing s
+    go true e =
+        let z = eqb-true _ 0 e in
+        ap (λ (bs : List ℕ). sheetLine (readHead s .width)
+        (readHead s .height) ++ rowsListing (across (readHead s .width)) 0 (across (readHead s .height)) bs)
+        (fold-leaves-the-blocks s z) ∙ sym (listing-by-rows s z)
     go false e = append-nil _ ∙ sym (listing-refused s (eqb-false _ 0 e))
-
-pub rest-start : (s : List ℕ) → restOf atStart s ≡ listing s
-unfolding restOf restIn fromHead headLength fresh
-rest-start s =
-    head-taken fresh s ready-start
-    ∙ ap (λ (h : SheetHead). headText h ++ behind h (drop (headLength s) s)) (reader-reads-head s) ∙ listing-is s

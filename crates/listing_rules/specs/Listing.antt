@@ -8,10 +8,10 @@ use lib.ListN.{length, getD, take, drop}
 use Rattle.laws.specs.Tables.{pick}
 use Rattle.bc7_format.specs.Modes.{modeOf}
 use Rattle.bc7_format.specs.Lines.{pixels}
+use Rattle.sheet_head.specs.Geometry.{blocksOf}
 use Rattle.sheet_head.specs.Heads.{readHead}
 use Rattle.listing_rules.specs.Text.{blockLine, refusedLine, sheetLine}
 use Rattle.sheet_rules.specs.Rows.{blockAt}
-use Rattle.sheet_rules.specs.Sheets.{blocksOf}
 
 -- the line of a block
 unfoldable pub blockText : ℕ → List ℕ → List ℕ

@@ -2,43 +2,42 @@
 -- Assumes nothing.
 use Prim.Native.Nat.{ℕ, zero, suc, _+_, _-_, _*_, _<_, _≤_}
 use mathlib.Core.Path.{_≡_}
-use mathlib.Core.Bool.{Bool, true, false, not}
+use mathlib.Core.Bool.{Bool, true, false}
 use mathlib.Core.List.{List, [], _∷_, _++_}
 use lib.Dec.{eqb}
 use lib.ListN.{length, take, drop}
-use Rattle.listing_rules.specs.declared.HeadReader.{HeadReader}
-use Rattle.listing_rules.specs.declared.Taken.{Taken}
 use Rattle.listing_rules.specs.declared.Machine.{Machine}
 use Rattle.listing_rules.specs.declared.Phase.{Phase}
 use Rattle.listing_rules.specs.declared.Phase.the-variants.{Head, Row, End, Listed, Refused}
+use Rattle.sheet_head.specs.Geometry.{across}
 use Rattle.sheet_head.specs.declared.Head.{Head as SheetHead}
+use Rattle.sheet_head.specs.declared.reader.HeadReader.{HeadReader}
 use Rattle.laws.specs.Tables.{pick}
+use Rattle.sheet_head.specs.Reader.{Going, atForm, byteTaken, hasEnded, refusedWith}
 use Rattle.listing_rules.specs.Text.{refusedLine, sheetLine}
-use Rattle.sheet_rules.specs.Rows.{across}
 use Rattle.listing_rules.specs.Listing.{listed, unlessExact}
-use Rattle.listing_rules.specs.Taking.{fresh, goesOn, headTaken, withByte}
 
--- a reader after what came of the head's next byte, and does the head end there
-unfoldable pub takenOf : HeadReader → List ℕ → Taken
-takenOf r [] = record { reader = r; ends = true }
-takenOf r (b ∷ bs) = record { reader = withByte r b; ends = not (goesOn (withByte r b)) }
+-- the reader after what came of the head's next byte; the head is cut off where none came
+abbrev pub takenOf : HeadReader → List ℕ → HeadReader
+takenOf r [] = refusedWith 7
+takenOf r (b ∷ bs) = byteTaken r b
 
 -- the states: at the head, before so many rows, at the end
 abbrev pub atHead : HeadReader → Machine
 atHead r = record { phase = Head; reader = r; columns = 0; rows = 0; from = 0 }
 
 abbrev pub atStart : Machine
-atStart = atHead fresh
+atStart = atHead atForm
 
 abbrev pub rowsPhase : ℕ → Phase
 rowsPhase zero = End
 rowsPhase (suc k) = Row
 
 unfoldable pub inRows : ℕ → ℕ → ℕ → Machine
-inRows c k from = record { phase = rowsPhase k; reader = fresh; columns = c; rows = k; from = from }
+inRows c k from = record { phase = rowsPhase k; reader = atForm; columns = c; rows = k; from = from }
 
 unfoldable pub ended : Bool → Machine
-ended exact = record { phase = pick exact Listed Refused; reader = fresh; columns = 0; rows = 0; from = 0 }
+ended exact = record { phase = pick exact Listed Refused; reader = atForm; columns = 0; rows = 0; from = 0 }
 
 -- behind a head: what is said of it, and the state
 unfoldable pub headText : SheetHead → List ℕ
@@ -59,8 +58,8 @@ abbrev pub wantedOf : Machine → ℕ
 wantedOf m = wantedIn (m .phase) (m .columns)
 
 -- what is said of what came
-abbrev pub textAtHead : Taken → List ℕ
-textAtHead t = pick (t .ends) (headText (headTaken (t .reader))) []
+abbrev pub textAtHead : HeadReader → List ℕ
+textAtHead r = pick (hasEnded r) (headText (r .head)) []
 
 abbrev pub textInRows : ℕ → ℕ → List ℕ → List ℕ
 textInRows c from came = listed from came ++ unlessExact (eqb (length came) (16 * c))
@@ -76,8 +75,8 @@ abbrev pub textOf : Machine → List ℕ → List ℕ
 textOf m came = textIn (m .phase) m came
 
 -- the next state
-abbrev pub nextAtHead : Taken → Machine
-nextAtHead t = pick (t .ends) (begun (headTaken (t .reader))) (atHead (t .reader))
+abbrev pub nextAtHead : HeadReader → Machine
+nextAtHead r = pick (hasEnded r) (begun (r .head)) (atHead r)
 
 abbrev pub nextInRows : ℕ → ℕ → ℕ → ℕ → Machine
 nextInRows c k from got = pick (eqb got (16 * c)) (inRows c (k - 1) (from + c)) (ended false)
@@ -106,7 +105,7 @@ pub record InRows (c k from : ℕ) : Type 0 where
   pub numbers : from + 1024 * k ≤ 1048576
 
 abbrev pub ReadyIn : Phase → Machine → Type 0
-ReadyIn Head m = goesOn (m .reader) ≡ true
+ReadyIn Head m = Going (m .reader)
 ReadyIn Row m = InRows (m .columns) (m .rows) (m .from)
 ReadyIn End m = Unit {0}
 ReadyIn Listed m = Unit {0}
@@ -117,7 +116,7 @@ Ready m = ReadyIn (m .phase) m
 
 -- how many turns it still takes at the most
 abbrev pub turnsIn : Phase → Machine → ℕ
-turnsIn Head m = 9 - m .reader .count + 1026
+turnsIn Head m = 9 - (m .reader .head .start + m .reader .groups) + 1026
 turnsIn Row m = m .rows + 1
 turnsIn End m = 1
 turnsIn Listed m = 0

@@ -21,10 +21,11 @@ use Rattle.line_rules.specs.Replace.{after, indexFits, lineFits, lineGiven, ori
 use Rattle.line_rules.proofs.Attested.{after7}
 use Rattle.record_bytes.specs.Wire.{bytesRefusal, packedBytes, recordByte, recordBytes, recordOfBytes, replacementBytes, replacementOf, spelt}
 use Rattle.record_bytes.proofs.Attested.{bytes4, bytes7, bytesGiven}
+use Rattle.sheet_head.specs.Geometry.{blocksOf, placeOf}
 use Rattle.sheet_head.specs.Heads.{formIn, headBytes, headRefusal, heightIn, readHead, sizeRefusal, widthIn, writeHead}
 use Rattle.sheet_head.specs.Numbers.{groups, raised, readGroups, readNumber}
 use Rattle.sheet_rules.specs.Rows.{blockAt, channel, rowByte, rowBytes, rowOut, rowRefusal}
-use Rattle.sheet_rules.specs.Sheets.{blockIn, blocksOf, findRefusal, placeOf, putBlock, replacedIn, sheetAfter, sheetRefusal}
+use Rattle.sheet_rules.specs.Sheets.{blockIn, findRefusal, putBlock, replacedIn, sheetAfter, sheetRefusal}
 use Rattle.sheet_rules.proofs.Attested.{lower, lowerLines, small, smallReplaced}
 use Rattle.rinchovek.specs.Promises.{Decodes, Gives, Packs, ReadsLine, Replaces, Unpacks, Versions, DecodesRow, ReadsHead, ReplacesIn, WritesHead}
 

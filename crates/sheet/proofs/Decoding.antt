@@ -5,7 +5,8 @@ use mathlib.Core.List.{List}
 use Prim.Native.Nat.{ℕ}
 use lib.ListN.{length}
 use borrow.Author.Tests.{ne-eqb}
-use Rattle.sheet_rules.specs.Rows.{rowBytes, rowOut, rowRefusal, shown}
+use Rattle.sheet_head.specs.Geometry.{shown}
+use Rattle.sheet_rules.specs.Rows.{rowBytes, rowOut, rowRefusal}
 use Rattle.sheet_rules.proofs.Refusing.{Accepted, drawn, told}
 
 pub told-by : (w h row given room : ℕ) {r : ℕ} → r ≡ rowRefusal w h row given room → r ≡ 0 → Accepted w h row given room

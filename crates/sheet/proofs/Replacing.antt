@@ -35,7 +35,8 @@ module _ (s : List ℕ) (b l : ℕ) (new : Replacement) where
         pub not-replaced : (r .refusal ≡ 0 → ⊥) → (r .refusal ≡ sheetRefusal s b l new) × (s ≡ sheetAfter s b l new)
         not-replaced ne = refused refusal-then ne
 
-        pub replaced-stored : r .refusal ≡ 0 → {after : List ℕ} → after ≡ putBlock s (f .at) (r .block) → (0 ≡ sheetRefusal s b l new) × (after ≡ sheetAfter s b l new)
+        pub replaced-stored : r .refusal ≡ 0 → {after : List ℕ} → after ≡ putBlock s (f .at) (r .block) → (0 ≡ sheetRefusal s b l new)
+            × (after ≡ sheetAfter s b l new)
         replaced-stored z e =
             let q = refusal-then ∙ z in
             (sym q, e ∙ ap₂ (λ (at : ℕ) (x : Replaced). putBlock s at (x .block)) (at-is s b ef a) answer-is ∙ sym (accepted-is s b l new q))

@@ -6,6 +6,9 @@ ghost use lib.ListN.{length};
 ghost use Rattle.sheet_rules.specs.Rows.{blockAt};
 ghost use Rattle.sheet_rules.specs.Sheets.{putBlock};
 ghost use Rattle.sheet.specs.Found.{findBlock, foundAt};
+use sheet_head::geometry::blocks_of;
+use sheet_head::geometry::place_of;
+use sheet_head::geometry::whole_length;
 
 // The block at a place.
 pub fn load(s: &[u8], at: usize) -> [u8; 16]
@@ -52,19 +55,14 @@ pub fn find_block(sheet: &[u8], block: u32) -> Found
     if head.refusal != 0 {
         return not_found(head.refusal);
     }
-    let w = head.width as usize;
-    let h = head.height as usize;
-    let start = head.start as usize;
-    let blocks = ((h + 3) / 4) * ((w + 3) / 4);
-    if sheet.len() != start + 16 * blocks {
+    if sheet.len() != whole_length(head) {
         return not_found(10);
     }
-    let number = block as usize;
-    if number >= blocks {
+    if block >= blocks_of(head) {
         return not_found(12);
     }
     Found {
         refusal: 0,
-        at: start + 16 * number,
+        at: place_of(head, block),
     }
 }

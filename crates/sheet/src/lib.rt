@@ -1,15 +1,13 @@
 // A sheet of blocks: one row of blocks drawn as lines of pixels, and a line replaced in a block of a sheet. Both calls take
 // every input and say why they refuse one.
-ghost use mathlib.Core.Path.{_≡_};
-ghost use lib.ListN.{length};
-ghost use Rattle.sheet_rules.specs.Rows.{rowOut, rowRefusal};
-ghost use Rattle.sheet_rules.specs.Sheets.{sheetAfter, sheetRefusal};
+ghost use Rattle.sheet_rules.specs.Rows.{DecodesRow};
+ghost use Rattle.sheet_rules.specs.Sheets.{ReplacesInSheet};
 use crate::blocks::find_block;
 use crate::blocks::load;
 use crate::blocks::store;
-use crate::rows::lines_shown;
 use crate::rows::put_row;
 use crate::rows::row_refusal;
+use sheet_head::geometry::shown_in;
 
 pub mod blocks;
 pub mod output;
@@ -17,21 +15,24 @@ pub mod rows;
 
 // One row of blocks as lines of pixels, top first. A refused call leaves the output as it was.
 pub fn decode_row(width: u32, height: u32, row: u32, blocks: &[u8], out: &mut [u8]) -> u8
-    ensures { λ r. ⌜ r ≡ rowRefusal width height row (length (now (blocks .entry))) (length (now (out .entry))) ⌝ }
-    ensures { λ _. ⌜ now (out .exit) ≡ rowOut width height row (now (blocks .entry)) (now (out .entry)) ⌝ }
+    ensures { λ r. ⌜ DecodesRow width height row (now (blocks .entry)) (now (out .entry)) r (now (out .exit)) ⌝ }
 {
     let refusal = row_refusal(width, height, row, blocks.len(), out.len());
     if refusal != 0 {
         return refusal;
     }
-    put_row(width as usize, lines_shown(height, row), blocks, out);
+    put_row(
+        width as usize,
+        shown_in(height as usize, row as usize),
+        blocks,
+        out,
+    );
     0
 }
 
 // A line of a block of a sheet, replaced. A refused call leaves the sheet as it was.
 pub fn replace_in_sheet(sheet: &mut [u8], block: u32, line: u32, new: line_rules::Replacement) -> u8
-    ensures { λ r. ⌜ r ≡ sheetRefusal (now (sheet .entry)) block line new ⌝ }
-    ensures { λ _. ⌜ now (sheet .exit) ≡ sheetAfter (now (sheet .entry)) block line new ⌝ }
+    ensures { λ r. ⌜ ReplacesInSheet (now (sheet .entry)) block line new r (now (sheet .exit)) ⌝ }
 {
     let found = find_block(sheet, block);
     if found.refusal != 0 {

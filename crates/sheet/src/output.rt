@@ -1,10 +1,12 @@
 // The pixels of a block, laid line by line into their column of a row of blocks. A block at the right edge shows only some of
 // its columns, a block at the lower edge only some of its lines.
 ghost use mathlib.Core.Path.{_≡_};
-ghost use Prim.Native.Nat.{_+_, _-_, _*_, _≤_, _<_, min};
+ghost use Prim.Native.Nat.{_+_, _*_, _≤_, _<_};
 ghost use lib.ListN.{length, getD};
 ghost use Rattle.laws.specs.Tables.{over};
+ghost use Rattle.sheet_head.specs.Geometry.{outLength, shown};
 ghost use Rattle.sheet.specs.Columns.{lineByte, withColumn};
+use sheet_head::geometry::shown_in;
 
 fn put_pixel(pixel: [u8; 4], at: usize, out: &mut [u8])
     requires { ⌜ at + 4 ≤ length (now out) ⌝ }
@@ -27,15 +29,9 @@ fn put_line(px: [[u8; 4]; 16], y: usize, n: usize, at: usize, out: &mut [u8])
     }
 }
 
-pub fn min4(n: usize) -> usize
-    ensures { λ r. ⌜ r ≡ min 4 n ⌝ }
-{
-    if n < 4 { n } else { 4 }
-}
-
 // The lines of a block, into its column c of a row of blocks that is w pixels wide; n pixels of each are shown.
 fn put_lines(px: [[u8; 4]; 16], c: usize, w: usize, n: usize, lines: usize, out: &mut [u8])
-    requires { ⌜ (lines ≤ 4) × (4 * c < w) × (w ≤ 65536) × (n ≡ min 4 (w - 4 * c)) × (length (now out) ≡ lines * (4 * w)) ⌝ }
+    requires { ⌜ (lines ≤ 4) × (4 * c < w) × (w ≤ 65536) × (n ≡ shown w c) × (length (now out) ≡ outLength w lines) ⌝ }
     ensures { λ _. ⌜ now (out .exit) ≡ withColumn w px c (now (out .entry)) ⌝ }
 {
     let line = 4 * w;
@@ -47,10 +43,10 @@ fn put_lines(px: [[u8; 4]; 16], c: usize, w: usize, n: usize, lines: usize, out:
 // All that is shown of a block, into its column. Nearly every block is shown whole: its loops then have constant bounds, which
 // is what makes rows fast.
 pub fn put_block(px: [[u8; 4]; 16], c: usize, w: usize, lines: usize, out: &mut [u8])
-    requires { ⌜ (lines ≤ 4) × (4 * c < w) × (w ≤ 65536) × (length (now out) ≡ lines * (4 * w)) ⌝ }
+    requires { ⌜ (lines ≤ 4) × (4 * c < w) × (w ≤ 65536) × (length (now out) ≡ outLength w lines) ⌝ }
     ensures { λ _. ⌜ now (out .exit) ≡ withColumn w px c (now (out .entry)) ⌝ }
 {
-    let n = min4(w - 4 * c);
+    let n = shown_in(w, c);
     if n < 4 {
         put_lines(px, c, w, n, lines, out);
         return;

@@ -1,20 +1,16 @@
-// A row of blocks: why it is refused, how many of its lines are shown, and its blocks decoded and laid into the output. Blocks go
+// A row of blocks: why it is refused, and its blocks decoded and laid into the output. Blocks go
 // straight from the decoder to their columns, so no buffer stands between.
 ghost use mathlib.Core.Path.{_≡_};
 ghost use Prim.Native.Nat.{_*_, _≤_, _<_};
 ghost use lib.ListN.{length};
-ghost use Rattle.sheet_rules.specs.Rows.{across, rowBytes, rowRefusal, shown};
+ghost use Rattle.sheet_head.specs.Geometry.{outLength, rowLength};
+ghost use Rattle.sheet_rules.specs.Rows.{rowBytes, rowRefusal};
 use crate::blocks::load;
-use crate::output::min4;
 use crate::output::put_block;
-
-// The lines of a row of blocks that are shown.
-pub fn lines_shown(height: u32, row: u32) -> usize
-    requires { ⌜ 4 * row < height ⌝ }
-    ensures { λ r. ⌜ r ≡ shown height row ⌝ }
-{
-    min4((height - 4 * row) as usize)
-}
+use sheet_head::geometry::blocks_across;
+use sheet_head::geometry::out_length;
+use sheet_head::geometry::row_length;
+use sheet_head::geometry::shown_in;
 
 // Of the block bytes and the output only the lengths matter.
 pub fn row_refusal(width: u32, height: u32, row: u32, given: usize, room: usize) -> u8
@@ -24,14 +20,13 @@ pub fn row_refusal(width: u32, height: u32, row: u32, given: usize, room: usize)
     if size != 0 {
         return size;
     }
-    if row >= (height + 3) / 4 {
+    if row >= blocks_across(height) {
         return 12;
     }
-    let w = width as usize;
-    if given != 16 * ((w + 3) / 4) {
+    if given != row_length(width) {
         return 10;
     }
-    if room != lines_shown(height, row) * (4 * w) {
+    if room != out_length(width as usize, shown_in(height as usize, row as usize)) {
         return 11;
     }
     0
@@ -39,7 +34,7 @@ pub fn row_refusal(width: u32, height: u32, row: u32, given: usize, room: usize)
 
 // All blocks of a row.
 pub fn put_row(w: usize, lines: usize, blocks: &[u8], out: &mut [u8])
-    requires { ⌜ (lines ≤ 4) × (0 < w) × (w ≤ 65536) × (length (now blocks) ≡ 16 * across w) × (length (now out) ≡ lines * (4 * w)) ⌝ }
+    requires { ⌜ (lines ≤ 4) × (0 < w) × (w ≤ 65536) × (length (now blocks) ≡ rowLength w) × (length (now out) ≡ outLength w lines) ⌝ }
     ensures { λ _. ⌜ now (out .exit) ≡ rowBytes w lines (now (blocks .entry)) ⌝ }
 {
     let columns = blocks.len() / 16;

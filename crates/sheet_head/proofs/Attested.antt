@@ -9,6 +9,9 @@ use Rattle.sheet_head.specs.declared.HeadBytes.{HeadBytes}
 use Rattle.laws.specs.Padding.{padded}
 use Rattle.laws.specs.Refusals.{first}
 use Rattle.sheet_head.specs.Heads.{formIn, headBytes, headRefusal, heightIn, readHead, sizeRefusal, widthIn, writeHead}
+use Rattle.sheet_head.specs.declared.reader.Stage.the-variants.{Width}
+use Rattle.sheet_head.specs.Geometry.{across, blocksOf, outLength, placeOf, rowLength, shown, wholeLength}
+use Rattle.sheet_head.specs.Reader.{Reading, atForm, byteTaken, formTaken, groupTaken, heightTaken, lastTaken, readBy}
 use Rattle.sheet_head.specs.Numbers.{groups, numberBytes, raised, readGroups, readNumber}
 
 -- what was read: the number and the place behind it; or nothing
@@ -24,6 +27,10 @@ head w h start = record { refusal = 0; width = w; height = h; start = start }
 
 abbrev noHead : ℕ → Head
 noHead r = record { refusal = r; width = 0; height = 0; start = 0 }
+
+-- what was read byte by byte, and the bytes behind it
+abbrev reading : Head → List ℕ → Reading
+reading h rest = record { head = h; rest = rest }
 
 -- a head that was written
 abbrev written : ℕ → List ℕ → ℕ → HeadBytes
@@ -45,7 +52,29 @@ pub record Heads : Type 0 where
       ≡ written 0 (0x01 ∷ 0x05 ∷ 0x06 ∷ 0 ∷ 0 ∷ 0 ∷ 0 ∷ []) 3 ∷ written 0 (0x01 ∷ 0x80 ∷ 0x20 ∷ 0x80 ∷ 0x20 ∷ 0 ∷ 0 ∷ []) 5 ∷
       written 9 (0 ∷ 0 ∷ 0 ∷ 0 ∷ 0 ∷ 0 ∷ 0 ∷ []) 0 ∷ written 9 (0 ∷ 0 ∷ 0 ∷ 0 ∷ 0 ∷ 0 ∷ 0 ∷ []) 0 ∷ written 9 (0 ∷ 0 ∷ 0 ∷ 0 ∷ 0 ∷ 0 ∷ 0 ∷ []) 0 ∷
       []
+  -- behind 01 and 85: the width is to come, 5 is its low group, and the form ended at 1
+  pub a-state : byteTaken (byteTaken atForm 0x01) 0x85 ≡ record { stage = Width; low = 5; groups = 1; head = head 0 0 1 }
+  pub heads-by-bytes : map (readBy atForm)
+      ((0x01 ∷ 0x05 ∷ 0x06 ∷ 0x60 ∷ []) ∷ (0x01 ∷ 0x80 ∷ 0x20 ∷ 0x81 ∷ 0x02 ∷ []) ∷ (0x02 ∷ 0x05 ∷ []) ∷ (0x01 ∷ 0x81 ∷ 0x00 ∷ 0x60 ∷ []) ∷
+      (0x01 ∷ 0x80 ∷ 0x80 ∷ 0x80 ∷ []) ∷ (0x01 ∷ 0x05 ∷ []) ∷ (0x01 ∷ 0x05 ∷ 0x00 ∷ []) ∷ [])
+      ≡ reading (head 5 6 3) (0x60 ∷ []) ∷ reading (head 4096 257 5) [] ∷ reading (noHead 8) (0x05 ∷ []) ∷ reading (noHead 7) (0x60 ∷ []) ∷
+      reading (noHead 7) [] ∷ reading (noHead 7) [] ∷ reading (noHead 9) [] ∷ []
+  -- columns and rows of blocks, shown lines, and of a sheet of 5 by 9 pixels the blocks, the place of block 3, and its length
+  pub rounded-up : map across (1 ∷ 4 ∷ 5 ∷ 4095 ∷ 4096 ∷ []) ≡ 1 ∷ 1 ∷ 2 ∷ 1024 ∷ 1024 ∷ []
+  pub lines-shown : map (shown 9) (0 ∷ 1 ∷ 2 ∷ []) ≡ 4 ∷ 4 ∷ 1 ∷ []
+  pub blocks-placed : blocksOf (head 5 9 3) ∷ placeOf (head 5 9 3) 3 ∷ wholeLength (head 5 9 3) ∷ rowLength 5 ∷ outLength 5 3 ∷ []
+      ≡ 6 ∷ 51 ∷ 99 ∷ 32 ∷ 60 ∷ []
 
 pub heads-hold : Heads
-unfolding groups readGroups readNumber raised readHead headRefusal formIn widthIn heightIn first sizeRefusal writeHead headBytes padded
-heads-hold = record { numbers-written = refl; numbers-read = refl; heads-read = refl; heads-written = refl }
+unfolding groups readGroups readNumber raised readHead headRefusal formIn widthIn heightIn first sizeRefusal writeHead headBytes padded formTaken heightTaken lastTaken groupTaken readBy blocksOf placeOf
+heads-hold = record {
+  numbers-written = refl;
+  numbers-read = refl;
+  heads-read = refl;
+  heads-written = refl;
+  a-state = refl;
+  heads-by-bytes = refl;
+  rounded-up = refl;
+  lines-shown = refl;
+  blocks-placed = refl;
+}

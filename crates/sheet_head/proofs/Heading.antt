@@ -1,19 +1,19 @@
 -- What a head's refusal is, and what is read of its bytes.
 -- Assumes nothing.
-use mathlib.Core.Path.{_≡_, refl, _∙_, ap}
-use mathlib.Core.Logic.{_≢_}
+use mathlib.Core.Path.{_≡_, refl, _∙_, ap, sym}
+use mathlib.Core.Logic.{_≢_, ⊎-elim}
 use mathlib.Core.Bool.{true}
 use mathlib.Core.List.{List}
 use Prim.Native.Nat.{ℕ}
+use native.Mathlib.Nat.{eq-zero-or-pos}
+use native.Mathlib.Omega.{arith}
 use borrow.Author.Tests.{eq-eqb, le-leb, leb-true, ne-eqb}
 use lib.Dec.{leb}
-use Rattle.sheet_head.specs.declared.Number.{Number}
-use Rattle.laws.specs.Refusals.{Given}
+use Rattle.sheet_head.specs.declared.Head.{Head}
 use Rattle.laws.specs.Tables.{both}
-use Rattle.laws.proofs.Refusals.{Answers, Decided, Met, accepted-when, answers, by-answer, by-not, by-not-eqb, decided-is, decided-not, decided-so, exactly, none, rule}
+use Rattle.laws.proofs.Refusals.{Answers, Decided, answers, by-answer, by-not, by-not-eqb, decided-is, decided-not, decided-so, none, rule}
 use Rattle.laws.proofs.Tests.{both-true}
 use Rattle.sheet_head.specs.Heads.{Sized, form, formIn, headOf, headRefusal, headRules, heightIn, limit, readHead, side, sizeRefusal, widthIn}
-use Rattle.sheet_head.specs.Numbers.{readNumber}
 
 -- refusal 9
 module _ (w h : ℕ) where
@@ -55,22 +55,8 @@ module _ (s : List ℕ) where
   unfolding readHead
   accepted e = rw (eq-eqb (headRefusal s) 0 e)
 
-  -- what `read_head` answers, by the numbers that it reads one after the other
-  module _ {f w h : Number} (ef : f ≡ readNumber s 0) (ew : w ≡ readNumber s (f .next)) (eh : h ≡ readNumber s (w .next)) where
-    form-is : f ≡ formIn s
-    unfolding formIn
-    form-is = ef
-
-    width-is : w ≡ widthIn s
-    unfolding widthIn
-    width-is = ew ∙ ap (λ (r : Number). readNumber s (r .next)) form-is
-
-    height-is : h ≡ heightIn s
-    unfolding heightIn
-    height-is = eh ∙ ap (λ (r : Number). readNumber s (r .next)) width-is
-
-    pub head-refused : {n : ℕ} → Given (headRules f w h) n → n ≢ 0 → headOf n 0 0 0 ≡ readHead s
-    head-refused {n} g ne = refused n (exactly head-rules n .1 (rw (form-is, width-is, height-is) at g)) ne
-
-    pub head-found : Met (headRules f w h) → headOf 0 (w .value) (h .value) (h .next) ≡ readHead s
-    head-found m = rw (width-is, height-is) (accepted (accepted-when head-rules .1 (rw (form-is, width-is, height-is) at m)))
+  pub refusal-is : (readHead s) .refusal ≡ headRefusal s
+  refusal-is =
+      ⊎-elim (λ z. sym (ap (λ (h : Head). h .refusal) (accepted z)) ∙ sym z)
+      (λ p. sym (ap (λ (h : Head). h .refusal) (refused (headRefusal s) refl (λ q. omega arith))))
+      (eq-zero-or-pos (headRefusal s))

@@ -1,5 +1,7 @@
 pub mod Attested
 pub mod Reading
 pub mod Writing
+pub mod Blocks
 pub mod Heading
+pub mod Bytewise
 pub mod Theorems

@@ -86,7 +86,8 @@ module _ (s : List ℕ) (at : ℕ) where
       → raised (getD s at 0) above ≡ read (suc k) at
   more-groups k h l e =
       sym
-      (rw (drop-cons s at 0 h) (read-more k at (getD s at 0) _ l ∙ ap (raised (getD s at 0)) (ap (λ (j : ℕ). readGroups k (at + 1) (drop j s)) (sym (add-one at)) ∙ sym e)))
+      (rw (drop-cons s at 0 h) (read-more k at (getD s at 0) _ l ∙ ap (raised (getD s at 0))
+      (ap (λ (j : ℕ). readGroups k (at + 1) (drop j s)) (sym (add-one at)) ∙ sym e)))
 
   -- one group is not enough
   pub no-group : at < length s → 128 ≤ getD s at 0 → noNumber ≡ read 1 at

@@ -4,7 +4,7 @@
 use mathlib.Core.Path.{_≡_, refl, _∙_, ap, ap₂, sym, subst}
 use mathlib.Core.Logic.{_↔_, _⊎_, inl, inr, ⊎-elim}
 use mathlib.Core.List.{List, [], _∷_, _++_, append-assoc}
-use Prim.Native.Nat.{ℕ, zero, suc, _+_, _*_, _/_, _%_, _^_, _<_, _≤_}
+use Prim.Native.Nat.{ℕ, zero, suc, _+_, _-_, _*_, _/_, _%_, _^_, _<_, _≤_}
 use native.Mathlib.Nat.{div-lt-iff-lt-mul, eq-zero-or-pos, pow-suc, zero-add}
 use native.Mathlib.Omega.{arith}
 use lib.ListN.{length, drop, length-append}
@@ -15,9 +15,12 @@ use Rattle.sheet_head.specs.declared.HeadBytes.{HeadBytes}
 use Rattle.laws.specs.Refusals.{Given}
 use Rattle.laws.proofs.Cases.{lt-or}
 use Rattle.laws.proofs.Refusals.{Answers, accepted-when, alone, exactly}
-use Rattle.sheet_head.specs.Heads.{Sized, form, formIn, headBytes, headOf, headRefusal, headRules, heightIn, readHead, sizeRefusal, sizeRules, widthIn, writeHead}
+use Rattle.sheet_head.specs.Heads.{ReadsHead, Sized, WritesHead, form, formIn, headBytes, headOf, headRefusal, headRules, heightIn, readHead, sizeRefusal, sizeRules, widthIn, writeHead}
 use Rattle.sheet_head.specs.Numbers.{Bytes, found, groups, noNumber, numberBytes, numbersEnd, raised, readGroups, readNumber}
-use Rattle.sheet_head.proofs.Heading.{accepted, head-rules, refused, size-test}
+use Rattle.sheet_head.specs.Geometry.{across, blocksOf, placeOf, wholeLength}
+use Rattle.sheet_head.specs.Reader.{atForm, readBy}
+use Rattle.sheet_head.proofs.Bytewise.{bytes-behind-head, bytes-read-head}
+use Rattle.sheet_head.proofs.Heading.{accepted, head-rules, refusal-is, size-test}
 use Rattle.sheet_head.proofs.Reading.{every-number, raised-some, read-last, read-more, value-small}
 use Rattle.sheet_head.proofs.Writing.{groups-last, groups-more, nothing, one-byte, written}
 
@@ -25,14 +28,16 @@ use Rattle.sheet_head.proofs.Writing.{groups-last, groups-more, nothing
 small : (k n at : ℕ) (rest : List ℕ) → n < 128 → readGroups (suc k) at (groups (suc k) n ++ rest) ≡ found n (at + length (groups (suc k) n))
 small k n at rest l = rw (groups-last k n l) (read-last k at n rest l)
 
-large : (k n at : ℕ) (rest : List ℕ) → 128 ≤ n → readGroups k (at + 1) (groups k (n / 128) ++ rest) ≡ found (n / 128) (at + 1 + length (groups k (n / 128)))
+large : (k n at : ℕ) (rest : List ℕ) → 128 ≤ n → readGroups k (at + 1) (groups k (n / 128) ++ rest) ≡ found (n / 128)
+    (at + 1 + length (groups k (n / 128)))
     → readGroups (suc k) at (groups (suc k) n ++ rest) ≡ found n (at + length (groups (suc k) n))
 large k n at rest l e =
     rw (groups-more k n l)
     (read-more k at (n % 128 + 128) (groups k (n / 128) ++ rest) (omega arith) ∙ ap (raised (n % 128 + 128)) e ∙ raised-some _ _ (λ z. omega arith)
     ∙ ap₂ found (omega arith) (omega arith))
 
-pub groups-read : (k n at : ℕ) (rest : List ℕ) → n < 128 ^ suc k → readGroups (suc k) at (groups (suc k) n ++ rest) ≡ found n (at + length (groups (suc k) n))
+pub groups-read : (k n at : ℕ) (rest : List ℕ) → n < 128 ^ suc k → readGroups (suc k) at (groups (suc k) n ++ rest)
+    ≡ found n (at + length (groups (suc k) n))
 groups-read zero n at rest h = small zero n at rest h
 groups-read (suc k) n at rest h =
     ⊎-elim (λ l. small (suc k) n at rest l)
@@ -52,7 +57,11 @@ told : (k at : ℕ) (bs : List ℕ) → Told k at bs (readGroups k at bs)
 unfolding Told
 told =
     every-number Told (λ k at bs. inl refl) (λ k at b bs l. inr (refl, λ y. record { whole = rw (groups-last k b l); ends = rw (groups-last k b l) }))
-    (λ k at b bs r l ne h. inr (refl, λ y. above k at b bs r l ne (y 0) (⊎-elim (λ e. absurd (ne (ap (λ (x : Number). x .value) e))) (λ o. o .1 (λ i. y (suc i))) h)))
+    (λ k at b bs r l ne h. inr (
+      refl,
+      λ y. above k at b bs r l ne (y 0)
+          (⊎-elim (λ e. absurd (ne (ap (λ (x : Number). x .value) e))) (λ o. o .1 (λ i. y (suc i))) h),
+    ))
   where
     above : (k at b : ℕ) (bs : List ℕ) (r : Number) → 128 ≤ b → (r .value ≡ 0 → ⊥) → b < 256 → OneForm k (at + 1) bs r
         → OneForm (suc k) at (b ∷ bs) (found (r .value * 128 + b % 128) (r .next))
@@ -62,7 +71,8 @@ told =
         top = omega arith
 
         spelt : groups (suc k) (r .value * 128 + b % 128) ≡ b ∷ groups k (r .value)
-        spelt = groups-more k (r .value * 128 + b % 128) (omega arith) ∙ ap₂ (λ (x : ℕ) (t : List ℕ). x ∷ t) (omega (arith, low)) (ap (groups k) (sym top))
+        spelt = groups-more k (r .value * 128 + b % 128) (omega arith) ∙ ap₂ (λ (x : ℕ) (t : List ℕ). x ∷ t) (omega (arith, low))
+            (ap (groups k) (sym top))
 
 one-form : (k at : ℕ) (bs : List ℕ) → Bytes bs → readGroups k at bs .refusal ≡ 0 → OneForm k at bs (readGroups k at bs)
 unfolding Told
@@ -80,7 +90,8 @@ pub number-one-form : (s : List ℕ) (at : ℕ) → Bytes s → (readNumber s at
 unfolding readNumber
 number-one-form s at y e =
     let o = one-form 3 at (drop at s) (λ i. rw getD-drop (y (at + i))) e in
-    o .whole ∙ ap (λ (t : List ℕ). numberBytes ((readGroups 3 at (drop at s)) .value) ++ t) (drop-drop _ at s ∙ ap (λ (m : ℕ). drop m s) (sym (o .ends)))
+    o .whole ∙ ap (λ (t : List ℕ). numberBytes ((readGroups 3 at (drop at s)) .value) ++ t)
+    (drop-drop _ at s ∙ ap (λ (m : ℕ). drop m s) (sym (o .ends)))
 
 -- a number stands at a place: the bytes that writing it gives, in three groups at most, and whatever follows
 pub record Standing (s : List ℕ) (at : ℕ) : Type 0 where
@@ -115,24 +126,30 @@ module _ (w h : ℕ) (z : Sized w h) (rest : List ℕ) where
 
   form-part : formIn sheet ≡ found form 1
   unfolding sheet headBytes formIn
-  form-part = ap (λ (t : List ℕ). readNumber t 0) (append-assoc (numberBytes form) (numberBytes w ++ numberBytes h) rest) ∙ number-read-back [] form ((numberBytes w ++ numberBytes h) ++ rest) (omega arith) ∙ ap (found form) (zero-add (length (numberBytes form)) ∙ one-byte)
+  form-part = ap (λ (t : List ℕ). readNumber t 0) (append-assoc (numberBytes form) (numberBytes w ++ numberBytes h) rest)
+      ∙ number-read-back [] form ((numberBytes w ++ numberBytes h) ++ rest) (omega arith) ∙ ap (found form)
+      (zero-add (length (numberBytes form)) ∙ one-byte)
 
   width-part : widthIn sheet ≡ found w (1 + length (numberBytes w))
   unfolding sheet headBytes widthIn
   width-part =
       ap (λ (r : Number). readNumber (headBytes w h ++ rest) (r .next)) form-part
-      ∙ ap₂ readNumber (append-assoc (numberBytes form) (numberBytes w ++ numberBytes h) rest ∙ ap (λ (t : List ℕ). numberBytes form ++ t) (append-assoc (numberBytes w) (numberBytes h) rest)) (sym one-byte)
-      ∙ number-read-back (numberBytes form) w (numberBytes h ++ rest) (omega (arith, z .within-wide)) ∙ ap (λ (n : ℕ). found w (n + length (numberBytes w))) one-byte
+      ∙ ap₂ readNumber (append-assoc (numberBytes form) (numberBytes w ++ numberBytes h) rest ∙ ap (λ (t : List ℕ). numberBytes form ++ t)
+      (append-assoc (numberBytes w) (numberBytes h) rest)) (sym one-byte)
+      ∙ number-read-back (numberBytes form) w (numberBytes h ++ rest) (omega (arith, z .within-wide))
+      ∙ ap (λ (n : ℕ). found w (n + length (numberBytes w))) one-byte
 
   height-part : heightIn sheet ≡ found h (length (headBytes w h))
   unfolding sheet headBytes heightIn
   height-part =
       ap (λ (r : Number). readNumber (headBytes w h ++ rest) (r .next)) width-part
       ∙ ap₂ readNumber
-      (ap (λ (t : List ℕ). t ++ rest) (sym (append-assoc (numberBytes form) (numberBytes w) (numberBytes h))) ∙ append-assoc (numberBytes form ++ numberBytes w) (numberBytes h) rest)
+      (ap (λ (t : List ℕ). t ++ rest) (sym (append-assoc (numberBytes form) (numberBytes w) (numberBytes h)))
+      ∙ append-assoc (numberBytes form ++ numberBytes w) (numberBytes h) rest)
       (sym (length-append (numberBytes form) (numberBytes w) ∙ ap (λ (n : ℕ). n + length (numberBytes w)) one-byte))
       ∙ number-read-back (numberBytes form ++ numberBytes w) h rest (omega (arith, z .within-high))
-      ∙ ap (found h) (sym (length-append (numberBytes form ++ numberBytes w) (numberBytes h)) ∙ ap length (append-assoc (numberBytes form) (numberBytes w) (numberBytes h)))
+      ∙ ap (found h) (sym (length-append (numberBytes form ++ numberBytes w) (numberBytes h))
+      ∙ ap length (append-assoc (numberBytes form) (numberBytes w) (numberBytes h)))
 
   pub head-read-back : readHead (headBytes w h ++ rest) ≡ headOf 0 w h (length (headBytes w h))
   unfolding sheet
@@ -168,17 +185,13 @@ module _ (s : List ℕ) (p : Parts s) (y : Bytes s) where
       let w = numberBytes (widthIn s .value) in
       let h = numberBytes (heightIn s .value) in
       let t = drop (heightIn s .next) s in
-      form-spelt ∙ ap (λ (x : List ℕ). f ++ x) (width-spelt ∙ ap (λ (x : List ℕ). w ++ x) height-spelt ∙ sym (append-assoc w h t)) ∙ sym (append-assoc f (w ++ h) t)
+      form-spelt ∙ ap (λ (x : List ℕ). f ++ x) (width-spelt ∙ ap (λ (x : List ℕ). w ++ x) height-spelt ∙ sym (append-assoc w h t))
+      ∙ sym (append-assoc f (w ++ h) t)
 
 module _ (s : List ℕ) where
-  pub refusal-is : (readHead s) .refusal ≡ headRefusal s
-  refusal-is =
-      ⊎-elim (λ z. sym (ap (λ (h : Head). h .refusal) (accepted s z)) ∙ sym z) (λ p. sym (ap (λ (h : Head). h .refusal) (refused s (headRefusal s) refl (λ q. omega arith))))
-      (eq-zero-or-pos (headRefusal s))
-
   -- each refusal number of a head is given exactly when document 01 says (`headRules` has the words)
   pub head-answers : Answers (readHead s .refusal) (headRules (formIn s) (widthIn s) (heightIn s))
-  head-answers = rw refusal-is (head-rules s)
+  head-answers = rw (refusal-is s) (head-rules s)
 
   pub head-refused-when : (n : ℕ) → (readHead s .refusal ≡ n) ↔ Given (headRules (formIn s) (widthIn s) (heightIn s)) n
   head-refused-when = exactly head-answers
@@ -189,25 +202,57 @@ module _ (s : List ℕ) where
       record { form-told = a; form-one = b; width-told = c; height-told = d; size = z }
 
   pub head-sized : (readHead s) .refusal ≡ 0 → Sized ((readHead s) .width) ((readHead s) .height)
-  head-sized e = let z = sym refusal-is ∙ e in subst (λ (r : Head). Sized (r .width) (r .height)) (accepted s z) ((parts z) .size)
+  head-sized e = let z = sym (refusal-is s) ∙ e in subst (λ (r : Head). Sized (r .width) (r .height)) (accepted s z) ((parts z) .size)
 
   pub head-one-form : Bytes s → (readHead s) .refusal ≡ 0
-      → Sized ((readHead s) .width) ((readHead s) .height) × (s ≡ headBytes ((readHead s) .width) ((readHead s) .height) ++ drop ((readHead s) .start) s)
+      → Sized ((readHead s) .width) ((readHead s) .height) × (s ≡ headBytes ((readHead s) .width)
+      ((readHead s) .height) ++ drop ((readHead s) .start) s)
   head-one-form y e =
-      let z = sym refusal-is ∙ e in
+      let z = sym (refusal-is s) ∙ e in
       let p = parts z in
-      subst (λ (r : Head). Sized (r .width) (r .height) × (s ≡ headBytes (r .width) (r .height) ++ drop (r .start) s)) (accepted s z) (p .size, spelt s p y)
+      subst (λ (r : Head). Sized (r .width) (r .height) × (s ≡ headBytes (r .width) (r .height) ++ drop (r .start) s)) (accepted s z)
+      (p .size, spelt s p y)
+
+-- ONE READER: the machine that takes the bytes one by one reads the head of every sheet as `readHead` says, and where it is accepted
+-- the bytes that it leaves are the blocks
+pub read-head-is-the-fold : (s : List ℕ) → readBy atForm s .head ≡ readHead s
+read-head-is-the-fold = bytes-read-head
+
+pub fold-leaves-the-blocks : (s : List ℕ) → readHead s .refusal ≡ 0 → readBy atForm s .rest ≡ drop (readHead s .start) s
+fold-leaves-the-blocks = bytes-behind-head
 
 -- writing a head gives 9 exactly when the size is not a sheet's, and no other number
 pub head-not-written-when : (w h n : ℕ) → (writeHead w h .refusal ≡ n) ↔ Given (sizeRules w h) n
 head-not-written-when w h = exactly (rw same (alone (size-test w h)))
   where
     same : writeHead w h .refusal ≡ sizeRefusal w h
-    same = ⊎-elim (λ z. sym (ap (λ (b : HeadBytes). b .refusal) (written w h refl z)) ∙ sym z) (λ p. sym (ap (λ (b : HeadBytes). b .refusal) (nothing w h refl (λ q. omega arith)))) (eq-zero-or-pos (sizeRefusal w h))
+    same = ⊎-elim (λ z. sym (ap (λ (b : HeadBytes). b .refusal) (written w h refl z)) ∙ sym z)
+        (λ p. sym (ap (λ (b : HeadBytes). b .refusal) (nothing w h refl (λ q. omega arith)))) (eq-zero-or-pos (sizeRefusal w h))
 
--- any two results that a call's promise admits coincide: each promise is an equation
-pub determined-read-head : (s : List ℕ) (a b : Head) → a ≡ readHead s → b ≡ readHead s → a ≡ b
-determined-read-head s a b p q = p ∙ sym q
+-- any two answers that a call's promise admits coincide
+pub determined-read-head : (sheet : List ℕ) (a b : Head) → ReadsHead sheet a → ReadsHead sheet b → a ≡ b
+determined-read-head sheet a b p q = p ∙ sym q
 
-pub determined-write-head : (w h : ℕ) (a b : HeadBytes) → a ≡ writeHead w h → b ≡ writeHead w h → a ≡ b
+pub determined-write-head : (w h : ℕ) (a b : HeadBytes) → WritesHead w h a → WritesHead w h b → a ≡ b
 determined-write-head w h a b p q = p ∙ sym q
+
+-- blocks stand behind the head, one after the other, and the last one ends the sheet
+module _ (h : Head) where
+  pub blocks-behind-head : (b : ℕ) → h .start ≤ placeOf h b
+  unfolding placeOf
+  blocks-behind-head b = omega arith
+
+  pub blocks-apart : (b c : ℕ) → b < c → placeOf h b + 16 ≤ placeOf h c
+  unfolding placeOf
+  blocks-apart b c l = omega (arith, l)
+
+  pub last-block-ends : (b : ℕ) → b + 1 ≡ blocksOf h → placeOf h b + 16 ≡ wholeLength h
+  unfolding placeOf
+  last-block-ends b e = omega (arith, e)
+
+-- the blocks across a side are as few as show all of it
+pub across-shows-all : (n : ℕ) → n ≤ 4 * across n
+across-shows-all n = omega arith
+
+pub across-as-few : (n : ℕ) → 1 ≤ n → 4 * (across n - 1) < n
+across-as-few n l = omega (arith, l)

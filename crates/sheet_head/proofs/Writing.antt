@@ -41,7 +41,8 @@ module _ (h : HeadBytes) (n : ℕ) where
   one-group a = ap (withBytes h) (sym (groups-last 2 n a))
 
   pub two-groups : 128 ≤ n → n / 128 < 128 → withBytes (withBytes h ((n % 128 + 128) ∷ [])) (n / 128 ∷ []) ≡ withBytes h (numberBytes n)
-  two-groups a b = with-append h ((n % 128 + 128) ∷ []) (n / 128 ∷ []) ∙ ap (withBytes h) (sym (groups-more 2 n a ∙ ap (λ (t : List ℕ). (n % 128 + 128) ∷ t) (groups-last 1 (n / 128) b)))
+  two-groups a b = with-append h ((n % 128 + 128) ∷ []) (n / 128 ∷ []) ∙ ap (withBytes h)
+      (sym (groups-more 2 n a ∙ ap (λ (t : List ℕ). (n % 128 + 128) ∷ t) (groups-last 1 (n / 128) b)))
 
   pub three-groups : 128 ≤ n → 128 ≤ n / 128 → n < numbersEnd
       → withBytes (withBytes (withBytes h ((n % 128 + 128) ∷ [])) ((n / 128 % 128 + 128) ∷ [])) (n / 128 / 128 ∷ []) ≡ withBytes h (numberBytes n)
@@ -49,7 +50,8 @@ module _ (h : HeadBytes) (n : ℕ) where
       ap (λ (x : HeadBytes). withBytes x (n / 128 / 128 ∷ [])) (with-append h ((n % 128 + 128) ∷ []) ((n / 128 % 128 + 128) ∷ []))
       ∙ with-append h ((n % 128 + 128) ∷ (n / 128 % 128 + 128) ∷ []) (n / 128 / 128 ∷ [])
       ∙ ap (withBytes h) (sym (groups-more 2 n a
-      ∙ ap (λ (t : List ℕ). (n % 128 + 128) ∷ t) (groups-more 1 (n / 128) b ∙ ap (λ (t : List ℕ). (n / 128 % 128 + 128) ∷ t) (groups-last 0 (n / 128 / 128) (omega arith)))))
+      ∙ ap (λ (t : List ℕ). (n % 128 + 128) ∷ t) (groups-more 1 (n / 128) b ∙ ap (λ (t : List ℕ). (n / 128 % 128 + 128) ∷ t)
+      (groups-last 0 (n / 128 / 128) (omega arith)))))
 
 -- the ways of `write_head`
 pub one-byte : length (numberBytes form) ≡ 1
@@ -73,6 +75,7 @@ module _ (w h : ℕ) where
       ∙ ap (withBytes (noBytes 0)) (append-assoc (numberBytes form) (numberBytes w) (numberBytes h))
       ∙ ap (λ (p : List ℕ × ℕ). record { refusal = 0; bytes = p .0; count = p .1 }) (stored-zeros 7 _ short)
 
-  pub written : {r : ℕ} → r ≡ sizeRefusal w h → r ≡ 0 → withBytes (withBytes (withBytes (noBytes 0) (numberBytes form)) (numberBytes w)) (numberBytes h) ≡ writeHead w h
+  pub written : {r : ℕ} → r ≡ sizeRefusal w h → r ≡ 0 → withBytes (withBytes (withBytes (noBytes 0) (numberBytes form)) (numberBytes w))
+      (numberBytes h) ≡ writeHead w h
   unfolding writeHead
   written e z = all ∙ sym (rw (eq-eqb (sizeRefusal w h) 0 (sym e ∙ z)))

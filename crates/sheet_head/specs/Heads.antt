@@ -93,6 +93,13 @@ noBytes r = record { refusal = r; bytes = replicate 7 0; count = 0 }
 unfoldable pub writeHead : ℕ → ℕ → HeadBytes
 writeHead w h = pick (eqb (sizeRefusal w h) 0) (sevenOf (headBytes w h)) (noBytes (sizeRefusal w h))
 
+-- what the two public calls promise: their answers, whole
+abbrev pub ReadsHead : List ℕ → Head → Type 0
+ReadsHead sheet answer = answer ≡ readHead sheet
+
+abbrev pub WritesHead : ℕ → ℕ → HeadBytes → Type 0
+WritesHead w h answer = answer ≡ writeHead w h
+
 -- bytes behind those of h
 abbrev pub withBytes : HeadBytes → List ℕ → HeadBytes
 withBytes h bs = let p = stored (h .bytes, h .count) bs in record { refusal = h .refusal; bytes = p .0; count = p .1 }

@@ -5,7 +5,16 @@ ghost use mathlib.Core.List.{[], _∷_};
 ghost use Prim.Native.Nat.{_+_, _≤_, _<_};
 ghost use lib.ListN.{drop};
 ghost use Rattle.sheet_head.specs.Numbers.{found, noNumber, numberBytes, numbersEnd, raised, readGroups, readNumber};
-ghost use Rattle.sheet_head.specs.Heads.{headOf, noBytes, readHead, sizeRefusal, withBytes, writeHead};
+ghost use Rattle.sheet_head.specs.Heads.{ReadsHead, WritesHead, noBytes, sizeRefusal, withBytes};
+ghost use Rattle.sheet_head.specs.Reader.{nextNumber};
+use crate::reader::HeadReader;
+use crate::reader::has_ended;
+use crate::reader::refused_with;
+use crate::reader::start;
+use crate::reader::take_number;
+
+pub mod geometry;
+pub mod reader;
 
 // The form of a sheet whose blocks stand row by row.
 const FORM: u32 = 1;
@@ -133,46 +142,31 @@ pub fn size_refusal(width: u32, height: u32) -> u8
     0
 }
 
-fn refused_head(refusal: u8) -> Head
-    ensures { λ r. ⌜ r ≡ headOf refusal 0 0 0 ⌝ }
+// The next number of a sheet, taken by the reader of its head.
+fn next_number(sheet: &[u8], reader: HeadReader) -> HeadReader
+    requires { ⌜ reader .head .start ≤ 6 ⌝ }
+    ensures { λ r. ⌜ r ≡ nextNumber (now (sheet .entry)) reader ⌝ }
+    ensures { λ r. ⌜ r .head .start ≤ reader .head .start + 3 ⌝ }
 {
-    Head {
-        refusal: refusal,
-        width: 0,
-        height: 0,
-        start: 0,
+    if has_ended(reader) {
+        return reader;
     }
+    let head = reader.head;
+    let number = read_number(sheet, head.start as usize);
+    if number.refusal != 0 {
+        return refused_with(number.refusal);
+    }
+    take_number(reader, number.value, number.next as u32)
 }
 
-// The head that the bytes of a sheet start with.
+// The head that the bytes of a sheet start with: three numbers.
 pub fn read_head(sheet: &[u8]) -> Head
-    ensures { λ r. ⌜ r ≡ readHead (now (sheet .entry)) ⌝ }
+    ensures { λ r. ⌜ ReadsHead (now (sheet .entry)) r ⌝ }
 {
-    let form = read_number(sheet, 0);
-    if form.refusal != 0 {
-        return refused_head(form.refusal);
-    }
-    if form.value != FORM {
-        return refused_head(8);
-    }
-    let width = read_number(sheet, form.next);
-    if width.refusal != 0 {
-        return refused_head(width.refusal);
-    }
-    let height = read_number(sheet, width.next);
-    if height.refusal != 0 {
-        return refused_head(height.refusal);
-    }
-    let refusal = size_refusal(width.value, height.value);
-    if refusal != 0 {
-        return refused_head(refusal);
-    }
-    Head {
-        refusal: 0,
-        width: width.value,
-        height: height.value,
-        start: height.next as u32,
-    }
+    let form = next_number(sheet, start());
+    let width = next_number(sheet, form);
+    let height = next_number(sheet, width);
+    height.head
 }
 
 fn no_bytes(refusal: u8) -> HeadBytes
@@ -220,7 +214,7 @@ fn write_number(h: HeadBytes, n: u32) -> HeadBytes
 
 // The head of a sheet, to be written before its blocks.
 pub fn write_head(width: u32, height: u32) -> HeadBytes
-    ensures { λ r. ⌜ r ≡ writeHead width height ⌝ }
+    ensures { λ r. ⌜ WritesHead width height r ⌝ }
 {
     let refusal = size_refusal(width, height);
     if refusal != 0 {

@@ -21,6 +21,7 @@ use Rattle.laws.proofs.calls.Parts.{Parts, part-run}
 use Rattle.laws.proofs.calls.Trading.{run-good}
 use Rattle.bcn_format.specs.Block.{eights}
 use Rattle.bc7_format.proofs.Subsets.{sixteen-bytes}
+use Rattle.sheet_head.specs.Geometry.{blocksOf, placeOf}
 use Rattle.sheet_head.specs.Heads.{readHead}
 use Rattle.sheet_head.specs.Numbers.{Bytes}
 use Rattle.sheet_head.proofs.Theorems.{head-answers}
@@ -31,14 +32,15 @@ use Rattle.line_rules.proofs.Blocks.{after-sixteen}
 use Rattle.line_rules.proofs.Theorems.{refused-same}
 use Rattle.sheet_rules.specs.Calls.{SheetCall, WholeSheet, callsOn, onBlock, refusalOn, sheetWith, sheetWithAll}
 use Rattle.sheet_rules.specs.Rows.{blockAt}
-use Rattle.sheet_rules.specs.Sheets.{blockIn, blocksOf, placeOf, putBlock, replacedIn, sheetRefusal, sheetRules}
+use Rattle.sheet_rules.specs.Sheets.{blockIn, putBlock, replacedIn, sheetRefusal, sheetRules}
 use Rattle.sheet_rules.proofs.Finding.{finding-in-words, room}
 use Rattle.sheet_rules.proofs.Replacing.{accepted-is, refused-is, replacing}
 use Rattle.sheet_rules.proofs.Storing.{block-get, block-long, head-kept, other-block, places-apart, put-inside, put-long, put-outside, put-same, same-block}
 
 -- the bytes of a block
 eight-at-most : (i : ℕ) → getD eights i 0 ≤ 8
-eight-at-most i = ⊎-elim (λ l. omega (arith, getD-replicate {A = ℕ} 16 i 8 0 l)) (λ l. omega (arith, List·getD-eq-default {A = ℕ} eights 0 {n = i} l)) (lt-or i 16)
+eight-at-most i = ⊎-elim (λ l. omega (arith, getD-replicate {A = ℕ} 16 i 8 0 l))
+    (λ l. omega (arith, List·getD-eq-default {A = ℕ} eights 0 {n = i} l)) (lt-or i 16)
 
 block-bytes : {bs : List ℕ} → Fit eights bs → Bytes bs
 block-bytes f i = lt-of-lt-of-le (fit-get f i) (pow-mono (eight-at-most i))
@@ -78,7 +80,8 @@ module _ (s : List ℕ) (z : WholeSheet s) where
         let away : ((at ≤ k) × (k < at + 16) → ⊥) → getD (putBlock s at block) k 0 < 256 = λ n. rw (put-outside s at block k n) (z .bytes k) in
         ⊎-elim (λ p. away (λ w. omega (arith, w .0)))
         (λ p. ⊎-elim (λ q. let e : at + (k - at) ≡ k = omega arith in
-        subst (λ (m : ℕ). getD (putBlock s at block) m 0 < 256) e (rw (put-inside s at block (k - at) (room-of b l) (omega arith)) (block-bytes f (k - at))))
+        subst (λ (m : ℕ). getD (putBlock s at block) m 0 < 256) e (rw (put-inside s at block (k - at) (room-of b l) (omega arith))
+        (block-bytes f (k - at))))
         (λ q. away (λ w. omega (arith, w .1))) (lt-or k (at + 16))) (lt-or k at)
 
     put-kept : Same s (putBlock s (placeOf (readHead s) b) block)
@@ -96,7 +99,8 @@ module _ (s : List ℕ) (z : WholeSheet s) where
     put-other : (a : ℕ) → a < blocksOf (readHead s) → a ≢ b → blockIn (putBlock s (placeOf (readHead s) b) block) a ≡ blockIn s a
     unfolding blockIn
     put-other a la ne =
-        rw head-is (other-block s (placeOf (readHead s) b) (placeOf (readHead s) a) block (room-of b l) (room-of a la) (places-apart (readHead s) b a (λ e. ne (sym e))))
+        rw head-is (other-block s (placeOf (readHead s) b) (placeOf (readHead s) a) block (room-of b l) (room-of a la)
+        (places-apart (readHead s) b a (λ e. ne (sym e))))
 
 -- a call on a block of a whole sheet is answered as on the block, and its sheet has what the block's call leaves at the block's place
 pub unchanged : (s : List ℕ) (c : SheetCall) → refusalOn s c ≢ 0 → sheetWith s c ≡ s
@@ -106,7 +110,8 @@ block-is : (s : List ℕ) (c : SheetCall) → replacedIn s (c .block) (c .line) 
 unfolding replacedIn replaced
 block-is s c = refl
 
-put-again : (s : List ℕ) (c : SheetCall) → placeOf (readHead s) (c .block) + 16 ≤ length s → putBlock s (placeOf (readHead s) (c .block)) (blockIn s (c .block)) ≡ s
+put-again : (s : List ℕ) (c : SheetCall) → placeOf (readHead s) (c .block) + 16 ≤ length s → putBlock s (placeOf (readHead s) (c .block))
+    (blockIn s (c .block)) ≡ s
 unfolding blockIn
 put-again s c h = put-same s (placeOf (readHead s) (c .block)) h
 
@@ -128,18 +133,21 @@ module _ (s : List ℕ) (z : WholeSheet s) (c : SheetCall) where
         left : refusalOn s c ≢ 0 → sheetWith s c ≡ putBlock s (placeOf (readHead s) (c .block)) (after (blockIn s (c .block)) (onBlock c))
         left ne =
             unchanged s c ne ∙ sym (put-again s c (room-of s z (c .block) l))
-            ∙ ap (putBlock s (placeOf (readHead s) (c .block))) (sym (refused-same (blockIn s (c .block)) (onBlock c) (λ e. ne (answered-as-block ∙ e))))
+            ∙ ap (putBlock s (placeOf (readHead s) (c .block)))
+            (sym (refused-same (blockIn s (c .block)) (onBlock c) (λ e. ne (answered-as-block ∙ e))))
 
   pub with-kept : Same s (sheetWith s c)
   with-kept =
-      ⊎-elim (λ l. subst (Same s) (sym (with-is l)) (put-kept s z (c .block) l _ (after-sixteen (blockIn s (c .block)) (sixteen s z (c .block) l) (onBlock c))))
+      ⊎-elim (λ l. subst (Same s) (sym (with-is l)) (put-kept s z (c .block) l _ (after-sixteen (blockIn s (c .block)) (sixteen s z (c .block) l)
+      (onBlock c))))
       (λ l. subst (Same s) (sym (unchanged s c (λ e. omega (arith, e, beyond l)))) (same-here z)) (lt-or (c .block) (blocksOf (readHead s)))
 
   pub with-named : (b : ℕ) → b < blocksOf (readHead s) → c .block ≡ b → blockIn (sheetWith s c) b ≡ after (blockIn s b) (onBlock c)
   with-named b l e =
       let l' : c .block < blocksOf (readHead s) = rw e l in
       subst (λ (x : ℕ). blockIn (sheetWith s c) x ≡ after (blockIn s x) (onBlock c)) e
-      (ap (λ (t : List ℕ). blockIn t (c .block)) (with-is l') ∙ put-named s z (c .block) l' _ (after-sixteen (blockIn s (c .block)) (sixteen s z (c .block) l') (onBlock c)))
+      (ap (λ (t : List ℕ). blockIn t (c .block)) (with-is l')
+      ∙ put-named s z (c .block) l' _ (after-sixteen (blockIn s (c .block)) (sixteen s z (c .block) l') (onBlock c)))
 
   pub with-other : (b : ℕ) → b < blocksOf (readHead s) → c .block ≢ b → blockIn (sheetWith s c) b ≡ blockIn s b
   with-other b l ne =
@@ -180,7 +188,8 @@ parts s z = record {
 pub all-kept : (cs : List SheetCall) (s : List ℕ) → WholeSheet s → Same s (sheetWithAll s cs)
 all-kept cs s z = run-good sheetWith (Same s) (parts s z .good) cs s (same-here z)
 
-pub all-block : (cs : List SheetCall) (s : List ℕ) → WholeSheet s → (b : ℕ) → b < blocksOf (readHead s) → blockIn (sheetWithAll s cs) b ≡ afterAll (blockIn s b) (callsOn b cs)
+pub all-block : (cs : List SheetCall) (s : List ℕ) → WholeSheet s → (b : ℕ) → b < blocksOf (readHead s) → blockIn (sheetWithAll s cs) b
+    ≡ afterAll (blockIn s b) (callsOn b cs)
 all-block cs s z b l = part-run (parts s z) cs s b (same-here z) l
 
 -- a sheet is whole, or every call on it is refused
@@ -189,7 +198,8 @@ whole-or s y =
     ⊎-elim (λ a. sized a (ℕ-discrete (length s) (readHead s .start + 16 * blocksOf (readHead s))))
     (λ a. inr (λ c q. let z : ⊥ = omega (arith, replacing s (c .block) (c .line) (c .given) .met q .0) in z)) (eq-zero-or-pos (readHead s .refusal))
   where
-    sized : readHead s .refusal ≡ 0 → Dec (length s ≡ readHead s .start + 16 * blocksOf (readHead s)) → WholeSheet s ⊎ ((c : SheetCall) → refusalOn s c ≢ 0)
+    sized : readHead s .refusal ≡ 0 → Dec (length s ≡ readHead s .start + 16 * blocksOf (readHead s))
+        → WholeSheet s ⊎ ((c : SheetCall) → refusalOn s c ≢ 0)
     sized a (yes l) = inl (record { bytes = y; told = a; long = l })
     sized a (no n) = inr (λ c q. n (replacing s (c .block) (c .line) (c .given) .met q .1 .0))
 
@@ -203,5 +213,7 @@ pub in-words : (s : List ℕ) → Bytes s → (b l : ℕ) (new : Replacement) �
 unfolding sheetRefusal replacedIn replaced
 in-words s y b l new = answers (
     rules (finding-in-words s b) λ (f, (o, (w, (h, (z, (long, (n, u))))))).
-    rules (on-block (blockIn s b) (sixteen s (record { bytes = y; told = accepted-when (head-answers s) .1 (f, (o, (w, (h, (z, tt))))); long = long }) b n) (callOf l new)) λ m.
+    rules (on-block (blockIn s b)
+    (sixteen s (record { bytes = y; told = accepted-when (head-answers s) .1 (f, (o, (w, (h, (z, tt))))); long = long }) b n)
+    (callOf l new)) λ m.
     none)

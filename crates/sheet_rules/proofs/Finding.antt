@@ -6,18 +6,21 @@ use Prim.Native.Nat.{ℕ, _+_, _*_, _<_, _≤_}
 use native.Mathlib.Omega.{arith}
 use lib.ListN.{length}
 use Rattle.laws.proofs.Refusals.{Answers, answers, by-answer, by-leb, by-not-eqb, none, rule, rules}
+use Rattle.sheet_head.specs.Geometry.{blocksOf, placeOf}
 use Rattle.sheet_head.specs.Heads.{formIn, headRules, heightIn, readHead, widthIn}
 use Rattle.sheet_head.proofs.Theorems.{head-answers}
-use Rattle.sheet_rules.specs.Sheets.{behindHead, blocksOf, findRefusal, findRules, placeOf}
+use Rattle.sheet_rules.specs.Sheets.{behindHead, findRefusal, findRules}
 
 pub finding : (s : List ℕ) (b : ℕ) → Answers (findRefusal s b) (findRules (readHead s) s b)
 unfolding findRefusal
-finding s b = answers (rule by-answer λ h. rule (by-not-eqb tt (length s) (readHead s .start + 16 * blocksOf (readHead s))) λ l. rule (by-leb tt (blocksOf (readHead s)) b) λ n. none)
+finding s b = answers (rule by-answer λ h. rule (by-not-eqb tt (length s)
+    (readHead s .start + 16 * blocksOf (readHead s))) λ l. rule (by-leb tt (blocksOf (readHead s)) b) λ n. none)
 
 -- the same down to the numbers of the head
 pub finding-in-words : (s : List ℕ) (b : ℕ) → Answers (findRefusal s b) (headRules (formIn s) (widthIn s) (heightIn s) ++ behindHead (readHead s) s b)
 unfolding findRefusal
-finding-in-words s b = answers (rules (head-answers s) λ h. rule (by-not-eqb tt (length s) (readHead s .start + 16 * blocksOf (readHead s))) λ l. rule (by-leb tt (blocksOf (readHead s)) b) λ n. none)
+finding-in-words s b = answers (rules (head-answers s) λ h. rule (by-not-eqb tt (length s)
+    (readHead s .start + 16 * blocksOf (readHead s))) λ l. rule (by-leb tt (blocksOf (readHead s)) b) λ n. none)
 
 -- what a block that is found has
 pub record Inside (s : List ℕ) (b : ℕ) : Type 0 where

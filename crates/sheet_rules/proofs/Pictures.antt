@@ -12,11 +12,12 @@ use Rattle.laws.specs.Tables.{table, tableFrom}
 use Rattle.laws.proofs.Joining.{table-append, table-same}
 use Rattle.laws.proofs.Part.{getD-table, length-table}
 use Rattle.bc7_format.specs.Lines.{pixel, pixels}
+use Rattle.sheet_head.specs.Geometry.{across, placeOf, shown}
 use Rattle.sheet_head.specs.Heads.{Sized, readHead}
 use Rattle.laws.proofs.Refusals.{accepted-when}
 use Rattle.sheet_rules.specs.Pictures.{blockShowing, decodedRows, picture, pictureByte, pixelIn, rowOf}
-use Rattle.sheet_rules.specs.Rows.{across, blockAt, channel, rowByte, rowBytes, rowOut, rowRefusal, shown}
-use Rattle.sheet_rules.specs.Sheets.{blockIn, placeOf}
+use Rattle.sheet_rules.specs.Rows.{blockAt, channel, rowByte, rowBytes, rowOut, rowRefusal}
+use Rattle.sheet_rules.specs.Sheets.{blockIn}
 use Rattle.sheet_rules.proofs.Refusing.{drawn, row-rules}
 
 -- a part of a part is a part of the whole
@@ -27,7 +28,8 @@ part-part : (s : List ℕ) (m n at c : ℕ) → at + c ≤ n → take c (drop at
 part-part s m n at c h =
     ext-getD 0 _ _ (simp (length-take, length-drop) (omega arith))
     (λ i l. let l' : i < c = omega (arith, simp (length-take, length-drop) at l) in
-    part-get (take n (drop m s)) at c i l' ∙ part-get s m n (at + i) (omega arith) ∙ ap (λ (k : ℕ). getD s k 0) (sym (add-assoc m at i)) ∙ sym (part-get s (m + at) c i l'))
+    part-get (take n (drop m s)) at c i l' ∙ part-get s m n (at + i) (omega arith) ∙ ap (λ (k : ℕ). getD s k 0) (sym (add-assoc m at i))
+    ∙ sym (part-get s (m + at) c i l'))
 
 block-of-part : (s : List ℕ) (m n at : ℕ) → at + 16 ≤ n → blockAt (take n (drop m s)) at ≡ blockAt s (m + at)
 unfolding blockAt
@@ -63,7 +65,8 @@ module _ (w h : ℕ) (pos : 0 < w) (all : List ℕ) (n : ℕ) where
       let e : 4 * n ≡ min (4 * n) h = omega arith in
       row-byte w pos all n k (omega arith) ∙ ap (λ (m : ℕ). pictureByte w all (m * (4 * w) + k)) e
 
-  next-row : table (min (4 * n) h * (4 * w)) (pictureByte w all) ++ table (shown h n * (4 * w)) (rowByte w (rowOf w all n)) ≡ table (min (4 * suc n) h * (4 * w)) (pictureByte w all)
+  next-row : table (min (4 * n) h * (4 * w)) (pictureByte w all) ++ table (shown h n * (4 * w)) (rowByte w (rowOf w all n))
+      ≡ table (min (4 * suc n) h * (4 * w)) (pictureByte w all)
   next-row =
       let e : min (4 * n) h + shown h n ≡ min (4 * suc n) h = omega arith in
       ap (λ (t : List ℕ). table (min (4 * n) h * (4 * w)) (pictureByte w all) ++ t)
@@ -112,7 +115,8 @@ unfolding channel pixels
 channel-is bs q c hq hc = rw (getD-table 16 (λ q. table 4 (pixel bs q)) [] q hq) (getD-table 4 (pixel bs q) 0 c hc)
 
 -- every shown pixel: the four bytes at x, y are the format's pixel of its block
-pub picture-shows : (w h : ℕ) (all : List ℕ) (x y c : ℕ) → x < w → y < h → c < 4 → getD (picture w h all) (y * (4 * w) + (4 * x + c)) 0 ≡ pixel (blockShowing w all x y) (pixelIn x y) c
+pub picture-shows : (w h : ℕ) (all : List ℕ) (x y c : ℕ) → x < w → y < h → c < 4 → getD (picture w h all) (y * (4 * w) + (4 * x + c)) 0
+    ≡ pixel (blockShowing w all x y) (pixelIn x y) c
 unfolding picture pictureByte
 picture-shows w h all x y c lx ly lc =
     let l : 4 * x + c < 4 * w = omega arith in
@@ -165,10 +169,12 @@ each-byte w h all k pos l =
       down-it = line;
       of-four = omega arith;
       place = at;
-      byte = ap (λ (m : ℕ). getD (picture w h all) m 0) at ∙ picture-shows w h all (k % (4 * w) / 4) (k / (4 * w)) (k % (4 * w) % 4) (omega arith) line (omega arith);
+      byte = ap (λ (m : ℕ). getD (picture w h all) m 0) at ∙ picture-shows w h all (k % (4 * w) / 4) (k / (4 * w)) (k % (4 * w) % 4)
+          (omega arith) line (omega arith);
     }
 
-pub one-place : (w x y c u v d : ℕ) → x < w → c < 4 → u < w → d < 4 → y * (4 * w) + (4 * x + c) ≡ v * (4 * w) + (4 * u + d) → (x ≡ u) × (y ≡ v) × (c ≡ d)
+pub one-place : (w x y c u v d : ℕ) → x < w → c < 4 → u < w → d < 4 → y * (4 * w) + (4 * x + c) ≡ v * (4 * w) + (4 * u + d) → (x ≡ u) × (y ≡ v)
+    × (c ≡ d)
 one-place w x y c u v d hx hc hu hd e =
     let a : 4 * x + c < 4 * w = omega arith in
     let b : 4 * u + d < 4 * w = omega arith in

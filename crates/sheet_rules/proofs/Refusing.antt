@@ -6,9 +6,10 @@ use Prim.Native.Nat.{ℕ, _*_, _<_}
 use borrow.Author.Tests.{ne-eqb}
 use lib.ListN.{length}
 use Rattle.laws.proofs.Refusals.{Answers, answer-0, answers, by-leb, by-not-eqb, none, rule}
+use Rattle.sheet_head.specs.Geometry.{across, shown}
 use Rattle.sheet_head.specs.Heads.{Sized}
 use Rattle.sheet_head.proofs.Heading.{size-test}
-use Rattle.sheet_rules.specs.Rows.{across, rowBytes, rowOut, rowRefusal, rowRules, shown}
+use Rattle.sheet_rules.specs.Rows.{rowBytes, rowOut, rowRefusal, rowRules}
 
 module _ (w h row given room : ℕ) where
   pub row-rules : Answers (rowRefusal w h row given room) (rowRules w h row given room)
@@ -26,7 +27,8 @@ module _ (w h row given room : ℕ) where
   pub told : rowRefusal w h row given room ≡ 0 → Accepted
   told e = let (z, (b, (g, (r, u)))) = row-rules .met e in record { size = z; inside = b; enough = g; space = r }
 
-pub drawn : (w h row : ℕ) (blocks out : List ℕ) → rowRefusal w h row (length blocks) (length out) ≡ 0 → rowOut w h row blocks out ≡ rowBytes w (shown h row) blocks
+pub drawn : (w h row : ℕ) (blocks out : List ℕ) → rowRefusal w h row (length blocks) (length out) ≡ 0 → rowOut w h row blocks out
+    ≡ rowBytes w (shown h row) blocks
 unfolding rowOut
 drawn w h row blocks out e = answer-0 _ _ e
 

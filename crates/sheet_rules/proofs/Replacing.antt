@@ -1,14 +1,15 @@
 -- What a call on a sheet is answered, and which sheet it leaves.
 -- Assumes nothing.
-use mathlib.Core.Path.{_≡_, _∙_}
+use mathlib.Core.Path.{_≡_}
 use mathlib.Core.List.{List, [], _∷_, _++_}
 use Prim.Native.Nat.{ℕ}
 use borrow.Author.Tests.{eq-eqb, ne-eqb}
 use Rattle.line_rules.specs.declared.Replacement.{Replacement}
 use Rattle.laws.specs.Refusals.{handed}
 use Rattle.laws.proofs.Refusals.{Answers, answers, by-answer, none, rule, rules}
+use Rattle.sheet_head.specs.Geometry.{placeOf}
 use Rattle.sheet_head.specs.Heads.{readHead}
-use Rattle.sheet_rules.specs.Sheets.{findRefusal, findRules, placeOf, putBlock, replacedIn, sheetAfter, sheetRefusal}
+use Rattle.sheet_rules.specs.Sheets.{findRefusal, findRules, putBlock, replacedIn, sheetAfter, sheetRefusal}
 use Rattle.sheet_rules.proofs.Finding.{finding}
 
 module _ (s : List ℕ) (b l : ℕ) (new : Replacement) where

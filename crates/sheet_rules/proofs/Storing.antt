@@ -7,6 +7,7 @@ use Prim.Native.Nat.{ℕ, _+_, _-_, _*_, _<_, _≤_}
 use native.Mathlib.Omega.{arith}
 use lib.ListN.{length, getD, take, drop, length-take, length-drop, take-append-drop}
 use lib.Seq.{getD-take, getD-drop, ext-getD, take-at}
+use Rattle.sheet_head.specs.Geometry.{placeOf}
 use Rattle.sheet_head.specs.declared.Head.{Head}
 use Rattle.laws.proofs.Cases.{lt-or}
 use Rattle.laws.proofs.Over.{length-over, over-in, over-out, take-over}
@@ -14,7 +15,7 @@ use Rattle.sheet_head.specs.Heads.{Sized, headBytes, headOf, readHead}
 use Rattle.sheet_head.specs.Numbers.{Bytes}
 use Rattle.sheet_head.proofs.Theorems.{head-one-form, head-read-back}
 use Rattle.sheet_rules.specs.Rows.{blockAt}
-use Rattle.sheet_rules.specs.Sheets.{placeOf, putBlock}
+use Rattle.sheet_rules.specs.Sheets.{putBlock}
 
 module _ (s : List ℕ) (at : ℕ) (block : List ℕ) where
   pub put-long : length (putBlock s at block) ≡ length s
@@ -50,7 +51,8 @@ other-block s at other block h g apart =
     let long = block-long (putBlock s at block) other (omega (arith, put-long s at block)) in
     ext-getD 0 (blockAt (putBlock s at block) other) (blockAt s other) (long ∙ sym (block-long s other g)) (λ j l.
     let l' : j < 16 = omega (arith, long) in
-    block-get (putBlock s at block) other j l' ∙ put-outside s at block (other + j) (λ w. ⊎-elim (λ a. omega (arith, w .0, w .1)) (λ a. omega (arith, w .0, w .1)) apart)
+    block-get (putBlock s at block) other j l' ∙ put-outside s at block (other + j)
+    (λ w. ⊎-elim (λ a. omega (arith, w .0, w .1)) (λ a. omega (arith, w .0, w .1)) apart)
     ∙ sym (block-get s other j l'))
 
 -- a block stored where it stands
@@ -101,5 +103,6 @@ module _ (s : List ℕ) (bytes : Bytes s) (told : readHead s .refusal ≡ 0) whe
   head-kept b block =
       let t = putBlock s (placeOf (readHead s) b) block in
       let n = readHead s .start in
-      ap readHead (sym (take-append-drop n t) ∙ ap (λ (x : List ℕ). x ++ drop n t) (take-over s (n + 16 * b) 16 (λ j. getD block j 0) n (omega arith) ∙ front))
+      ap readHead (sym (take-append-drop n t) ∙ ap (λ (x : List ℕ). x ++ drop n t)
+      (take-over s (n + 16 * b) 16 (λ j. getD block j 0) n (omega arith) ∙ front))
       ∙ head-read-back w h size (drop n t) ∙ sym head-is

@@ -11,17 +11,16 @@ use native.Mathlib.Nat.{eq-zero-or-pos}
 use native.Mathlib.Decide.{ℕ-discrete}
 use native.Mathlib.Omega.{arith}
 use lib.ListN.{length, getD}
-use Rattle.laws.specs.Digits.{Fit}
 use Rattle.laws.specs.Refusals.{Given}
 use Rattle.laws.proofs.Cases.{lt-or}
 use Rattle.laws.proofs.Refusals.{exactly}
 use Rattle.laws.specs.Calls as calls
 use Rattle.laws.proofs.calls.Parts.{alike as parts-alike, trade}
 use Rattle.laws.proofs.calls.Trading.{Trade, inside, woven, woven-told}
-use Rattle.bcn_format.specs.Block.{eights}
 use Rattle.bc7_format.specs.Modes.{modeOf, lines}
 use Rattle.bc7_format.specs.Lines.{draws, meant, pixel}
 use Rattle.bc7_format.specs.Splits.{splitOf}
+use Rattle.sheet_head.specs.Geometry.{blocksOf, placeOf}
 use Rattle.sheet_head.specs.Heads.{readHead}
 use Rattle.sheet_head.specs.Numbers.{Bytes}
 use Rattle.line_rules.specs.Calls.{afterAll, last, seen}
@@ -29,8 +28,8 @@ use Rattle.line_rules.specs.Replace.{after, refusal}
 use Rattle.line_rules.proofs.Draws.{drawn-by-one}
 use Rattle.line_rules.proofs.Theorems.{accepted-draws, last-call-is-seen, others-keep, same-answer, same-last-calls, trade-places}
 use Rattle.sheet_rules.specs.Calls.{SheetCall, WholeSheet, callsOn, onBlock, refusalOn, sheetWith, sheetWithAll}
-use Rattle.sheet_rules.specs.Rows.{rowOut, rowRefusal, rowRules}
-use Rattle.sheet_rules.specs.Sheets.{blockIn, blocksOf, placeOf, sheetRules}
+use Rattle.sheet_rules.specs.Rows.{DecodesRow, rowRefusal, rowRules}
+use Rattle.sheet_rules.specs.Sheets.{ReplacesInSheet, blockIn, sheetRules}
 use Rattle.sheet_rules.proofs.Calling.{Same, all-block, all-kept, answered-as-block, beyond, in-words, none-changes, parts, same-here, same-on, sixteen, unchanged, whole-or, with-kept, with-named, with-other}
 use Rattle.sheet_rules.proofs.Refusing.{row-rules, undrawn}
 use Rattle.sheet_rules.proofs.Replacing.{accepted-is}
@@ -56,7 +55,8 @@ pub row-refused-when : (w h row given room n : ℕ) → (rowRefusal w h row give
 row-refused-when w h row given room = exactly (row-rules w h row given room)
 
 -- each refusal number is given exactly when document 01 says (`sheetRules` has the words)
-pub sheet-refused-when : (s : List ℕ) → Bytes s → (c : SheetCall) (n : ℕ) → (refusalOn s c ≡ n) ↔ Given (sheetRules s (c .block) (c .line) (c .given)) n
+pub sheet-refused-when : (s : List ℕ) → Bytes s → (c : SheetCall) (n : ℕ)
+    → (refusalOn s c ≡ n) ↔ Given (sheetRules s (c .block) (c .line) (c .given)) n
 sheet-refused-when s y c = exactly (in-words s y (c .block) (c .line) (c .given))
 
 -- a refused call changes nothing
@@ -86,7 +86,8 @@ module _ (s : List ℕ) (z : WholeSheet s) (c : SheetCall) (b : ℕ) (l : b < bl
   mode-stays : (modeOf (blockIn (sheetWith s c) b) ≡ modeOf (blockIn s b)) × (splitOf (blockIn (sheetWith s c) b) ≡ splitOf (blockIn s b))
   mode-stays = go (ℕ-discrete (c .block) b)
     where
-      go : Dec (c .block ≡ b) → (modeOf (blockIn (sheetWith s c) b) ≡ modeOf (blockIn s b)) × (splitOf (blockIn (sheetWith s c) b) ≡ splitOf (blockIn s b))
+      go : Dec (c .block ≡ b) → (modeOf (blockIn (sheetWith s c) b) ≡ modeOf (blockIn s b))
+          × (splitOf (blockIn (sheetWith s c) b) ≡ splitOf (blockIn s b))
       go (yes e) =
           let p = with-named s z c b l e in
           let k = others-keep (blockIn s b) (sixteen s z b l) (onBlock c) in
@@ -98,14 +99,16 @@ module _ (s : List ℕ) (z : WholeSheet s) (c : SheetCall) (b : ℕ) (l : b < bl
   undrawn-stays q ch d = go (ℕ-discrete (c .block) b)
     where
       go : Dec (c .block ≡ b) → pixel (blockIn (sheetWith s c) b) q ch ≡ pixel (blockIn s b) q ch
-      go (yes e) = ap (λ (x : List ℕ). pixel x q ch) (with-named s z c b l e) ∙ others-keep (blockIn s b) (sixteen s z b l) (onBlock c) .channels q ch (d e)
+      go (yes e) = ap (λ (x : List ℕ). pixel x q ch) (with-named s z c b l e) ∙ others-keep (blockIn s b) (sixteen s z b l)
+          (onBlock c) .channels q ch (d e)
       go (no n) = ap (λ (x : List ℕ). pixel x q ch) (with-other s z c b l n)
 
 -- after an accepted call, whatever the line draws in the named block is what was given; every other channel of it stays
 module _ (s : List ℕ) (z : WholeSheet s) (c : SheetCall) (l : c .block < blocksOf (readHead s)) where
   pub sheet-accepted-draws : (q ch : ℕ) → q < 16 → ch < 4 → refusalOn s c ≡ 0
       → draws (modeOf (blockIn s (c .block))) (splitOf (blockIn s (c .block))) (c .line) q ch ≡ true
-      → pixel (blockIn (sheetWith s c) (c .block)) q ch ≡ meant (modeOf (blockIn s (c .block))) (splitOf (blockIn s (c .block))) (c .line) (onBlock c .given) q ch
+      → pixel (blockIn (sheetWith s c) (c .block)) q ch ≡ meant (modeOf (blockIn s (c .block))) (splitOf (blockIn s (c .block))) (c .line)
+      (onBlock c .given) q ch
   sheet-accepted-draws q ch hq hc e d =
       ap (λ (b : List ℕ). pixel b q ch) (with-named s z c (c .block) l refl)
       ∙ accepted-draws (blockIn s (c .block)) (sixteen s z (c .block) l) (onBlock c) q ch hq hc (sym (answered-as-block s z c l) ∙ e) d
@@ -115,9 +118,12 @@ module _ (s : List ℕ) (z : WholeSheet s) (c : SheetCall) (l : c .block < block
   sheet-others-keep q ch d = undrawn-stays s z c (c .block) l q ch (λ e. d)
 
 -- any list of calls: the head stays, and each block is what the calls that name it leave of it, in their order
-pub calls-by-block : (s : List ℕ) → WholeSheet s → (cs : List SheetCall)
-    → (readHead (sheetWithAll s cs) ≡ readHead s) × ((b : ℕ) → b < blocksOf (readHead s) → blockIn (sheetWithAll s cs) b ≡ afterAll (blockIn s b) (callsOn b cs))
-calls-by-block s z cs = (all-kept cs s z .head, all-block cs s z)
+pub record ByBlock (s : List ℕ) (cs : List SheetCall) : Type 0 where
+  pub head : readHead (sheetWithAll s cs) ≡ readHead s
+  pub block : (b : ℕ) → b < blocksOf (readHead s) → blockIn (sheetWithAll s cs) b ≡ afterAll (blockIn s b) (callsOn b cs)
+
+pub calls-by-block : (s : List ℕ) → WholeSheet s → (cs : List SheetCall) → ByBlock s cs
+calls-by-block s z cs = record { head = all-kept cs s z .head; block = all-block cs s z }
 
 -- what a call is answered doesn't depend on the calls before it
 answer-in : (s : List ℕ) → WholeSheet s → (cs : List SheetCall) (d : SheetCall) → refusalOn (sheetWithAll s cs) d ≡ refusalOn s d
@@ -133,10 +139,12 @@ pub sheet-same-answer : (s : List ℕ) → Bytes s → (cs : List SheetCall) (d 
 sheet-same-answer s y cs d = ⊎-elim (λ z. answer-in s z cs d) (λ never. ap (λ (t : List ℕ). refusalOn t d) (none-changes s never cs)) (whole-or s y)
 
 -- two lists of calls that leave every block alike leave the same sheet
-alike : (s : List ℕ) → Bytes s → (cs ds : List SheetCall) → ((z : WholeSheet s) (b : ℕ) → b < blocksOf (readHead s) → afterAll (blockIn s b) (callsOn b cs) ≡ afterAll (blockIn s b) (callsOn b ds))
+alike : (s : List ℕ) → Bytes s → (cs ds : List SheetCall) → ((z : WholeSheet s) (b : ℕ) → b < blocksOf (readHead s) → afterAll (blockIn s b)
+    (callsOn b cs) ≡ afterAll (blockIn s b) (callsOn b ds))
     → sheetWithAll s cs ≡ sheetWithAll s ds
 alike s y cs ds e =
-    ⊎-elim (λ z. parts-alike (parts s z) cs ds s (same-here z) (e z)) (λ never. none-changes s never cs ∙ sym (none-changes s never ds)) (whole-or s y)
+    ⊎-elim (λ z. parts-alike (parts s z) cs ds s (same-here z) (e z)) (λ never. none-changes s never cs ∙ sym (none-changes s never ds))
+    (whole-or s y)
 
 -- two neighbouring calls on different blocks, or on different lines of one block: the same answers in either order, equal bytes, and
 -- either order shows the same: what each accepted call means, wherever its line draws in its block, and elsewhere what was there
@@ -147,10 +155,14 @@ pub record SheetTraded (s : List ℕ) (c d : SheetCall) : Type 0 where
   pub first : refusalOn (sheetWith s d) c ≡ refusalOn s c
   pub second : refusalOn (sheetWith s c) d ≡ refusalOn s d
   pub bytes : sheetWith (sheetWith s c) d ≡ sheetWith (sheetWith s d) c
-  pub first-seen : (q ch : ℕ) → q < 16 → ch < 4 → refusalOn s c ≡ 0 → draws (modeOf (blockIn s (c .block))) (splitOf (blockIn s (c .block))) (c .line) q ch ≡ true
-      → pixel (blockIn (sheetWith (sheetWith s c) d) (c .block)) q ch ≡ meant (modeOf (blockIn s (c .block))) (splitOf (blockIn s (c .block))) (c .line) (onBlock c .given) q ch
-  pub second-seen : (q ch : ℕ) → q < 16 → ch < 4 → refusalOn s d ≡ 0 → draws (modeOf (blockIn s (d .block))) (splitOf (blockIn s (d .block))) (d .line) q ch ≡ true
-      → pixel (blockIn (sheetWith (sheetWith s c) d) (d .block)) q ch ≡ meant (modeOf (blockIn s (d .block))) (splitOf (blockIn s (d .block))) (d .line) (onBlock d .given) q ch
+  pub first-seen : (q ch : ℕ) → q < 16 → ch < 4 → refusalOn s c ≡ 0 → draws (modeOf (blockIn s (c .block))) (splitOf (blockIn s (c .block)))
+      (c .line) q ch ≡ true
+      → pixel (blockIn (sheetWith (sheetWith s c) d) (c .block)) q ch ≡ meant (modeOf (blockIn s (c .block))) (splitOf (blockIn s (c .block)))
+      (c .line) (onBlock c .given) q ch
+  pub second-seen : (q ch : ℕ) → q < 16 → ch < 4 → refusalOn s d ≡ 0 → draws (modeOf (blockIn s (d .block))) (splitOf (blockIn s (d .block)))
+      (d .line) q ch ≡ true
+      → pixel (blockIn (sheetWith (sheetWith s c) d) (d .block)) q ch ≡ meant (modeOf (blockIn s (d .block))) (splitOf (blockIn s (d .block)))
+      (d .line) (onBlock d .given) q ch
   pub rest : (b q ch : ℕ) → b < blocksOf (readHead s)
       → (c .block ≡ b → draws (modeOf (blockIn s b)) (splitOf (blockIn s b)) (c .line) q ch ≡ false)
       → (d .block ≡ b → draws (modeOf (blockIn s b)) (splitOf (blockIn s b)) (d .line) q ch ≡ false)
@@ -172,8 +184,10 @@ accepted-in s y c e =
 
 module _ (s : List ℕ) (y : Bytes s) (c d : SheetCall) where
   -- a call after it on another block or line leaves what it draws
-  seen-through : Apart c d → (q ch : ℕ) → q < 16 → ch < 4 → refusalOn s c ≡ 0 → draws (modeOf (blockIn s (c .block))) (splitOf (blockIn s (c .block))) (c .line) q ch ≡ true
-      → pixel (blockIn (sheetWith (sheetWith s c) d) (c .block)) q ch ≡ meant (modeOf (blockIn s (c .block))) (splitOf (blockIn s (c .block))) (c .line) (onBlock c .given) q ch
+  seen-through : Apart c d → (q ch : ℕ) → q < 16 → ch < 4 → refusalOn s c ≡ 0 → draws (modeOf (blockIn s (c .block)))
+      (splitOf (blockIn s (c .block))) (c .line) q ch ≡ true
+      → pixel (blockIn (sheetWith (sheetWith s c) d) (c .block)) q ch ≡ meant (modeOf (blockIn s (c .block))) (splitOf (blockIn s (c .block)))
+      (c .line) (onBlock c .given) q ch
   seen-through apart q ch hq hc e dr =
       let w = accepted-in s y c e in
       let k = with-kept s (w .0) c in
@@ -209,7 +223,8 @@ sheet-trade-places s y c d apart = record {
   bytes = bytes-traded s y c d apart;
   first-seen = seen-through s y c d apart;
   second-seen = λ q ch hq hc e z.
-      ap (λ (t : List ℕ). pixel (blockIn t (d .block)) q ch) (bytes-traded s y c d apart) ∙ seen-through s y d c (⊎-elim (λ n. inl (λ p. n (sym p))) (λ n. inr (λ p. n (sym p))) apart) q ch hq hc e z;
+      ap (λ (t : List ℕ). pixel (blockIn t (d .block)) q ch) (bytes-traded s y c d apart)
+      ∙ seen-through s y d c (⊎-elim (λ n. inl (λ p. n (sym p))) (λ n. inr (λ p. n (sym p))) apart) q ch hq hc e z;
   rest = undrawn-stays-twice s y c d;
 }
 
@@ -235,31 +250,32 @@ pub sheet-last-calls-decide : (s : List ℕ) → Bytes s → (cs ds : List Sheet
     → ((b l : ℕ) → b < blocksOf (readHead s) → l < lines (modeOf (blockIn s b))
     → last (modeOf (blockIn s b)) (splitOf (blockIn s b)) l (callsOn b cs) ≡ last (modeOf (blockIn s b)) (splitOf (blockIn s b)) l (callsOn b ds))
     → sheetWithAll s cs ≡ sheetWithAll s ds
-sheet-last-calls-decide s y cs ds e = alike s y cs ds (λ z b l. same-last-calls (blockIn s b) (sixteen s z b l) (callsOn b cs) (callsOn b ds) (λ k lk. e b k l lk))
+sheet-last-calls-decide s y cs ds e = alike s y cs ds (λ z b l. same-last-calls (blockIn s b) (sixteen s z b l) (callsOn b cs) (callsOn b ds)
+    (λ k lk. e b k l lk))
 
 -- and every channel that a line of a block draws shows what the last accepted call on it means, or what the first sheet shows
 pub sheet-last-call-is-seen : (s : List ℕ) → WholeSheet s → (cs : List SheetCall) (b : ℕ) → b < blocksOf (readHead s) → (l q ch : ℕ) → q < 16 → ch < 4
     → draws (modeOf (blockIn s b)) (splitOf (blockIn s b)) l q ch ≡ true
     → pixel (blockIn (sheetWithAll s cs) b) q ch
-    ≡ seen (modeOf (blockIn s b)) (splitOf (blockIn s b)) l q ch (pixel (blockIn s b) q ch) (last (modeOf (blockIn s b)) (splitOf (blockIn s b)) l (callsOn b cs))
+    ≡ seen (modeOf (blockIn s b)) (splitOf (blockIn s b)) l q ch (pixel (blockIn s b) q ch)
+    (last (modeOf (blockIn s b)) (splitOf (blockIn s b)) l (callsOn b cs))
 sheet-last-call-is-seen s z cs b lb l q ch hq hc d =
-    ap (λ (x : List ℕ). pixel x q ch) (all-block cs s z b lb) ∙ last-call-is-seen (blockIn s b) (sixteen s z b lb) (callsOn b cs) l q ch hq hc d
+    ap (λ (x : List ℕ). pixel x q ch) (calls-by-block s z cs .block b lb) ∙ last-call-is-seen (blockIn s b) (sixteen s z b lb)
+    (callsOn b cs) l q ch hq hc d
 
 -- DEMAND 1: any two results that a call's promise admits coincide
-pub determined-decode-row : (w h row : ℕ) (blocks out : List ℕ) (r s : ℕ) (a b : List ℕ)
-    → (r ≡ rowRefusal w h row (length blocks) (length out)) × (a ≡ rowOut w h row blocks out) → (s ≡ rowRefusal w h row (length blocks) (length out)) × (b ≡ rowOut w h row blocks out)
-    → (r ≡ s) × (a ≡ b)
-determined-decode-row w h row blocks out r s a b p q = (p .0 ∙ sym (q .0), p .1 ∙ sym (q .1))
+pub determined-decode-row : (w h row : ℕ) (blocks before : List ℕ) (r s : ℕ) (a b : List ℕ)
+    → DecodesRow w h row blocks before r a → DecodesRow w h row blocks before s b → (r ≡ s) × (a ≡ b)
+determined-decode-row w h row blocks before r s a b p q = (p .0 ∙ sym (q .0), p .1 ∙ sym (q .1))
 
 pub determined-replace-in-sheet : (sheet : List ℕ) (c : SheetCall) (r s : ℕ) (a b : List ℕ)
-    → (r ≡ refusalOn sheet c) × (a ≡ sheetWith sheet c) → (s ≡ refusalOn sheet c) × (b ≡ sheetWith sheet c) → (r ≡ s) × (a ≡ b)
+    → ReplacesInSheet sheet (c .block) (c .line) (c .given) r a → ReplacesInSheet sheet (c .block) (c .line) (c .given) s b → (r ≡ s) × (a ≡ b)
 determined-replace-in-sheet sheet c r s a b p q = (p .0 ∙ sym (q .0), p .1 ∙ sym (q .1))
 
 -- and where the answer that it admits is not 0, what is left is what was
-pub refused-row-leaves : (w h row : ℕ) (blocks out : List ℕ) (r : ℕ) (a : List ℕ)
-    → (r ≡ rowRefusal w h row (length blocks) (length out)) × (a ≡ rowOut w h row blocks out) → r ≢ 0 → a ≡ out
-refused-row-leaves w h row blocks out r a p ne = p .1 ∙ undrawn w h row blocks out (λ e. ne (p .0 ∙ e))
+pub refused-row-leaves : (w h row : ℕ) (blocks before : List ℕ) (r : ℕ) (a : List ℕ) → DecodesRow w h row blocks before r a → r ≢ 0 → a ≡ before
+refused-row-leaves w h row blocks before r a p ne = p .1 ∙ undrawn w h row blocks before (λ e. ne (p .0 ∙ e))
 
 pub refused-sheet-leaves : (sheet : List ℕ) (c : SheetCall) (r : ℕ) (a : List ℕ)
-    → (r ≡ refusalOn sheet c) × (a ≡ sheetWith sheet c) → r ≢ 0 → a ≡ sheet
+    → ReplacesInSheet sheet (c .block) (c .line) (c .given) r a → r ≢ 0 → a ≡ sheet
 refused-sheet-leaves sheet c r a p ne = p .1 ∙ refused-stays sheet c (λ e. ne (p .0 ∙ e))

@@ -1,15 +1,16 @@
 -- Calls on a sheet, one after another.
 -- Assumes nothing.
-use Prim.Native.Nat.{ℕ, _+_, _*_}
+use Prim.Native.Nat.{ℕ}
 use mathlib.Core.Path.{_≡_}
 use mathlib.Core.List.{List}
 use lib.ListN.{length}
 use Rattle.line_rules.specs.declared.Replacement.{Replacement}
 use Rattle.laws.specs.Calls as calls
+use Rattle.sheet_head.specs.Geometry.{wholeLength}
 use Rattle.sheet_head.specs.Heads.{readHead}
 use Rattle.sheet_head.specs.Numbers.{Bytes}
 use Rattle.line_rules.specs.Replace.{Call, callOf}
-use Rattle.sheet_rules.specs.Sheets.{blocksOf, sheetAfter, sheetRefusal}
+use Rattle.sheet_rules.specs.Sheets.{sheetAfter, sheetRefusal}
 
 -- a call of `replace_in_sheet`
 pub record SheetCall : Type 0 where
@@ -39,4 +40,4 @@ callsOn b cs = calls.callsOn (λ (c : SheetCall). c .block) onBlock b cs
 pub record WholeSheet (s : List ℕ) : Type 0 where
   pub bytes : Bytes s
   pub told : readHead s .refusal ≡ 0
-  pub long : length s ≡ readHead s .start + 16 * blocksOf (readHead s)
+  pub long : length s ≡ wholeLength (readHead s)

@@ -1,6 +1,6 @@
 -- A row of blocks as bytes: which block, which pixel, which channel.
 -- Assumes nothing.
-use Prim.Native.Nat.{ℕ, _+_, _-_, _*_, _/_, _%_, _<_, min}
+use Prim.Native.Nat.{ℕ, _+_, _*_, _/_, _%_, _<_}
 use mathlib.Core.Path.{_≡_}
 use mathlib.Core.Bool.{not}
 use mathlib.Core.List.{List, [], _∷_}
@@ -9,11 +9,8 @@ use lib.ListN.{length, getD, take, drop}
 use Rattle.laws.specs.Refusals.{Rule, first, refuse, unless}
 use Rattle.laws.specs.Tables.{pick, table}
 use Rattle.bc7_format.specs.Lines.{pixels}
+use Rattle.sheet_head.specs.Geometry.{across, outLength, rowLength, shown}
 use Rattle.sheet_head.specs.Heads.{Sized, sizeRefusal}
-
--- columns of blocks in a width, rows of blocks in a height
-abbrev pub across : ℕ → ℕ
-across n = (n + 3) / 4
 
 -- the block at a place of a list of bytes
 unfoldable pub blockAt : List ℕ → ℕ → List ℕ
@@ -30,25 +27,26 @@ rowByte w blocks k =
     let y = k / (4 * w) in
     channel (pixels (blockAt blocks (16 * (x / 4)))) (4 * y + x % 4) (k % 4)
 
--- how many lines of a row of blocks are shown
-abbrev pub shown : ℕ → ℕ → ℕ
-shown h row = min 4 (h - 4 * row)
-
 unfoldable pub rowBytes : ℕ → ℕ → List ℕ → List ℕ
-rowBytes w lines blocks = table (lines * (4 * w)) (rowByte w blocks)
+rowBytes w lines blocks = table (outLength w lines) (rowByte w blocks)
 
 -- 9, 12, 10, 11; of the block bytes and the output only the lengths matter
 unfoldable pub rowRefusal : ℕ → ℕ → ℕ → ℕ → ℕ → ℕ
 rowRefusal w h row given room =
     first
     (sizeRefusal w h
-    ∷ refuse 12 (leb (across h) row) ∷ refuse 10 (not (eqb given (16 * across w)))
-    ∷ refuse 11 (not (eqb room (shown h row * (4 * w)))) ∷ [])
+    ∷ refuse 12 (leb (across h) row) ∷ refuse 10 (not (eqb given (rowLength w)))
+    ∷ refuse 11 (not (eqb room (outLength w (shown h row)))) ∷ [])
 
 abbrev pub rowRules : ℕ → ℕ → ℕ → ℕ → ℕ → List Rule
 rowRules w h row given room =
-    unless 9 (Sized w h) ∷ unless 12 (row < across h) ∷ unless 10 (given ≡ 16 * across w) ∷ unless 11 (room ≡ shown h row * (4 * w)) ∷ []
+    unless 9 (Sized w h) ∷ unless 12 (row < across h) ∷ unless 10 (given ≡ rowLength w) ∷ unless 11 (room ≡ outLength w (shown h row)) ∷ []
 
 -- the output afterwards
 unfoldable pub rowOut : ℕ → ℕ → ℕ → List ℕ → List ℕ → List ℕ
 rowOut w h row blocks out = pick (eqb (rowRefusal w h row (length blocks) (length out)) 0) (rowBytes w (shown h row) blocks) out
+
+-- what `decode_row` promises: its answer, and every byte of the output
+abbrev pub DecodesRow : ℕ → ℕ → ℕ → List ℕ → List ℕ → ℕ → List ℕ → Type 0
+DecodesRow w h row blocks before answer after =
+    (answer ≡ rowRefusal w h row (length blocks) (length before)) × (after ≡ rowOut w h row blocks before)

@@ -1,6 +1,6 @@
 -- Where the blocks of a sheet stand, and what replacing in one of them leaves.
 -- Assumes nothing.
-use Prim.Native.Nat.{ℕ, _+_, _*_, _<_}
+use Prim.Native.Nat.{ℕ, _<_}
 use mathlib.Core.Path.{_≡_}
 use mathlib.Core.Bool.{not}
 use mathlib.Core.List.{List, [], _∷_, _++_}
@@ -8,21 +8,14 @@ use lib.Dec.{eqb, leb}
 use lib.ListN.{length, getD}
 use Rattle.line_rules.specs.declared.Replacement.{Replacement}
 use Rattle.line_rules.specs.declared.Replaced.{Replaced}
+use Rattle.sheet_head.specs.Geometry.{blocksOf, placeOf, wholeLength}
 use Rattle.sheet_head.specs.declared.Head.{Head}
 use Rattle.laws.specs.Refusals.{Rule, first, handed, refuse, unless}
 use Rattle.laws.specs.Tables.{over, pick}
 use Rattle.sheet_head.specs.Heads.{formIn, headRules, heightIn, readHead, widthIn}
 use Rattle.line_rules.specs.Acceptable.{callRules}
 use Rattle.line_rules.specs.Replace.{callOf, replaced}
-use Rattle.sheet_rules.specs.Rows.{across, blockAt}
-
--- how many blocks a sheet has
-unfoldable pub blocksOf : Head → ℕ
-blocksOf h = across (h .height) * across (h .width)
-
--- where block b stands: THE place of a block in a sheet
-unfoldable pub placeOf : Head → ℕ → ℕ
-placeOf h b = h .start + 16 * b
+use Rattle.sheet_rules.specs.Rows.{blockAt}
 
 -- block b of a sheet
 unfoldable pub blockIn : List ℕ → ℕ → List ℕ
@@ -32,11 +25,11 @@ blockIn s b = blockAt s (placeOf (readHead s) b)
 unfoldable pub findRefusal : List ℕ → ℕ → ℕ
 findRefusal s b =
     let h = readHead s in
-    first (h .refusal ∷ refuse 10 (not (eqb (length s) (h .start + 16 * blocksOf h))) ∷ refuse 12 (leb (blocksOf h) b) ∷ [])
+    first (h .refusal ∷ refuse 10 (not (eqb (length s) (wholeLength h))) ∷ refuse 12 (leb (blocksOf h) b) ∷ [])
 
 -- in words, for a sheet whose head was read as h
 abbrev pub behindHead : Head → List ℕ → ℕ → List Rule
-behindHead h s b = unless 10 (length s ≡ h .start + 16 * blocksOf h) ∷ unless 12 (b < blocksOf h) ∷ []
+behindHead h s b = unless 10 (length s ≡ wholeLength h) ∷ unless 12 (b < blocksOf h) ∷ []
 
 abbrev pub findRules : Head → List ℕ → ℕ → List Rule
 findRules h s b = handed (h .refusal) ∷ behindHead h s b
@@ -60,3 +53,7 @@ sheetRules s b l new = headRules (formIn s) (widthIn s) (heightIn s) ++ behindHe
 -- the sheet afterwards
 unfoldable pub sheetAfter : List ℕ → ℕ → ℕ → Replacement → List ℕ
 sheetAfter s b l new = pick (eqb (sheetRefusal s b l new) 0) (putBlock s (placeOf (readHead s) b) (replacedIn s b l new .block)) s
+
+-- what `replace_in_sheet` promises: its answer, and every byte of the sheet
+abbrev pub ReplacesInSheet : List ℕ → ℕ → ℕ → Replacement → ℕ → List ℕ → Type 0
+ReplacesInSheet sheet b l new answer after = (answer ≡ sheetRefusal sheet b l new) × (after ≡ sheetAfter sheet b l new)

@@ -1,9 +1,5 @@
 -- `listing::list_block` meets its contract.
 -- Assumes nothing.
-use mathlib.Core.Path.{ap₂, subst}
-use mathlib.Core.List.{List, []}
-use Prim.Native.Nat.{ℕ}
-use lib.ListN.{getD}
 use Rattle.listing_rules.specs.Listing.{blockText}
 use borrow.Author.Needs.{needs}
 use Rattle.listing.proofs.list_block.Statement.{statement}

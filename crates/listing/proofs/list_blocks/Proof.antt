@@ -1,12 +1,11 @@
 -- `listing::list_blocks` meets its contract.
 -- Assumes nothing.
 use native.Mathlib.Omega.{arith}
-use mathlib.Core.Path.{_≡_, ap, subst}
-use Prim.Native.Nat.{ℕ, _+_, _-_, _*_, _/_, _≤_}
+use mathlib.Core.Path.{_≡_}
+use Prim.Native.Nat.{_+_, _-_, _*_, _/_, _≤_}
 use lib.ListN.{length}
-use Rattle.laws.specs.Padding.{Written}
 use Rattle.laws.proofs.Padding.{written-long}
-use Rattle.listing_rules.specs.Listing.{blocksText, listed}
+use Rattle.listing_rules.specs.Listing.{listed}
 use Rattle.listing.proofs.Lines.{Lines, lines-more, lines-none}
 use Rattle.listing.proofs.list_blocks.Statement.{statement}
 use Rattle.listing.proofs.list_blocks.Tie as tie

@@ -1,37 +1,35 @@
 -- `listing::next_at_head` meets its contract.
 -- Assumes nothing.
+use mathlib.Core.Path.{_∙_, sym}
 use borrow.Author.Needs.{needs}
 use Rattle.listing.proofs.next_at_head.Statement.{statement}
 use Rattle.listing.proofs.next_at_head.Tie as tie
 
-take-byte-requires : tie.Need-take-byte-requires
-take-byte-requires c κs = search needs
+take-next-requires : tie.Need-take-next-requires
+take-next-requires c κs = search needs
 
-head-of-requires : tie.Need-head-of-requires
-head-of-requires c κs = search needs
+has-ended-requires : tie.Need-has-ended-requires
+has-ended-requires c κs = search needs
 
 behind-head-requires : tie.Need-behind-head-requires
-behind-head-requires c κs = search needs
+behind-head-requires c κs = c .before .before .before .take-next .ensures .1 (sym (c .before .before .has-ended .ensures) ∙ c .before .if1 .taken)
 
 returns : tie.Need-returns
-returns c =
-    let taken = c .before .before .before .before in
-    rw (← taken .take-byte .ensures .0, c .before .before .if1 .taken, ← c .before .head-of .ensures .0) (c .behind-head .ensures)
+returns c = rw (← c .before .before .before .before .take-next .ensures .0, ← c .before .before .before .has-ended .ensures, c .before .before .if1 .taken) (c .behind-head .ensures)
 
 at-head-requires : tie.Need-at-head-requires
 at-head-requires c κs = search needs
 
 returns-2 : tie.Need-returns-2
-returns-2 c =
-    let taken = c .before .before .before in
-    rw (← taken .take-byte .ensures .0, c .before .if1 .left) (c .at-head .ensures)
+returns-2 c = rw (← c .before .before .before .take-next .ensures .0, ← c .before .before .has-ended .ensures, c .before .if1 .left)
+    (c .at-head .ensures)
 
 pub next-at-head-spec : {M : Type 1} → statement M
 next-at-head-spec =
     tie.close
     (tie.spec
-    take-byte-requires
-    head-of-requires
+    take-next-requires
+    has-ended-requires
     behind-head-requires
     returns
     at-head-requires

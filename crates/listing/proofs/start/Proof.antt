@@ -7,16 +7,14 @@ use borrow.Author.Needs.{needs}
 use Rattle.listing.proofs.start.Statement.{statement}
 use Rattle.listing.proofs.start.Tie as tie
 
-fresh-reader-requires : tie.Need-fresh-reader-requires
-fresh-reader-requires c κs = search needs
+start-requires : tie.Need-start-requires
+start-requires c κs = search needs
 
 at-head-requires : tie.Need-at-head-requires
 at-head-requires c κs = search needs
 
 returns : tie.Need-returns
-returns c =
-    let e = c .at-head .ensures ∙ ap atHead (c .before .fresh-reader .ensures .0) in
-    (e, subst Ready (sym e) ready-start)
+returns c = let e = c .at-head .ensures ∙ ap atHead (c .before .start .ensures) in (e, subst Ready (sym e) ready-start)
 
 pub start-spec : {M : Type 1} → statement M
-start-spec = tie.close (tie.spec fresh-reader-requires at-head-requires returns)
+start-spec = tie.close (tie.spec start-requires at-head-requires returns)

@@ -5,16 +5,16 @@ use borrow.Author.Needs.{needs}
 use Rattle.listing.proofs.stopped.Statement.{statement}
 use Rattle.listing.proofs.stopped.Tie as tie
 
-fresh-reader-requires : tie.Need-fresh-reader-requires
-fresh-reader-requires c κs = search needs
+start-requires : tie.Need-start-requires
+start-requires c κs = search needs
 
 returns : tie.Need-returns
 unfolding ended
-returns c = rw (c .before .fresh-reader .ensures .0, c .if1 .taken)
+returns c = rw (c .before .start .ensures, c .if1 .taken)
 
 returns-2 : tie.Need-returns-2
 unfolding ended
-returns-2 c = rw (c .before .fresh-reader .ensures .0, c .if1 .left)
+returns-2 c = rw (c .before .start .ensures, c .if1 .left)
 
 pub stopped-spec : {M : Type 1} → statement M
-stopped-spec = tie.close (tie.spec fresh-reader-requires returns returns-2)
+stopped-spec = tie.close (tie.spec start-requires returns returns-2)

@@ -1,6 +1,6 @@
 -- The decimal digits of a number.
 -- Assumes nothing.
-use mathlib.Core.Path.{_≡_, refl, _∙_, ap, ap₂, sym, subst}
+use mathlib.Core.Path.{_≡_, refl, _∙_, ap, sym, subst}
 use mathlib.Core.Logic.{⊎-elim}
 use mathlib.Core.List.{List, [], _∷_, _++_, append-assoc}
 use Prim.Native.Nat.{ℕ, zero, suc, _+_, _-_, _*_, _/_, _%_, _^_, _<_, _≤_}
@@ -26,7 +26,8 @@ enough : (k n : ℕ) → n < 10 ^ suc k → digitsIn (suc (suc k)) n ≡ digitsI
 enough zero n h = digits-last 1 n h ∙ sym (digits-last 0 n h)
 enough (suc k) n h =
     ⊎-elim (λ l. digits-last (suc (suc k)) n l ∙ sym (digits-last (suc k) n l))
-    (λ l. digits-more (suc (suc k)) n l ∙ ap (λ (ds : List ℕ). ds ++ ((48 + n % 10) ∷ [])) (enough k (n / 10) (tenth (suc k) n h)) ∙ sym (digits-more (suc k) n l))
+    (λ l. digits-more (suc (suc k)) n l ∙ ap (λ (ds : List ℕ). ds ++ ((48 + n % 10) ∷ [])) (enough k (n / 10) (tenth (suc k) n h))
+    ∙ sym (digits-more (suc k) n l))
     (lt-or n 10)
 
 pub one-digit : (n : ℕ) → n < 10 → decimal n ≡ (48 + n % 10) ∷ []
@@ -75,7 +76,8 @@ digits-value : (k n : ℕ) → n < 10 ^ suc k → valueOf 0 (digitsIn (suc k) n)
 digits-value zero n h = rw (digits-last 0 n h) (omega arith)
 digits-value (suc k) n h =
     ⊎-elim (λ l. rw (digits-last (suc k) n l) (omega arith))
-    (λ l. rw (digits-more (suc k) n l, value-append 0 (digitsIn (suc k) (n / 10))) (omega (arith, digits-value k (n / 10) (tenth (suc k) n h)))) (lt-or n 10)
+    (λ l. rw (digits-more (suc k) n l, value-append 0 (digitsIn (suc k) (n / 10))) (omega (arith, digits-value k (n / 10) (tenth (suc k) n h))))
+    (lt-or n 10)
 
 pub decimal-reads-back : (n : ℕ) → n < 10000000000 → valueOf 0 (decimal n) ≡ n
 unfolding decimal

@@ -3,25 +3,21 @@
 use mathlib.Core.Path.{_≡_, refl, _∙_, ap, sym}
 use mathlib.Core.Logic.{_≢_, ⊎-elim}
 use mathlib.Core.List.{List}
-use Prim.Native.Nat.{ℕ, _+_, _*_, _<_, _≤_}
-use native.Mathlib.Nat.{eq-zero-or-pos, mul-le-mul}
+use Prim.Native.Nat.{ℕ, _+_, _≤_}
+use native.Mathlib.Nat.{eq-zero-or-pos}
 use native.Mathlib.Omega.{arith}
 use lib.ListN.{length}
 use borrow.Author.Tests.{eq-eqb, ne-eqb}
 use Rattle.sheet.specs.declared.blocks.Found.{Found}
+use Rattle.sheet_head.specs.Geometry.{placeOf}
 use Rattle.sheet_head.specs.declared.Head.{Head}
 use Rattle.laws.specs.Refusals.{Given}
 use Rattle.laws.proofs.Refusals.{Met, accepted-when, exactly}
-use Rattle.sheet_head.specs.Heads.{Sized, limit, readHead}
+use Rattle.sheet_head.specs.Heads.{Sized, readHead}
 use Rattle.sheet_head.proofs.Theorems.{head-sized}
-use Rattle.sheet_rules.specs.Rows.{across}
-use Rattle.sheet_rules.specs.Sheets.{findRefusal, findRules, placeOf}
+use Rattle.sheet_rules.specs.Sheets.{findRefusal, findRules}
 use Rattle.sheet_rules.proofs.Finding.{finding, inside, room}
 use Rattle.sheet.specs.Found.{findBlock, foundAt}
-
--- as many blocks as the largest sheet has
-pub few : {w h : ℕ} → Sized w h → across h * across w ≤ across limit * across limit
-few z = mul-le-mul {n₂ = across limit} {m₂ = across limit} (omega (arith, z .within-high)) (omega (arith, z .within-wide))
 
 module _ (s : List ℕ) (b : ℕ) where
   none : {r : ℕ} → findRefusal s b ≡ r → (r ≡ 0 → ⊥) → foundAt r 0 ≡ findBlock s b
@@ -37,8 +33,7 @@ module _ (s : List ℕ) (b : ℕ) where
     pub not-found : {n : ℕ} → Given (findRules h s b) n → n ≢ 0 → foundAt n 0 ≡ findBlock s b
     not-found {n} g ne = none (exactly (finding s b) n .1 (rw eh at g)) ne
 
-    pub block-found : Met (findRules h s b) → foundAt 0 (h .start + 16 * b) ≡ findBlock s b
-    unfolding placeOf
+    pub block-found : Met (findRules h s b) → foundAt 0 (placeOf h b) ≡ findBlock s b
     block-found m = rw eh (one (accepted-when (finding s b) .1 (rw eh at m)))
 
     pub size-is : h .refusal ≡ 0 → Sized (h .width) (h .height)
@@ -49,7 +44,8 @@ module _ (s : List ℕ) (b : ℕ) {f : Found} (ef : f ≡ findBlock s b) where
   pub refusal-is : f .refusal ≡ findRefusal s b
   refusal-is =
       ap (λ (g : Found). g .refusal) ef
-      ∙ ⊎-elim (λ z. sym (ap (λ (g : Found). g .refusal) (one s b z)) ∙ sym z) (λ p. sym (ap (λ (g : Found). g .refusal) (none s b refl (λ q. omega arith))))
+      ∙ ⊎-elim (λ z. sym (ap (λ (g : Found). g .refusal) (one s b z)) ∙ sym z)
+      (λ p. sym (ap (λ (g : Found). g .refusal) (none s b refl (λ q. omega arith))))
       (eq-zero-or-pos (findRefusal s b))
 
   module _ (a : f .refusal ≡ 0) where

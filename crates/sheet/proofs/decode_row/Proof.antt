@@ -14,15 +14,21 @@ row-refusal-requires c κs = search needs
 returns : tie.Need-returns
 returns c = kept _ _ _ _ _ (c .before .row-refusal .ensures) (c .if1 .taken)
 
-lines-shown-requires : tie.Need-lines-shown-requires
-lines-shown-requires c κs = omega (arith, told-by _ _ _ _ _ (c .before .row-refusal .ensures) (c .if1 .left) .inside)
+shown-in-requires : tie.Need-shown-in-requires
+shown-in-requires c κs = omega (arith, told-by _ _ _ _ _ (c .before .row-refusal .ensures) (c .if1 .left) .inside)
 
 put-row-requires : tie.Need-put-row-requires
 put-row-requires c κs =
     let l = c .before in
     let t = told-by _ _ _ _ _ (l .before .before .row-refusal .ensures) (l .before .if1 .left) in
-    let w = l .before .before .before .before .before .args .width in
-    (omega (arith, l .lines-shown .ensures), omega (arith, t .size .wide), omega (arith, t .size .within-wide), t .enough, t .space ∙ ap (λ (n : ℕ). n * (4 * w)) (sym (l .lines-shown .ensures)))
+    let w = l .before .before .before .before .before .args .width in (
+      omega (arith, l .shown-in .ensures),
+      omega (arith, t .size .wide),
+      omega (arith, t .size .within-wide),
+      t .enough,
+      t .space
+          ∙ ap (λ (n : ℕ). n * (4 * w)) (sym (l .shown-in .ensures)),
+    )
 
 same-length : tie.Need-same-length
 same-length c = search needs
@@ -31,7 +37,7 @@ returns-2 : tie.Need-returns-2
 returns-2 c =
     let p = c .before .before in
     let l = p .before .before in
-    drawn-by _ _ _ _ _ (l .before .before .row-refusal .ensures) (l .before .if1 .left) (l .lines-shown .ensures) (p .put-row .ensures)
+    drawn-by _ _ _ _ _ (l .before .before .row-refusal .ensures) (l .before .if1 .left) (l .shown-in .ensures) (p .put-row .ensures)
 
 pub decode-row-spec : {M : Type 1} → statement M
 decode-row-spec =
@@ -39,7 +45,7 @@ decode-row-spec =
     (tie.spec
     row-refusal-requires
     returns
-    lines-shown-requires
+    shown-in-requires
     put-row-requires
     same-length
     returns-2)

@@ -42,9 +42,11 @@ module _ (w c : ℕ) (px : List (List ℕ)) (out₀ : List ℕ) where
         let l : 16 * c + j < 4 * w = omega arith in
         let e = ap (λ (m : ℕ). m % (4 * w)) (add-assoc (y * (4 * w)) (16 * c) j) ∙ digits-mod y l in
         let d = ap (λ (m : ℕ). m / (4 * w)) (add-assoc (y * (4 * w)) (16 * c) j) ∙ digits-div y l in
-        sym (byte-in (y * (4 * w) + 16 * c + j) (ap (λ (m : ℕ). m / 16) e ∙ omega arith) ∙ ap₂ (λ (a b : ℕ). lineByte px a (b % 16)) d e ∙ ap (lineByte px y) (omega arith))
+        sym (byte-in (y * (4 * w) + 16 * c + j) (ap (λ (m : ℕ). m / 16) e ∙ omega arith) ∙ ap₂ (λ (a b : ℕ). lineByte px a (b % 16)) d e
+        ∙ ap (lineByte px y) (omega arith))
 
-    earlier : (k : ℕ) → (k % (4 * w) / 16 ≡ c → k / (4 * w) < y + 1) → ((y * (4 * w) + 16 * c ≤ k) × (k < y * (4 * w) + 16 * c + 4 * n) → ⊥) → k % (4 * w) / 16 ≡ c → k / (4 * w) < y
+    earlier : (k : ℕ) → (k % (4 * w) / 16 ≡ c → k / (4 * w) < y + 1) → ((y * (4 * w) + 16 * c ≤ k) × (k < y * (4 * w) + 16 * c + 4 * n) → ⊥)
+        → k % (4 * w) / 16 ≡ c → k / (4 * w) < y
     earlier k q ne e = ⊎-elim (λ s. s) (λ s. absurd (ne (within (omega (arith, q e))))) (lt-or (k / (4 * w)) y)
       where
         within : k / (4 * w) ≡ y → (y * (4 * w) + 16 * c ≤ k) × (k < y * (4 * w) + 16 * c + 4 * n)
@@ -53,12 +55,14 @@ module _ (w c : ℕ) (px : List (List ℕ)) (out₀ : List ℕ) where
             let l : k % (4 * w) < 4 * w = mod-lt k (omega arith) in
             (omega (arith, d, e, l), omega (arith, d, e, l))
 
-    pub lines-more : {out next : List ℕ} → Lines lines y out → next ≡ over out (y * (4 * w) + 16 * c) (4 * n) (lineByte px y) → Lines lines (y + 1) next
+    pub lines-more : {out next : List ℕ} → Lines lines y out → next ≡ over out (y * (4 * w) + 16 * c) (4 * n) (lineByte px y)
+        → Lines lines (y + 1) next
     lines-more h e =
         subst (Lines lines (y + 1)) (sym e)
         (part-over (y * (4 * w) + 16 * c) (4 * n) (lineByte px y) h (fits w c inside below n-is) at-byte (λ k l q ne. earlier k q ne))
 
-  pub lines-all : {lines y : ℕ} {out : List ℕ} → 4 * c < w → length out₀ ≡ lines * (4 * w) → lines ≤ y → Lines lines y out → out ≡ withColumn w px c out₀
+  pub lines-all : {lines y : ℕ} {out : List ℕ} → 4 * c < w → length out₀ ≡ lines * (4 * w) → lines ≤ y → Lines lines y out → out
+      ≡ withColumn w px c out₀
   unfolding withColumn
   lines-all {lines} {y} inside e l h =
       part-all h (λ k lk q. omega (arith, div-lt-iff-lt-mul {k = 4 * w} {x = k} {y = lines} (omega arith) .1 lk))

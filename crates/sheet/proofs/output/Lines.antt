@@ -21,7 +21,8 @@ module _ (px : List (List ℕ)) (y o : ℕ) (out₀ : List ℕ) where
   pub line-long : (k : ℕ) (out : List ℕ) → Line k out → length out ≡ length out₀
   line-long k out e = ap length e ∙ length-over out₀ o (4 * k) (lineByte px y)
 
-  pub line-more : (k : ℕ) (out next : List ℕ) → Line k out → next ≡ over out (o + 4 * k) 4 (λ j. getD (getD px (4 * y + k) []) j 0) → Line (k + 1) next
+  pub line-more : (k : ℕ) (out next : List ℕ) → Line k out → next ≡ over out (o + 4 * k) 4 (λ j. getD (getD px (4 * y + k) []) j 0)
+      → Line (k + 1) next
   unfolding channel
   line-more k out next e n =
       n ∙ ap (λ (l : List ℕ). over l (o + 4 * k) 4 (λ j. getD (getD px (4 * y + k) []) j 0)) e

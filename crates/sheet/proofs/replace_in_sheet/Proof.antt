@@ -48,7 +48,8 @@ returns-3 c =
     let r = n .before .before in
     let l = r .before in
     let e = l .before .before in
-    replaced-stored _ _ _ _ (e .before .before .find-block .ensures) (e .if1 .left) (l .load .ensures) (r .replace-line .ensures) (n .if2 .left) (t .store .ensures)
+    replaced-stored _ _ _ _ (e .before .before .find-block .ensures) (e .if1 .left) (l .load .ensures) (r .replace-line .ensures) (n .if2 .left)
+    (t .store .ensures)
 
 pub replace-in-sheet-spec : {M : Type 1} → statement M
 replace-in-sheet-spec =

@@ -10,7 +10,8 @@ use lib.ListN.{length}
 use Rattle.laws.specs.Tables.{table}
 use Rattle.laws.proofs.Part.{Part, part-all, part-none, part-table}
 use Rattle.bc7_format.specs.Lines.{pixels}
-use Rattle.sheet_rules.specs.Rows.{across, blockAt, channel, rowByte, rowBytes}
+use Rattle.sheet_head.specs.Geometry.{across}
+use Rattle.sheet_rules.specs.Rows.{blockAt, channel, rowByte, rowBytes}
 use Rattle.sheet.specs.Columns.{columnByte, lineByte, withColumn}
 use Rattle.sheet.proofs.output.Columns.{byte-in, byte-out}
 
@@ -32,7 +33,8 @@ module _ (w lines : ℕ) (blocks : List ℕ) where
       let b : c ≡ k % (4 * w) / 4 / 4 = omega arith in
       rw (p, b, low k) (ap (λ (q : ℕ). channel (pixels (blockAt blocks (16 * (k % (4 * w) / 4 / 4)))) (4 * (k / (4 * w)) + q) (k % 4)) (omega arith))
 
-  pub columns-more : (c : ℕ) (px : List (List ℕ)) {out next : List ℕ} → px ≡ pixels (blockAt blocks (16 * c)) → Columns c out → next ≡ withColumn w px c out → Columns (c + 1) next
+  pub columns-more : (c : ℕ) (px : List (List ℕ)) {out next : List ℕ} → px ≡ pixels (blockAt blocks (16 * c)) → Columns c out → next
+      ≡ withColumn w px c out → Columns (c + 1) next
   unfolding withColumn
   columns-more c px {out} {next} p h e =
       subst (Columns (c + 1)) (sym (e ∙ ap (λ (m : ℕ). table m (columnByte w px c out)) (h .long)))

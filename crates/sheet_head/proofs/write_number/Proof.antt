@@ -50,7 +50,8 @@ push-requires-5 : tie.Need-push-requires-5
 push-requires-5 c κs = search needs
 
 returns-3 : tie.Need-returns-3
-returns-3 c = rw (c .push5 .ensures .0, c .before .push4 .ensures .0, c .before .before .before .push2 .ensures .0) (three-groups _ _ (omega arith) (omega arith) (omega arith))
+returns-3 c = rw (c .push5 .ensures .0, c .before .push4 .ensures .0, c .before .before .before .push2 .ensures .0)
+    (three-groups _ _ (omega arith) (omega arith) (omega arith))
 
 pub write-number-spec : {M : Type 1} → statement M
 write-number-spec =

@@ -1,4 +1,4 @@
--- `sheet_lines::put_block` meets its contract.
+-- `output::put_block` meets its contract.
 -- Assumes nothing.
 use mathlib.Core.Path.{_≡_, _∙_, ap}
 use Prim.Native.Nat.{ℕ, _*_}
@@ -7,14 +7,8 @@ use borrow.Author.Needs.{needs}
 use Rattle.sheet.proofs.output.put_block.Statement.{statement}
 use Rattle.sheet.proofs.output.put_block.Tie as tie
 
-mul-min4 : tie.Need-mul-min4
-mul-min4 c = search needs
-
-sub-min4 : tie.Need-sub-min4
-sub-min4 c = search needs
-
-min4-requires : tie.Need-min4-requires
-min4-requires c κs = search needs
+shown-in-requires : tie.Need-shown-in-requires
+shown-in-requires c κs = search needs
 
 put-lines-requires : tie.Need-put-lines-requires
 put-lines-requires c κs = search needs
@@ -37,8 +31,14 @@ returns-2 c = search needs
 put-lines-requires-3 : tie.Need-put-lines-requires-3
 put-lines-requires-3 c κs =
     let s = c .before .before .before .before .before in
-    let four : s .args .lines ≡ 4 = omega arith in
-    (omega arith, omega arith, omega arith, omega (arith, c .before .before .before .min4 .ensures), s .pre .3 ∙ ap (λ (n : ℕ). n * (4 * s .args .w)) four)
+    let four : s .args .lines ≡ 4 = omega arith in (
+      omega arith,
+      omega arith,
+      omega arith,
+      omega (arith, c .before .before .before .shown-in .ensures),
+      s .pre .3
+          ∙ ap (λ (n : ℕ). n * (4 * s .args .w)) four,
+    )
 
 same-length-3 : tie.Need-same-length-3
 same-length-3 c = search needs
@@ -50,9 +50,7 @@ pub put-block-spec : {M : Type 1} → statement M
 put-block-spec =
     tie.close
     (tie.spec
-    mul-min4
-    sub-min4
-    min4-requires
+    shown-in-requires
     put-lines-requires
     same-length
     returns

@@ -43,7 +43,11 @@ loop-less : tie.Need-loop-less Inv-loop μ-loop
 loop-less c = omega arith
 
 loop-again : tie.Need-loop-again Inv-loop μ-loop
-loop-again c = (omega arith, line-more _ _ _ _ _ _ _ (c .before .before .before .before .before .before .loop .inv .1) (c .before .before .put-pixel .ensures))
+loop-again c = (
+  omega arith,
+  line-more _ _ _ _ _ _ _ (c .before .before .before .before .before .before .loop .inv .1)
+      (c .before .before .put-pixel .ensures),
+)
 
 same-length : tie.Need-same-length Inv-loop μ-loop
 same-length c = line-long _ _ _ _ _ _ (c .before .loop .inv .1)

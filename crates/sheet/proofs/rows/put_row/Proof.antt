@@ -39,8 +39,11 @@ loop-less c = omega arith
 loop-again : tie.Need-loop-again Inv-loop μ-loop
 loop-again c =
     let p = c .before .before in
-    let d = p .before .before in
-    (omega arith, columns-more _ _ _ _ _ (d .decode-bc7-block .ensures ∙ ap pixels (d .before .load .ensures)) (d .before .before .before .loop .inv .1) (p .put-block .ensures))
+    let d = p .before .before in (
+      omega arith,
+      columns-more _ _ _ _ _ (d .decode-bc7-block .ensures ∙ ap pixels (d .before .load .ensures))
+          (d .before .before .before .loop .inv .1) (p .put-block .ensures),
+    )
 
 same-length : tie.Need-same-length Inv-loop μ-loop
 same-length c = c .before .loop .inv .1 .long ∙ sym (c .before .before .before .before .pre .4)

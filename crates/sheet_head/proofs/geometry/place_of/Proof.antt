@@ -1,0 +1,23 @@
+-- `geometry::place_of` meets its contract.
+-- Assumes nothing.
+use mathlib.Core.Path.{refl}
+use Rattle.sheet_head.specs.Geometry.{placeOf}
+use borrow.Author.Needs.{needs}
+use Rattle.sheet_head.proofs.geometry.place_of.Statement.{statement}
+use Rattle.sheet_head.proofs.geometry.place_of.Tie as tie
+
+cast-result : tie.Need-cast-result
+cast-result c = search needs
+
+mul-result : tie.Need-mul-result
+mul-result c = search needs
+
+add-result : tie.Need-add-result
+add-result c = search needs
+
+returns : tie.Need-returns
+unfolding placeOf
+returns c = refl
+
+pub place-of-spec : {M : Type 1} → statement M
+place-of-spec = tie.close (tie.spec cast-result mul-result add-result returns)

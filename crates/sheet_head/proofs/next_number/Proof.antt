@@ -1,0 +1,54 @@
+-- `next_number` meets its contract.
+-- Assumes nothing.
+use mathlib.Core.Path.{_∙_}
+use native.Mathlib.Omega.{arith}
+use Rattle.sheet_head.proofs.Reading.{near}
+use Rattle.sheet_head.proofs.Bytewise.{next-refuses, next-takes, nexts, no-next}
+use borrow.Author.Needs.{needs}
+use Rattle.sheet_head.proofs.next_number.Statement.{statement}
+use Rattle.sheet_head.proofs.next_number.Tie as tie
+
+has-ended-requires : tie.Need-has-ended-requires
+has-ended-requires c κs = search needs
+
+returns : tie.Need-returns
+returns c = nexts _ _ (no-next _ _ (c .before .has-ended .ensures) (c .if1 .taken))
+
+cast-read-number : tie.Need-cast-read-number
+cast-read-number c = search needs
+
+read-number-requires : tie.Need-read-number-requires
+read-number-requires c κs = search needs
+
+refused-with-requires : tie.Need-refused-with-requires
+refused-with-requires c κs = search needs
+
+returns-2 : tie.Need-returns-2
+returns-2 c = nexts _ _ (c .refused-with .ensures ∙ next-refuses _ _ (c .before .before .before .before .before .before .before .has-ended .ensures)
+    (c .before .before .before .before .before .before .if1 .left) (c .before .before .before .read-number .ensures) (c .before .if2 .taken))
+
+cast-take-number : tie.Need-cast-take-number
+cast-take-number c = omega (arith, near _ _ (c .before .before .before .read-number .ensures), c .before .before .before .before .before .before .before .before .before .pre)
+
+take-number-requires : tie.Need-take-number-requires
+take-number-requires c κs = search needs
+
+returns-3 : tie.Need-returns-3
+returns-3 c = nexts _ _ (c .take-number .ensures
+    ∙ next-takes _ _ (c .before .before .before .before .before .before .before .before .has-ended .ensures)
+    (c .before .before .before .before .before .before .before .if1 .left) (c .before .before .before .before .read-number .ensures)
+    (c .before .before .if2 .left))
+
+pub next-number-spec : {M : Type 1} → statement M
+next-number-spec =
+    tie.close
+    (tie.spec
+    has-ended-requires
+    returns
+    cast-read-number
+    read-number-requires
+    refused-with-requires
+    returns-2
+    cast-take-number
+    take-number-requires
+    returns-3)

@@ -1,0 +1,20 @@
+-- `reader::start` meets its contract.
+-- Assumes nothing.
+use mathlib.Core.Path.{_∙_, ap}
+use Rattle.sheet_head.specs.Reader.{awaiting}
+use Rattle.sheet_head.specs.declared.reader.Stage.the-variants.{Form}
+use borrow.Author.Needs.{needs}
+use Rattle.sheet_head.proofs.reader.start.Statement.{statement}
+use Rattle.sheet_head.proofs.reader.start.Tie as tie
+
+known-requires : tie.Need-known-requires
+known-requires c κs = search needs
+
+at-stage-requires : tie.Need-at-stage-requires
+at-stage-requires c κs = search needs
+
+returns : tie.Need-returns
+returns c = c .at-stage .ensures ∙ ap (awaiting Form) (c .before .known .ensures)
+
+pub start-spec : {M : Type 1} → statement M
+start-spec = tie.close (tie.spec known-requires at-stage-requires returns)

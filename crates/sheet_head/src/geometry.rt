@@ -1,0 +1,63 @@
+// The geometry of a sheet: columns and rows of blocks, what is shown of a block at an edge, how many blocks there are and where
+// each stands. Nothing else in the code knows these formulas.
+ghost use mathlib.Core.Path.{_≡_};
+ghost use Prim.Native.Nat.{_*_, _≤_, _<_};
+ghost use Rattle.sheet_head.specs.Geometry.{across, blocksOf, outLength, placeOf, rowLength, shown, wholeLength};
+ghost use Rattle.sheet_head.specs.Heads.{Sized, limit};
+use crate::Head;
+
+// Columns of blocks in a width, rows of blocks in a height.
+pub fn blocks_across(side: u32) -> u32
+    requires { ⌜ side ≤ limit ⌝ }
+    ensures { λ r. ⌜ r ≡ across side ⌝ }
+{
+    (side + 3) / 4
+}
+
+// Of a height, the lines that a row of blocks shows; of a width, the columns that a column of blocks shows.
+pub fn shown_in(side: usize, n: usize) -> usize
+    requires { ⌜ 4 * n < side ⌝ }
+    ensures { λ r. ⌜ r ≡ shown side n ⌝ }
+{
+    let left = side - 4 * n;
+    if left < 4 { left } else { 4 }
+}
+
+// The bytes of a row of blocks.
+pub fn row_length(width: u32) -> usize
+    requires { ⌜ width ≤ limit ⌝ }
+    ensures { λ r. ⌜ r ≡ rowLength width ⌝ }
+{
+    16 * blocks_across(width) as usize
+}
+
+// The bytes of so many lines of pixels.
+pub fn out_length(width: usize, lines: usize) -> usize
+    requires { ⌜ (width ≤ limit) × (lines ≤ 4) ⌝ }
+    ensures { λ r. ⌜ r ≡ outLength width lines ⌝ }
+{
+    lines * (4 * width)
+}
+
+// How many blocks a sheet has: 1,048,576 at the most.
+pub fn blocks_of(head: Head) -> u32
+    requires { ⌜ Sized (head .width) (head .height) ⌝ }
+    ensures { λ r. ⌜ (r ≡ blocksOf head) × (r ≤ 1048576) ⌝ }
+{
+    blocks_across(head.height) * blocks_across(head.width)
+}
+
+// Where a block stands.
+pub fn place_of(head: Head, block: u32) -> usize
+    ensures { λ r. ⌜ r ≡ placeOf head block ⌝ }
+{
+    head.start as usize + 16 * block as usize
+}
+
+// The bytes of a whole sheet, which end behind its last block.
+pub fn whole_length(head: Head) -> usize
+    requires { ⌜ Sized (head .width) (head .height) ⌝ }
+    ensures { λ r. ⌜ r ≡ wholeLength head ⌝ }
+{
+    place_of(head, blocks_of(head))
+}

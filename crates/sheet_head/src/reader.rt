@@ -1,0 +1,185 @@
+// The head of a sheet as a machine: it takes a byte, or a whole number, and answers its next state. What comes byte by byte and
+// what is there whole are read by the same states; another number in a head is another stage.
+ghost use mathlib.Core.Path.{_≡_};
+ghost use Prim.Native.Nat.{_*_, _^_, _<_, _≤_};
+ghost use Rattle.sheet_head.specs.Heads.{headOf};
+ghost use Rattle.sheet_head.specs.Numbers.{numbersEnd};
+ghost use Rattle.sheet_head.specs.Reader.{Going, atForm, awaiting, byteTaken, emptyAbove, formTaken, groupTaken, hasEnded, heightTaken, lastTaken, numberIn, refusedWith};
+use crate::FORM;
+use crate::Head;
+use crate::size_refusal;
+use crate::wide;
+
+// Which number of the head is to come; or the head has ended, accepted or refused.
+pub enum Stage {
+    Form,
+    Width,
+    Height,
+    Ended,
+}
+
+// The stage; how many groups of its number have come, and what they spell; and what is known of the head, whose `start` is the
+// place behind the last number that came whole.
+pub struct HeadReader {
+    pub stage: Stage,
+    pub low: u32,
+    pub groups: u8,
+    pub head: Head,
+}
+
+// Before a number.
+fn at_stage(stage: Stage, head: Head) -> HeadReader
+    ensures { λ r. ⌜ r ≡ awaiting stage head ⌝ }
+{
+    HeadReader {
+        stage: stage,
+        low: 0,
+        groups: 0,
+        head: head,
+    }
+}
+
+fn known(width: u32, height: u32, start: u32) -> Head
+    ensures { λ r. ⌜ r ≡ headOf 0 width height start ⌝ }
+{
+    Head {
+        refusal: 0,
+        width: width,
+        height: height,
+        start: start,
+    }
+}
+
+// Before the first byte.
+pub fn start() -> HeadReader
+    ensures { λ r. ⌜ r ≡ atForm ⌝ }
+{
+    at_stage(Stage::Form, known(0, 0, 0))
+}
+
+// The head is refused. 7 is also for an input that ends within it.
+pub fn refused_with(refusal: u8) -> HeadReader
+    ensures { λ r. ⌜ r ≡ refusedWith refusal ⌝ }
+{
+    at_stage(
+        Stage::Ended,
+        Head {
+            refusal: refusal,
+            width: 0,
+            height: 0,
+            start: 0,
+        },
+    )
+}
+
+// Whether no byte more is wanted.
+pub fn has_ended(reader: HeadReader) -> bool
+    ensures { λ r. ⌜ r ≡ hasEnded reader ⌝ }
+{
+    let stage = reader.stage;
+    match stage {
+        Stage::Form => false,
+        Stage::Width => false,
+        Stage::Height => false,
+        Stage::Ended => true,
+    }
+}
+
+fn take_form(n: u32, next: u32) -> HeadReader
+    ensures { λ r. ⌜ r ≡ formTaken n next ⌝ }
+{
+    if n != FORM {
+        return refused_with(8);
+    }
+    at_stage(Stage::Width, known(0, 0, next))
+}
+
+fn take_height(width: u32, n: u32, next: u32) -> HeadReader
+    ensures { λ r. ⌜ r ≡ heightTaken width n next ⌝ }
+{
+    let refusal = size_refusal(width, n);
+    if refusal != 0 {
+        return refused_with(refusal);
+    }
+    at_stage(Stage::Ended, known(width, n, next))
+}
+
+// A number has come whole, and this is the place behind it.
+pub fn take_number(reader: HeadReader, n: u32, next: u32) -> HeadReader
+    ensures { λ r. ⌜ r ≡ numberIn (reader .stage) (reader .head) n next ⌝ }
+{
+    let stage = reader.stage;
+    let head = reader.head;
+    match stage {
+        Stage::Form => take_form(n, next),
+        Stage::Width => at_stage(Stage::Height, known(n, 0, next)),
+        Stage::Height => take_height(head.width, n, next),
+        Stage::Ended => at_stage(Stage::Ended, head),
+    }
+}
+
+// What seven bits count behind so many groups.
+fn group(bits: u32, groups: u8) -> u32
+    requires { ⌜ (bits < 128) × (groups ≤ 2) ⌝ }
+    ensures { λ r. ⌜ (r ≡ bits * 128 ^ groups) × (r < numbersEnd) ⌝ }
+{
+    if groups == 0 {
+        return bits;
+    }
+    if groups == 1 {
+        return bits * 128;
+    }
+    bits * 16384
+}
+
+// An empty group above others: there is a shorter form.
+fn empty_above(byte: u8, groups: u8) -> bool
+    ensures { λ r. ⌜ r ≡ emptyAbove byte groups ⌝ }
+{
+    if groups == 0 {
+        return false;
+    }
+    byte == 0
+}
+
+// A byte below 128 has come, the last of its number.
+fn take_last(reader: HeadReader, byte: u8) -> HeadReader
+    requires { ⌜ Going reader × (byte < 128) ⌝ }
+    ensures { λ r. ⌜ r ≡ lastTaken reader byte ⌝ }
+{
+    if empty_above(byte, reader.groups) {
+        return refused_with(7);
+    }
+    let head = reader.head;
+    let n = reader.low + group(wide(byte), reader.groups);
+    take_number(reader, n, head.start + wide(reader.groups) + 1)
+}
+
+// Any other byte: a group of seven bits, and more are to come.
+fn take_group(reader: HeadReader, byte: u8) -> HeadReader
+    requires { ⌜ Going reader ⌝ }
+    ensures { λ r. ⌜ r ≡ groupTaken reader byte ⌝ }
+{
+    if reader.groups == 2 {
+        return refused_with(7);
+    }
+    let stage = reader.stage;
+    let head = reader.head;
+    HeadReader {
+        stage: stage,
+        low: reader.low + group(wide(byte % 128), reader.groups),
+        groups: reader.groups + 1,
+        head: head,
+    }
+}
+
+// A byte has come.
+pub fn take_byte(reader: HeadReader, byte: u8) -> HeadReader
+    requires { ⌜ Going reader ⌝ }
+    ensures { λ r. ⌜ r ≡ byteTaken reader byte ⌝ }
+{
+    if byte < 128 {
+        return take_last(reader, byte);
+    }
+    take_group(reader, byte)
+}
