@@ -3,7 +3,7 @@
 // stored side by side: ten bits of it are two values of five.
 ghost use mathlib.Core.Path.{_≡_};
 ghost use mathlib.Core.List.{[], _∷_, _++_};
-ghost use Prim.Native.Nat.{_+_, _*_, _/_, _%_, _^_, _≤_, _<_};
+ghost use Prim.Native.Nat.{_+_, _*_, _/_, _%_, _<_};
 ghost use lib.ListN.{drop, getD, replicate, take};
 ghost use Rattle.laws.specs.Digits.{Fit, join};
 ghost use Rattle.laws.specs.Tables.{pick, table};
