@@ -10,7 +10,8 @@ use Rattle.laws.specs.Tables.{table, tableFrom}
 use Rattle.bcn_format.specs.Block.{number, trailing}
 use Rattle.bc7_format.specs.Modes.{modeOf, endpointCount, kindOfMode, modeRow}
 use Rattle.bcn_format.specs.Drawing.{drawn, promoted, weightOf, weights}
-use Rattle.bc7_format.specs.Lines.{eight, Line, arrayOf, has, indexPlace, laid, lineAt, lineBits, lineOf, means, own, pPlace, pixel, rotated, shown, turned, valuePlace, withLine}
+use Rattle.bc7_format.specs.Lines.{eight, Line, indexSetOf, has, indexPlace, laid, lineAt, lineBits, lineOf, meansStored, own, pPlace, pixel}
+use Rattle.bc7_format.specs.Lines.{rotated, shown, turned, valuePlace, withLine}
 use Rattle.bcn_format.specs.Partitions.{anchors2, anchors3, digits, marks, strings2, strings3, subset2, subset3}
 use Rattle.bc7_format.specs.Places.{atPlace, listOf, opened, pbit, placeAt, pos, width, widths}
 use Rattle.bc7_format.specs.Splits.{splitAt, splitOf}
@@ -42,7 +43,9 @@ pub blocks-show : map (λ (b : List ℕ). map (λ (q : ℕ). map (pixel b q) (0 
     ((11 ∷ 29 ∷ 44 ∷ 28 ∷ []) ∷ (10 ∷ 28 ∷ 43 ∷ 27 ∷ []) ∷ []) ∷
     ((21 ∷ 29 ∷ 37 ∷ 46 ∷ []) ∷ (88 ∷ 96 ∷ 104 ∷ 112 ∷ []) ∷ []) ∷
     []
-unfolding table tableFrom weights weightOf drawn promoted eight modeRow kindOfMode endpointCount placeAt pos width widths trailing number modeOf splitAt splitOf atPlace opened has valuePlace pPlace arrayOf indexPlace own lineOf lineBits means rotated lineAt shown pixel subset2 subset3 anchors2 anchors3 digits marks strings2 strings3
+unfolding table tableFrom weights weightOf drawn promoted eight modeRow kindOfMode endpointCount placeAt pos width widths trailing number modeOf
+    splitAt splitOf atPlace opened has valuePlace pPlace indexSetOf indexPlace own lineOf lineBits meansStored rotated lineAt shown pixel subset2
+    subset3 anchors2 anchors3 digits marks strings2 strings3
 blocks-show = refl
 
 -- a line: endpoint 0 is 0 1 2 3, endpoint 1 is 10 11 12 13; p 4 and 5; pixel q has index q
@@ -54,7 +57,7 @@ pub record LineTurnedAndPut : Type 0 where
       ≡ (10 ∷ 11 ∷ 12 ∷ 13 ∷ []) ∷ (0 ∷ 1 ∷ 2 ∷ 3 ∷ []) ∷ []
   pub turned-p : map (turned 4 counted .p) (0 ∷ 1 ∷ []) ≡ 5 ∷ 4 ∷ []
   pub turned-indexes : map (turned 4 counted .index) (0 ∷ 1 ∷ 14 ∷ 15 ∷ []) ≡ 15 ∷ 14 ∷ 1 ∷ 0 ∷ []
-  -- put in as line 1 of mode 7 and partition 13, the lower half, where 99 stood everywhere: the head; red, green, blue and alpha of the
+  -- put in as line 1 of mode 7 and partition 13, the lower half, where 99 stood everywhere: the lead; red, green, blue and alpha of the
   -- endpoints 0 to 5; the p bits; the first indexes; the second
   pub put : listOf (withLine 7 (Two 13) 1 counted (λ x. 99))
       ≡ (99 ∷ 99 ∷ 99 ∷ 99 ∷ [])

@@ -10,10 +10,10 @@ use Rattle.bc7_format.specs.declared.Split.{Split}
 use Rattle.bc7_format.specs.declared.Split.the-variants.{Whole, Two, Three, Vector}
 use Rattle.laws.specs.Digits.{total}
 use Rattle.laws.specs.Tables.{pick, table, tableFrom}
-use Rattle.bc7_format.specs.Lines.{arrayOf, has, indexPlace, pPlace, valuePlace}
+use Rattle.bc7_format.specs.Lines.{indexSetOf, has, indexPlace, pPlace, valuePlace}
 use Rattle.bc7_format.specs.Modes.{endpointCount, lines, modeRow}
 use Rattle.bcn_format.specs.Partitions.{anchors2, anchors3, digits, marks, strings2, strings3, subset2, subset3}
-use Rattle.bc7_format.specs.Places.{Place, head, placeAt, pos, width, widths}
+use Rattle.bc7_format.specs.Places.{Place, lead, placeAt, pos, width, widths}
 use Rattle.bc7_format.specs.Splits.{anchors}
 
 -- the bit at which the i-th place starts
@@ -52,7 +52,7 @@ chart m s b ls = record { mode = m; split = s; split-bits = b; of-lines = ls }
 -- by the definitions
 pub chartOf : ℕ → Split → Chart
 chartOf m s =
-    chart m s (splitStarts m s (head 1 ∷ head 2 ∷ head 3 ∷ []))
+    chart m s (splitStarts m s (lead 1 ∷ lead 2 ∷ lead 3 ∷ []))
     (table (lines m) (λ l.
     line
     (starts m s l
@@ -96,5 +96,6 @@ published =
     []
 
 pub fields-as-published : map (λ c. chartOf (c .mode) (c .split)) published ≡ published
-unfolding start starts splitStarts chartOf widths table tableFrom placeAt pos width modeRow endpointCount anchors2 anchors3 subset2 subset3 strings2 strings3 digits marks has valuePlace pPlace indexPlace arrayOf
+unfolding start starts splitStarts chartOf widths table tableFrom placeAt pos width modeRow endpointCount anchors2 anchors3 subset2 subset3 strings2
+    strings3 digits marks has valuePlace pPlace indexPlace indexSetOf
 fields-as-published = refl

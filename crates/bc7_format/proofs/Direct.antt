@@ -6,7 +6,7 @@ use mathlib.Core.Bool.{true}
 use Prim.Native.Nat.{ℕ, _<_}
 use borrow.Author.Tests.{eqb-false, not-true}
 use Rattle.bc7_format.specs.declared.Split.{Split}
-use Rattle.bc7_format.specs.Lines.{Line, has, indexPlace, isDrawn, lineAt, lineOf, means, own, pPlace, rotated, shown, valuePlace}
+use Rattle.bc7_format.specs.Lines.{Line, has, indexPlace, isDrawn, lineAt, lineOf, meansStored, own, pPlace, rotated, shown, valuePlace}
 use Rattle.bc7_format.specs.Modes.{channelBits, lines, pCount}
 use Rattle.bc7_format.specs.Places.{Place}
 use Rattle.bc7_format.specs.Splits.{rotation}
@@ -28,7 +28,7 @@ own-is m s l f x h = rw h
 
 -- a decoder reads the places of the line that draws, and nothing else
 pub shown-direct : {m : ℕ} {s : Split} {f : Place → ℕ} → WellFormed m s f → (q c : ℕ) → q < 16 → c < 4 → isDrawn m (rotated (rotation s) c) ≡ true
-    → shown m s f q c ≡ means m s (lineAt s q (rotated (rotation s) c)) (plainLine m s (lineAt s q (rotated (rotation s) c)) f) q (rotated (rotation s) c)
+    → shown m s f q c ≡ meansStored m s (lineAt s q (rotated (rotation s) c)) (plainLine m s (lineAt s q (rotated (rotation s) c)) f) q (rotated (rotation s) c)
 unfolding shown lineOf plainLine lineAt
 shown-direct {m} {s} {f} g q c hq hc dr = rw dr (means-ext m s l _ _ q d values ps ix)
   where
@@ -42,7 +42,9 @@ shown-direct {m} {s} {f} g q c hq hc dr = rw dr (means-ext m s l _ _ q d values 
     hl = line-below g q d hq
 
     values : (k : ℕ) → k < 2 → own m s l f (valuePlace s l k d) ≡ f (valuePlace s l k d)
-    values k hk = own-is m s l f _ (has-value g l hl k d hk (rotated-lt (rotation s) c (good-rotation g) hc) (eqb-false (channelBits m d) 0 (not-true _ dr)) (λ v. sym (rw v refl)))
+    values k hk =
+        own-is m s l f _ (has-value g l hl k d hk (rotated-lt (rotation s) c (good-rotation g) hc) (eqb-false (channelBits m d) 0 (not-true _ dr))
+        (λ v. sym (rw v refl)))
 
     ps : pCount m ≢ 0 → (k : ℕ) → k < 2 → own m s l f (pPlace m l k) ≡ f (pPlace m l k)
     ps n k hk = own-is m s l f _ (has-p g l hl k hk n)

@@ -91,8 +91,8 @@ module _ (m n l : ℕ) {p : ℕ} where
       ∙ ap (λ (s : ℕ). field n s 1) (rw first (omega arith))
 
 -- endpoints as the mode's number has them
-abbrev pub Shown : ℕ → ℕ → ℕ → (ℕ → ℕ → ℕ) → Type 0
-Shown m n l f = (k c : ℕ) → k < 2 → c < 4 → f k c ≡ endByte m n (2 * l + k) c
+abbrev pub EndsShown : ℕ → ℕ → ℕ → (ℕ → ℕ → ℕ) → Type 0
+EndsShown m n l f = (k c : ℕ) → k < 2 → c < 4 → f k c ≡ endByte m n (2 * l + k) c
 
 by-channel : (f g : ℕ → ℕ) → f 0 ≡ g 0 → f 1 ≡ g 1 → f 2 ≡ g 2 → f 3 ≡ g 3 → (c : ℕ) → c < 4 → f c ≡ g c
 by-channel f g r gr b a zero h = r
@@ -106,7 +106,7 @@ abbrev pub of : ℕ → ℕ → ℕ → ℕ → ℕ → ℕ
 of r g b a c = getD (r ∷ g ∷ b ∷ a ∷ []) c 0
 
 module _ (m n : ℕ) {l r g b a p : ℕ} (some : eqb (colourBits m) 0 ≡ false) (read : Read m n l r g b a p) where
-  pub opaque-shown : alphaBits m ≡ 0 → eqb (pCount m) 0 ≡ true → Shown m n l (solid (λ k c. endOf (colourBits m) k (of r g b a c)))
+  pub opaque-shown : alphaBits m ≡ 0 → eqb (pCount m) 0 ≡ true → EndsShown m n l (solid (λ k c. endOf (colourBits m) k (of r g b a c)))
   opaque-shown clear without k c hk hc =
       by-channel (solid (λ k c. endOf (colourBits m) k (of r g b a c)) k) (endByte m n (2 * l + k))
       (stored m n l k 0 (colourBits m) hk refl some (read .red) without)
@@ -115,9 +115,9 @@ module _ (m n : ℕ) {l r g b a p : ℕ} (some : eqb (colourBits m) 0 ≡ false)
       (unstored m n (2 * l + k) 3 clear) c hc
 
   -- alpha of a width of its own
-  pub clear-shown : eqb (alphaBits m) 0 ≡ false → a ≡ field n (valueStart m 3 (2 * l)) (alphaBits m + alphaBits m) → eqb (pCount m) 0 ≡ true
-      → Shown m n l (λ k c. endOf (pick (eqb c 3) (alphaBits m) (colourBits m)) k (of r g b a c))
-  clear-shown some-alpha alpha without k c hk hc =
+  pub translucent-shown : eqb (alphaBits m) 0 ≡ false → a ≡ field n (valueStart m 3 (2 * l)) (alphaBits m + alphaBits m) → eqb (pCount m) 0 ≡ true
+      → EndsShown m n l (λ k c. endOf (pick (eqb c 3) (alphaBits m) (colourBits m)) k (of r g b a c))
+  translucent-shown some-alpha alpha without k c hk hc =
       by-channel (λ c. endOf (pick (eqb c 3) (alphaBits m) (colourBits m)) k (of r g b a c)) (endByte m n (2 * l + k))
       (stored m n l k 0 (colourBits m) hk refl some (read .red) without)
       (stored m n l k 1 (colourBits m) hk refl some (read .green) without)
@@ -125,7 +125,7 @@ module _ (m n : ℕ) {l r g b a p : ℕ} (some : eqb (colourBits m) 0 ≡ false)
       (stored m n l k 3 (alphaBits m) hk refl some-alpha alpha without) c hc
 
   module _ (with-p : eqb (pCount m) 0 ≡ false) (ps : ReadP m n l p) where
-    pub opaque-p-shown : alphaBits m ≡ 0 → Shown m n l (solid (λ k c. endOfP (colourBits m) k (of r g b a c) p))
+    pub opaque-p-shown : alphaBits m ≡ 0 → EndsShown m n l (solid (λ k c. endOfP (colourBits m) k (of r g b a c) p))
     opaque-p-shown clear k c hk hc =
         by-channel (solid (λ k c. endOfP (colourBits m) k (of r g b a c) p) k) (endByte m n (2 * l + k))
         (stored-p m n l k 0 (colourBits m) hk refl some (read .red) with-p p (ps k hk))
@@ -133,9 +133,9 @@ module _ (m n : ℕ) {l r g b a p : ℕ} (some : eqb (colourBits m) 0 ≡ false)
         (stored-p m n l k 2 (colourBits m) hk refl some (read .blue) with-p p (ps k hk))
         (unstored m n (2 * l + k) 3 clear) c hc
 
-    pub clear-p-shown : alphaBits m ≡ colourBits m → a ≡ field n (valueStart m 3 (2 * l)) (colourBits m + colourBits m)
-        → Shown m n l (λ k c. endOfP (colourBits m) k (of r g b a c) p)
-    clear-p-shown same alpha k c hk hc =
+    pub translucent-p-shown : alphaBits m ≡ colourBits m → a ≡ field n (valueStart m 3 (2 * l)) (colourBits m + colourBits m)
+        → EndsShown m n l (λ k c. endOfP (colourBits m) k (of r g b a c) p)
+    translucent-p-shown same alpha k c hk hc =
         by-channel (λ c. endOfP (colourBits m) k (of r g b a c) p) (endByte m n (2 * l + k))
         (stored-p m n l k 0 (colourBits m) hk refl some (read .red) with-p p (ps k hk))
         (stored-p m n l k 1 (colourBits m) hk refl some (read .green) with-p p (ps k hk))

@@ -24,30 +24,30 @@ use Rattle.bc7_format.proofs.Places.{inside-index, inside-pbit, inside-
 use Rattle.bc7_format.proofs.Starts.{at-field, start, start-next}
 use Rattle.bcn_format.specs.Indexes.{expanded, indexWidth, indexWidths, part}
 use Rattle.bcn_format.proofs.Expanding.{part-expanded}
-use Rattle.bc7_format.specs.Fields.{headEnd, pStart, valueStart}
+use Rattle.bc7_format.specs.Fields.{leadEnd, pStart, valueStart}
 
 -- where the values and the p bits start: one computed test over mode, channel and endpoint
 valueTest : Split → ℕ → ℕ → ℕ → Bool
 valueTest s m c e = implies (ltb e (endpointCount m)) (eqb (start m s (pos (value c e))) (valueStart m c e))
 
 values-start : (s : Split) → T (below 8 (λ m. below 4 (λ c. below 6 (valueTest s m c))))
-unfolding valueTest start widths table tableFrom placeAt width pos headEnd valueStart implies modeRow endpointCount
+unfolding valueTest start widths table tableFrom placeAt width pos leadEnd valueStart implies modeRow endpointCount
 values-start s = tt
 
 -- the p bits come behind the values, one bit each
 abbrev pub valuesEnd : ℕ → ℕ
-valuesEnd m = headEnd m + endpointCount m * (3 * colourBits m + alphaBits m)
+valuesEnd m = leadEnd m + endpointCount m * (3 * colourBits m + alphaBits m)
 
 pTest : Split → ℕ → ℕ → Bool
 pTest s m k = implies (ltb k (pCount m)) (eqb (start m s (pos (pbit k))) (valuesEnd m + k))
 
 ps-start : (s : Split) → T (below 8 (λ m. below 6 (pTest s m)))
-unfolding pTest start widths table tableFrom placeAt width pos headEnd implies modeRow endpointCount
+unfolding pTest start widths table tableFrom placeAt width pos leadEnd implies modeRow endpointCount
 ps-start s = tt
 
 -- and the indexes behind those
 pub first-start : (m : ℕ) (s : Split) → m < 8 → start m s firstFrom ≡ valuesEnd m + pCount m
-unfolding start widths table tableFrom placeAt width headEnd modeRow endpointCount
+unfolding start widths table tableFrom placeAt width leadEnd modeRow endpointCount
 first-start m s h = eqb→eq _ _ (at 8 (λ m. eqb (start m s firstFrom) (valuesEnd m + pCount m)) tt m h)
 
 six-ends : (m : ℕ) → m < 8 → endpointCount m ≤ 6
@@ -63,8 +63,11 @@ module _ (m : ℕ) (s : Split) (n : ℕ) (hm : m < 8) where
   unfolding field width valueTest
   value-at c e hc he =
       let six : e < 6 = lt-of-lt-of-le he (six-ends m hm) in
-      let test : T (valueTest s m c e) = at 6 (valueTest s m c) (at 4 (λ c. below 6 (valueTest s m c)) (at 8 (λ m. below 4 (λ c. below 6 (valueTest s m c))) (values-start s) m hm) c hc) e six in
-      let begins : start m s (pos (value c e)) ≡ valueStart m c e = eqb→eq _ _ (implied (ltb e (endpointCount m)) _ test (lt→ltb e (endpointCount m) he)) in
+      let test : T (valueTest s m c e) =
+      at 6 (valueTest s m c) (at 4 (λ c. below 6 (valueTest s m c))
+      (at 8 (λ m. below 4 (λ c. below 6 (valueTest s m c))) (values-start s) m hm) c hc) e six in
+      let begins : start m s (pos (value c e)) ≡ valueStart m c e =
+      eqb→eq _ _ (implied (ltb e (endpointCount m)) _ test (lt→ltb e (endpointCount m) he)) in
       at-field m s n (value c e) (inside-value hc six)
       ∙ ap₂ (λ (x y : ℕ). n / 2 ^ x % 2 ^ y) begins (ap (λ (b : Bool). pick b (channelBits m c) 0) (lt-ltb e (endpointCount m) he))
 
@@ -95,7 +98,8 @@ module _ (m : ℕ) (s : Split) (a : ℕ) (ha : a < 2) where
   unfolding table tableFrom
   begins zero h = omega arith
   begins (suc q) h =
-      let next : start m s (suc (firstFrom + (16 * a + q))) ≡ start m s (firstFrom + (16 * a + q)) + width m (anchors s) (placeAt (firstFrom + (16 * a + q))) =
+      let next : start m s (suc (firstFrom + (16 * a + q))) ≡ start m s (firstFrom + (16 * a + q)) + width m (anchors s)
+      (placeAt (firstFrom + (16 * a + q))) =
       start-next m s (firstFrom + (16 * a + q)) (omega arith) in
       let before : start m s (firstFrom + (16 * a + q)) ≡ start m s (firstFrom + (16 * a + 0)) + total (table q wide) = begins q (omega arith) in
       let e : firstFrom + (16 * a + suc q) ≡ suc (firstFrom + (16 * a + q)) = omega arith in
@@ -128,7 +132,8 @@ second-5 r i = refl
 pub split-4 : (n : ℕ) → splitAt 4 n ≡ Vector (field n 5 2) (field n 7 1)
 unfolding splitAt field modeRow kindOfMode
 split-4 n =
-    λ j. Vector (ap (λ (x : ℕ). x % 2 ^ 2) (div-one (n / 2 ^ 5)) j) ((ap (λ (x : ℕ). x / 2 ^ 2 % 2 ^ 1) (div-one (n / 2 ^ 5)) ∙ ap (λ (x : ℕ). x % 2 ^ 1) (shr-shr n 5 2)) j)
+    λ j. Vector (ap (λ (x : ℕ). x % 2 ^ 2) (div-one (n / 2 ^ 5)) j)
+    ((ap (λ (x : ℕ). x / 2 ^ 2 % 2 ^ 1) (div-one (n / 2 ^ 5)) ∙ ap (λ (x : ℕ). x % 2 ^ 1) (shr-shr n 5 2)) j)
 
 pub split-5 : (n : ℕ) → splitAt 5 n ≡ Vector (field n 6 2) 0
 unfolding splitAt field modeRow kindOfMode

@@ -11,8 +11,9 @@ use lib.Dec.{T, eqb}
 use Rattle.bc7_format.specs.declared.Split.{Split}
 use Rattle.laws.specs.Tables.{pick}
 use Rattle.laws.proofs.Tests.{T-true, both-true, true-T}
-use Rattle.bc7_format.specs.Lines.{Line, has, indexPlace, isDrawn, laid, lineAt, lineOf, lineOfPlace, means, own, pPlace, rotated, shown, valuePlace, withLine}
-use Rattle.bc7_format.specs.Places.{Place, head, inside, width}
+use Rattle.bc7_format.specs.Lines.{Line, has, indexPlace, isDrawn, laid, lineAt, lineOf, lineOfPlace, meansStored, own, pPlace, rotated, shown}
+use Rattle.bc7_format.specs.Lines.{valuePlace, withLine}
+use Rattle.bc7_format.specs.Places.{Place, lead, inside, width}
 use Rattle.bc7_format.specs.Splits.{rotation}
 
 module _ (m : ℕ) (s : Split) where
@@ -32,12 +33,12 @@ module _ (m : ℕ) (s : Split) where
   pub has-one : (l k : ℕ) (x : Place) → l ≢ k → has m s l x ≡ true → has m s k x ≡ true → ⊥
   has-one l k x d p q = d (sym (has-parts l x p .2) ∙ has-parts k x q .2)
 
-  -- the head belongs to no line
-  pub has-head : (l k : ℕ) → l < 9 → has m s l (head k) ≡ false
-  has-head l k h = go (has m s l (head k)) refl
+  -- the lead belongs to no line
+  pub has-lead : (l k : ℕ) → l < 9 → has m s l (lead k) ≡ false
+  has-lead l k h = go (has m s l (lead k)) refl
     where
-      go : (b : Bool) → has m s l (head k) ≡ b → b ≡ false
-      go true e = absurd (let z : 9 ≡ l = has-parts l (head k) e .2 in let y : ⊥ = omega arith in y)
+      go : (b : Bool) → has m s l (lead k) ≡ b → b ≡ false
+      go true e = absurd (let z : 9 ≡ l = has-parts l (lead k) e .2 in let y : ⊥ = omega arith in y)
       go false e = refl
 
   -- SET, then SET of another line: they trade places
@@ -46,7 +47,8 @@ module _ (m : ℕ) (s : Split) where
   trade true false u v w h = refl
   trade false c u v w h = refl
 
-  pub set-trade : (l k : ℕ) (a b : Line) (f : Place → ℕ) (x : Place) → l ≢ k → withLine m s l a (withLine m s k b f) x ≡ withLine m s k b (withLine m s l a f) x
+  pub set-trade : (l k : ℕ) (a b : Line) (f : Place → ℕ) (x : Place) → l ≢ k
+      → withLine m s l a (withLine m s k b f) x ≡ withLine m s k b (withLine m s l a f) x
   unfolding withLine
   set-trade l k a b f x d = trade (has m s l x) (has m s k x) (laid m a x) (laid m b x) (f x) (has-one l k x d)
 
@@ -91,15 +93,16 @@ module _ (m : ℕ) (s : Split) where
   shown-ext f g q c h =
       let d : ℕ = rotated (rotation s) c in
       let l : ℕ = lineAt s q d in
-      ap (λ (ln : Line). pick (isDrawn m d) (means m s l ln q d) 255) (line-ext l f g h)
+      ap (λ (ln : Line). pick (isDrawn m d) (meansStored m s l ln q d) 255) (line-ext l f g h)
 
   -- (b) what other lines draw is as it was
-  pub shown-other : (l : ℕ) (a : Line) (f : Place → ℕ) (q c : ℕ) → lineAt s q (rotated (rotation s) c) ≢ l → shown m s (withLine m s l a f) q c ≡ shown m s f q c
+  pub shown-other : (l : ℕ) (a : Line) (f : Place → ℕ) (q c : ℕ) → lineAt s q (rotated (rotation s) c) ≢ l
+      → shown m s (withLine m s l a f) q c ≡ shown m s f q c
   unfolding shown
   shown-other l a f q c n =
       let d : ℕ = rotated (rotation s) c in
       let k : ℕ = lineAt s q d in
-      ap (λ (ln : Line). pick (isDrawn m d) (means m s k ln q d) 255) (line-other l k a f (λ e. n (sym e)))
+      ap (λ (ln : Line). pick (isDrawn m d) (meansStored m s k ln q d) 255) (line-other l k a f (λ e. n (sym e)))
 
   -- a channel that no line draws
   pub shown-none : (f g : Place → ℕ) (q c : ℕ) → isDrawn m (rotated (rotation s) c) ≡ false → shown m s f q c ≡ shown m s g q c

@@ -14,9 +14,9 @@ use Rattle.laws.specs.Tables.{pick}
 use Rattle.laws.proofs.Cases.{pick-lt}
 use Rattle.laws.proofs.Tests.{at}
 use Rattle.bcn_format.specs.Drawing.{drawn, weightOf}
-use Rattle.bc7_format.specs.Lines.{eight, Line, arrayOf, has, indexPlace, laid, lineBits, means, pPlace, rotated, turned, valuePlace}
+use Rattle.bc7_format.specs.Lines.{eight, Line, indexSetOf, has, indexPlace, laid, lineBits, meansStored, pPlace, rotated, turned, valuePlace}
 use Rattle.bc7_format.specs.Modes.{channelBits, endpointCount, firstBits, indexBits, lines, modeRow, pCount, rotationBits, secondBits}
-use Rattle.bc7_format.specs.Places.{Place, head, index, pbit, value, width}
+use Rattle.bc7_format.specs.Places.{Place, lead, index, pbit, value, width}
 use Rattle.bc7_format.specs.Splits.{indexMode, isVector, rotation, subset}
 use Rattle.bc7_format.specs.WellFormed.{WellFormed}
 use Rattle.bcn_format.proofs.Drawing.{symmetric}
@@ -26,9 +26,10 @@ use Rattle.bc7_format.proofs.Modes.{ByVector, good-index-mode, good-par
 
 -- turning leaves the meaning
 pub turned-means : (m : ℕ) (s : Split) (l : ℕ) (ln : Line) (q c : ℕ) → 2 ≤ lineBits m s l → lineBits m s l ≤ 4 → ln .index q < 2 ^ lineBits m s l
-    → means m s l (turned (lineBits m s l) ln) q c ≡ means m s l ln q c
-unfolding means turned
-turned-means m s l ln q c h2 h4 hi = symmetric (lineBits m s l) (ln .index q) (eight m c (ln .value 0 c) (ln .p 0)) (eight m c (ln .value 1 c) (ln .p 1)) h2 h4 hi
+    → meansStored m s l (turned (lineBits m s l) ln) q c ≡ meansStored m s l ln q c
+unfolding meansStored turned
+turned-means m s l ln q c h2 h4 hi =
+    symmetric (lineBits m s l) (ln .index q) (eight m c (ln .value 0 c) (ln .p 0)) (eight m c (ln .value 1 c) (ln .p 1)) h2 h4 hi
 
 -- the p bits matter only where the mode has some
 pub eight-ext : (m c v v' p p' : ℕ) → v ≡ v' → (pCount m ≢ 0 → p ≡ p') → eight m c v p ≡ eight m c v' p'
@@ -39,18 +40,22 @@ eight-ext m c v v' p p' ev ep = go (eqb (pCount m) 0) refl
     go true e = rw (e, ev)
     go false e = rw (ev, ep (eqb-false _ _ e))
 
-pub means-ext : (m : ℕ) (s : Split) (l : ℕ) (a b : Line) (q c : ℕ) → ((k : ℕ) → k < 2 → a .value k c ≡ b .value k c) → (pCount m ≢ 0 → (k : ℕ) → k < 2 → a .p k ≡ b .p k) → a .index q ≡ b .index q
-    → means m s l a q c ≡ means m s l b q c
-unfolding means
+pub means-ext : (m : ℕ) (s : Split) (l : ℕ) (a b : Line) (q c : ℕ) → ((k : ℕ) → k < 2 → a .value k c ≡ b .value k c)
+    → (pCount m ≢ 0 → (k : ℕ) → k < 2 → a .p k ≡ b .p k) → a .index q ≡ b .index q
+    → meansStored m s l a q c ≡ meansStored m s l b q c
+unfolding meansStored
 means-ext m s l a b q c ev ep ei =
     let h0 : 0 < 2 = omega arith in
     let h1 : 1 < 2 = omega arith in
-    ap₂ (λ (x y : ℕ). drawn x y (weightOf (lineBits m s l) (a .index q))) (eight-ext m c _ _ _ _ (ev 0 h0) (λ n. ep n 0 h0)) (eight-ext m c _ _ _ _ (ev 1 h1) (λ n. ep n 1 h1))
+    ap₂ (λ (x y : ℕ). drawn x y (weightOf (lineBits m s l) (a .index q))) (eight-ext m c _ _ _ _ (ev 0 h0) (λ n. ep n 0 h0))
+    (eight-ext m c _ _ _ _ (ev 1 h1) (λ n. ep n 1 h1))
     ∙ ap (λ (i : ℕ). drawn (eight m c (b .value 0 c) (b .p 0)) (eight m c (b .value 1 c) (b .p 1)) (weightOf (lineBits m s l) i)) ei
 
-pub array-lt : (s : Split) (l : ℕ) → indexMode s < 2 → arrayOf s l < 2
-unfolding arrayOf
-array-lt s l h = pick-lt (isVector s) (pick (eqb l 0) (indexMode s) (1 - indexMode s)) 0 2 (pick-lt (eqb l 0) (indexMode s) (1 - indexMode s) 2 h (omega arith)) (omega arith)
+pub index-set-lt : (s : Split) (l : ℕ) → indexMode s < 2 → indexSetOf s l < 2
+unfolding indexSetOf
+index-set-lt s l h =
+    pick-lt (isVector s) (pick (eqb l 0) (indexMode s) (1 - indexMode s)) 0 2 (pick-lt (eqb l 0) (indexMode s) (1 - indexMode s) 2 h (omega arith))
+    (omega arith)
 
 -- what a line has for its own places
 pub laid-value : (m : ℕ) (s : Split) (l : ℕ) (o : Line) (k c : ℕ) → k < 2 → laid m o (valuePlace s l k c) ≡ o .value k c
@@ -95,24 +100,26 @@ two-bits m h = leb→le _ 2 (at 8 (λ m. leb (rotationBits m) 2) tt m h)
 module _ {m : ℕ} {s : Split} {f : Place → ℕ} (g : WellFormed m s f) where
   pub good-rotation : rotation s < 4
   unfolding width
-  good-rotation = subst (λ (r : ℕ). r < 4) (sym (good-parts g .1)) (lt-of-lt-of-le (g .fits (head 2) tt) (pow-mono (two-bits m (g .mode))))
+  good-rotation = subst (λ (r : ℕ). r < 4) (sym (good-parts g .1)) (lt-of-lt-of-le (g .fits (lead 2) tt) (pow-mono (two-bits m (g .mode))))
 
   -- the width of a line's indexes
   pub line-bits : (l : ℕ) → (2 ≤ lineBits m s l) × (lineBits m s l ≤ 4)
-  unfolding lineBits arrayOf
+  unfolding lineBits indexSetOf
   line-bits l = go (isVector s) refl
     where
       either : ByVector m → (b : Bool) → (2 ≤ pick b (firstBits m) (secondBits m)) × (pick b (firstBits m) (secondBits m) ≤ 4)
       either v true = (v .least1, v .most1)
       either v false = (v .least2, v .most2)
 
-      go : (b : Bool) → isVector s ≡ b → (2 ≤ indexBits m (pick b (pick (eqb l 0) (indexMode s) (1 - indexMode s)) 0)) × (indexBits m (pick b (pick (eqb l 0) (indexMode s) (1 - indexMode s)) 0) ≤ 4)
+      go : (b : Bool) → isVector s ≡ b
+          → (2 ≤ indexBits m (pick b (pick (eqb l 0) (indexMode s) (1 - indexMode s)) 0)) × (indexBits m (pick b (pick (eqb l 0) (indexMode s) (1 - indexMode s)) 0) ≤ 4)
       go true e = either (good-vector g e) (eqb (pick (eqb l 0) (indexMode s) (1 - indexMode s)) 0)
       go false e = (good-subset g e .least, good-subset g e .most)
 
   module _ (l : ℕ) (hl : l < lines m) where
     -- the places that a line has
-    pub has-value : (k c : ℕ) → k < 2 → c < 4 → channelBits m c ≢ 0 → (isVector s ≡ true → pick (eqb c 3) 1 0 ≡ l) → has m s l (valuePlace s l k c) ≡ true
+    pub has-value : (k c : ℕ) → k < 2 → c < 4 → channelBits m c ≢ 0 → (isVector s ≡ true → pick (eqb c 3) 1 0 ≡ l)
+        → has m s l (valuePlace s l k c) ≡ true
     unfolding valuePlace width
     has-value k c hk hc hb hv = go (isVector s) refl
       where
@@ -144,13 +151,14 @@ module _ {m : ℕ} {s : Split} {f : Place → ℕ} (g : WellFormed m s f) where
             has-intro m s l (pbit l) (lt→ltb l 6 (omega (arith, c .1))) (some l (omega arith)) (rw e refl)
         go false e =
             let d : 2 * lines m ≡ pCount m = rw e at (c .0) in
-            has-intro m s l (pbit (2 * l + k)) (lt→ltb (2 * l + k) 6 (omega (arith, c .1))) (some (2 * l + k) (omega arith)) (rw e (let z : (2 * l + k) / 2 ≡ l = omega arith in z))
+            has-intro m s l (pbit (2 * l + k)) (lt→ltb (2 * l + k) 6 (omega (arith, c .1))) (some (2 * l + k) (omega arith))
+            (rw e (let z : (2 * l + k) / 2 ≡ l = omega arith in z))
 
     pub has-index : (q : ℕ) → q < 16 → (isVector s ≡ false → subset s q ≡ l) → has m s l (indexPlace s l q) ≡ true
-    unfolding indexPlace width lineBits arrayOf
-    has-index q hq sub = has-intro m s l (index (arrayOf s l) q) (inside-index (array-lt s l (good-index-mode g)) hq) some mine
+    unfolding indexPlace width lineBits indexSetOf
+    has-index q hq sub = has-intro m s l (index (indexSetOf s l) q) (inside-index (index-set-lt s l (good-index-mode g)) hq) some mine
       where
-        some : indexBits m (arrayOf s l) ≢ 0
+        some : indexBits m (indexSetOf s l) ≢ 0
         some z = omega (arith, line-bits l .0)
 
         i : ℕ
@@ -159,7 +167,7 @@ module _ {m : ℕ} {s : Split} {f : Place → ℕ} (g : WellFormed m s f) where
         hi : i < 2
         hi = good-index-mode g
 
-        mine : pick (isVector s) (pick (eqb (arrayOf s l) i) 0 1) (subset s q) ≡ l
+        mine : pick (isVector s) (pick (eqb (indexSetOf s l) i) 0 1) (subset s q) ≡ l
         mine = go (isVector s) refl
           where
             pair : (b : Bool) → eqb l 0 ≡ b → lines m ≡ 2 → pick (eqb (pick b i (1 - i)) i) 0 1 ≡ l

@@ -17,8 +17,9 @@ use Rattle.laws.specs.Tables.{below, implies, pick}
 use Rattle.laws.proofs.Tests.{at, implied}
 use Rattle.bc7_format.specs.Lines.{anchorOf}
 use Rattle.bcn_format.specs.Partitions.{firstIn, among, anchors2, anchors3, digits, marks, or, strings2, strings3, subset2, subset3}
-use Rattle.bc7_format.specs.Modes.{endpointCount, firstBits, indexModeBits, kindOfMode, lines, modeRow, pCount, partitionBits, rotationBits, secondBits, modeOf}
-use Rattle.bc7_format.specs.Places.{Place, head, width}
+use Rattle.bc7_format.specs.Modes.{endpointCount, firstBits, indexModeBits, kindOfMode, lines, modeRow, pCount, partitionBits, rotationBits}
+use Rattle.bc7_format.specs.Modes.{secondBits, modeOf}
+use Rattle.bc7_format.specs.Places.{Place, lead, width}
 use Rattle.bc7_format.specs.Splits.{anchors, indexMode, isVector, kindOf, ofKind, partition, rotation, subset}
 use Rattle.bc7_format.specs.WellFormed.{WellFormed}
 use Rattle.bc7_format.proofs.Opening.{good-kind, good-partition}
@@ -40,11 +41,11 @@ parts (suc (suc (suc (suc (suc (suc (suc zero))))))) h a r i ha hr hi = omega ar
 parts (suc (suc (suc (suc (suc (suc (suc (suc m)))))))) h a r i ha hr hi = absurd (let z : ⊥ = omega arith in z)
 
 module _ {m : ℕ} {s : Split} {f : Place → ℕ} (g : WellFormed m s f) where
-  pub good-parts : (partition s ≡ f (head 1)) × (rotation s ≡ f (head 2)) × (indexMode s ≡ f (head 3))
+  pub good-parts : (partition s ≡ f (lead 1)) × (rotation s ≡ f (lead 2)) × (indexMode s ≡ f (lead 3))
   unfolding width
   good-parts =
-      subst (λ (s : Split). (partition s ≡ f (head 1)) × (rotation s ≡ f (head 2)) × (indexMode s ≡ f (head 3))) (g .splits)
-      (parts m (g .mode) (f (head 1)) (f (head 2)) (f (head 3)) (g .fits (head 1) tt) (g .fits (head 2) tt) (g .fits (head 3) tt))
+      subst (λ (s : Split). (partition s ≡ f (lead 1)) × (rotation s ≡ f (lead 2)) × (indexMode s ≡ f (lead 3))) (g .splits)
+      (parts m (g .mode) (f (lead 1)) (f (lead 2)) (f (lead 3)) (g .fits (lead 1) tt) (g .fits (lead 2) tt) (g .fits (lead 3) tt))
 
 pub record BySubset (m : ℕ) : Type 0 where
   pub second : secondBits m ≡ 0
@@ -133,7 +134,7 @@ module _ {m : ℕ} {s : Split} {f : Place → ℕ} (g : WellFormed m s f) where
   pub good-index-mode : indexMode s < 2
   unfolding width
   good-index-mode =
-      subst (λ (i : ℕ). i < 2) (sym (good-parts g .2)) (lt-of-lt-of-le (g .fits (head 3) tt) (pow-mono (one-bit m (g .mode))))
+      subst (λ (i : ℕ). i < 2) (sym (good-parts g .2)) (lt-of-lt-of-le (g .fits (lead 3) tt) (pow-mono (one-bit m (g .mode))))
 
   pub good-64 : partition s < 64
   good-64 = lt-of-lt-of-le (good-partition g) (pow-mono (six-bits m (g .mode)))
@@ -161,7 +162,8 @@ or-false false t = t
 only-zero : (q l : ℕ) → T (among q (0 ∷ [])) → q ≡ firstIn (λ (q : ℕ). 0) l (0 ∷ [])
 only-zero q l t = eqb→eq q 0 (or-false (eqb q 0) t) ∙ sym (first-only l)
 
-pub the-anchor : (s : Split) (q l : ℕ) → partition s < 64 → q < 16 → T (among q (anchors s)) → (isVector s ≡ false → subset s q ≡ l) → q ≡ anchorOf s l
+pub the-anchor : (s : Split) (q l : ℕ) → partition s < 64 → q < 16 → T (among q (anchors s)) → (isVector s ≡ false → subset s q ≡ l)
+    → q ≡ anchorOf s l
 unfolding anchorOf
 the-anchor Whole q l hp hq t e = only-zero q l t
 the-anchor (Two a) q l hp hq t e =
@@ -189,7 +191,8 @@ anchor-is s l = go s
     found sub [] = inl refl
     found sub (a ∷ rest) = here (eqb (sub a) l) (found sub rest)
       where
-        here : (b : Bool) → (firstIn sub l rest ≡ 0) ⊎ T (among (firstIn sub l rest) rest) → (pick b a (firstIn sub l rest) ≡ 0) ⊎ T (among (pick b a (firstIn sub l rest)) (a ∷ rest))
+        here : (b : Bool) → (firstIn sub l rest ≡ 0) ⊎ T (among (firstIn sub l rest) rest)
+            → (pick b a (firstIn sub l rest) ≡ 0) ⊎ T (among (pick b a (firstIn sub l rest)) (a ∷ rest))
         here true e = inr (rw (eq-eqb a a refl) tt)
         here false (inl e) = inl e
         here false (inr t) = inr (or-right (eqb (firstIn sub l rest) a) _ t)
@@ -215,9 +218,11 @@ pub anchor-lt : (s : Split) (l : ℕ) → partition s < 64 → l < 3 → anchorO
 unfolding anchorOf
 anchor-lt Whole l hp hl = rw (first-only l) (lit< tt)
 anchor-lt (Two a) l hp hl =
-    ltb→lt _ 16 (at 3 (λ l. ltb (firstIn (subset2 a) l (anchors2 a)) 16) (at 64 (λ a. below 3 (λ l. ltb (firstIn (subset2 a) l (anchors2 a)) 16)) lines-2 a hp) l hl)
+    ltb→lt _ 16 (at 3 (λ l. ltb (firstIn (subset2 a) l (anchors2 a)) 16)
+    (at 64 (λ a. below 3 (λ l. ltb (firstIn (subset2 a) l (anchors2 a)) 16)) lines-2 a hp) l hl)
 anchor-lt (Three a) l hp hl =
-    ltb→lt _ 16 (at 3 (λ l. ltb (firstIn (subset3 a) l (anchors3 a)) 16) (at 64 (λ a. below 3 (λ l. ltb (firstIn (subset3 a) l (anchors3 a)) 16)) lines-3 a hp) l hl)
+    ltb→lt _ 16 (at 3 (λ l. ltb (firstIn (subset3 a) l (anchors3 a)) 16)
+    (at 64 (λ a. below 3 (λ l. ltb (firstIn (subset3 a) l (anchors3 a)) 16)) lines-3 a hp) l hl)
 anchor-lt (Vector r i) l hp hl = rw (first-only l) (lit< tt)
 
 pub mode-le-8 : (bs : List ℕ) → modeOf bs ≤ 8

@@ -17,7 +17,7 @@ use Rattle.laws.proofs.Joining.{table-same}
 use Rattle.laws.proofs.Part.{getD-table}
 use Rattle.bcn_format.specs.Block.{field}
 use Rattle.bcn_format.specs.Drawing.{drawn, weightOf}
-use Rattle.bc7_format.specs.Lines.{arrayOf, lineAt, rotated}
+use Rattle.bc7_format.specs.Lines.{indexSetOf, lineAt, rotated}
 use Rattle.bc7_format.specs.Modes.{firstBits, indexBits}
 use Rattle.bc7_format.specs.Places.{atPlace, index, firstFrom}
 use Rattle.bc7_format.specs.Splits.{anchors, isVector, splitAt, subset}
@@ -27,7 +27,7 @@ use Rattle.bcn_format.specs.Indexes.{expanded, indexWidths, part}
 use Rattle.bc7_format.specs.Fields.{direct, directPixels, endByte}
 use Rattle.bcn_format.specs.Painting.{four, between, painted}
 use Rattle.bc7_format.proofs.Fields.{index-at}
-use Rattle.bc7_format.specs.Rotating.{merged, swapped, turned}
+use Rattle.bc7_format.specs.Rotating.{merged, swapped, mergedAndSwapped}
 
 pub part-lt : (x k q : ℕ) → part x k q < 2 ^ k
 unfolding part
@@ -52,20 +52,20 @@ indexes-at m s a n b t an ha eb ea et ex q hq = rw (ex, ← et, ← ea, ← eb) 
 flat-direct : (m : ℕ) (s : Split) (n q c : ℕ) → isVector s ≡ false
     → direct m s n q c ≡ drawn (endByte m n (2 * subset s q + 0) c) (endByte m n (2 * subset s q + 1) c)
     (weightOf (firstBits m) (atPlace m s n (index 0 q)))
-unfolding direct rotated arrayOf
+unfolding direct rotated indexSetOf
 flat-direct m Whole n q c e = refl
 flat-direct m (Two a) n q c e = refl
 flat-direct m (Three a) n q c e = refl
 flat-direct m (Vector r i) n q c e = absurd (subst T e tt)
 
 -- the colours of subset l
-abbrev pub colours : ℕ → ℕ → ℕ → ℕ → ℕ → List ℕ
-colours m n b l = between b (four (endByte m n (2 * l + 0))) (four (endByte m n (2 * l + 1)))
+abbrev pub colourBetween : ℕ → ℕ → ℕ → ℕ → ℕ → List ℕ
+colourBetween m n b l = between b (four (endByte m n (2 * l + 0))) (four (endByte m n (2 * l + 1)))
 
 -- a mode with subsets, whose pixels are looked up: each finds the colour of its subset at its index
 looked-up : (m n b : ℕ) (s : Split) (p : List (List ℕ)) → firstBits m ≡ b → splitAt m n ≡ s → isVector s ≡ false → (x : ℕ) (place : ℕ → ℕ)
     → ((q : ℕ) → q < 16 → part x b q ≡ atPlace m s n (index 0 q))
-    → ((q : ℕ) → q < 16 → getD p (place q) [] ≡ colours m n b (subset s q) (part x b q))
+    → ((q : ℕ) → q < 16 → getD p (place q) [] ≡ colourBetween m n b (subset s q) (part x b q))
     → painted place p ≡ directPixels m n
 unfolding painted directPixels between
 looked-up m n b s p eb es flat x place indexes found =
@@ -77,7 +77,7 @@ looked-up m n b s p eb es flat x place indexes found =
 
 -- a palette by keys: the colours of k subsets, that of index i and subset l at i * 2 ^ t + l
 pub record Palette (m n b k t : ℕ) (p : List (List ℕ)) : Type 0 where
-  pub at : (l i : ℕ) → l < k → i < 2 ^ b → getD p (i * 2 ^ t + l) [] ≡ colours m n b l i
+  pub at : (l i : ℕ) → l < k → i < 2 ^ b → getD p (i * 2 ^ t + l) [] ≡ colourBetween m n b l i
 
 pub keyed-law : (m n b k t : ℕ) (s : Split) {p : List (List ℕ)} → firstBits m ≡ b → splitAt m n ≡ s → isVector s ≡ false
     → ((q : ℕ) → q < 16 → subset s q < k) → Palette m n b k t p → (x : ℕ) (place : ℕ → ℕ)
@@ -93,7 +93,7 @@ module _ (m n b : ℕ) {e0 e1 : List ℕ} (p0 : e0 ≡ four (endByte m n 0)) (p1
   pub one-palette : Palette m n b 1 0 (table (2 ^ b) (between b e0 e1))
   one-palette = record { at = at }
     where
-      at : (l i : ℕ) → l < 1 → i < 2 ^ b → getD (table (2 ^ b) (between b e0 e1)) (i * 2 ^ 0 + l) [] ≡ colours m n b l i
+      at : (l i : ℕ) → l < 1 → i < 2 ^ b → getD (table (2 ^ b) (between b e0 e1)) (i * 2 ^ 0 + l) [] ≡ colourBetween m n b l i
       at zero i hl hi =
           ap (λ (j : ℕ). getD (table (2 ^ b) (between b e0 e1)) j []) (omega arith)
           ∙ getD-table (2 ^ b) (between b e0 e1) [] i hi
@@ -105,13 +105,13 @@ unfolding painted
 drawn-each b x e0 e1 = table-same [] 16 _ _ (λ q hq. sym (getD-table (2 ^ b) (between b e0 e1) [] (part x b q) (part-lt x b q)))
 
 -- rotation after colour and alpha are joined
-module _ (r : ℕ) (colors alphas : List (List ℕ)) (h : r < 4) where
+module _ (r : ℕ) (colours alphas : List (List ℕ)) (h : r < 4) where
   abbrev joint : ℕ → ℕ → ℕ
-  joint q c = getD (getD (pick (eqb c 3) alphas colors) q []) c 0
+  joint q c = getD (getD (pick (eqb c 3) alphas colours) q []) c 0
 
-  pub turned-is : swapped r (merged colors alphas) ≡ turned r colors alphas
-  unfolding swapped merged turned
-  turned-is =
+  pub merged-and-swapped-is : swapped r (merged colours alphas) ≡ mergedAndSwapped r colours alphas
+  unfolding swapped merged mergedAndSwapped
+  merged-and-swapped-is =
       table-same [] 16 (λ q. four (λ c. getD (getD (table 16 (λ q. four (joint q))) q []) (rotated r c) 0)) (λ q. four (λ c. joint q (rotated r c)))
       (λ q hq. four-ext _ _ (λ c hc.
       ap (λ (l : List ℕ). getD l (rotated r c) 0) (getD-table 16 (λ q. four (joint q)) [] q hq) ∙ four-at (joint q) (rotated r c)
@@ -126,14 +126,15 @@ module _ (m n r i : ℕ) (hr : r < 4) (es : splitAt m n ≡ Vector r i) where
   abbrev pub Picture : ℕ → List (List ℕ) → Type 0
   Picture a picture = (q : ℕ) → q < 16 → getD picture q [] ≡ four (shade a q)
 
-  pub vector-law : (colors alphas : List (List ℕ)) → Picture i colors → Picture (1 - i) alphas → swapped r (merged colors alphas) ≡ directPixels m n
-  unfolding turned directPixels direct arrayOf lineAt
-  vector-law colors alphas vector scalar =
-      turned-is r colors alphas hr
+  pub vector-law : (colours alphas : List (List ℕ)) → Picture i colours → Picture (1 - i) alphas
+      → swapped r (merged colours alphas) ≡ directPixels m n
+  unfolding mergedAndSwapped directPixels direct indexSetOf lineAt
+  vector-law colours alphas vector scalar =
+      merged-and-swapped-is r colours alphas hr
       ∙ table-same [] 16 _ _ (λ q hq. four-ext _ _ (λ c hc. one (eqb (rotated r c) 3) q (rotated r c) hq (rotated-lt r c hr hc)))
       ∙ ap (λ (s : Split). table 16 (λ q. four (direct m s n q))) (sym es)
     where
       one : (b : Bool) (q d : ℕ) → q < 16 → d < 4
-          → getD (getD (pick b alphas colors) q []) d 0 ≡ shade (arrayOf (Vector r i) (pick b 1 0)) q d
+          → getD (getD (pick b alphas colours) q []) d 0 ≡ shade (indexSetOf (Vector r i) (pick b 1 0)) q d
       one true q d hq hd = ap (λ (l : List ℕ). getD l d 0) (scalar q hq) ∙ four-at (shade (1 - i) q) d hd
       one false q d hq hd = ap (λ (l : List ℕ). getD l d 0) (vector q hq) ∙ four-at (shade i q) d hd

@@ -21,7 +21,8 @@ use Rattle.laws.proofs.Rows.{fit-table}
 use Rattle.laws.proofs.Tests.{at, both-intro, both-left, both-right}
 use Rattle.bc7_format.specs.Modes.{endpointCount, indexBits, kindOfMode, modeRow, partitionBits}
 use Rattle.bcn_format.specs.Partitions.{among, anchors2, anchors3, digits, marks, strings2, strings3}
-use Rattle.bc7_format.specs.Places.{Place, head, index, inside, listOf, pbit, placeAt, pos, value, width, widths, valuesFrom, psFrom, firstFrom, placeCount}
+use Rattle.bc7_format.specs.Places.{Place, lead, index, inside, listOf, pbit, placeAt, pos, value, width, widths, valuesFrom, psFrom, firstFrom}
+use Rattle.bc7_format.specs.Places.{placeCount}
 use Rattle.bc7_format.specs.Splits.{anchors, indexMode, kindOf, ofKind, partition, rotation}
 
 -- the places that code names are there
@@ -36,14 +37,14 @@ inside-index {a} {q} ha hq = both-intro (ltb a 2) (ltb q 16) (lt→ltb a 2 ha) (
 
 pub pos-lt : (x : Place) → T (inside x) → pos x < placeCount
 unfolding pos
-pos-lt (head k) h = omega (arith, ltb→lt k 4 h)
+pos-lt (lead k) h = omega (arith, ltb→lt k 4 h)
 pos-lt (value c e) h = omega (arith, ltb→lt c 4 (both-left (ltb c 4) (ltb e 6) h), ltb→lt e 6 (both-right (ltb c 4) (ltb e 6) h))
 pos-lt (pbit k) h = omega (arith, ltb→lt k 6 h)
 pos-lt (index a q) h = omega (arith, ltb→lt a 2 (both-left (ltb a 2) (ltb q 16) h), ltb→lt q 16 (both-right (ltb a 2) (ltb q 16) h))
 
 pub placeAt-pos : (x : Place) → T (inside x) → placeAt (pos x) ≡ x
 unfolding pos placeAt
-placeAt-pos (head k) h = rw (lt-ltb k valuesFrom (ltb→lt k 4 h))
+placeAt-pos (lead k) h = rw (lt-ltb k valuesFrom (ltb→lt k 4 h))
 placeAt-pos (value c e) h =
     let hc : c < 4 = ltb→lt c 4 (both-left (ltb c 4) (ltb e 6) h) in
     let he : e < 6 = ltb→lt e 6 (both-right (ltb c 4) (ltb e 6) h) in
@@ -109,7 +110,7 @@ length-widths m s = length-table placeCount _
 -- an anchor's width is no more than the full one
 pub width-le : (m : ℕ) (an : List ℕ) (x : Place) → width m an x ≤ width m [] x
 unfolding width
-width-le m an (head k) = le-refl _
+width-le m an (lead k) = le-refl _
 width-le m an (value c e) = le-refl _
 width-le m an (pbit k) = le-refl _
 width-le m an (index a q) = pick-less (among q an) (indexBits m a)
@@ -136,7 +137,8 @@ pub total-128 : (m : ℕ) (s : Split) → m < 8 → kindOf s ≡ kindOfMode m �
 unfolding widths
 total-128 m s hm hk hp =
     let e : anchors s ≡ anchors (ofKind (kindOfMode m) (partition s) 0 0) =
-    ap anchors (split-of-kind s) ∙ same-anchors (kindOf s) (partition s) (rotation s) (indexMode s) ∙ ap (λ (k : ℕ). anchors (ofKind k (partition s) 0 0)) hk in
+    ap anchors (split-of-kind s) ∙ same-anchors (kindOf s) (partition s) (rotation s) (indexMode s)
+    ∙ ap (λ (k : ℕ). anchors (ofKind k (partition s) 0 0)) hk in
     ap (λ (an : List ℕ). total (table placeCount (λ i. width m an (placeAt i)))) e
     ∙ eqb→eq _ 128 (at (2 ^ partitionBits m) (λ a. eqb (total (widths m (ofKind (kindOfMode m) a 0 0))) 128)
     (at 8 (λ m. below (2 ^ partitionBits m) (λ a. eqb (total (widths m (ofKind (kindOfMode m) a 0 0))) 128)) all-128 m hm) (partition s) hp)

@@ -26,7 +26,8 @@ nonzero-mode = tt
 pub open-mode : (bs : List ℕ) → Fit eights bs → getD bs 0 0 ≢ 0 → modeOf bs < 8
 unfolding modeOf
 open-mode bs (more {v = b} h f) n =
-    ltb→lt (trailing 8 b) 8 (implied (not (eqb b 0)) (ltb (trailing 8 b) 8) (at 256 (λ b. implies (not (eqb b 0)) (ltb (trailing 8 b) 8)) nonzero-mode b h)
+    ltb→lt (trailing 8 b) 8 (implied (not (eqb b 0)) (ltb (trailing 8 b) 8)
+    (at 256 (λ b. implies (not (eqb b 0)) (ltb (trailing 8 b) 8)) nonzero-mode b h)
     (subst (λ (t : Bool). T (not t)) (sym (ne-eqb b 0 n)) tt))
 
 pub reserved-mode : (bs : List ℕ) → getD bs 0 0 ≡ 0 → modeOf bs ≡ 8

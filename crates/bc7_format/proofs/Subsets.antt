@@ -48,8 +48,10 @@ three-below = tt
 
 pub subset-below : (s : Split) (q : ℕ) → partition s < 64 → q < 16 → subset s q < getD (1 ∷ 2 ∷ 3 ∷ 2 ∷ []) (kindOf s) 0
 subset-below Whole q ha hq = lit< tt
-subset-below (Two a) q ha hq = ltb→lt (subset2 a q) 2 (at 16 (λ q. ltb (subset2 a q) 2) (at 64 (λ a. below 16 (λ q. ltb (subset2 a q) 2)) two-below a ha) q hq)
-subset-below (Three a) q ha hq = ltb→lt (subset3 a q) 3 (at 16 (λ q. ltb (subset3 a q) 3) (at 64 (λ a. below 16 (λ q. ltb (subset3 a q) 3)) three-below a ha) q hq)
+subset-below (Two a) q ha hq =
+    ltb→lt (subset2 a q) 2 (at 16 (λ q. ltb (subset2 a q) 2) (at 64 (λ a. below 16 (λ q. ltb (subset2 a q) 2)) two-below a ha) q hq)
+subset-below (Three a) q ha hq =
+    ltb→lt (subset3 a q) 3 (at 16 (λ q. ltb (subset3 a q) 3) (at 64 (λ a. below 16 (λ q. ltb (subset3 a q) 3)) three-below a ha) q hq)
 subset-below (Vector r i) q ha hq = lit< tt
 
 module _ {m : ℕ} {s : Split} {f : Place → ℕ} (g : WellFormed m s f) where
@@ -65,7 +67,8 @@ module _ {m : ℕ} {s : Split} {f : Place → ℕ} (g : WellFormed m s f) where
       first true = lit< tt
       first false = lit< tt
 
-      go : (s : Split) → subset s q < getD (1 ∷ 2 ∷ 3 ∷ 2 ∷ []) (kindOf s) 0 → pick (isVector s) (pick (eqb d 3) 1 0) (subset s q) < getD (1 ∷ 2 ∷ 3 ∷ 2 ∷ []) (kindOf s) 0
+      go : (s : Split) → subset s q < getD (1 ∷ 2 ∷ 3 ∷ 2 ∷ []) (kindOf s) 0
+          → pick (isVector s) (pick (eqb d 3) 1 0) (subset s q) < getD (1 ∷ 2 ∷ 3 ∷ 2 ∷ []) (kindOf s) 0
       go Whole h = h
       go (Two a) h = h
       go (Three a) h = h

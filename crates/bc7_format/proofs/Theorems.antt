@@ -6,7 +6,7 @@ use Prim.Native.Nat.{ℕ, _^_, _<_}
 use lib.ListN.{getD, replicate}
 use Rattle.bc7_format.specs.declared.Split.{Split}
 use Rattle.laws.specs.Digits.{total}
-use Rattle.bc7_format.specs.Lines.{Line, lineBits, means, pixels, turned}
+use Rattle.bc7_format.specs.Lines.{Line, lineBits, meansStored, pixels, turned}
 use Rattle.bc7_format.specs.Modes.{kindOfMode, partitionBits}
 use Rattle.bc7_format.specs.Places.{Place, widths}
 use Rattle.bc7_format.specs.Splits.{kindOf, partition}
@@ -24,6 +24,7 @@ pub reserved-shows-nothing : (bs : List ℕ) → getD bs 0 0 ≡ 0 → pixels bs
 reserved-shows-nothing bs e = nothing-shown bs (reserved-mode bs e)
 
 -- a line turned round, its endpoints and p bits exchanged and each index i made last - i, draws the same
-pub line-turned-draws-the-same : {m : ℕ} {s : Split} {f : Place → ℕ} → WellFormed m s f → (l : ℕ) (ln : Line) (q c : ℕ) → ln .index q < 2 ^ lineBits m s l
-    → means m s l (turned (lineBits m s l) ln) q c ≡ means m s l ln q c
+pub line-turned-draws-the-same : {m : ℕ} {s : Split} {f : Place → ℕ} → WellFormed m s f → (l : ℕ) (ln : Line) (q c : ℕ)
+    → ln .index q < 2 ^ lineBits m s l
+    → meansStored m s l (turned (lineBits m s l) ln) q c ≡ meansStored m s l ln q c
 line-turned-draws-the-same {m} {s} g l ln q c h = turned-means m s l ln q c (line-bits g l .0) (line-bits g l .1) h

@@ -7,22 +7,22 @@ use Rattle.bc7_format.specs.declared.Split.{Split}
 use Rattle.laws.specs.Tables.{pick, table}
 use Rattle.bcn_format.specs.Block.{field}
 use Rattle.bcn_format.specs.Drawing.{drawn, weightOf}
-use Rattle.bc7_format.specs.Lines.{eight, arrayOf, isDrawn, lineAt, rotated}
+use Rattle.bc7_format.specs.Lines.{eight, indexSetOf, isDrawn, lineAt, rotated}
 use Rattle.bc7_format.specs.Modes.{alphaBits, channelBits, colourBits, endpointCount, indexBits, indexModeBits, partitionBits, rotationBits}
 use Rattle.bc7_format.specs.Places.{atPlace, index}
 use Rattle.bc7_format.specs.Splits.{rotation, splitAt, subset}
 use Rattle.bcn_format.specs.Painting.{four}
 
 -- the bit at which the values start, and that of channel c of endpoint e
-unfoldable pub headEnd : ℕ → ℕ
-headEnd m = suc m + partitionBits m + rotationBits m + indexModeBits m
+unfoldable pub leadEnd : ℕ → ℕ
+leadEnd m = suc m + partitionBits m + rotationBits m + indexModeBits m
 
 unfoldable pub valueStart : ℕ → ℕ → ℕ → ℕ
-valueStart m c e = headEnd m + endpointCount m * (colourBits m * c) + channelBits m c * e
+valueStart m c e = leadEnd m + endpointCount m * (colourBits m * c) + channelBits m c * e
 
 -- the bit of endpoint e's p: in mode 1 one serves both endpoints of a subset
 unfoldable pub pStart : ℕ → ℕ → ℕ
-pStart m e = headEnd m + endpointCount m * (3 * colourBits m + alphaBits m) + pick (eqb m 1) (e / 2) e
+pStart m e = leadEnd m + endpointCount m * (3 * colourBits m + alphaBits m) + pick (eqb m 1) (e / 2) e
 
 -- channel c of endpoint e as eight bits, 255 where the mode stores none
 unfoldable pub endByte : ℕ → ℕ → ℕ → ℕ → ℕ
@@ -33,7 +33,7 @@ endByte m n e c = pick (isDrawn m c) (eight m c (field n (valueStart m c e) (cha
 unfoldable pub direct : ℕ → Split → ℕ → ℕ → ℕ → ℕ
 direct m s n q c =
     let d = rotated (rotation s) c in
-    let a = arrayOf s (lineAt s q d) in
+    let a = indexSetOf s (lineAt s q d) in
     drawn (endByte m n (2 * subset s q + 0) d) (endByte m n (2 * subset s q + 1) d) (weightOf (indexBits m a) (atPlace m s n (index a q)))
 
 -- the sixteen pixels of a number in a mode

@@ -8,7 +8,7 @@ use Rattle.bc7_format.specs.declared.Split.{Split}
 use Rattle.laws.specs.Tables.{both, pick, table}
 use Rattle.bc7_format.specs.Modes.{modeOf, channelBits, indexBits, pCount}
 use Rattle.bcn_format.specs.Drawing.{drawn, weightOf, promoted}
-use Rattle.bc7_format.specs.Places.{Place, head, index, inside, opened, pbit, value, width}
+use Rattle.bc7_format.specs.Places.{Place, lead, index, inside, opened, pbit, value, width}
 use Rattle.bc7_format.specs.Splits.{anchors, indexMode, isVector, rotation, splitOf, subset}
 use Rattle.bcn_format.specs.Partitions.{firstIn}
 
@@ -21,7 +21,7 @@ pub record Line : Type 0 where
 -- the line that a place belongs to, if it has bits (9: no line). A line is a subset; of a vector and a scalar, line 0 is the
 -- vector (red, green, blue) and line 1 the scalar (alpha), and the index mode says which index set is the vector's
 abbrev pub lineOfPlace : ℕ → Split → Place → ℕ
-lineOfPlace m s (head k) = 9
+lineOfPlace m s (lead k) = 9
 lineOfPlace m s (value c e) = pick (isVector s) (pick (eqb c 3) 1 0) (e / 2)
 lineOfPlace m s (pbit k) = pick (eqb m 1) k (k / 2)
 lineOfPlace m s (index a q) = pick (isVector s) (pick (eqb a (indexMode s)) 0 1) (subset s q)
@@ -37,11 +37,11 @@ valuePlace s l k c = value c (pick (isVector s) k (2 * l + k))
 unfoldable pub pPlace : ℕ → ℕ → ℕ → Place
 pPlace m l k = pbit (pick (eqb m 1) l (2 * l + k))
 
-unfoldable pub arrayOf : Split → ℕ → ℕ
-arrayOf s l = pick (isVector s) (pick (eqb l 0) (indexMode s) (1 - indexMode s)) 0
+unfoldable pub indexSetOf : Split → ℕ → ℕ
+indexSetOf s l = pick (isVector s) (pick (eqb l 0) (indexMode s) (1 - indexMode s)) 0
 
 unfoldable pub indexPlace : Split → ℕ → ℕ → Place
-indexPlace s l q = index (arrayOf s l) q
+indexPlace s l q = index (indexSetOf s l) q
 
 -- what f has of line l at a place: 0 where the place is not the line's
 unfoldable pub own : ℕ → Split → ℕ → (Place → ℕ) → Place → ℕ
@@ -57,7 +57,7 @@ lineOf m s l f = record {
 
 -- what a line has for a place, and the places with the line l put in
 unfoldable pub laid : ℕ → Line → Place → ℕ
-laid m ln (head k) = 0
+laid m ln (lead k) = 0
 laid m ln (value c e) = ln .value (e % 2) c
 laid m ln (pbit k) = ln .p (pick (eqb m 1) 0 (k % 2))
 laid m ln (index a q) = ln .index q
@@ -67,7 +67,7 @@ withLine m s l ln f x = pick (has m s l x) (laid m ln x) (f x)
 
 -- how many bits a line's index has
 unfoldable pub lineBits : ℕ → Split → ℕ → ℕ
-lineBits m s l = indexBits m (arrayOf s l)
+lineBits m s l = indexBits m (indexSetOf s l)
 
 -- the anchor of line l
 unfoldable pub anchorOf : Split → ℕ → ℕ
@@ -86,8 +86,8 @@ unfoldable pub eight : ℕ → ℕ → ℕ → ℕ → ℕ
 eight m c v p = pick (eqb (pCount m) 0) (promoted (channelBits m c) v) (promoted (channelBits m c + 1) (v * 2 + p))
 
 -- what a line draws in channel c of pixel q, before rotation
-unfoldable pub means : ℕ → Split → ℕ → Line → ℕ → ℕ → ℕ
-means m s l ln q c =
+unfoldable pub meansStored : ℕ → Split → ℕ → Line → ℕ → ℕ → ℕ
+meansStored m s l ln q c =
     drawn (eight m c (ln .value 0 c) (ln .p 0)) (eight m c (ln .value 1 c) (ln .p 1)) (weightOf (lineBits m s l) (ln .index q))
 
 -- the channel before rotation that is shown as channel c: rotation 1, 2, 3 swaps alpha with red, green, blue
@@ -106,15 +106,15 @@ isDrawn m c = not (eqb (channelBits m c) 0)
 unfoldable pub draws : ℕ → Split → ℕ → ℕ → ℕ → Bool
 draws m s l q c = both (isDrawn m (rotated (rotation s) c)) (eqb (lineAt s q (rotated (rotation s) c)) l)
 
-unfoldable pub meant : ℕ → Split → ℕ → Line → ℕ → ℕ → ℕ
-meant m s l ln q c = means m s l ln q (rotated (rotation s) c)
+unfoldable pub meansShown : ℕ → Split → ℕ → Line → ℕ → ℕ → ℕ
+meansShown m s l ln q c = meansStored m s l ln q (rotated (rotation s) c)
 
 -- channel c of pixel q: what its line means, and 255 where the mode stores no alpha
 unfoldable pub shown : ℕ → Split → (Place → ℕ) → ℕ → ℕ → ℕ
 shown m s f q c =
     let d = rotated (rotation s) c in
     let l = lineAt s q d in
-    pick (isDrawn m d) (means m s l (lineOf m s l f) q d) 255
+    pick (isDrawn m d) (meansStored m s l (lineOf m s l f) q d) 255
 
 -- a reserved block shows 0
 unfoldable pub pixel : List ℕ → ℕ → ℕ → ℕ

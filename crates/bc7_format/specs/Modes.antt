@@ -7,7 +7,7 @@ use lib.ListN.{getD}
 use Rattle.laws.specs.Tables.{pick}
 use Rattle.bcn_format.specs.Block.{trailing}
 
-pub record Row : Type 0 where
+pub record ModeColumns : Type 0 where
   pub lines : ℕ
   -- bits of the partition, the rotation, the index mode
   pub partition : ℕ
@@ -22,23 +22,23 @@ pub record Row : Type 0 where
   pub first : ℕ
   pub second : ℕ
 
-abbrev row : ℕ → ℕ → ℕ → ℕ → ℕ → ℕ → ℕ → ℕ → ℕ → Row
-row l p r i c a b x y = record { lines = l; partition = p; rotation = r; indexMode = i; colour = c; alpha = a; ps = b; first = x; second = y }
+abbrev columns : ℕ → ℕ → ℕ → ℕ → ℕ → ℕ → ℕ → ℕ → ℕ → ModeColumns
+columns l p r i c a b x y = record { lines = l; partition = p; rotation = r; indexMode = i; colour = c; alpha = a; ps = b; first = x; second = y }
 
-unfoldable pub modeRow : ℕ → Row
+unfoldable pub modeRow : ℕ → ModeColumns
 modeRow m =
     getD
     -- lines | partition, rotation, index mode | colour, alpha | p bits | index widths
-    (row 3 4 0 0 4 0 6 3 0 ∷
-    row 2 6 0 0 6 0 2 3 0 ∷
-    row 3 6 0 0 5 0 0 2 0 ∷
-    row 2 6 0 0 7 0 4 2 0 ∷
-    row 2 0 2 1 5 6 0 2 3 ∷
-    row 2 0 2 0 7 8 0 2 2 ∷
-    row 1 0 0 0 7 7 2 4 0 ∷
-    row 2 6 0 0 5 5 4 2 0 ∷
+    (columns 3 4 0 0 4 0 6 3 0 ∷
+    columns 2 6 0 0 6 0 2 3 0 ∷
+    columns 3 6 0 0 5 0 0 2 0 ∷
+    columns 2 6 0 0 7 0 4 2 0 ∷
+    columns 2 0 2 1 5 6 0 2 3 ∷
+    columns 2 0 2 0 7 8 0 2 2 ∷
+    columns 1 0 0 0 7 7 2 4 0 ∷
+    columns 2 6 0 0 5 5 4 2 0 ∷
     [])
-    m (row 0 0 0 0 0 0 0 0 0)
+    m (columns 0 0 0 0 0 0 0 0 0)
 
 abbrev pub lines : ℕ → ℕ
 lines m = modeRow m .lines

@@ -11,17 +11,17 @@ use Rattle.laws.specs.Tables.{both, pick, table}
 use Rattle.bcn_format.specs.Block.{bytesOf, number}
 use Rattle.bc7_format.specs.Modes.{modeOf, channelBits, endpointCount, indexBits, pCount}
 use Rattle.bcn_format.specs.Partitions.{among}
-use Rattle.bc7_format.specs.Splits.{anchors, headBits, splitOf}
+use Rattle.bc7_format.specs.Splits.{anchors, leadBits, splitOf}
 
--- head 0 is the marker, 1 the partition, 2 the rotation, 3 the index mode; a value is of a channel and an endpoint, an index
+-- lead 0 is the marker, 1 the partition, 2 the rotation, 3 the index mode; a value is of a channel and an endpoint, an index
 -- of a set (0 or 1) and a pixel
 pub data Place : Type 0 where
-  head : ℕ → Place
+  lead : ℕ → Place
   value : ℕ → ℕ → Place
   pbit : ℕ → Place
   index : ℕ → ℕ → Place
 
--- where the groups start in the list of places: the values behind the four of the head, the p bits, the first and the second
+-- where the groups start in the list of places: the values behind the four of the lead, the p bits, the first and the second
 -- indexes; and how many places there are. (A record's 66 bytes have their groups there too)
 abbrev pub valuesFrom : ℕ
 valuesFrom = 4
@@ -40,7 +40,7 @@ placeCount = 66
 
 -- the places there are
 abbrev pub inside : Place → Bool
-inside (head k) = ltb k valuesFrom
+inside (lead k) = ltb k valuesFrom
 inside (value c e) = both (ltb c 4) (ltb e 6)
 inside (pbit k) = ltb k 6
 inside (index a q) = both (ltb a 2) (ltb q 16)
@@ -48,20 +48,20 @@ inside (index a q) = both (ltb a 2) (ltb q 16)
 -- the stored order: red of the endpoints 0 to 5, green, blue, alpha, the p bits, the first and the second indexes; and back
 unfoldable pub placeAt : ℕ → Place
 placeAt i =
-    pick (ltb i valuesFrom) (head i)
+    pick (ltb i valuesFrom) (lead i)
     (pick (ltb i psFrom) (value ((i - valuesFrom) / 6) ((i - valuesFrom) % 6))
     (pick (ltb i firstFrom) (pbit (i - psFrom))
     (index ((i - firstFrom) / 16) ((i - firstFrom) % 16))))
 
 unfoldable pub pos : Place → ℕ
-pos (head k) = k
+pos (lead k) = k
 pos (value c e) = valuesFrom + (6 * c + e)
 pos (pbit k) = psFrom + k
 pos (index a q) = firstFrom + (16 * a + q)
 
 -- how many bits a place has in a mode, where the pixels of `an` are anchors: an anchor's index has one bit less
 unfoldable pub width : ℕ → List ℕ → Place → ℕ
-width m an (head k) = getD (headBits m) k 0
+width m an (lead k) = getD (leadBits m) k 0
 width m an (value c e) = pick (ltb e (endpointCount m)) (channelBits m c) 0
 width m an (pbit k) = pick (ltb k (pCount m)) 1 0
 width m an (index a q) = pick (among q an) (indexBits m a - 1) (indexBits m a)

@@ -10,13 +10,13 @@ use Rattle.bcn_format.specs.Painting.{four}
 
 -- red, green and blue of the first, alpha of the second
 unfoldable pub merged : List (List ℕ) → List (List ℕ) → List (List ℕ)
-merged colors alphas = table 16 (λ q. four (λ c. getD (getD (pick (eqb c 3) alphas colors) q []) c 0))
+merged colours alphas = table 16 (λ q. four (λ c. getD (getD (pick (eqb c 3) alphas colours) q []) c 0))
 
 -- rotation 1, 2, 3 swaps alpha with red, green, blue
 unfoldable pub swapped : ℕ → List (List ℕ) → List (List ℕ)
 swapped r pixels = table 16 (λ q. four (λ c. getD (getD pixels q []) (rotated r c) 0))
 
 -- both at once: the channel before rotation decides whether colour or alpha serves
-unfoldable pub turned : ℕ → List (List ℕ) → List (List ℕ) → List (List ℕ)
-turned r colors alphas =
-    table 16 (λ q. four (λ c. let d = rotated r c in getD (getD (pick (eqb d 3) alphas colors) q []) d 0))
+unfoldable pub mergedAndSwapped : ℕ → List (List ℕ) → List (List ℕ) → List (List ℕ)
+mergedAndSwapped r colours alphas =
+    table 16 (λ q. four (λ c. let d = rotated r c in getD (getD (pick (eqb d 3) alphas colours) q []) d 0))

@@ -62,13 +62,13 @@ ofKind (suc (suc zero)) a r i = Three a
 ofKind (suc (suc (suc k))) a r i = Vector r i
 
 -- a block starts with the marker, mode + 1 bits; then come the split bits
-abbrev pub headBits : ℕ → List ℕ
-headBits m = suc m ∷ partitionBits m ∷ rotationBits m ∷ indexModeBits m ∷ []
+abbrev pub leadBits : ℕ → List ℕ
+leadBits m = suc m ∷ partitionBits m ∷ rotationBits m ∷ indexModeBits m ∷ []
 
 -- the split of a number in a mode, and of a block
 unfoldable pub splitAt : ℕ → ℕ → Split
 splitAt m n =
-    let v = split (headBits m) n in
+    let v = split (leadBits m) n in
     ofKind (kindOfMode m) (getD v 1 0) (getD v 2 0) (getD v 3 0)
 
 unfoldable pub splitOf : List ℕ → Split

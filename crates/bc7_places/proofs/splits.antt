@@ -1,4 +1,4 @@
 pub mod AnchorPixels
-pub mod Heads
+pub mod Leads
 pub mod SubsetMaps
 pub mod VectorKind

@@ -25,11 +25,11 @@ ownPixel x q = eqb (subsetIn (x .subsets) q) (x .subset)
 abbrev pub anchorIn : ℕ → ℕ → Pixels → Anchors → ℕ
 anchorIn k l x an = pick (eqb l 0) 0 (pick (eqb k 3) 0 (pick (ownPixel x (an .b)) (an .b) (an .c)))
 
-abbrev pub setOf : Split → ℕ → ℕ
-setOf Whole l = 0
-setOf (Two a) l = 0
-setOf (Three a) l = 0
-setOf (Vector r i) l = pick (eqb l i) 0 1
+abbrev pub indexSetIn : Split → ℕ → ℕ
+indexSetIn Whole l = 0
+indexSetIn (Two a) l = 0
+indexSetIn (Three a) l = 0
+indexSetIn (Vector r i) l = pick (eqb l i) 0 1
 
 -- the parts of line l, by the row of the mode
 abbrev pub partOf : ModeRow → Split → ℕ → LinePart
@@ -37,8 +37,8 @@ partOf row s l = record {
   colour = pick (eqb (row .kind) 3) (pick (eqb l 1) 0 (row .colour)) (row .colour);
   alpha = pick (eqb (row .kind) 3) (pick (eqb l 0) 0 (row .alpha)) (row .alpha);
   p = pick (eqb (row .p) 0) 0 1;
-  index = pick (eqb (setOf s l) 0) (row .first) (row .second);
-  set = setOf s l;
+  index = pick (eqb (indexSetIn s l) 0) (row .first) (row .second);
+  set = indexSetIn s l;
   anchor = anchorIn (row .kind) l (linePixels s l) (anchorsOf s);
   pixels = linePixels s l;
   anchors = anchorsOf s;

@@ -5,11 +5,12 @@ use mathlib.Core.List.{List}
 use Prim.Native.Nat.{ℕ, _<_, _≤_}
 use Rattle.bc7_places.specs.declared.modes.ModeRow.{ModeRow}
 use Rattle.bits.specs.declared.stream.BitStream.{BitStream}
-use Rattle.bc7_format.specs.Modes.{alphaBits, colourBits, endpointCount, firstBits, indexModeBits, kindOfMode, lines, modeOf, pCount, partitionBits, rotationBits, secondBits}
+use Rattle.bc7_format.specs.Modes.{alphaBits, colourBits, endpointCount, firstBits, indexModeBits, kindOfMode, lines, modeOf, pCount, partitionBits}
+use Rattle.bc7_format.specs.Modes.{rotationBits, secondBits}
 
 -- a row, its columns in the order of the struct
-abbrev pub rowAs : ℕ → ℕ → ℕ → ℕ → ℕ → ℕ → ℕ → ℕ → ℕ → ℕ → ℕ → ModeRow
-rowAs l k e p r i c a b x y = record {
+abbrev pub modeRowAs : ℕ → ℕ → ℕ → ℕ → ℕ → ℕ → ℕ → ℕ → ℕ → ℕ → ℕ → ModeRow
+modeRowAs l k e p r i c a b x y = record {
   lines = l;
   kind = k;
   endpoints = e;
@@ -23,27 +24,27 @@ rowAs l k e p r i c a b x y = record {
   second = y;
 }
 
-abbrev pub rowOf : ℕ → ModeRow
-rowOf m =
-    rowAs (lines m) (kindOfMode m) (endpointCount m) (partitionBits m) (rotationBits m) (indexModeBits m) (colourBits m) (alphaBits m) (pCount m)
+abbrev pub modeRowOf : ℕ → ModeRow
+modeRowOf m =
+    modeRowAs (lines m) (kindOfMode m) (endpointCount m) (partitionBits m) (rotationBits m) (indexModeBits m) (colourBits m) (alphaBits m) (pCount m)
     (firstBits m) (secondBits m)
 
 -- the row of one of the eight modes
 pub record OfMode (row : ModeRow) : Type 0 where
   pub mode : ℕ
   pub low : mode < 8
-  pub is : row ≡ rowOf mode
+  pub is : row ≡ modeRowOf mode
 
 -- a mode and its row
 pub record IsRow (mode : ℕ) (row : ModeRow) : Type 0 where
   pub low : mode < 8
-  pub is : row ≡ rowOf mode
+  pub is : row ≡ modeRowOf mode
 
 -- the mode of a block that is not reserved, and its row
 pub record OfBlock (bs : List ℕ) (mode : ℕ) (row : ModeRow) : Type 0 where
   pub mode-is : mode ≡ modeOf bs
   pub low : mode < 8
-  pub row-is : row ≡ rowOf mode
+  pub row-is : row ≡ modeRowOf mode
 
 -- the row of a mode, and a stream that stands within its block
 pub record RowAt (row : ModeRow) (s : BitStream) : Type 0 where

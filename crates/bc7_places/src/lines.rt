@@ -4,7 +4,7 @@ ghost use Prim.Native.Nat.{_≤_, _<_};
 ghost use lib.Dec.{eqb};
 ghost use Rattle.laws.specs.Tables.{pick};
 ghost use Rattle.bc7_format.specs.Splits.{partition as partitionOf};
-ghost use Rattle.bc7_places.specs.Lines.{OfLine, anchorIn, linePixels, ownPixel, partOf, setOf};
+ghost use Rattle.bc7_places.specs.Lines.{OfLine, anchorIn, linePixels, ownPixel, partOf, indexSetIn};
 use crate::modes::ModeRow;
 use crate::splits::Anchors;
 use crate::splits::Subsets;
@@ -71,8 +71,8 @@ pub fn anchor(kind: u8, line: u32, pixels: Pixels, anchors: Anchors) -> usize
 }
 
 // The index set of a line: the index mode is the number of the vector's.
-pub fn set_of(split: Split, line: u32) -> usize
-    ensures { λ r. ⌜ r ≡ setOf split line ⌝ }
+pub fn index_set_in(split: Split, line: u32) -> usize
+    ensures { λ r. ⌜ r ≡ indexSetIn split line ⌝ }
 {
     match split {
         Split::Whole => 0,
@@ -123,7 +123,7 @@ pub fn line_part(row: ModeRow, split: Split, line: u32) -> LinePart
     requires { ⌜ OfLine row split line ⌝ }
     ensures { λ r. ⌜ r ≡ partOf row split line ⌝ }
 {
-    let set = set_of(split, line);
+    let set = index_set_in(split, line);
     let pixels = pixels_of(split, line);
     let anchors = anchors_of(split);
     LinePart {

@@ -2,7 +2,7 @@
 ghost use mathlib.Core.Path.{_≡_};
 ghost use Prim.Native.Nat.{_<_};
 ghost use Rattle.bc7_format.specs.Modes.{modeOf};
-ghost use Rattle.bc7_places.specs.Modes.{rowAs, rowOf};
+ghost use Rattle.bc7_places.specs.Modes.{modeRowAs, modeRowOf};
 
 // A row of the table. The kind of split: 0 whole, 1 two subsets, 2 three subsets, 3 vector and scalar.
 pub struct ModeRow {
@@ -20,7 +20,7 @@ pub struct ModeRow {
 }
 
 // A row, its columns in the order of the struct.
-fn row(
+fn columns(
     lines: u32,
     kind: u8,
     endpoints: usize,
@@ -33,7 +33,7 @@ fn row(
     first: u32,
     second: u32,
 ) -> ModeRow
-    ensures { λ r. ⌜ r ≡ rowAs lines kind endpoints «partition» rotation «index_mode» colour alpha p first second ⌝ }
+    ensures { λ r. ⌜ r ≡ modeRowAs lines kind endpoints «partition» rotation «index_mode» colour alpha p first second ⌝ }
 {
     ModeRow {
         lines: lines,
@@ -53,18 +53,18 @@ fn row(
 // The row of a mode. A `match` becomes a table in the program, where a constant array would be laid on the stack at each call.
 pub fn mode_row(mode: u8) -> ModeRow
     requires { ⌜ mode < 8 ⌝ }
-    ensures { λ r. ⌜ r ≡ rowOf mode ⌝ }
+    ensures { λ r. ⌜ r ≡ modeRowOf mode ⌝ }
 {
     match mode {
         // lines, kind, endpoints | partition, rotation, index mode | colour, alpha | p bits | index widths
-        0 => row(3, 2, 6, 4, 0, 0, 4, 0, 6, 3, 0),
-        1 => row(2, 1, 4, 6, 0, 0, 6, 0, 2, 3, 0),
-        2 => row(3, 2, 6, 6, 0, 0, 5, 0, 0, 2, 0),
-        3 => row(2, 1, 4, 6, 0, 0, 7, 0, 4, 2, 0),
-        4 => row(2, 3, 2, 0, 2, 1, 5, 6, 0, 2, 3),
-        5 => row(2, 3, 2, 0, 2, 0, 7, 8, 0, 2, 2),
-        6 => row(1, 0, 2, 0, 0, 0, 7, 7, 2, 4, 0),
-        _ => row(2, 1, 4, 6, 0, 0, 5, 5, 4, 2, 0),
+        0 => columns(3, 2, 6, 4, 0, 0, 4, 0, 6, 3, 0),
+        1 => columns(2, 1, 4, 6, 0, 0, 6, 0, 2, 3, 0),
+        2 => columns(3, 2, 6, 6, 0, 0, 5, 0, 0, 2, 0),
+        3 => columns(2, 1, 4, 6, 0, 0, 7, 0, 4, 2, 0),
+        4 => columns(2, 3, 2, 0, 2, 1, 5, 6, 0, 2, 3),
+        5 => columns(2, 3, 2, 0, 2, 0, 7, 8, 0, 2, 2),
+        6 => columns(1, 0, 2, 0, 0, 0, 7, 7, 2, 4, 0),
+        _ => columns(2, 1, 4, 6, 0, 0, 5, 5, 4, 2, 0),
     }
 }
 

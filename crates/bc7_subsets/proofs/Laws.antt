@@ -27,9 +27,9 @@ use Rattle.bcn_format.proofs.Expanding.{size-2, size-3}
 use Rattle.bc7_format.specs.Fields.{directPixels}
 use Rattle.bcn_format.specs.Painting.{painted}
 use Rattle.bc7_format.proofs.Pictures.{Palette, indexes-at, keyed-law}
-use Rattle.partitions.specs.Sets.{anchorIn2, secondIn3, set2, set3, thirdIn3}
+use Rattle.partitions.specs.Sets.{anchorIn2, secondIn3, partitionWord2, partitionWord3, thirdIn3}
 use Rattle.partitions.proofs.Maps.{anchors-in2, anchors-in3}
-use Rattle.partitions.proofs.SetWords.{anchor-of2, second-of3, subset-of2, subset-of3, third-of3}
+use Rattle.partitions.proofs.PartitionWords.{anchor-of2, second-of3, subset-of2, subset-of3, third-of3}
 use Rattle.drawing.specs.declared.keys.Keys.{Keys}
 use Rattle.drawing.specs.Keys.{keyAt, keysOf}
 use Rattle.drawing.proofs.keys.KeyWords.{key-at}
@@ -59,7 +59,7 @@ pub record Fixes3 (id a b : ℕ) : Type 0 where
 
 -- the word of a partition: its map, and its anchors behind pixel 0
 module _ {w id set : ℕ} (hid : id < 64) (most : w ≤ 3) where
-  module _ (least : 1 ≤ w) (e : set ≡ set2 w id) where
+  module _ (least : 1 ≤ w) (e : set ≡ partitionWord2 w id) where
     pub maps-2 : Maps w (subset2 id) set
     unfolding part
     maps-2 = record { at = λ q hq. rw e (subset-of2 w id hid most least q hq) }
@@ -69,7 +69,7 @@ module _ {w id set : ℕ} (hid : id < 64) (most : w ≤ 3) where
         let a = anchors-in2 id hid in
         rw (e, anchor-of2 w id hid most least) (record { are = a .are; above = a .above; last = a .last })
 
-  module _ (least : 2 ≤ w) (e : set ≡ set3 w id) where
+  module _ (least : 2 ≤ w) (e : set ≡ partitionWord3 w id) where
     pub maps-3 : Maps w (subset3 id) set
     unfolding part
     maps-3 = record { at = λ q hq. rw e (subset-of3 w id hid most least q hq) }
@@ -96,14 +96,14 @@ module _ (m n b : ℕ) (hm : m < 8) (eb : firstBits m ≡ b) (least : 2 ≤ b) (
       ∙ ap (λ (l : ℕ). part x b q * 2 ^ t + l) (maps .at q hq))
       (indexes-at m s 0 n b c an (omega arith) eb ea et (ex ∙ first))
 
-  pub two-keys : splitAt m n ≡ Two id → set ≡ set2 b id → x ≡ expanded b (0 ∷ anchorIn2 set ∷ []) (nextBits stream (16 * b - 2))
+  pub two-keys : splitAt m n ≡ Two id → set ≡ partitionWord2 b id → x ≡ expanded b (0 ∷ anchorIn2 set ∷ []) (nextBits stream (16 * b - 2))
       → keys ≡ keysOf b 1 x set → Palette m n b 2 1 p → picture ≡ painted (keyAt b 1 keys) p → picture ≡ directPixels m n
   two-keys es e =
       let fixes : Fixes2 id (anchorIn2 set) = fixes-2 hid most (omega arith) e in
       by-keys (Two id) 2 1 (16 * b - 2) (0 ∷ anchorIn2 set ∷ []) es refl (λ q. subset-below (Two id) q hid) (omega arith) (omega arith)
       (fixes .are) (size-2 b (anchorIn2 set) (omega arith) (fixes .above) (fixes .last)) (maps-2 hid most (omega arith) e)
 
-  pub three-keys : splitAt m n ≡ Three id → set ≡ set3 b id
+  pub three-keys : splitAt m n ≡ Three id → set ≡ partitionWord3 b id
       → x ≡ expanded b (0 ∷ secondIn3 set ∷ thirdIn3 set ∷ []) (nextBits stream (16 * b - 3))
       → keys ≡ keysOf b 2 x set → Palette m n b 3 2 p → picture ≡ painted (keyAt b 2 keys) p → picture ≡ directPixels m n
   three-keys es e =

@@ -11,31 +11,31 @@ use Rattle.laws.specs.Tables.{pick, table}
 use Rattle.laws.proofs.Part.{getD-table}
 use Rattle.bcn_format.specs.Painting.{between, four}
 use Rattle.bc7_format.specs.Fields.{endByte}
-use Rattle.bc7_format.proofs.Ends.{Shown}
-use Rattle.bc7_format.proofs.Pictures.{colours, four-ext, Palette}
-use Rattle.drawing.specs.declared.color.Ends.{Ends}
-use Rattle.drawing.specs.declared.color.Stored.{Stored}
+use Rattle.bc7_format.proofs.Ends.{EndsShown}
+use Rattle.bc7_format.proofs.Pictures.{colourBetween, four-ext, Palette}
+use Rattle.drawing.specs.declared.colour.Ends.{Ends}
+use Rattle.drawing.specs.declared.colour.Stored.{Stored}
 use Rattle.drawing.specs.Words.{endpoint, Holds}
-use Rattle.drawing.proofs.color.Words.{endpoint-of}
-use Rattle.drawing.specs.Colors.{endpoints, keyed}
+use Rattle.drawing.proofs.colour.Words.{endpoint-of}
+use Rattle.drawing.specs.Colours.{endpoints, keyed}
 use Rattle.drawing.proofs.palette.Keyed.{keyed-at}
 
 module _ (m n b : ℕ) where
   ends-shown : (g : Stored → ℕ → ℕ → ℕ) (x y : Stored) {e : Ends} → Holds (λ l. g (pick (eqb l 0) x y)) e → (l j : ℕ) → l < 2
-      → Shown m n j (g (pick (eqb l 0) x y)) → (k : ℕ) → k < 2
+      → EndsShown m n j (g (pick (eqb l 0) x y)) → (k : ℕ) → k < 2
       → endpoint e l k ≡ four (endByte m n (2 * j + k))
   ends-shown g x y {e} h l j hl shows k hk =
       ap (λ (e : Ends). endpoint e l k) (h .same) ∙ endpoint-of _ (h .each) l k hl hk ∙ four-ext _ _ (λ c hc. shows k c hk hc)
 
   palette-at : (t : ℕ) (ends : ℕ → ℕ → List ℕ) (l i : ℕ) → l < t → i < 2 ^ b → ((k : ℕ) → k < 2 → ends l k ≡ four (endByte m n (2 * l + k)))
-      → getD (table (t * 2 ^ b) (keyed b t ends)) (t * i + l) [] ≡ colours m n b l i
+      → getD (table (t * 2 ^ b) (keyed b t ends)) (t * i + l) [] ≡ colourBetween m n b l i
   palette-at t ends l i hl hi are =
       getD-table (t * 2 ^ b) (keyed b t ends) [] (t * i + l) (omega (arith, mul-le-mul-left t hi, mul-suc t i))
       ∙ keyed-at b t ends i l hl
       ∙ ap₂ (λ (p q : List ℕ). between b p q i) (are 0 (omega arith)) (are 1 (omega arith))
 
-  module _ (g : Stored → ℕ → ℕ → ℕ) (x y : Stored) {e : Ends} (holds : Holds (λ l. g (pick (eqb l 0) x y)) e) (first : Shown m n 0 (g x))
-      (second : Shown m n 1 (g y)) where
+  module _ (g : Stored → ℕ → ℕ → ℕ) (x y : Stored) {e : Ends} (holds : Holds (λ l. g (pick (eqb l 0) x y)) e) (first : EndsShown m n 0 (g x))
+      (second : EndsShown m n 1 (g y)) where
     ends-2 : (l : ℕ) → l < 2 → (k : ℕ) → k < 2 → endpoint e l k ≡ four (endByte m n (2 * l + k))
     ends-2 zero hl = ends-shown g x y holds 0 0 hl first
     ends-2 (suc zero) hl = ends-shown g x y holds 1 1 hl second
@@ -48,7 +48,7 @@ module _ (m n b : ℕ) where
               (palette-at 2 (endpoint e) l i hl hi (ends-2 l hl));
         }
 
-    module _ (z w : Stored) {f : Ends} (more-held : Holds (λ l. g (pick (eqb l 0) z w)) f) (third : Shown m n 2 (g z)) where
+    module _ (z w : Stored) {f : Ends} (more-held : Holds (λ l. g (pick (eqb l 0) z w)) f) (third : EndsShown m n 2 (g z)) where
       ends-3 : (l : ℕ) → l < 3 → (k : ℕ) → k < 2 → endpoints e f l k ≡ four (endByte m n (2 * l + k))
       unfolding endpoints
       ends-3 zero hl = ends-2 0 (omega arith)

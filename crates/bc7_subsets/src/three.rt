@@ -12,9 +12,9 @@ ghost use Rattle.bc7_format.specs.Fields.{directPixels};
 ghost use Rattle.partitions.specs.Sets.{secondIn3, thirdIn3};
 use crate::extract_partition_set_id;
 use bits::stream::BitStream;
-use drawing::color::Stored;
-use drawing::color::opaque;
-use drawing::color::opaque_p;
+use drawing::colour::Stored;
+use drawing::colour::opaque;
+use drawing::colour::opaque_p;
 use drawing::keys::keys_2;
 use drawing::keys::keys_3;
 use drawing::keys::paint_3_3;
@@ -22,8 +22,8 @@ use drawing::keys::paint_4;
 use drawing::palette::palette_3_2;
 use drawing::palette::palette_3_3;
 use indexes::Indexes;
-use partitions::sets::set_3_2;
-use partitions::sets::set_3_3;
+use partitions::sets::partition_word_3_2;
+use partitions::sets::partition_word_3_3;
 
 // The mode's number is the Rust's constant parameter. The stream stands at the marker, which each arm skips, so that positions are
 // literals; and the decoder calls this at one place, so that the compiler folds the `match` into its own.
@@ -55,7 +55,7 @@ fn mode_0(stream: BitStream) -> [[u8; 4]; 16]
     ensures { λ r. ⌜ r ≡ directPixels 0 (held stream) ⌝ }
 {
     let id = extract_partition_set_id(0, stream);
-    let set = set_3_3(id.value);
+    let set = partition_word_3_3(id.value);
     let r = id.stream.consume_2(8);
     let r3 = r.stream.take(8);
     let g = r3.stream.consume_2(8);
@@ -92,9 +92,9 @@ fn mode_0(stream: BitStream) -> [[u8; 4]; 16]
         a: 0,
         p: 0,
     };
-    let colors = palette_3_3(opaque_p(first, second, 4), opaque_p(third, none, 4));
+    let colours = palette_3_3(opaque_p(first, second, 4), opaque_p(third, none, 4));
     let x = indexes_3(3, p3.stream, set);
-    paint_3_3(colors, keys_3(x, 2, set))
+    paint_3_3(colours, keys_3(x, 2, set))
 }
 
 // All 64 partitions, no p bits.
@@ -103,7 +103,7 @@ fn mode_2(stream: BitStream) -> [[u8; 4]; 16]
     ensures { λ r. ⌜ r ≡ directPixels 2 (held stream) ⌝ }
 {
     let id = extract_partition_set_id(2, stream);
-    let set = set_3_2(id.value);
+    let set = partition_word_3_2(id.value);
     let r = id.stream.consume_2(10);
     let r3 = r.stream.take(10);
     let g = r3.stream.consume_2(10);
@@ -138,7 +138,7 @@ fn mode_2(stream: BitStream) -> [[u8; 4]; 16]
         a: 0,
         p: 0,
     };
-    let colors = palette_3_2(opaque(first, second, 5), opaque(third, none, 5));
+    let colours = palette_3_2(opaque(first, second, 5), opaque(third, none, 5));
     let x = indexes_3(2, b3.stream, set);
-    paint_4(colors, keys_2(x, 2, set))
+    paint_4(colours, keys_2(x, 2, set))
 }

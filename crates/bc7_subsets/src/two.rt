@@ -11,9 +11,9 @@ ghost use Rattle.bc7_format.specs.Fields.{directPixels};
 ghost use Rattle.partitions.specs.Sets.{anchorIn2};
 use crate::extract_partition_set_id;
 use bits::stream::BitStream;
-use drawing::color::Stored;
-use drawing::color::clear_p;
-use drawing::color::opaque_p;
+use drawing::colour::Stored;
+use drawing::colour::opaque_p;
+use drawing::colour::translucent_p;
 use drawing::keys::keys_2;
 use drawing::keys::keys_3;
 use drawing::keys::paint_2_2;
@@ -21,8 +21,8 @@ use drawing::keys::paint_2_3;
 use drawing::palette::palette_2_2;
 use drawing::palette::palette_2_3;
 use indexes::Indexes;
-use partitions::sets::set_2_2;
-use partitions::sets::set_2_3;
+use partitions::sets::partition_word_2_2;
+use partitions::sets::partition_word_2_3;
 
 // The mode's number is the Rust's constant parameter. The stream stands at the marker, which each arm skips, so that positions are
 // literals; and the decoder calls this at one place, so that the compiler folds the `match` into its own.
@@ -53,7 +53,7 @@ fn mode_1(stream: BitStream) -> [[u8; 4]; 16]
     ensures { λ r. ⌜ r ≡ directPixels 1 (held stream) ⌝ }
 {
     let id = extract_partition_set_id(1, stream);
-    let set = set_2_3(id.value);
+    let set = partition_word_2_3(id.value);
     let r = id.stream.consume_2(12);
     let g = r.stream.consume_2(12);
     let b = g.stream.consume_2(12);
@@ -72,9 +72,9 @@ fn mode_1(stream: BitStream) -> [[u8; 4]; 16]
         a: 0,
         p: 3 * p.second,
     };
-    let colors = palette_2_3(opaque_p(first, second, 6));
+    let colours = palette_2_3(opaque_p(first, second, 6));
     let x = indexes_2(3, p.stream, set);
-    paint_2_3(colors, keys_3(x, 1, set))
+    paint_2_3(colours, keys_3(x, 1, set))
 }
 
 // A p bit for each endpoint.
@@ -83,7 +83,7 @@ fn mode_3(stream: BitStream) -> [[u8; 4]; 16]
     ensures { λ r. ⌜ r ≡ directPixels 3 (held stream) ⌝ }
 {
     let id = extract_partition_set_id(3, stream);
-    let set = set_2_2(id.value);
+    let set = partition_word_2_2(id.value);
     let r = id.stream.consume_2(14);
     let g = r.stream.consume_2(14);
     let b = g.stream.consume_2(14);
@@ -102,9 +102,9 @@ fn mode_3(stream: BitStream) -> [[u8; 4]; 16]
         a: 0,
         p: p.second,
     };
-    let colors = palette_2_2(opaque_p(first, second, 7));
+    let colours = palette_2_2(opaque_p(first, second, 7));
     let x = indexes_2(2, p.stream, set);
-    paint_2_2(colors, keys_2(x, 1, set))
+    paint_2_2(colours, keys_2(x, 1, set))
 }
 
 // The only one of the three that stores alpha.
@@ -113,7 +113,7 @@ fn mode_7(stream: BitStream) -> [[u8; 4]; 16]
     ensures { λ r. ⌜ r ≡ directPixels 7 (held stream) ⌝ }
 {
     let id = extract_partition_set_id(7, stream);
-    let set = set_2_2(id.value);
+    let set = partition_word_2_2(id.value);
     let r = id.stream.consume_2(10);
     let g = r.stream.consume_2(10);
     let b = g.stream.consume_2(10);
@@ -133,7 +133,7 @@ fn mode_7(stream: BitStream) -> [[u8; 4]; 16]
         a: a.second,
         p: p.second,
     };
-    let colors = palette_2_2(clear_p(first, second, 5));
+    let colours = palette_2_2(translucent_p(first, second, 5));
     let x = indexes_2(2, p.stream, set);
-    paint_2_2(colors, keys_2(x, 1, set))
+    paint_2_2(colours, keys_2(x, 1, set))
 }

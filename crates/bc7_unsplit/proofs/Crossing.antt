@@ -20,9 +20,9 @@ use Rattle.laws.proofs.Rows.{split-mod}
 use Rattle.bcn_format.specs.Drawing.{weightOf}
 use Rattle.bcn_format.proofs.Drawing.{drawn-lt, weight-le}
 use Rattle.bcn_format.specs.Painting.{between}
-use Rattle.drawing.specs.declared.color.Ends.{Ends}
+use Rattle.drawing.specs.declared.colour.Ends.{Ends}
 use Rattle.drawing.specs.Words.{Alone, endpoint, wordBytes}
-use Rattle.drawing.specs.Colors.{shade}
+use Rattle.drawing.specs.Colours.{shade}
 use Rattle.drawing.proofs.palette.Keyed.{shade-is}
 use Rattle.bc7_unsplit.specs.Crossing.{crossed, kept, keptWord}
 
@@ -30,9 +30,9 @@ use Rattle.bc7_unsplit.specs.Crossing.{crossed, kept, keptWord}
 byte-stays : (v : ℕ) → bitAnd (v % 2 ^ 8) 255 ≡ v % 2 ^ 8
 byte-stays v = and-mask (v % 2 ^ 8) 8 ∙ mod-mod v (2 ^ 8)
 
-pub keep-color : (x : ℕ) → wordBytes (bitAnd x 0x00FF_FFFF_00FF_FFFF) ≡ kept true (take 4 (wordBytes x)) ++ kept true (drop 4 (wordBytes x))
+pub keep-colour : (x : ℕ) → wordBytes (bitAnd x 0x00FF_FFFF_00FF_FFFF) ≡ kept true (take 4 (wordBytes x)) ++ kept true (drop 4 (wordBytes x))
 unfolding wordBytes kept
-keep-color x =
+keep-colour x =
     split-and (replicate 8 8) x 0x00FF_FFFF_00FF_FFFF
     ∙ simp (byte-stays, and-zero-r)
 
@@ -78,33 +78,33 @@ module _ (b k : ℕ) (least : 2 ≤ b) (most : b ≤ 4) (below : 2 * k + 1 < 2 ^
       (shade-is b (2 * k + 1) least most below (pair .high) e 0)
 
 -- words of colours of which a part is kept
-take-kept : (color : Bool) (l m : List ℕ) → take 4 (kept color l ++ m) ≡ kept color l
+take-kept : (colour : Bool) (l m : List ℕ) → take 4 (kept colour l ++ m) ≡ kept colour l
 unfolding kept
 take-kept true l m = refl
 take-kept false l m = refl
 
-drop-kept : (color : Bool) (l m : List ℕ) → drop 4 (kept color l ++ m) ≡ m
+drop-kept : (colour : Bool) (l m : List ℕ) → drop 4 (kept colour l ++ m) ≡ m
 unfolding kept
 drop-kept true l m = refl
 drop-kept false l m = refl
 
-module _ (color : Bool) (b j k : ℕ) (e0 e1 : List ℕ) {bytes all : List ℕ} (two : all ≡ between b e0 e1 j ++ between b e0 e1 k)
-    (part : bytes ≡ kept color (take 4 all) ++ kept color (drop 4 all)) where
-  pub both-kept : bytes ≡ kept color (between b e0 e1 j) ++ kept color (between b e0 e1 k)
+module _ (colour : Bool) (b j k : ℕ) (e0 e1 : List ℕ) {bytes all : List ℕ} (two : all ≡ between b e0 e1 j ++ between b e0 e1 k)
+    (part : bytes ≡ kept colour (take 4 all) ++ kept colour (drop 4 all)) where
+  pub both-kept : bytes ≡ kept colour (between b e0 e1 j) ++ kept colour (between b e0 e1 k)
   unfolding between
-  both-kept = part ∙ ap (λ (l : List ℕ). kept color (take 4 l) ++ kept color (drop 4 l)) two
+  both-kept = part ∙ ap (λ (l : List ℕ). kept colour (take 4 l) ++ kept colour (drop 4 l)) two
 
-  pub low-kept : {w : ℕ} → w ≡ join (replicate 4 8) (take 4 bytes) → w ≡ keptWord color (between b e0 e1 j)
+  pub low-kept : {w : ℕ} → w ≡ join (replicate 4 8) (take 4 bytes) → w ≡ keptWord colour (between b e0 e1 j)
   unfolding keptWord
   low-kept e =
       e ∙ ap (λ (l : List ℕ). join (replicate 4 8) (take 4 l)) both-kept
-      ∙ ap (join (replicate 4 8)) (take-kept color (between b e0 e1 j) (kept color (between b e0 e1 k)))
+      ∙ ap (join (replicate 4 8)) (take-kept colour (between b e0 e1 j) (kept colour (between b e0 e1 k)))
 
-  pub high-kept : {w : ℕ} → w ≡ join (replicate 4 8) (drop 4 bytes) → w ≡ keptWord color (between b e0 e1 k)
+  pub high-kept : {w : ℕ} → w ≡ join (replicate 4 8) (drop 4 bytes) → w ≡ keptWord colour (between b e0 e1 k)
   unfolding keptWord
   high-kept e =
       e ∙ ap (λ (l : List ℕ). join (replicate 4 8) (drop 4 l)) both-kept
-      ∙ ap (join (replicate 4 8)) (drop-kept color (between b e0 e1 j) (kept color (between b e0 e1 k)))
+      ∙ ap (join (replicate 4 8)) (drop-kept colour (between b e0 e1 j) (kept colour (between b e0 e1 k)))
 
 -- colours between two endpoints are bytes
 pub between-fits : (b k : ℕ) (e : Ends) → Alone e → 2 ≤ b → b ≤ 4 → k < 2 ^ b → Fit (replicate 4 8) (between b (endpoint e 0 0) (endpoint e 0 1) k)
@@ -133,40 +133,40 @@ module _ {l a : List ℕ} (fl : Fit (replicate 4 8) l) (fa : Fit (replicate 4 8)
   unfolding wordBytes
   sum-bytes = ap (split (replicate 4 8)) sum-is ∙ split-join crossed-fits
 
-abbrev Colors : List ℕ
-Colors = 8 ∷ 8 ∷ 8 ∷ 0 ∷ 8 ∷ 8 ∷ 8 ∷ 0 ∷ []
+abbrev Colours : List ℕ
+Colours = 8 ∷ 8 ∷ 8 ∷ 0 ∷ 8 ∷ 8 ∷ 8 ∷ 0 ∷ []
 
 abbrev Alpha : List ℕ
 Alpha = 0 ∷ 0 ∷ 0 ∷ 8 ∷ []
 
-sums : {bs cs : List ℕ} → Fit Colors bs → Fit Alpha cs
+sums : {bs cs : List ℕ} → Fit Colours bs → Fit Alpha cs
     → join (replicate 8 8) bs + join (replicate 4 8) cs * 0x0001_0000_0001 ≡ join (replicate 8 8) (crossed (take 4 bs) cs ++ crossed (drop 4 bs) cs)
 unfolding crossed
 sums (more h0 (more h1 (more h2 (more h3 (more h4 (more h5 (more h6 (more h7 none)))))))) (more k0 (more k1 (more k2 (more k3 none)))) = omega arith
 
-sums-fit : {bs cs : List ℕ} → Fit Colors bs → Fit Alpha cs → Fit (replicate 8 8) (crossed (take 4 bs) cs ++ crossed (drop 4 bs) cs)
+sums-fit : {bs cs : List ℕ} → Fit Colours bs → Fit Alpha cs → Fit (replicate 8 8) (crossed (take 4 bs) cs ++ crossed (drop 4 bs) cs)
 unfolding crossed
 sums-fit (more h0 (more h1 (more h2 (more h3 (more h4 (more h5 (more h6 (more h7 none)))))))) (more k0 (more k1 (more k2 (more k3 none)))) =
     more h0 (more h1 (more h2 (more k3 (more h4 (more h5 (more h6 (more k3 none)))))))
 
-module _ {x a : ℕ} (hx : x < 2 ^ 64) (ha : a < 2 ^ 32) (colors : Fit Colors (wordBytes x)) (alpha : Fit Alpha (take 4 (wordBytes a))) where
+module _ {x a : ℕ} (hx : x < 2 ^ 64) (ha : a < 2 ^ 32) (colours : Fit Colours (wordBytes x)) (alpha : Fit Alpha (take 4 (wordBytes a))) where
   whole : x + a * 0x0001_0000_0001
       ≡ join (replicate 8 8) (crossed (take 4 (wordBytes x)) (take 4 (wordBytes a)) ++ crossed (drop 4 (wordBytes x)) (take 4 (wordBytes a)))
   unfolding wordBytes
   whole =
       ap₂ (λ (u v : ℕ). u + v * 0x0001_0000_0001) (sym (join-split (replicate 8 8) x hx)) (sym (mod-eq-of-lt ha) ∙ low-half a)
-      ∙ sums colors alpha
+      ∙ sums colours alpha
 
   pub alphas-fit : x + a * 0x0001_0000_0001 < 2 ^ 64
-  alphas-fit = rw whole (join-lt (sums-fit colors alpha))
+  alphas-fit = rw whole (join-lt (sums-fit colours alpha))
 
   pub alphas-bytes : wordBytes (x + a * 0x0001_0000_0001)
       ≡ crossed (take 4 (wordBytes x)) (take 4 (wordBytes a)) ++ crossed (drop 4 (wordBytes x)) (take 4 (wordBytes a))
   unfolding wordBytes
-  alphas-bytes = ap (split (replicate 8 8)) whole ∙ split-join (sums-fit colors alpha)
+  alphas-bytes = ap (split (replicate 8 8)) whole ∙ split-join (sums-fit colours alpha)
 
 -- what is kept of bytes
-two-kept : {bs cs : List ℕ} → Fit (replicate 4 8) bs → Fit (replicate 4 8) cs → Fit Colors (kept true bs ++ kept true cs)
+two-kept : {bs cs : List ℕ} → Fit (replicate 4 8) bs → Fit (replicate 4 8) cs → Fit Colours (kept true bs ++ kept true cs)
 unfolding kept
 two-kept f g =
     more (fit-get f 0) (more (fit-get f 1) (more (fit-get f 2) (more {w = 0} (pow-pos 0)
@@ -181,14 +181,14 @@ unfolding kept
 kept-bytes f = more {w = 8} (pow-pos 8) (more {w = 8} (pow-pos 8) (more {w = 8} (pow-pos 8) (more (fit-get f 3) none)))
 
 -- all pairs: colour i % 4 of two words that have two each, with alpha i / 4 of four words
-abbrev pub colorAt : ℕ → ℕ → ℕ → List ℕ
-colorAt low high k = getD (take 4 (wordBytes low) ∷ drop 4 (wordBytes low) ∷ take 4 (wordBytes high) ∷ drop 4 (wordBytes high) ∷ []) k []
+abbrev pub colourAt : ℕ → ℕ → ℕ → List ℕ
+colourAt low high k = getD (take 4 (wordBytes low) ∷ drop 4 (wordBytes low) ∷ take 4 (wordBytes high) ∷ drop 4 (wordBytes high) ∷ []) k []
 
 unfoldable pub pairAt : List ℕ → ℕ → ℕ → ℕ → List ℕ
-pairAt alphas low high i = crossed (colorAt low high (i % 4)) (take 4 (wordBytes (getD alphas (i / 4) 0)))
+pairAt alphas low high i = crossed (colourAt low high (i % 4)) (take 4 (wordBytes (getD alphas (i / 4) 0)))
 
 module _ (alphas : List ℕ) (low high j : ℕ) where
-  pair-at : (k : ℕ) → k < 4 → pairAt alphas low high (4 * j + k) ≡ crossed (colorAt low high k) (take 4 (wordBytes (getD alphas j 0)))
+  pair-at : (k : ℕ) → k < 4 → pairAt alphas low high (4 * j + k) ≡ crossed (colourAt low high k) (take 4 (wordBytes (getD alphas j 0)))
   unfolding pairAt
   pair-at k h =
       let down : (4 * j + k) / 4 ≡ j = omega arith in
@@ -214,37 +214,37 @@ module _ (alphas : List ℕ) (low high j : ℕ) where
   high-pairs e ep eq = (ep ∙ ap (take 4) e ∙ sym (pair-at 2 (omega arith)), eq ∙ ap (drop 4) e ∙ sym (pair-at 3 (omega arith)))
 
 module _ (e : Ends) (one : Alone e) where
-  abbrev color : ℕ → List ℕ
-  color k = between 2 (endpoint e 0 0) (endpoint e 0 1) k
+  abbrev colour : ℕ → List ℕ
+  colour k = between 2 (endpoint e 0 0) (endpoint e 0 1) k
 
-  color-fits : (k : ℕ) → k < 4 → Fit (replicate 4 8) (color k)
-  color-fits k h = between-fits 2 k e one (omega arith) (omega arith) h
+  colour-fits : (k : ℕ) → k < 4 → Fit (replicate 4 8) (colour k)
+  colour-fits k h = between-fits 2 k e one (omega arith) (omega arith) h
 
-  alpha-is : {alphas : List ℕ} → alphas ≡ table 4 (λ k. keptWord false (color k)) → (j : ℕ) → j < 4
-      → take 4 (wordBytes (getD alphas j 0)) ≡ kept false (color j)
+  alpha-is : {alphas : List ℕ} → alphas ≡ table 4 (λ k. keptWord false (colour k)) → (j : ℕ) → j < 4
+      → take 4 (wordBytes (getD alphas j 0)) ≡ kept false (colour j)
   unfolding wordBytes keptWord
   alpha-is ea j h =
       ap (λ (l : List ℕ). take 4 (wordBytes (getD l j 0))) ea
-      ∙ ap (λ (w : ℕ). take 4 (wordBytes w)) (getD-table 4 (λ k. keptWord false (color k)) 0 j h)
-      ∙ split-join (kept-bytes (color-fits j h))
+      ∙ ap (λ (w : ℕ). take 4 (wordBytes w)) (getD-table 4 (λ k. keptWord false (colour k)) 0 j h)
+      ∙ split-join (kept-bytes (colour-fits j h))
 
-  pub alpha-fits : {alphas : List ℕ} → alphas ≡ table 4 (λ k. keptWord false (color k)) → (j : ℕ) → j < 4
+  pub alpha-fits : {alphas : List ℕ} → alphas ≡ table 4 (λ k. keptWord false (colour k)) → (j : ℕ) → j < 4
       → Fit Alpha (take 4 (wordBytes (getD alphas j 0)))
-  alpha-fits ea j h = rw (alpha-is ea j h) (kept-alpha (color-fits j h))
+  alpha-fits ea j h = rw (alpha-is ea j h) (kept-alpha (colour-fits j h))
 
-  pub colors-fit : {bytes : List ℕ} (j k : ℕ) → j < 4 → k < 4 → bytes ≡ kept true (color j) ++ kept true (color k) → Fit Colors bytes
-  colors-fit j k hj hk eb = rw eb (two-kept (color-fits j hj) (color-fits k hk))
+  pub colours-fit : {bytes : List ℕ} (j k : ℕ) → j < 4 → k < 4 → bytes ≡ kept true (colour j) ++ kept true (colour k) → Fit Colours bytes
+  colours-fit j k hj hk eb = rw eb (two-kept (colour-fits j hj) (colour-fits k hk))
 
-  module _ {alphas : List ℕ} (low high : ℕ) (ea : alphas ≡ table 4 (λ k. keptWord false (color k)))
-      (el : wordBytes low ≡ kept true (color 0) ++ kept true (color 1)) (eh : wordBytes high ≡ kept true (color 2) ++ kept true (color 3)) where
-    color-is : (k : ℕ) → k < 4 → colorAt low high k ≡ kept true (color k)
+  module _ {alphas : List ℕ} (low high : ℕ) (ea : alphas ≡ table 4 (λ k. keptWord false (colour k)))
+      (el : wordBytes low ≡ kept true (colour 0) ++ kept true (colour 1)) (eh : wordBytes high ≡ kept true (colour 2) ++ kept true (colour 3)) where
+    colour-is : (k : ℕ) → k < 4 → colourAt low high k ≡ kept true (colour k)
     unfolding kept
-    color-is zero h = ap (take 4) el
-    color-is (suc zero) h = ap (drop 4) el
-    color-is (suc (suc zero)) h = ap (take 4) eh
-    color-is (suc (suc (suc zero))) h = ap (drop 4) eh
-    color-is (suc (suc (suc (suc k)))) h = absurd (let z : ⊥ = omega arith in z)
+    colour-is zero h = ap (take 4) el
+    colour-is (suc zero) h = ap (drop 4) el
+    colour-is (suc (suc zero)) h = ap (take 4) eh
+    colour-is (suc (suc (suc zero))) h = ap (drop 4) eh
+    colour-is (suc (suc (suc (suc k)))) h = absurd (let z : ⊥ = omega arith in z)
 
-    pub pairs : table 16 (pairAt alphas low high) ≡ table 16 (λ i. crossed (color (i % 4)) (color (i / 4)))
+    pub pairs : table 16 (pairAt alphas low high) ≡ table 16 (λ i. crossed (colour (i % 4)) (colour (i / 4)))
     unfolding pairAt crossed kept
-    pairs = table-same [] 16 _ _ (λ i h. ap₂ crossed (color-is (i % 4) (mod-lt i (omega arith))) (alpha-is ea (i / 4) (omega arith)))
+    pairs = table-same [] 16 _ _ (λ i h. ap₂ crossed (colour-is (i % 4) (mod-lt i (omega arith))) (alpha-is ea (i / 4) (omega arith)))

@@ -25,7 +25,7 @@ use Rattle.bc7_format.specs.Fields.{directPixels, endByte}
 use Rattle.bcn_format.specs.Painting.{four, between, painted}
 use Rattle.bc7_format.specs.Rotating.{merged, swapped}
 use Rattle.bc7_format.proofs.Pictures.{Palette, Picture, indexes-at, keyed-law, part-lt, vector-law}
-use Rattle.drawing.specs.declared.color.Ends.{Ends}
+use Rattle.drawing.specs.declared.colour.Ends.{Ends}
 use Rattle.drawing.specs.Words.{Alone, endpoint, wordBytes}
 use Rattle.drawing.specs.Keys.{keyAt, keysOf}
 use Rattle.drawing.proofs.keys.KeyWords.{key-at}
@@ -96,31 +96,31 @@ paired x y f =
     ∙ ap₂ (λ (j k : ℕ). crossed (f j) (f k)) low high)
 
 -- the sums of words
-summed : (color : Bool) {l a : List ℕ} → Fit (replicate 4 8) l → Fit (replicate 4 8) a
-    → take 4 (wordBytes (keptWord color l + keptWord (not color) a)) ≡ pick color (crossed l a) (crossed a l)
+summed : (colour : Bool) {l a : List ℕ} → Fit (replicate 4 8) l → Fit (replicate 4 8) a
+    → take 4 (wordBytes (keptWord colour l + keptWord (not colour) a)) ≡ pick colour (crossed l a) (crossed a l)
 summed true {l} {a} fl fa = sum-bytes fl fa
 summed false {l} {a} fl fa = ap (λ (x : ℕ). take 4 (wordBytes x)) (add-comm (keptWord false l) (keptWord true a)) ∙ sum-bytes fa fl
 
-summed-lt : (color : Bool) {l a : List ℕ} → Fit (replicate 4 8) l → Fit (replicate 4 8) a → keptWord color l + keptWord (not color) a < 2 ^ 32
+summed-lt : (colour : Bool) {l a : List ℕ} → Fit (replicate 4 8) l → Fit (replicate 4 8) a → keptWord colour l + keptWord (not colour) a < 2 ^ 32
 summed-lt true fl fa = sum-lt fl fa
 summed-lt false {l} {a} fl fa = rw (add-comm (keptWord false l) (keptWord true a)) (sum-lt fa fl)
 
-module _ (color : Bool) (e : Ends) (one : Alone e) {p q : List ℕ}
-    (ep : p ≡ table 4 (λ k. keptWord color (between 2 (endpoint e 0 0) (endpoint e 0 1) k)))
-    (eq : q ≡ table 8 (λ k. keptWord (not color) (between 3 (endpoint e 0 0) (endpoint e 0 1) k))) where
+module _ (colour : Bool) (e : Ends) (one : Alone e) {p q : List ℕ}
+    (ep : p ≡ table 4 (λ k. keptWord colour (between 2 (endpoint e 0 0) (endpoint e 0 1) k)))
+    (eq : q ≡ table 8 (λ k. keptWord (not colour) (between 3 (endpoint e 0 0) (endpoint e 0 1) k))) where
   pub words-apart : Apart p q
   words-apart i j hi hj =
       rw (
         ep,
         eq,
-        getD-table 4 (λ k. keptWord color (between 2 (endpoint e 0 0) (endpoint e 0 1) k)) 0 i hi,
+        getD-table 4 (λ k. keptWord colour (between 2 (endpoint e 0 0) (endpoint e 0 1) k)) 0 i hi,
         getD-table 8
-            (λ k. keptWord (not color) (between 3 (endpoint e 0 0) (endpoint e 0 1) k)) 0 j hj,
+            (λ k. keptWord (not colour) (between 3 (endpoint e 0 0) (endpoint e 0 1) k)) 0 j hj,
       )
-      (summed-lt color (between-fits 2 i e one (omega arith) (omega arith) hi) (between-fits 3 j e one (omega arith) (omega arith) hj))
+      (summed-lt colour (between-fits 2 i e one (omega arith) (omega arith) hi) (between-fits 3 j e one (omega arith) (omega arith) hj))
 
   pub words-summed : (x y : ℕ) → table 16 (λ i. take 4 (wordBytes (getD p (part x 2 i) 0 + getD q (part y 3 i) 0)))
-      ≡ table 16 (λ i. pick color (crossed (between 2 (endpoint e 0 0) (endpoint e 0 1) (part x 2 i))
+      ≡ table 16 (λ i. pick colour (crossed (between 2 (endpoint e 0 0) (endpoint e 0 1) (part x 2 i))
       (between 3 (endpoint e 0 0) (endpoint e 0 1) (part y 3 i)))
       (crossed (between 3 (endpoint e 0 0) (endpoint e 0 1) (part y 3 i)) (between 2 (endpoint e 0 0) (endpoint e 0 1) (part x 2 i))))
   words-summed x y =
@@ -128,5 +128,5 @@ module _ (color : Bool) (e : Ends) (one : Alone e) {p q : List ℕ}
       ap₂ (λ (u v : ℕ). take 4 (wordBytes (u + v)))
       (ap (λ (l : List ℕ). getD l (part x 2 i) 0) ep ∙ getD-table 4 _ 0 (part x 2 i) (part-lt x 2 i))
       (ap (λ (l : List ℕ). getD l (part y 3 i) 0) eq ∙ getD-table 8 _ 0 (part y 3 i) (part-lt y 3 i))
-      ∙ summed color (between-fits 2 (part x 2 i) e one (omega arith) (omega arith) (part-lt x 2 i))
+      ∙ summed colour (between-fits 2 (part x 2 i) e one (omega arith) (omega arith) (part-lt x 2 i))
       (between-fits 3 (part y 3 i) e one (omega arith) (omega arith) (part-lt y 3 i)))

@@ -7,15 +7,15 @@ use lib.ListN.{drop, getD, replicate, take}
 use Rattle.laws.specs.Digits.{join}
 use Rattle.laws.specs.Tables.{pick}
 use Rattle.bcn_format.specs.Painting.{between}
-use Rattle.drawing.specs.declared.color.Ends.{Ends}
+use Rattle.drawing.specs.declared.colour.Ends.{Ends}
 use Rattle.drawing.specs.Words.{endpoint, wordBytes}
 
 -- red, green and blue of a colour, or its alpha, and 0 in place of the others
 unfoldable pub kept : Bool → List ℕ → List ℕ
-kept color l = pick color (getD l 0 0 ∷ getD l 1 0 ∷ getD l 2 0 ∷ 0 ∷ []) (0 ∷ 0 ∷ 0 ∷ getD l 3 0 ∷ [])
+kept colour l = pick colour (getD l 0 0 ∷ getD l 1 0 ∷ getD l 2 0 ∷ 0 ∷ []) (0 ∷ 0 ∷ 0 ∷ getD l 3 0 ∷ [])
 
 unfoldable pub keptWord : Bool → List ℕ → ℕ
-keptWord color l = join (replicate 4 8) (kept color l)
+keptWord colour l = join (replicate 4 8) (kept colour l)
 
 -- red, green and blue of one colour with the alpha of another
 unfoldable pub crossed : List ℕ → List ℕ → List ℕ
@@ -23,9 +23,9 @@ crossed l a = getD l 0 0 ∷ getD l 1 0 ∷ getD l 2 0 ∷ getD a 3 0 ∷ []
 
 -- of two colours in a word, each with the alpha of another word
 abbrev pub crossedBoth : ℕ → ℕ → List ℕ
-crossedBoth colors alpha =
+crossedBoth colours alpha =
     let a = take 4 (wordBytes alpha) in
-    crossed (take 4 (wordBytes colors)) a ++ crossed (drop 4 (wordBytes colors)) a
+    crossed (take 4 (wordBytes colours)) a ++ crossed (drop 4 (wordBytes colours)) a
 
 -- the colour of endpoints that stand alone, at the index k of b bits
 abbrev pub colorOf : ℕ → Ends → ℕ → List ℕ

@@ -16,12 +16,12 @@ ghost use Rattle.bc7_format.specs.Rotating.{swapped};
 ghost use Rattle.drawing.specs.Words.{Alone, wordBytes};
 ghost use Rattle.bc7_unsplit.specs.Crossing.{Apart, colorOf, crossed, crossedBoth, kept, keptWord};
 use bits::stream::BitStream;
-use drawing::color::Ends;
-use drawing::color::Stored;
-use drawing::color::alone;
-use drawing::color::alone_p;
-use drawing::color::high_color;
-use drawing::color::low_color;
+use drawing::colour::Ends;
+use drawing::colour::Stored;
+use drawing::colour::alone;
+use drawing::colour::alone_p;
+use drawing::colour::high_colour;
+use drawing::colour::low_colour;
 use drawing::keys::keys_2;
 use drawing::keys::paint_4;
 use drawing::palette::get_weight_2;
@@ -71,10 +71,10 @@ fn swap_channels(pixels: [[u8; 4]; 16], rotation: u8) -> [[u8; 4]; 16]
 }
 
 // Two colours side by side, of which only red, green and blue stay, or only alpha, which is the upper byte of each.
-fn keep(x: u64, color: bool) -> u64
-    ensures { λ r. ⌜ wordBytes r ≡ kept color (take 4 (wordBytes x)) ++ kept color (drop 4 (wordBytes x)) ⌝ }
+fn keep(x: u64, colour: bool) -> u64
+    ensures { λ r. ⌜ wordBytes r ≡ kept colour (take 4 (wordBytes x)) ++ kept colour (drop 4 (wordBytes x)) ⌝ }
 {
-    if color {
+    if colour {
         return x & 0x00FF_FFFF_00FF_FFFF;
     }
     x & 0xFF00_0000_FF00_0000
@@ -109,26 +109,26 @@ fn high_word(x: u64) -> u32
 
 // All colours by an index of two bits, and by one of three, as words, in which red, green and blue stay or only alpha. One of
 // each kind makes a whole colour, by a sum: each byte of it is a byte of one word and 0 of the other.
-fn words_2(e: Ends, color: bool) -> [u32; 4]
+fn words_2(e: Ends, colour: bool) -> [u32; 4]
     requires { ⌜ Alone e ⌝ }
-    ensures { λ r. ⌜ r ≡ table 4 (λ k. keptWord color (colorOf 2 e k)) ⌝ }
+    ensures { λ r. ⌜ r ≡ table 4 (λ k. keptWord colour (colorOf 2 e k)) ⌝ }
 {
     let mut q = [0u32; 4];
     for k in 0..2usize {
-        let x = keep(shades_2(e, k), color);
+        let x = keep(shades_2(e, k), colour);
         q[2 * k] = low_word(x);
         q[2 * k + 1] = high_word(x);
     }
     q
 }
 
-fn words_3(e: Ends, color: bool) -> [u32; 8]
+fn words_3(e: Ends, colour: bool) -> [u32; 8]
     requires { ⌜ Alone e ⌝ }
-    ensures { λ r. ⌜ r ≡ table 8 (λ k. keptWord color (colorOf 3 e k)) ⌝ }
+    ensures { λ r. ⌜ r ≡ table 8 (λ k. keptWord colour (colorOf 3 e k)) ⌝ }
 {
     let mut q = [0u32; 8];
     for k in 0..4usize {
-        let x = keep(shades_3(e, k), color);
+        let x = keep(shades_3(e, k), colour);
         q[2 * k] = low_word(x);
         q[2 * k + 1] = high_word(x);
     }
@@ -144,7 +144,7 @@ fn paint_2_and_3(p: [u32; 4], q: [u32; 8], x: Indexes, y: Indexes) -> [[u8; 4]; 
     for i in 0..16usize {
         let pixel_index = i as u32;
         let word = p[x.get_index(pixel_index) as usize] + q[y.get_index(pixel_index) as usize];
-        output[i] = low_color(word as u64);
+        output[i] = low_colour(word as u64);
     }
     output
 }
@@ -152,14 +152,14 @@ fn paint_2_and_3(p: [u32; 4], q: [u32; 8], x: Indexes, y: Indexes) -> [[u8; 4]; 
 // The alpha of a word in both of two colours that have none. Times 2^32 + 1 it stands in both halves, and where one of two bytes
 // is 0 their sum carries nothing.
 //
-//     colors                   | 00 B1 G1 R1 | 00 B0 G0 R0 |
+//     colours                  | 00 B1 G1 R1 | 00 B0 G0 R0 |
 //     alpha                    |             | A  00 00 00 |
 //     alpha * (2^32 + 1)       | A  00 00 00 | A  00 00 00 |
-fn with_alphas(colors: u64, alpha: u32) -> u64
-    requires { ⌜ Fit (8 ∷ 8 ∷ 8 ∷ 0 ∷ 8 ∷ 8 ∷ 8 ∷ 0 ∷ []) (wordBytes colors) × Fit (0 ∷ 0 ∷ 0 ∷ 8 ∷ []) (take 4 (wordBytes alpha)) ⌝ }
-    ensures { λ r. ⌜ wordBytes r ≡ crossedBoth colors alpha ⌝ }
+fn with_alphas(colours: u64, alpha: u32) -> u64
+    requires { ⌜ Fit (8 ∷ 8 ∷ 8 ∷ 0 ∷ 8 ∷ 8 ∷ 8 ∷ 0 ∷ []) (wordBytes colours) × Fit (0 ∷ 0 ∷ 0 ∷ 8 ∷ []) (take 4 (wordBytes alpha)) ⌝ }
+    ensures { λ r. ⌜ wordBytes r ≡ crossedBoth colours alpha ⌝ }
 {
-    colors + (alpha as u64) * 0x0001_0000_0001
+    colours + (alpha as u64) * 0x0001_0000_0001
 }
 
 // All sixteen pairs of a colour and an alpha, by two bits each: that of colour k and alpha j is at 4 * j + k.
@@ -174,10 +174,10 @@ fn palette_2_and_2(e: Ends) -> [[u8; 4]; 16]
     for j in 0..4usize {
         let x = with_alphas(low, alphas[j]);
         let y = with_alphas(high, alphas[j]);
-        q[4 * j] = low_color(x);
-        q[4 * j + 1] = high_color(x);
-        q[4 * j + 2] = low_color(y);
-        q[4 * j + 3] = high_color(y);
+        q[4 * j] = low_colour(x);
+        q[4 * j + 1] = high_colour(x);
+        q[4 * j + 2] = low_colour(y);
+        q[4 * j + 3] = high_colour(y);
     }
     q
 }

@@ -28,7 +28,8 @@ holds marked subsetOf k a t =
       inside = eqb→eq (subsetOf a) k (both-left (eqb (subsetOf a) k) _ t2);
       only = λ b h m e.
           eqb→eq b a (implied (eqb (subsetOf b) k) (eqb b a)
-          (implied (among b marked) (implies (eqb (subsetOf b) k) (eqb b a)) (at 16 (λ b. implies (among b marked) (implies (eqb (subsetOf b) k) (eqb b a))) t3 b h) m)
+          (implied (among b marked) (implies (eqb (subsetOf b) k) (eqb b a))
+          (at 16 (λ b. implies (among b marked) (implies (eqb (subsetOf b) k) (eqb b a))) t3 b h) m)
           (subst (λ (x : ℕ). T (eqb (subsetOf b) x)) e (eqb-refl (subsetOf b))));
     }
 
@@ -36,7 +37,8 @@ all : ℕ → (ℕ → List ℕ) → (ℕ → ℕ → ℕ) → Bool
 unfolding test implies
 all n marked subsetOf = below 64 (λ p. below n (λ k. test (marked p) (subsetOf p) k (firstIn (subsetOf p) k (marked p))))
 
-all-at : (n : ℕ) (marked : ℕ → List ℕ) (subsetOf : ℕ → ℕ → ℕ) → T (all n marked subsetOf) → (p k : ℕ) → p < 64 → k < n → OneAnchor (marked p) (subsetOf p) k
+all-at : (n : ℕ) (marked : ℕ → List ℕ) (subsetOf : ℕ → ℕ → ℕ) → T (all n marked subsetOf) → (p k : ℕ) → p < 64 → k < n
+    → OneAnchor (marked p) (subsetOf p) k
 unfolding all
 all-at n marked subsetOf t p k hp hk =
     holds (marked p) (subsetOf p) k (firstIn (subsetOf p) k (marked p))

@@ -32,7 +32,8 @@ drawn-lt x y w hx hy h =
 pub scaled : (v e0 e1 : ℕ) → v ≤ 64 → ((256 - 4 * v) * e0 + 4 * v * e1 + 128) / 256 ≡ drawn e0 e1 v
 unfolding drawn
 scaled v e0 e1 h =
-    let p : (256 - 4 * v) * e0 ≡ 4 * ((64 - v) * e0) = ap (λ (n : ℕ). n * e0) (let z : 256 - 4 * v ≡ 4 * (64 - v) = omega arith in z) ∙ mul-assoc 4 (64 - v) e0 in
+    let p : (256 - 4 * v) * e0 ≡ 4 * ((64 - v) * e0) =
+    ap (λ (n : ℕ). n * e0) (let z : 256 - 4 * v ≡ 4 * (64 - v) = omega arith in z) ∙ mul-assoc 4 (64 - v) e0 in
     let q : 4 * v * e1 ≡ 4 * (v * e1) = mul-assoc 4 v e1 in
     omega arith
 

@@ -25,7 +25,8 @@ module _ (f g : ℕ → ℕ) (i j : ℕ) (same : (k : ℕ) → k ≢ i → g k �
   row-mid : table (i + suc j) g ≡ table i f ++ ((f i + 1) ∷ table j (λ k. f (suc (i + k))))
   row-mid =
       let front : table i g ≡ table i f = table-same 0 i g f (λ k l. same k (λ e. lt-irrefl i (rw e at l))) in
-      let back : table j (λ k. g (suc (i + k))) ≡ table j (λ k. f (suc (i + k))) = table-same 0 j (λ k. g (suc (i + k))) (λ k. f (suc (i + k))) (λ k l. same (suc (i + k)) (λ e. omega arith)) in
+      let back : table j (λ k. g (suc (i + k))) ≡ table j (λ k. f (suc (i + k))) =
+      table-same 0 j (λ k. g (suc (i + k))) (λ k. f (suc (i + k))) (λ k l. same (suc (i + k)) (λ e. omega arith)) in
       table-mid i j g ∙ ap₂ {C = List ℕ} (λ x y. x ++ y) front (ap₂ {C = List ℕ} (λ x y. x ∷ y) here back)
 
   insert-row : (n : ℕ) → split (table (i + suc j) g) (inserted n (f i + total (table i f))) ≡ split (table (i + suc j) f) n
@@ -37,8 +38,10 @@ module _ (f g : ℕ → ℕ) (i j : ℕ) (same : (k : ℕ) → k ≢ i → g k �
   total-row : total (table (i + suc j) g) ≡ total (table (i + suc j) f) + 1
   total-row =
       let rest : List ℕ = table j (λ k. f (suc (i + k))) in
-      let tg : total (table (i + suc j) g) ≡ total (table i f) + (total rest + (f i + 1)) = ap total row-mid ∙ total-append (table i f) ((f i + 1) ∷ rest) in
-      let tf : total (table (i + suc j) f) ≡ total (table i f) + (total rest + f i) = ap total (table-mid i j f) ∙ total-append (table i f) (f i ∷ rest) in
+      let tg : total (table (i + suc j) g) ≡ total (table i f) + (total rest + (f i + 1)) =
+      ap total row-mid ∙ total-append (table i f) ((f i + 1) ∷ rest) in
+      let tf : total (table (i + suc j) f) ≡ total (table i f) + (total rest + f i) =
+      ap total (table-mid i j f) ∙ total-append (table i f) (f i ∷ rest) in
       omega arith
 
 -- the pixel a is below all of these
@@ -75,7 +78,8 @@ module _ (w a : ℕ) (cs : List ℕ) (hw : 0 < w) (ha : a < 16) (up : Above a cs
   expand-anchor n =
       ap (λ (l : List ℕ). join (table 16 (indexWidth w [])) l)
       (subst (λ (k : ℕ). split (table k (indexWidth w cs)) (inserted n (a * w + (w - 1))) ≡ split (table k (indexWidth w (a ∷ cs))) n) sixteen
-      (subst (λ (p : ℕ). split (table (a + suc (15 - a)) (indexWidth w cs)) (inserted n p) ≡ split (table (a + suc (15 - a)) (indexWidth w (a ∷ cs))) n) top-bit
+      (subst (λ (p : ℕ). split (table (a + suc (15 - a)) (indexWidth w cs)) (inserted n p) ≡ split
+      (table (a + suc (15 - a)) (indexWidth w (a ∷ cs))) n) top-bit
       (insert-row (indexWidth w (a ∷ cs)) (indexWidth w cs) a (15 - a) same-width wider n)))
 
   pub size-anchor : total (indexWidths w cs) ≡ total (indexWidths w (a ∷ cs)) + 1
@@ -121,7 +125,8 @@ module _ (w : ℕ) (hw : 0 < w) where
 
   pub one-anchor : (n p a : ℕ) → p < 16 → n < 2 ^ (16 * w - 1) → a ≡ inserted n (p * w + (w - 1)) → a ≡ expanded w (p ∷ []) n
   one-anchor n p a hp hn ea =
-      let whole : inserted n (p * w + (w - 1)) < 2 ^ (16 * w) = grown (16 * w - 1) (16 * w) n p (omega arith) (omega (arith, times-width w p 15 (omega arith))) hn in
+      let whole : inserted n (p * w + (w - 1)) < 2 ^ (16 * w) =
+      grown (16 * w - 1) (16 * w) n p (omega arith) (omega (arith, times-width w p 15 (omega arith))) hn in
       ea ∙ sym (expanded-none w (inserted n (p * w + (w - 1))) whole) ∙ expand-anchor w p [] hw hp no-more n
 
   -- bounds on the way
@@ -131,9 +136,11 @@ module _ (w : ℕ) (hw : 0 < w) where
   pub after-2 : (n a : ℕ) → n < 2 ^ (16 * w - 3) → a ≡ inserted n (0 * w + (w - 1)) → a < 2 ^ (16 * w - 2)
   after-2 n a hn ea = rw ea (grown (16 * w - 3) (16 * w - 2) n 0 (omega arith) (omega arith) hn)
 
-  pub two-anchors : (n p q a b : ℕ) → p < q → q < 16 → n < 2 ^ (16 * w - 2) → a ≡ inserted n (p * w + (w - 1)) → b ≡ inserted a (q * w + (w - 1)) → b ≡ expanded w (p ∷ q ∷ []) n
+  pub two-anchors : (n p q a b : ℕ) → p < q → q < 16 → n < 2 ^ (16 * w - 2) → a ≡ inserted n (p * w + (w - 1)) → b ≡ inserted a (q * w + (w - 1))
+      → b ≡ expanded w (p ∷ q ∷ []) n
   two-anchors n p q a b hp hq hn ea eb =
-      one-anchor a q b hq (after-1 n p a (omega arith) hn ea) eb ∙ ap (expanded w (q ∷ [])) ea ∙ expand-anchor w p (q ∷ []) hw (omega arith) (above hp no-more) n
+      one-anchor a q b hq (after-1 n p a (omega arith) hn ea) eb ∙ ap (expanded w (q ∷ [])) ea
+      ∙ expand-anchor w p (q ∷ []) hw (omega arith) (above hp no-more) n
 
   pub three-anchors : (n p q a b c : ℕ) → 0 < p → p < q → q < 16 → n < 2 ^ (16 * w - 3)
       → a ≡ inserted n (0 * w + (w - 1)) → b ≡ inserted a (p * w + (w - 1)) → c ≡ inserted b (q * w + (w - 1)) → c ≡ expanded w (0 ∷ p ∷ q ∷ []) n
@@ -149,14 +156,16 @@ spare-bit w k n hw hk h = lt-of-lt-of-le h (pow-mono {i = 16 * w - k} {j = 63} (
 full-width : (w : ℕ) (an : List ℕ) (k : ℕ) → indexWidth w an k ≤ w
 full-width w an k = pick-less (among k an) w
 
-pub part-expanded : (w : ℕ) (an : List ℕ) (n q : ℕ) → q < 16 → part (expanded w an n) w q ≡ n / 2 ^ total (table q (indexWidth w an)) % 2 ^ indexWidth w an q
+pub part-expanded : (w : ℕ) (an : List ℕ) (n q : ℕ) → q < 16
+    → part (expanded w an n) w q ≡ n / 2 ^ total (table q (indexWidth w an)) % 2 ^ indexWidth w an q
 unfolding expanded part indexWidths
 part-expanded w an n q h =
     let f : ℕ → ℕ = indexWidth w [] in
     let v : ℕ → ℕ = λ k. n / 2 ^ total (table k (indexWidth w an)) % 2 ^ indexWidth w an k in
     let x : ℕ = join (table 16 f) (split (table 16 (indexWidth w an)) n) in
     let e : x ≡ join (table 16 f) (table 16 v) = ap (join (table 16 f)) (split-table 16 (indexWidth w an) n) in
-    let fits : Fit (table 16 f) (table 16 v) = fit-table 16 f v (λ k l. lt-of-lt-of-le (mod-lt _ (pow-pos (indexWidth w an k))) (pow-mono (full-width w an k))) in
+    let fits : Fit (table 16 f) (table 16 v) =
+    fit-table 16 f v (λ k l. lt-of-lt-of-le (mod-lt _ (pow-pos (indexWidth w an k))) (pow-mono (full-width w an k))) in
     ap (λ (s : ℕ). x / 2 ^ s % 2 ^ w) (sym (total-same f w q (λ k l. refl)))
     ∙ sym (digit 16 f x q h)
     ∙ ap (λ (l : List ℕ). getD l q 0) (ap (split (table 16 f)) e ∙ split-join fits)

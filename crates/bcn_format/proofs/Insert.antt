@@ -39,7 +39,8 @@ split-inserted [] w ws n =
     rw (add-zero w) (ap₂ {C = List ℕ} (λ x l. x ∷ l) (inserted-field n w) (ap (split ws) (inserted-rest n w)))
 split-inserted (u ∷ us) w ws n =
     let e : w + (total us + u) ≡ w + total us + u = omega arith in
-    rw e (ap₂ {C = List ℕ} (λ x l. x ∷ l) (inserted-low n u (w + total us)) (ap (split (us ++ ((w + 1) ∷ ws))) (inserted-high n u (w + total us)) ∙ split-inserted us w ws (n / 2 ^ u)))
+    rw e (ap₂ {C = List ℕ} (λ x l. x ∷ l) (inserted-low n u (w + total us))
+    (ap (split (us ++ ((w + 1) ∷ ws))) (inserted-high n u (w + total us)) ∙ split-inserted us w ws (n / 2 ^ u)))
 
 -- what a zero adds to the length
 pub inserted-lt : (n p k : ℕ) → n < 2 ^ k → p ≤ k → inserted n p < 2 ^ (k + 1)

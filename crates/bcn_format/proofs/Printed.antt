@@ -63,7 +63,8 @@ pub strings-are-as-printed : (map digits strings2 ≡ map (split (replicate 16 1
     × (map digits strings3 ≡ map (split (replicate 16 2)) printed3)
     × (table 64 (λ a. anchor2 a 1) ≡ second-of-two) × (table 64 (λ a. anchor3 a 1) ≡ second-of-three)
     × (table 64 (λ a. anchor3 a 2) ≡ third-of-three)
-unfolding table tableFrom anchors2 anchors3 subset2 subset3 digits marks strings2 strings3 printed2 printed3 second-of-two second-of-three third-of-three
+unfolding table tableFrom anchors2 anchors3 subset2 subset3 digits marks strings2 strings3 printed2 printed3 second-of-two second-of-three
+    third-of-three
 strings-are-as-printed = (refl, refl, refl, refl, refl)
 
 -- of three-subset partition 2 the anchors by pixel, and their subsets: the second lies in subset 2, the third in subset 1

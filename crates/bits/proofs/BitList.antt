@@ -5,7 +5,9 @@ use mathlib.Core.Logic.{⊎-elim}
 use mathlib.Core.Bool.{not}
 use mathlib.Core.List.{List, _∷_, _++_}
 use Prim.Native.Nat.{ℕ, zero, suc, _+_, _-_, _*_, _/_, _%_, _^_, _≤_, _<_, min}
-use native.Mathlib.Nat.{div-div-eq-div-mul, div-eq-of-lt, div-lt-iff-lt-mul, div-one, le-of-lt, lt-of-lt-of-le, min-eq-left, min-eq-right, min-zero, mod-eq-of-lt, mod-one, mul-comm, pow-suc, sub-zero, suc-add, suc-min-suc, suc-sub-suc, zero-add, zero-lt-suc, zero-min, zero-sub}
+use native.Mathlib.Nat.{div-div-eq-div-mul, div-eq-of-lt, div-lt-iff-lt-mul, div-one, le-of-lt, lt-of-lt-of-le, min-eq-left, min-eq-right, min-zero}
+use native.Mathlib.Nat.{mod-eq-of-lt, mod-one, mul-comm, pow-suc, sub-zero, suc-add, suc-min-suc, suc-sub-suc, zero-add, zero-lt-suc, zero-min}
+use native.Mathlib.Nat.{zero-sub}
 use native.Mathlib.Omega.{arith}
 use lib.Arith.{mod-mul}
 use lib.Bits.{block-half, block-odd}

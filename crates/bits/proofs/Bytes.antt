@@ -28,7 +28,8 @@ next-byte k (suc i) (x ∷ xs) = next-byte k i xs
 abbrev pub eightAt : List ℕ → ℕ → List ℕ
 eightAt l i =
     getD l i 0 ∷ getD l (suc i) 0 ∷ getD l (suc (suc i)) 0 ∷ getD l (suc (suc (suc i))) 0 ∷ getD l (suc (suc (suc (suc i)))) 0
-    ∷ getD l (suc (suc (suc (suc (suc i))))) 0 ∷ getD l (suc (suc (suc (suc (suc (suc i)))))) 0 ∷ getD l (suc (suc (suc (suc (suc (suc (suc i))))))) 0 ∷ []
+    ∷ getD l (suc (suc (suc (suc (suc i))))) 0 ∷ getD l (suc (suc (suc (suc (suc (suc i)))))) 0 ∷ getD l
+    (suc (suc (suc (suc (suc (suc (suc i))))))) 0 ∷ []
 
 next-eight : (k i : ℕ) (l : List ℕ) → join (replicate (suc (suc (suc (suc (suc (suc (suc (suc k)))))))) 8) (drop i l)
     ≡ join (replicate k 8) (drop (suc (suc (suc (suc (suc (suc (suc (suc i)))))))) l) * 2 ^ 64 + word8 (eightAt l i)

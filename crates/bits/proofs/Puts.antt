@@ -54,17 +54,27 @@ put-high lo hi v a k hl ha hk hv h =
     let top : hi < 2 ^ (a - 64) = rw (high hi 64 hl) at (shr-lt {n = hi * 2 ^ 64 + lo} (a - 64) 64 (rw e h)) in
     let put : bitOr hi ((v * 2 ^ (a - 64)) % 2 ^ 64) ≡ v * 2 ^ (a - 64) + hi =
     ap (bitOr hi) (shl-exact k (a - 64) 64 hv (omega arith)) ∙ or-shifted-r v (a - 64) hi top in
-    let up : v * 2 ^ (a - 64) * 2 ^ 64 ≡ v * 2 ^ a = mul-assoc v (2 ^ (a - 64)) (2 ^ 64) ∙ ap (λ (x : ℕ). v * x) (sym (pow-add 2 (a - 64) 64) ∙ ap (λ (x : ℕ). 2 ^ x) e) in
+    let up : v * 2 ^ (a - 64) * 2 ^ 64 ≡ v * 2 ^ a =
+    mul-assoc v (2 ^ (a - 64)) (2 ^ 64) ∙ ap (λ (x : ℕ). v * x) (sym (pow-add 2 (a - 64) 64) ∙ ap (λ (x : ℕ). 2 ^ x) e) in
     ap (λ (x : ℕ). x * 2 ^ 64 + lo) put ∙ rw (add-mul, up, add-assoc)
 
 module _ (s : BitWriter) (v k : ℕ) (hl : s .low < 2 ^ 64) (room : s .at + k ≤ 128) (hv : v < 2 ^ k) (h : written s < 2 ^ s .at) where
-  pub push-low : s .at < 64 → record { low = bitOr (s .low) ((v * 2 ^ s .at) % 2 ^ 64); high = bitOr (s .high) (v / 2 ^ 1 / 2 ^ (63 - s .at)); at = s .at + k } ≡ pushed s v k
+  pub push-low : s .at < 64 → record {
+    low = bitOr (s .low) ((v * 2 ^ s .at) % 2 ^ 64);
+    high = bitOr (s .high)
+        (v / 2 ^ 1 / 2 ^ (63 - s .at));
+    at = s .at + k;
+  } ≡ pushed s v k
   unfolding written
-  push-low ha = writer-is (record { low = bitOr (s .low) ((v * 2 ^ s .at) % 2 ^ 64); high = bitOr (s .high) (v / 2 ^ 1 / 2 ^ (63 - s .at)); at = s .at + k }) _ (or-lt 64 (s .low) _ hl (mod-lt _ (pow-pos 64))) (put-low (s .low) (s .high) v (s .at) hl ha h)
+  push-low ha =
+      writer-is (record { low = bitOr (s .low) ((v * 2 ^ s .at) % 2 ^ 64); high = bitOr (s .high) (v / 2 ^ 1 / 2 ^ (63 - s .at)); at = s .at + k }) _
+      (or-lt 64 (s .low) _ hl (mod-lt _ (pow-pos 64))) (put-low (s .low) (s .high) v (s .at) hl ha h)
 
   pub push-high : 64 ≤ s .at → record { low = s .low; high = bitOr (s .high) ((v * 2 ^ (s .at - 64)) % 2 ^ 64); at = s .at + k } ≡ pushed s v k
   unfolding written
-  push-high ha = writer-is (record { low = s .low; high = bitOr (s .high) ((v * 2 ^ (s .at - 64)) % 2 ^ 64); at = s .at + k }) _ hl (put-high (s .low) (s .high) v (s .at) k hl ha room hv h)
+  push-high ha =
+      writer-is (record { low = s .low; high = bitOr (s .high) ((v * 2 ^ (s .at - 64)) % 2 ^ 64); at = s .at + k }) _ hl
+      (put-high (s .low) (s .high) v (s .at) k hl ha room hv h)
 
   -- at 128 there is room for no bits
   pub push-none : 128 ≤ s .at → s ≡ pushed s v k
@@ -75,27 +85,32 @@ module _ (s : BitWriter) (v k : ℕ) (hl : s .low < 2 ^ 64) (room : s .at + k �
       rw (e, z, zero-mul, zero-add, add-zero) (writer-is s _ hl refl)
 
 -- the writer after i turns of a loop that pushes v 0, v 1, .. at the widths f 0, f 1, ..
-abbrev pub rowWriter : (ℕ → ℕ) → (ℕ → ℕ) → ℕ → BitWriter
-rowWriter f v i = writerOf (join (table i f) (table i v)) (total (table i f))
+abbrev pub writerAfter : (ℕ → ℕ) → (ℕ → ℕ) → ℕ → BitWriter
+writerAfter f v i = writerOf (join (table i f) (table i v)) (total (table i f))
 
-pub row-none : (f v : ℕ → ℕ) → writerOf 0 0 ≡ rowWriter f v 0
-row-none f v = rw (table-none f)
+pub pushes-none : (f v : ℕ → ℕ) → writerOf 0 0 ≡ writerAfter f v 0
+pushes-none f v = rw (table-none f)
 
-module _ (f v : ℕ → ℕ) (n : ℕ) (fits : (k : ℕ) → k < n → v k < 2 ^ f k) (i : ℕ) (h : i < n) {w : BitWriter} (e : w ≡ rowWriter f v i) where
+module _ (f v : ℕ → ℕ) (n : ℕ) (fits : (k : ℕ) → k < n → v k < 2 ^ f k) (i : ℕ) (h : i < n) {w : BitWriter} (e : w ≡ writerAfter f v i) where
   upto : (k : ℕ) → k < i → v k < 2 ^ f k
   upto k l = fits k (omega arith)
 
   -- what a push asks for
-  pub row-asks : total (table n f) ≤ 128 → (v i < 2 ^ f i) × (w .at + f i ≤ 128) × (written w < 2 ^ w .at)
-  row-asks room =
-      rw e (fits i h, omega (arith, total-room f i n h), rw (written-of (join (table i f) (table i v)) (total (table i f))) (join-lt (fit-table i f v upto)))
+  pub pushes-ask : total (table n f) ≤ 128 → (v i < 2 ^ f i) × (w .at + f i ≤ 128) × (written w < 2 ^ w .at)
+  pushes-ask room =
+      rw e (
+        fits i h,
+        omega (arith, total-room f i n h),
+        rw (written-of (join (table i f) (table i v)) (total (table i f)))
+            (join-lt (fit-table i f v upto)),
+      )
 
-  pub row-more : {r : BitWriter} → r ≡ pushed w (v i) (f i) → r ≡ rowWriter f v (i + 1)
-  row-more q = q ∙ rw (e, written-of (join (table i f) (table i v)) (total (table i f)), add-one, join-more i f v upto, total-more i f)
+  pub pushes-more : {r : BitWriter} → r ≡ pushed w (v i) (f i) → r ≡ writerAfter f v (i + 1)
+  pushes-more q = q ∙ rw (e, written-of (join (table i f) (table i v)) (total (table i f)), add-one, join-more i f v upto, total-more i f)
 
 -- what the loop has written in the end
-pub row-written : (f v : ℕ → ℕ) (n : ℕ) {w : BitWriter} → w ≡ rowWriter f v n → written w ≡ join (table n f) (table n v)
-row-written f v n e = ap written e ∙ written-of (join (table n f) (table n v)) (total (table n f))
+pub pushes-written : (f v : ℕ → ℕ) (n : ℕ) {w : BitWriter} → w ≡ writerAfter f v n → written w ≡ join (table n f) (table n v)
+pushes-written f v n e = ap written e ∙ written-of (join (table n f) (table n v)) (total (table n f))
 
 -- the bytes of a number, each as a field
 eights-table : table 16 (λ (k : ℕ). 8) ≡ eights

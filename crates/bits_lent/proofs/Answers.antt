@@ -37,7 +37,8 @@ found {𝓤 = 𝓤} {H = H} {W = W} {Γ = Γ} {E = E} {st = st} {sp = sp} e w = 
 abbrev pub IsStream : BitStream → Type 0
 IsStream s = Is T.the-row s (T′.lowered s ∷ [])
 
-pub stream-typed : {M : Type 1} (𝓤 : URA M) (H : Heap 𝓤) (A : Atoms 𝓤) (W : Given 𝓤 H A) (s : BitStream) → IsStream s → Holds (hasTy T′.mir (T′.lowered s)) × WT (T′.lowered s)
+pub stream-typed : {M : Type 1} (𝓤 : URA M) (H : Heap 𝓤) (A : Atoms 𝓤) (W : Given 𝓤 H A) (s : BitStream) → IsStream s
+    → Holds (hasTy T′.mir (T′.lowered s)) × WT (T′.lowered s)
 stream-typed 𝓤 H A W s is = LL.lawful T.the-type T′.the-laws 𝓤 H A W .typed s _ is .0
 
 -- a built-in type of one machine value
@@ -85,7 +86,7 @@ module _ (b : Builtin) where
 
   -- What a function by value answers: its type, the value and the stream in it, that a value and a stream are those of an answer (`parts`), the operands that read them
   -- from the local i, and what whoever holds the answer knows of it.
-  pub record Answer : Type 2 where
+  pub record ByValue : Type 2 where
     pub R : RattleType
     pub mir : Ty
     pub spelled : R .Denot → Val
@@ -98,7 +99,8 @@ module _ (b : Builtin) where
     pub told : (r : R .Denot) (u : Val) → Is R r (u ∷ []) → u ≡ spelled r
     pub value-is : (r : R .Denot) (u : Val) → Is R r (u ∷ []) → IsVal (value r)
     pub stream-is : (r : R .Denot) (u : Val) → Is R r (u ∷ []) → IsStream (stream r)
-    pub fits : {M : Type 1} (𝓤 : URA M) (H : Heap 𝓤) (A : Atoms 𝓤) (W : Given 𝓤 H A) (r : R .Denot) (u : Val) → Is R r (u ∷ []) → Holds (hasTy mir u) × WT u
+    pub fits : {M : Type 1} (𝓤 : URA M) (H : Heap 𝓤) (A : Atoms 𝓤) (W : Given 𝓤 H A) (r : R .Denot) (u : Val) → Is R r (u ∷ [])
+        → Holds (hasTy mir u) × WT u
     pub value-read : {M : Type 1} {𝓤 : URA M} {H : Heap 𝓤} {A : Atoms 𝓤} {W : Given 𝓤 H A} {Γ : List (Item 𝓤)} {E : Env 𝓤 H} (i l : ℕ) (r : R .Denot)
         → spotOf 𝓤 H E i ≡ (mir, l, zero) → Opd (Go {0}) W (‵ (fat fullShare mir l zero (spelled r)) ∷ Γ) E (value-at i) (val (value r))
     pub stream-read : {M : Type 1} {𝓤 : URA M} {H : Heap 𝓤} {A : Atoms 𝓤} {W : Given 𝓤 H A} {Γ : List (Item 𝓤)} {E : Env 𝓤 H} (i l : ℕ) (r : R .Denot)
@@ -106,14 +108,16 @@ module _ (b : Builtin) where
 
   -- a value and the stream past it, in a struct of the name ν
   module _ (ν : Sym) (D : Type 0) (value : D → b .X) (stream : D → BitStream)
-      (one : (x y : D) → _≡_ {A = Denots (rows (field ∷ T.the-field ∷ []))} (value x, (T.the-type .to (stream x), tt)) (value y, (T.the-type .to (stream y), tt)) → x ≡ y) where
+      (one : (x y : D) → _≡_ {A = Denots (rows (field ∷ T.the-field ∷ []))} (value x, (T.the-type .to (stream x), tt))
+      (value y, (T.the-type .to (stream y), tt)) → x ≡ y) where
     abbrev declared : Declared
-    declared = record { name = ν; args = []; parts = field ∷ T.the-field ∷ []; D = D; to = λ d. (value d, (T.the-type .to (stream d), tt)); to-one = one }
+    declared =
+        record { name = ν; args = []; parts = field ∷ T.the-field ∷ []; D = D; to = λ d. (value d, (T.the-type .to (stream d), tt)); to-one = one }
 
     abbrev its-laws : LL.Laws declared
     its-laws = (b .laws, (T′.the-field-laws, tt))
 
-    abbrev pub valued : Answer
+    abbrev pub valued : ByValue
     valued = record {
       R = row declared;
       mir = layout (shape declared);
@@ -133,7 +137,7 @@ module _ (b : Builtin) where
     }
 
 -- the stream alone
-abbrev pub bare : Answer a-unit
+abbrev pub bare : ByValue a-unit
 bare = record {
   R = T.the-row;
   mir = T′.mir;

@@ -13,7 +13,8 @@ use prog.Wp.{Heap, Env, Calls, Loops}
 use ghost.Atoms.{Atoms, sem}
 use sound.WpLaws.{FmC}
 use contract.Monad.{fact}
-use types.Kit.{Given, Item, Go, Post, Seq, runs, lands, ‵, raw, some, later, _⊛_, _$_, _∵_, !, qed, move, use0, use1, use2, use3, split, join, pick, drop, fsplit, fjoin, fpick, fpack, regoal, frame, await, done}
+use types.Kit.{Given, Item, Go, Post, Seq, runs, lands, ‵, raw, some, later, _⊛_, _$_, _∵_, !, qed, move, use0, use1, use2, use3, split, join, pick}
+use types.Kit.{drop, fsplit, fjoin, fpick, fpack, regoal, frame, await, done}
 use types.Run.{Opds}
 use types.SemTy.{Body}
 use types.Tokens.{lft-new, lft-end}
@@ -61,12 +62,15 @@ module _ {B : Beside} (f : Read B) {M : Type 1} (𝓤 : URA M) (H : Heap 𝓤) (
       abbrev to : lent .Ghost
       to = (((κ, tt), (fullShare, tt), tt, passed, (vptr l 0 ∷ [], vals B 1 (κ, tt) (ns κ))), tt)
 
-      may-call : f .asks h (B .args 1 (κ, tt) (ns κ)) → AreBeside B 1 (κ, tt) (ns κ) → ent 𝓤 (sep 𝓤 (A .lft κ fullShare) (sem 𝓤 H A Own)) (lent .pre to)
+      may-call : f .asks h (B .args 1 (κ, tt) (ns κ)) → AreBeside B 1 (κ, tt) (ns κ)
+          → ent 𝓤 (sep 𝓤 (A .lft κ fullShare) (sem 𝓤 H A Own)) (lent .pre to)
       may-call ok are =
           qed W (‵ (flft κ fullShare) ∷ ‵ Own ∷ []) ∵ says ! ok $ nothing ! $ move ! (1 ∷ 0 ∷ []) $ join ! $ frame ! $
-          use0 W (‵ (owns (typesAt (B .slots 1) (κ, tt)) (ns κ) (vals B 1 (κ, tt) (ns κ)))) (owned-beside B 1 (κ, tt) (ns κ) 𝓤 H A W are) $ move ! (1 ∷ 0 ∷ []) $ fjoin ! $ done !
+          use0 W (‵ (owns (typesAt (B .slots 1) (κ, tt)) (ns κ) (vals B 1 (κ, tt) (ns κ)))) (owned-beside B 1 (κ, tt) (ns κ) 𝓤 H A W are) $ move !
+          (1 ∷ 0 ∷ []) $ fjoin ! $ done !
 
-    pub lends : {C : Calls 𝓤 H} {Λ : Loops 𝓤 H} → FmC 𝓤 H (W .laws) C → {Γ : List (Item 𝓤)} {E : Env 𝓤 H} {g : Name} {xs : List Operand} {d : Place} {rest : Code} {q : Post 𝓤 H} → Triple 𝓤 (C g) lent
+    pub lends : {C : Calls 𝓤 H} {Λ : Loops 𝓤 H} → FmC 𝓤 H (W .laws) C
+        → {Γ : List (Item 𝓤)} {E : Env 𝓤 H} {g : Name} {xs : List Operand} {d : Place} {rest : Code} {q : Post 𝓤 H} → Triple 𝓤 (C g) lent
         → IsStream h → ((κ : Lft) → f .asks h (B .args 1 (κ, tt) (ns κ))) → ((κ : Lft) → AreBeside B 1 (κ, tt) (ns κ))
         → ((κ : Lft) (i j : Item 𝓤) → Opds (Go {0}) W (i ∷ j ∷ Γ) E xs (vptr l 0 ∷ flat (typesAt (B .slots 1) (κ, tt)) (vals B 1 (κ, tt) (ns κ))))
         → ((κ : Lft) (x : f .b .X) (s : BitStream) → f .answer .parts x s (f .gives h (B .args 1 (κ, tt) (ns κ))) → IsVal (f .b) x → IsStream s
@@ -78,7 +82,8 @@ module _ {B : Beside} (f : Read B) {M : Type 1} (𝓤 : URA M) (H : Heap 𝓤) (
         owned ! T.the-row (Is T.the-row) (LL.makes T.the-type T′.the-plain 𝓤 H A) h _ is $ move ! (1 ∷ 0 ∷ []) $ fjoin ! $
         fpack ! (List Val) (λ us. fsep (cellAt fullShare (T.the-row .mir) us l 0) (T.the-row .own h us)) (T′.lowered h ∷ []) $
         lft-new ! tt (λ ν. move ! (1 ∷ []) $
-        use1 W (later (some (λ (δ : GName). ‵ (Own ν δ) ⊛ ‵ (flent (ν ∷ []) (Body (mem T.the-row) l 0 δ))))) (lends-ref 𝓤 H A W T.the-row (named 0) (ν ∷ []) h l 0) $ await ! tt $ pick ! (λ δ. split ! $
+        use1 W (later (some (λ (δ : GName). ‵ (Own ν δ) ⊛ ‵ (flent (ν ∷ []) (Body (mem T.the-row) l 0 δ)))))
+        (lends-ref 𝓤 H A W T.the-row (named 0) (ν ∷ []) h l 0) $ await ! tt $ pick ! (λ δ. split ! $
         move ! (2 ∷ 0 ∷ []) $ use2 W (raw (lent .pre (to ν δ))) (may-call ν δ (ok (ν ∷ [])) (are (ν ∷ []))) $
         calls-at ! fm lent known (to ν δ) (ops (ν ∷ []) _ _) (λ u.
         use1 W (later (some (λ (x : f .b .X). ((‵ (flft (ν ∷ []) fullShare) ⊛ ‵ ftrue) ⊛ ‵ (type (f .b) .own x (u ∷ [])))
@@ -89,8 +94,13 @@ module _ {B : Beside} (f : Read B) {M : Type 1} (𝓤 : URA M) (H : Heap 𝓤) (
         let s = ws .0 in
         split ! $ move ! (1 ∷ []) $ heard ! (Gave f (ν ∷ [], tt) (passed ν δ) x s) (λ e. fsplit ! $
         -- [the last stream; the other last values; the token and the result; the lender's part]
-        move ! (2 ∷ []) $ split ! $ move ! (1 ∷ []) $ facts ! (type (f .b)) (Is (type (f .b))) (shows 𝓤 H A (type (f .b))) x (u ∷ []) (λ is-x. split ! $
-        lft-end ! tt $ move ! (0 ∷ 4 ∷ 2 ∷ []) $ use3 W (later (‵ (mem T.the-row .lies s l 0))) (ref-back 𝓤 H A W T.the-row (ν ∷ []) δ s l 0) $ await ! tt $ move ! (1 ∷ 2 ∷ []) $ drop ! $ drop ! $
-        fpick ! (λ us. fsplit ! $ spelt ! T.the-row (Is T.the-row) (shows 𝓤 H A T.the-row) (LL.vals T.the-type T′.the-laws) (LL.tells T.the-type T′.the-laws) fullShare s us l 0 $
-        move ! (1 ∷ []) $ facts ! T.the-row (Is T.the-row) (shows 𝓤 H A T.the-row) s (T′.lowered s ∷ []) (λ is-s. use1 W (‵ (cell l s)) (W .laws .raw-at fullShare T′.mir l 0 (T′.lowered s)) $
-        regoal ! (λ (v : Val). lands C Λ E d v rest q) (ap only (f .b .laws .tells x _ is-x)) refl $ k (ν ∷ []) x s e (subst (Is (type (f .b)) x) (f .b .laws .tells x _ is-x) is-x) is-s)))))))))
+        move ! (2 ∷ []) $ split ! $ move ! (1 ∷ []) $ facts ! (type (f .b)) (Is (type (f .b))) (shows 𝓤 H A (type (f .b))) x (u ∷ [])
+        (λ is-x. split ! $
+        lft-end ! tt $ move ! (0 ∷ 4 ∷ 2 ∷ []) $ use3 W (later (‵ (mem T.the-row .lies s l 0)))
+        (ref-back 𝓤 H A W T.the-row (ν ∷ []) δ s l 0) $ await ! tt $ move ! (1 ∷ 2 ∷ []) $ drop ! $ drop ! $
+        fpick ! (λ us. fsplit ! $ spelt ! T.the-row (Is T.the-row) (shows 𝓤 H A T.the-row) (LL.vals T.the-type T′.the-laws)
+        (LL.tells T.the-type T′.the-laws) fullShare s us l 0 $
+        move ! (1 ∷ []) $ facts ! T.the-row (Is T.the-row) (shows 𝓤 H A T.the-row) s (T′.lowered s ∷ [])
+        (λ is-s. use1 W (‵ (cell l s)) (W .laws .raw-at fullShare T′.mir l 0 (T′.lowered s)) $
+        regoal ! (λ (v : Val). lands C Λ E d v rest q) (ap only (f .b .laws .tells x _ is-x)) refl $ k (ν ∷ []) x s e
+        (subst (Is (type (f .b)) x) (f .b .laws .tells x _ is-x) is-x) is-s)))))))))

@@ -12,7 +12,8 @@ use prog.Wp.{Heap, WpFn, Tables}
 use ghost.Atoms.{Atoms, sem}
 use contract.Monad.{fact}
 use contract.Lifetimes.{Lfts}
-use types.Kit.{Given, ‵, raw, some, later, _⊛_, _$_, _∵_, !, qed, move, drop, use0, use1, split, join, pick, fjoin, fjoin3, feqI, suffices, frame, await, updating, now as at-once, show, done}
+use types.Kit.{Given, ‵, raw, some, later, _⊛_, _$_, _∵_, !, qed, move, drop, use0, use1, split, join, pick, fjoin, fjoin3, feqI, suffices, frame}
+use types.Kit.{await, updating, now as at-once, show, done}
 use types.SemTy.{Body}
 use sound.WpLaws.{WpFn-mono}
 use denote.RattleType.{Denots, Valss, flat, owns}
@@ -34,7 +35,7 @@ use denote.Triple.Weaken.{weaken}
 use Rattle.bits.specs.declared.stream.BitStream.{BitStream}
 use Rattle.bits.proofs.stream.BitStream as T
 use Rattle.bits.proofs.stream.BitStream.Laws as T′
-use Rattle.bits_lent.proofs.Answers.{IsStream, Builtin, type, val, IsVal, makes, Answer}
+use Rattle.bits_lent.proofs.Answers.{IsStream, Builtin, type, val, IsVal, makes, ByValue}
 
 -- what a function takes beside the stream
 pub record Beside : Type 2 where
@@ -44,14 +45,15 @@ pub record Beside : Type 2 where
   pub args : (n : ℕ) (κs : Lfts n) → Denots (typesAt (slots n) κs) → Args
   pub spells : (n : ℕ) (κs : Lfts n) → Spells (typesAt (slots n) κs)
   pub tells : (n : ℕ) (κs : Lfts n) → Tellss (typesAt (slots n) κs) (Ises (typesAt (slots n) κs)) (spells n κs)
-  pub makes : {M : Type 1} (𝓤 : URA M) (H : Heap 𝓤) (A : Atoms 𝓤) (W : Given 𝓤 H A) (n : ℕ) (κs : Lfts n) → Makess 𝓤 H A (typesAt (slots n) κs) (Ises (typesAt (slots n) κs))
+  pub makes : {M : Type 1} (𝓤 : URA M) (H : Heap 𝓤) (A : Atoms 𝓤) (W : Given 𝓤 H A) (n : ℕ) (κs : Lfts n)
+      → Makess 𝓤 H A (typesAt (slots n) κs) (Ises (typesAt (slots n) κs))
   pub stays : Stays (slots 1) (kepts 1)
   pub go : {M : Type 1} (𝓤 : URA M) (H : Heap 𝓤) (A : Atoms 𝓤) (W : Given 𝓤 H A) → AllGo 𝓤 H A W 1 (slots 1) (kepts 1) stays
 
 -- a function by value: its answer's type, what it asks, what it promises, and what that promise says it gives
 pub record Read (B : Beside) : Type 2 where
   pub b : Builtin
-  pub answer : Answer b
+  pub answer : ByValue b
   pub asks : BitStream → B .Args → Type 0
   pub gives : BitStream → B .Args → answer .R .Denot
   pub Promise : BitStream → B .Args → answer .R .Denot → Type 0
@@ -66,16 +68,33 @@ module _ (B : Beside) where
     abbrev pub AreBeside : Type 0
     AreBeside = Are (typesAt (B .slots n) κs) (Ises (typesAt (B .slots n) κs)) ns vals
 
-    pub owned-beside : {M : Type 1} (𝓤 : URA M) (H : Heap 𝓤) (A : Atoms 𝓤) (W : Given 𝓤 H A) → AreBeside → ent 𝓤 (emp 𝓤) (sem 𝓤 H A (owns (typesAt (B .slots n) κs) ns vals))
+    pub owned-beside : {M : Type 1} (𝓤 : URA M) (H : Heap 𝓤) (A : Atoms 𝓤) (W : Given 𝓤 H A) → AreBeside
+        → ent 𝓤 (emp 𝓤) (sem 𝓤 H A (owns (typesAt (B .slots n) κs) ns vals))
     owned-beside 𝓤 H A W are = owns-make 𝓤 H A (typesAt (B .slots n) κs) (Ises (typesAt (B .slots n) κs)) (B .makes 𝓤 H A W n κs) ns vals are
 
 module _ {B : Beside} (f : Read B) where
   -- ---- by value
   abbrev by-ended : Ended
-  by-ended = record { signature = record { lifetimes = 0; outlives = []; params = plain (λ _. T.the-row) ∷ B .slots 0; result = plain (λ _. f .answer .R) }; kept = (yes, B .kepts 0) }
+  by-ended =
+      record {
+        signature = record {
+          lifetimes = 0;
+          outlives = [];
+          params = plain (λ _. T.the-row) ∷ B .slots 0;
+          result = plain
+              (λ _. f .answer .R);
+        };
+        kept = (yes, B .kepts 0);
+      }
 
   abbrev by-clauses : {M : Type 1} (𝓤 : URA M) → Clauses 𝓤 by-ended
-  by-clauses 𝓤 κs a = record { ghost = Unit {0}; requires = λ _. fact 𝓤 (f .asks (a .0) (B .args 0 κs (a .1))); ensures = λ _ r _. fact 𝓤 (f .Promise (a .0) (B .args 0 κs (a .1)) r) }
+  by-clauses 𝓤 κs a =
+      record {
+        ghost = Unit {0};
+        requires = λ _. fact 𝓤 (f .asks (a .0) (B .args 0 κs (a .1)));
+        ensures = λ _ r _. fact 𝓤
+            (f .Promise (a .0) (B .args 0 κs (a .1)) r);
+      }
 
   module _ {M : Type 1} (𝓤 : URA M) (H : Heap 𝓤) (A : Atoms 𝓤) where
     abbrev pub by-value : Contract 𝓤
@@ -87,22 +106,34 @@ module _ {B : Beside} (f : Read B) where
 
       pub asked : f .asks h (B .args 0 tt ns) → IsStream h → AreBeside B 0 tt ns → ent 𝓤 (emp 𝓤) (by-value .pre passing)
       asked ok is are =
-          qed W (‵ ftrue ∷ []) ∵ says ! ok $ frame ! $ use0 W (‵ (owns (typesAt (B .slots 0) tt) ns (vals B 0 tt ns))) (owned-beside B 0 tt ns 𝓤 H A W are) $
+          qed W (‵ ftrue ∷ []) ∵ says ! ok $ frame ! $ use0 W (‵ (owns (typesAt (B .slots 0) tt) ns (vals B 0 tt ns)))
+          (owned-beside B 0 tt ns 𝓤 H A W are) $
           owned ! T.the-row (Is T.the-row) (LL.makes T.the-type T′.the-plain 𝓤 H A) h _ is $ fjoin ! $ done !
 
       abbrev Said : f .answer .R .Denot → Type 0
       Said r = f .Promise h (B .args 0 tt ns) r
 
-      pub answered : (u : Val) → ent 𝓤 (by-value .post passing u) (H .⇛ (ex 𝓤 (λ (r : f .answer .R .Denot). sep 𝓤 (sem 𝓤 H A (f .answer .R .own r (u ∷ []))) (fact 𝓤 (Said r)))))
+      pub answered : (u : Val)
+          → ent 𝓤 (by-value .post passing u) (H .⇛ (ex 𝓤 (λ (r : f .answer .R .Denot). sep 𝓤 (sem 𝓤 H A (f .answer .R .own r (u ∷ []))) (fact 𝓤 (Said r)))))
       answered u =
           qed W (raw (by-value .post passing u) ∷ []) ∵ updating ! $
-          use1 W (later (some (λ (r : f .answer .R .Denot). (‵ ftrue ⊛ ‵ (f .answer .R .own r (u ∷ []))) ⊛ raw (ensured 𝓤 H A by-ended (by-clauses 𝓤) tt (h, ns) tt r)))) (id⊢ 𝓤 _) $ await ! tt $ pick ! (λ r.
-          split ! $ split ! $ drop ! $ move ! (1 ∷ []) $ use1 W (raw (fact 𝓤 (Said r))) (exE 𝓤 _ (λ ws. snd∗ 𝓤 (sem 𝓤 H A (lasts by-ended tt (h, ns) ws)) (fact 𝓤 (Said r)))) $
-          at-once ! $ show ! (λ (r : f .answer .R .Denot). sep 𝓤 (sem 𝓤 H A (f .answer .R .own r (u ∷ []))) (fact 𝓤 (Said r))) r $ move ! (1 ∷ 0 ∷ []) $ done !)
+          use1 W (later (some (λ (r : f .answer .R .Denot). (‵ ftrue ⊛ ‵ (f .answer .R .own r (u ∷ []))) ⊛ raw
+          (ensured 𝓤 H A by-ended (by-clauses 𝓤) tt (h, ns) tt r)))) (id⊢ 𝓤 _) $ await ! tt $ pick ! (λ r.
+          split ! $ split ! $ drop ! $ move ! (1 ∷ []) $ use1 W (raw (fact 𝓤 (Said r)))
+          (exE 𝓤 _ (λ ws. snd∗ 𝓤 (sem 𝓤 H A (lasts by-ended tt (h, ns) ws)) (fact 𝓤 (Said r)))) $
+          at-once ! $ show ! (λ (r : f .answer .R .Denot). sep 𝓤 (sem 𝓤 H A (f .answer .R .own r (u ∷ []))) (fact 𝓤 (Said r))) r $ move !
+          (1 ∷ 0 ∷ []) $ done !)
 
   -- ---- lent: the result and the stream that is left are those of what the function by value gives
   abbrev pub signature : Signature
-  signature = record { lifetimes = 1; outlives = []; params = RefMutOf (0 ∷ []) tt (plain (λ _. T.the-row)) (λ _. tt) ∷ B .slots 1; result = plain (λ _. type (f .b)) }
+  signature =
+      record {
+        lifetimes = 1;
+        outlives = [];
+        params = RefMutOf (0 ∷ []) tt (plain (λ _. T.the-row)) (λ _. tt) ∷ B .slots 1;
+        result = plain
+            (λ _. type (f .b));
+      }
 
   abbrev pub ended : Ended
   ended = record { signature = signature; kept = (yes, B .kepts 1) }
@@ -111,7 +142,13 @@ module _ {B : Beside} (f : Read B) where
   Gave κs a x s = f .answer .parts x s (f .gives (now (a .0)) (B .args 1 κs (a .1)))
 
   abbrev pub clauses : {M : Type 1} (𝓤 : URA M) → Clauses 𝓤 ended
-  clauses 𝓤 κs a = record { ghost = Unit {0}; requires = λ _. fact 𝓤 (f .asks (now (a .0)) (B .args 1 κs (a .1))); ensures = λ _ x e. fact 𝓤 (Gave κs a x (now (e .0))) }
+  clauses 𝓤 κs a =
+      record {
+        ghost = Unit {0};
+        requires = λ _. fact 𝓤 (f .asks (now (a .0)) (B .args 1 κs (a .1)));
+        ensures = λ _ x e. fact 𝓤
+            (Gave κs a x (now (e .0)));
+      }
 
   abbrev all-stay : Stays (ended .signature .params) (ended .kept)
   all-stay = (stay-ref (0 ∷ []) tt (plain (λ _. T.the-row)), B .stays)
@@ -142,9 +179,12 @@ module _ {B : Beside} (f : Read B) where
           (WpFn 𝓤 H (𝓣 .C) (𝓣 .Λ) fn (vptr p o ∷ flat (typesAt (B .slots 1) (κ, tt)) (vals B 1 (κ, tt) ns)) (Post κ q p o γ h ns)))
           → Meets 𝓤 H A signature (WpFn 𝓤 H (𝓣 .C) (𝓣 .Λ) fn) (closing 𝓤 H A ended (clauses 𝓤))
       through walk =
-          walk-meets 𝓤 H A ended all-stay W (goes-ref 𝓤 H A W 1 0 tt (plain (λ _. T.the-row)), B .go 𝓤 H A W) (clauses 𝓤) (WpFn 𝓤 H (𝓣 .C) (𝓣 .Λ) fn) (WpFn-mono 𝓤 H (W .laws) 𝓣 fn)
-          (walked 𝓤 H A ended all-stay (clauses 𝓤) (WpFn 𝓤 H (𝓣 .C) (𝓣 .Λ) fn) (λ κs. (ptr-vals, B .spells 1 κs)) (λ κs. (mut-tells (named 0) (κs .0) T.the-row, B .tells 1 κs))
-          (λ κs qs bounds a _ are. needs 𝓤 _ _ (λ ok. walk (κs .0) (qs .0) (a .0 .ptr .0) (a .0 .ptr .1) (a .0 .name) (a .0 .now) (a .1) ok (are .1))))
+          walk-meets 𝓤 H A ended all-stay W (goes-ref 𝓤 H A W 1 0 tt (plain (λ _. T.the-row)), B .go 𝓤 H A W) (clauses 𝓤) (WpFn 𝓤 H (𝓣 .C) (𝓣 .Λ) fn)
+          (WpFn-mono 𝓤 H (W .laws) 𝓣 fn)
+          (walked 𝓤 H A ended all-stay (clauses 𝓤) (WpFn 𝓤 H (𝓣 .C) (𝓣 .Λ) fn) (λ κs. (ptr-vals, B .spells 1 κs))
+          (λ κs. (mut-tells (named 0) (κs .0) T.the-row, B .tells 1 κs))
+          (λ κs qs bounds a _ are. needs 𝓤 _ _ (λ ok. walk (κs .0) (qs .0) (a .0 .ptr .0) (a .0 .ptr .1) (a .0 .name) (a .0 .now) (a .1) ok
+          (are .1))))
 
       -- in the words of the source's promise
       pub promised : (E : (κs : Lfts 1) (a : Args signature κs) → Unit {0} → Res signature κs → AtExit ended κs → SProp 𝓤)

@@ -9,7 +9,8 @@ use Rattle.bits_lent.specs.declared.Opening.{Opening}
 use Rattle.bits_lent.specs.Opening.{openingAt, openingOf}
 
 pub opens-at : (s : BitStream) {s₁ s₂ s₃ : BitStream} {x z : ℕ} {y : Bool} → s₁ ≡ skipped s 5
-    → (x ≡ consumed8 s₁ 2 .value) × (s₂ ≡ consumed8 s₁ 2 .stream) → (y ≡ consumed1 s₂ .value) × (s₃ ≡ consumed1 s₂ .stream) → z ≡ consumed64 s₃ 42 .value
+    → (x ≡ consumed8 s₁ 2 .value) × (s₂ ≡ consumed8 s₁ 2 .stream) → (y ≡ consumed1 s₂ .value) × (s₃ ≡ consumed1 s₂ .stream)
+    → z ≡ consumed64 s₃ 42 .value
     → _≡_ {A = Opening} (record { rotation = x; «index_mode» = y; endpoints = z }) (openingAt s)
 unfolding openingAt
 opens-at s p q r t = rw (t, r .0, r .1, q .0, q .1, p)

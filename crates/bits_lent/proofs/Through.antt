@@ -48,27 +48,37 @@ module _ (f : Read count) where
     lifetimes = 1;
     outlives = [];
     params = 2;
-    locals = local (f .b .mir) valueLocal ∷ local reference valueLocal ∷ local (tyInt w32) valueLocal ∷ local (f .answer .mir) valueLocal ∷ local T′.mir valueLocal ∷ [];
+    locals = local (f .b .mir) valueLocal ∷ local reference valueLocal ∷ local (tyInt w32) valueLocal ∷ local
+        (f .answer .mir) valueLocal ∷ local T′.mir valueLocal ∷ [];
     body = body (f .answer) g (copy (place 2 []) ∷ []) 3 4;
   }
 
   module _ {M : Type 1} (𝓤 : URA M) (H : Heap 𝓤) (A : Atoms 𝓤) (W : Given 𝓤 H A) (g : Name) (𝓣 : Tables 𝓤 H) where
-    pub with-count : Triple 𝓤 (𝓣 .C g) (by-value f 𝓤 H A) → Meets 𝓤 H A (signature f) (WpFn 𝓤 H (𝓣 .C) (𝓣 .Λ) (counted g)) (closing 𝓤 H A (ended f) (clauses f 𝓤))
+    pub with-count : Triple 𝓤 (𝓣 .C g) (by-value f 𝓤 H A)
+        → Meets 𝓤 H A (signature f) (WpFn 𝓤 H (𝓣 .C) (𝓣 .Λ) (counted g)) (closing 𝓤 H A (ended f) (clauses f 𝓤))
     with-count known = through f 𝓤 H A W 𝓣 (counted g) (λ κ q p o γ h ns ok are.
-        qed W ((‵ (flft κ q) ⊛ ‵ ftrue) ∷ ‵ (owns (MutRef (named 0) κ T.the-row ∷ u32 ∷ []) (record { ptr = (p, o); name = γ; now = h }, ns) (vptr p o ∷ [], (vint w32 (ns .0) ∷ [], tt))) ∷ []) ∵
+        qed W ((‵ (flft κ q) ⊛ ‵ ftrue) ∷ ‵ (owns (MutRef (named 0) κ T.the-row ∷ u32 ∷ []) (record { ptr = (p, o); name = γ; now = h }, ns)
+        (vptr p o ∷ [], (vint w32 (ns .0) ∷ [], tt))) ∷ []) ∵
         enter ! (𝓣 .C) (𝓣 .Λ) (counted g) (vptr p o ∷ vint w32 (ns .0) ∷ []) _ $
-        alloc1 ! (λ l₀. alloc1 ! (λ l₁. alloc1 ! (λ l₂. alloc1 ! (λ l₃. alloc1 ! (λ l₄. alloc0 ! $ params1 ! $ pass1 ! (init ! 6 refl (tt, tt)) $ pass1 ! (init ! 4 refl (tt, record { fits = are .0 .1 })) $ pass0 ! $
+        alloc1 ! (λ l₀. alloc1 ! (λ l₁. alloc1 ! (λ l₂. alloc1 !
+        (λ l₃. alloc1 ! (λ l₄. alloc0 ! $ params1 ! $ pass1 ! (init ! 6 refl (tt, tt)) $ pass1 !
+        (init ! 4 refl (tt, record { fits = are .0 .1 })) $ pass0 ! $
         move ! (11 ∷ []) $ fsplit ! $ fsplit3 ! $ drop ! $ move ! (13 ∷ []) $ split ! $ move ! (2 ∷ 3 ∷ 0 ∷ 5 ∷ 7 ∷ 11 ∷ 13 ∷ []) $
-        moves (𝓣 .C) (𝓣 .Λ) (fmOf 𝓤 H (W .laws) 𝓣) (f .answer) g h (vint w32 (ns .0) ∷ []) (f .Promise h (ns .0)) (by-value f 𝓤 H A .post (passing f 𝓤 H A W h ns))
-        (λ is. via 𝓤 (by-value f 𝓤 H A .pre (passing f 𝓤 H A W h ns)) (asked f 𝓤 H A W h ns ok is are) (known (passing f 𝓤 H A W h ns))) (answered f 𝓤 H A W h ns)
+        moves (𝓣 .C) (𝓣 .Λ) (fmOf 𝓤 H (W .laws) 𝓣) (f .answer) g h (vint w32 (ns .0) ∷ []) (f .Promise h (ns .0))
+        (by-value f 𝓤 H A .post (passing f 𝓤 H A W h ns))
+        (λ is. via 𝓤 (by-value f 𝓤 H A .pre (passing f 𝓤 H A W h ns)) (asked f 𝓤 H A W h ns ok is are) (known (passing f 𝓤 H A W h ns)))
+        (answered f 𝓤 H A W h ns)
         3 4 refl refl (λ _ _ _ _ _ _ _ _ _. and-then ! (load ! (from ! (stop !)) (look ! 13 refl)) (no-more !)) (λ r e is.
         -- [obs; the borrow; the token; _4; _3; _1; _0; …; …; …_4; …_3; _2; …_2; …_1; …_0]
-        move ! (6 ∷ 14 ∷ []) $ free1 ! $ move ! (5 ∷ 12 ∷ []) $ free1 ! $ forget ! 9 refl $ move ! (9 ∷ 10 ∷ []) $ free1 ! $ move ! (4 ∷ 8 ∷ []) $ free1 ! $ move ! (3 ∷ 6 ∷ []) $ free1 ! $ free0 ! $
-        keep ! (0 ∷ 1 ∷ 2 ∷ []) $ by ! (leaves f 𝓤 H A W κ q p o γ h ns (tt, tt) (tt, tt) (emp∗ 𝓤 (emp 𝓤)) (f .answer .value r) (f .answer .stream r) (f .answer .parted r _ (f .given h (ns .0) r e)) is))))))))
+        move ! (6 ∷ 14 ∷ []) $ free1 ! $ move ! (5 ∷ 12 ∷ []) $ free1 ! $ forget ! 9 refl $ move ! (9 ∷ 10 ∷ []) $ free1 ! $ move !
+        (4 ∷ 8 ∷ []) $ free1 ! $ move ! (3 ∷ 6 ∷ []) $ free1 ! $ free0 ! $
+        keep ! (0 ∷ 1 ∷ 2 ∷ []) $ by ! (leaves f 𝓤 H A W κ q p o γ h ns (tt, tt) (tt, tt) (emp∗ 𝓤 (emp 𝓤)) (f .answer .value r) (f .answer .stream r)
+        (f .answer .parted r _ (f .given h (ns .0) r e)) is))))))))
 
 -- ---- nothing
 abbrev pub none : Beside
-none = record { slots = λ n. []; kepts = λ n. tt; Args = Unit {0}; args = λ n κs ns. tt; spells = λ n κs. tt; tells = λ n κs. tt; makes = λ 𝓤 H A W n κs. tt; stays = tt; go = λ 𝓤 H A W. tt }
+none =
+    record { slots = λ n. []; kepts = λ n. tt; Args = Unit {0}; args = λ n κs ns. tt; spells = λ n κs. tt; tells = λ n κs. tt; makes = λ 𝓤 H A W n κs. tt; stays = tt; go = λ 𝓤 H A W. tt }
 
 module _ (f : Read none) where
   abbrev alone : Name → Fn
@@ -81,15 +91,19 @@ module _ (f : Read none) where
   }
 
   module _ {M : Type 1} (𝓤 : URA M) (H : Heap 𝓤) (A : Atoms 𝓤) (W : Given 𝓤 H A) (g : Name) (𝓣 : Tables 𝓤 H) where
-    pub with-none : Triple 𝓤 (𝓣 .C g) (by-value f 𝓤 H A) → Meets 𝓤 H A (signature f) (WpFn 𝓤 H (𝓣 .C) (𝓣 .Λ) (alone g)) (closing 𝓤 H A (ended f) (clauses f 𝓤))
+    pub with-none : Triple 𝓤 (𝓣 .C g) (by-value f 𝓤 H A)
+        → Meets 𝓤 H A (signature f) (WpFn 𝓤 H (𝓣 .C) (𝓣 .Λ) (alone g)) (closing 𝓤 H A (ended f) (clauses f 𝓤))
     with-none known = through f 𝓤 H A W 𝓣 (alone g) (λ κ q p o γ h ns ok are.
-        qed W ((‵ (flft κ q) ⊛ ‵ ftrue) ∷ ‵ (owns (MutRef (named 0) κ T.the-row ∷ []) (record { ptr = (p, o); name = γ; now = h }, tt) (vptr p o ∷ [], tt)) ∷ []) ∵
+        qed W ((‵ (flft κ q) ⊛ ‵ ftrue) ∷ ‵ (owns (MutRef (named 0) κ T.the-row ∷ []) (record { ptr = (p, o); name = γ; now = h }, tt)
+        (vptr p o ∷ [], tt)) ∷ []) ∵
         enter ! (𝓣 .C) (𝓣 .Λ) (alone g) (vptr p o ∷ []) _ $
         alloc1 ! (λ l₀. alloc1 ! (λ l₁. alloc1 ! (λ l₂. alloc1 ! (λ l₃. alloc0 ! $ params1 ! $ pass1 ! (init ! 4 refl (tt, tt)) $ pass0 ! $
         move ! (9 ∷ []) $ fsplit ! $ fsplit3 ! $ drop ! $ move ! (11 ∷ []) $ split ! $ move ! (2 ∷ 3 ∷ 0 ∷ 5 ∷ 7 ∷ 9 ∷ 11 ∷ []) $
         moves (𝓣 .C) (𝓣 .Λ) (fmOf 𝓤 H (W .laws) 𝓣) (f .answer) g h [] (f .Promise h tt) (by-value f 𝓤 H A .post (passing f 𝓤 H A W h tt))
-        (λ is. via 𝓤 (by-value f 𝓤 H A .pre (passing f 𝓤 H A W h tt)) (asked f 𝓤 H A W h tt ok is tt) (known (passing f 𝓤 H A W h tt))) (answered f 𝓤 H A W h tt)
+        (λ is. via 𝓤 (by-value f 𝓤 H A .pre (passing f 𝓤 H A W h tt)) (asked f 𝓤 H A W h tt ok is tt) (known (passing f 𝓤 H A W h tt)))
+        (answered f 𝓤 H A W h tt)
         2 3 refl refl (λ _ _ _ _ _ _ _ _ _. no-more !) (λ r e is.
         -- [obs; the borrow; the token; _3; _2; _1; _0; …; …; …_3; …_2; …_1; …_0]
         move ! (6 ∷ 12 ∷ []) $ free1 ! $ move ! (5 ∷ 10 ∷ []) $ free1 ! $ move ! (4 ∷ 8 ∷ []) $ free1 ! $ move ! (3 ∷ 6 ∷ []) $ free1 ! $ free0 ! $
-        keep ! (0 ∷ 1 ∷ 2 ∷ []) $ by ! (leaves f 𝓤 H A W κ q p o γ h tt tt tt (id⊢ 𝓤 (emp 𝓤)) (f .answer .value r) (f .answer .stream r) (f .answer .parted r _ (f .given h tt r e)) is)))))))
+        keep ! (0 ∷ 1 ∷ 2 ∷ []) $ by ! (leaves f 𝓤 H A W κ q p o γ h tt tt tt (id⊢ 𝓤 (emp 𝓤)) (f .answer .value r) (f .answer .stream r)
+        (f .answer .parted r _ (f .given h tt r e)) is)))))))

@@ -8,7 +8,7 @@ use Rattle.line_rules.specs.declared.Replacement.{Replacement}
 use Rattle.line_rules.specs.declared.Replaced.{Replaced}
 use Rattle.record_rules.specs.declared.Unpacked.{Unpacked}
 use Rattle.bc7_format.specs.Lines.{pixels}
-use Rattle.record_rules.specs.Records.{taken, unpackedAs, zeroRecord}
+use Rattle.record_rules.specs.Records.{takenApart, unpackedAs, zeroRecord}
 use Rattle.sheet_head.specs.Numbers.{found, noNumber, numberBytes, readNumber}
 use Rattle.line_rules.specs.Replace.{replaced, replacedAs}
 
@@ -29,7 +29,7 @@ pub data Answer : Type 0 where
 
 abbrev pub answer : Question → Answer
 answer (shown-by b) = sixteen (pixels b)
-answer (record-of b) = unpacked (taken b)
+answer (record-of b) = unpacked (takenApart b)
 answer (replacing b l new) = block (replaced b l new)
 answer (written n) = bytes (numberBytes n)
 answer (read bs) = number (readNumber bs 0)
@@ -55,8 +55,8 @@ all px = replicate 16 px
 abbrev blockC : List ℕ
 blockC = 0x40 ∷ 0xC0 ∷ 0x1F ∷ (zeros 5 ++ (0x0E ∷ zeros 7))
 
-abbrev lineOfC : Replacement
-lineOfC = record { endpoints = 0 ∷ 0 ∷ 0 ∷ 0 ∷ 127 ∷ 0 ∷ 0 ∷ 0 ∷ []; p = 0 ∷ 0 ∷ []; indexes = 8 ∷ zeros 15 }
+abbrev givenToC : Replacement
+givenToC = record { endpoints = 0 ∷ 0 ∷ 0 ∷ 0 ∷ 127 ∷ 0 ∷ 0 ∷ 0 ∷ []; p = 0 ∷ 0 ∷ []; indexes = 8 ∷ zeros 15 }
 
 abbrev blockTurned : List ℕ
 blockTurned = 0xC0 ∷ 0x3F ∷ (zeros 6 ++ (0xFE ∷ replicate 7 0xFF))
@@ -72,7 +72,7 @@ claims =
     (shown-by (0x80 ∷ zeros 15) gives sixteen (all (rgba 0 0 0 0))) ∷
     (shown-by (0xC0 ∷ replicate 15 0xFF) gives sixteen (all (rgba 255 255 255 255))) ∷
     (shown-by blockC gives sixteen (rgba 119 0 0 0 ∷ replicate 15 (rgba 0 0 0 0))) ∷
-    (replacing blockC 0 lineOfC gives block (replacedAs 0 blockTurned)) ∷
+    (replacing blockC 0 givenToC gives block (replacedAs 0 blockTurned)) ∷
     (shown-by blockTurned gives sixteen (rgba 135 0 0 0 ∷ replicate 15 (rgba 0 0 0 0))) ∷
     (shown-by blockD gives sixteen (all (rgba 255 0 0 0))) ∷
     (shown-by (0x90 ∷ 0xE0 ∷ 0x03 ∷ (zeros 7 ++ (0x06 ∷ zeros 5))) gives sixteen (rgba 108 0 0 0 ∷ replicate 15 (rgba 0 0 0 0))) ∷

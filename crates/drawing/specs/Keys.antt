@@ -2,7 +2,7 @@
 -- Assumes nothing.
 use Prim.Native.Nat.{ℕ, _+_, _*_, _/_, _%_, _^_}
 use lib.Dec.{eqb}
-use Rattle.laws.specs.Digits.{row}
+use Rattle.laws.specs.Digits.{evenly}
 use Rattle.laws.specs.Tables.{pick}
 use Rattle.bcn_format.specs.Indexes.{part}
 use Rattle.drawing.specs.declared.keys.Keys.{Keys}
@@ -13,7 +13,7 @@ keyOf w s x map q = part x w q * 2 ^ s + part map w q
 
 -- of every other pixel from o on, in 2 * w bits each
 abbrev pub everyOther : ℕ → ℕ → ℕ → ℕ → ℕ → ℕ
-everyOther w s x map o = row 8 (2 * w) (λ i. keyOf w s x map (2 * i + o))
+everyOther w s x map o = evenly 8 (2 * w) (λ i. keyOf w s x map (2 * i + o))
 
 abbrev pub keysOf : ℕ → ℕ → ℕ → ℕ → Keys
 keysOf w s x map = record { even = everyOther w s x map 0; odd = everyOther w s x map 1 }

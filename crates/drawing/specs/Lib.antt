@@ -1,4 +1,4 @@
 -- The definitions that the contracts cite, beside those of `format`.
 pub mod Words
 pub mod Keys
-pub mod Colors
+pub mod Colours

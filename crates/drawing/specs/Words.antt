@@ -8,8 +8,8 @@ use lib.ListN.{getD, replicate}
 use Rattle.laws.specs.Digits.{Fit, join, split}
 use Rattle.laws.specs.Tables.{pick}
 use Rattle.bcn_format.specs.Painting.{endOf, endOfP}
-use Rattle.drawing.specs.declared.color.Ends.{Ends}
-use Rattle.drawing.specs.declared.color.Stored.{Stored}
+use Rattle.drawing.specs.declared.colour.Ends.{Ends}
+use Rattle.drawing.specs.declared.colour.Stored.{Stored}
 
 -- the word of four lanes, the first lowest, and the lanes of a word
 unfoldable pub laned : List ℕ → ℕ

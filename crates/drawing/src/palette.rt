@@ -3,19 +3,19 @@
 ghost use mathlib.Core.Path.{_≡_};
 ghost use mathlib.Core.List.{_++_};
 ghost use Prim.Native.Nat.{_+_, _*_, _/_, _%_, _^_, _≤_, _<_};
-ghost use Rattle.laws.specs.Digits.{row};
+ghost use Rattle.laws.specs.Digits.{evenly};
 ghost use Rattle.laws.specs.Tables.{table};
 ghost use Rattle.bcn_format.specs.Drawing.{weightOf};
 ghost use Rattle.bcn_format.specs.Indexes.{part};
 ghost use Rattle.bcn_format.specs.Painting.{between};
 ghost use Rattle.drawing.specs.Words.{Alone, Bytes, endpoint, wordBytes};
-ghost use Rattle.drawing.specs.Colors.{endpoints, keyed, shade};
-use crate::color::Ends;
-use crate::color::high_color;
-use crate::color::low_color;
-use crate::color::mixed;
-use crate::color::mixed_2;
-use crate::color::two_colors;
+ghost use Rattle.drawing.specs.Colours.{endpoints, keyed, shade};
+use crate::colour::Ends;
+use crate::colour::high_colour;
+use crate::colour::low_colour;
+use crate::colour::mixed;
+use crate::colour::mixed_2;
+use crate::colour::two_colours;
 
 // The format's weights are parts of 64; here they are four times as large, as in the Rust, and the sum is divided by 256:
 //
@@ -53,11 +53,11 @@ pub fn get_weight_3(index: usize) -> u64
 }
 
 // The colours of two subsets at a weight, that of the first in the low half.
-fn mixed_colors(e: Ends, weight: u64) -> u64
+fn mixed_colours(e: Ends, weight: u64) -> u64
     requires { ⌜ (weight ≤ 256) × Bytes e ⌝ }
     ensures { λ r. ⌜ wordBytes r ≡ shade e 0 weight ++ shade e 1 weight ⌝ }
 {
-    two_colors(mixed(weight, e.rb0, e.rb1), mixed(weight, e.ga0, e.ga1))
+    two_colours(mixed(weight, e.rb0, e.rb1), mixed(weight, e.ga0, e.ga1))
 }
 
 // The colours of one subset at two weights, the second 32 bits above the first: that of the first in the low half.
@@ -65,7 +65,7 @@ pub fn two_shades(e: Ends, weights: u64) -> u64
     requires { ⌜ (weights % 2 ^ 32 ≤ 256) × (weights / 2 ^ 32 ≤ 256) × Alone e ⌝ }
     ensures { λ r. ⌜ wordBytes r ≡ shade e 0 (weights % 2 ^ 32) ++ shade e 0 (weights / 2 ^ 32) ⌝ }
 {
-    two_colors(
+    two_colours(
         mixed_2(weights, e.rb0, e.rb1),
         mixed_2(weights, e.ga0, e.ga1),
     )
@@ -78,9 +78,9 @@ pub fn palette_2_2(e: Ends) -> [[u8; 4]; 8]
 {
     let mut q = [[0u8; 4]; 8];
     for k in 0..4usize {
-        let x = mixed_colors(e, get_weight_2(k));
-        q[2 * k] = low_color(x);
-        q[2 * k + 1] = high_color(x);
+        let x = mixed_colours(e, get_weight_2(k));
+        q[2 * k] = low_colour(x);
+        q[2 * k + 1] = high_colour(x);
     }
     q
 }
@@ -91,9 +91,9 @@ pub fn palette_2_3(e: Ends) -> [[u8; 4]; 16]
 {
     let mut q = [[0u8; 4]; 16];
     for k in 0..8usize {
-        let x = mixed_colors(e, get_weight_3(k));
-        q[2 * k] = low_color(x);
-        q[2 * k + 1] = high_color(x);
+        let x = mixed_colours(e, get_weight_3(k));
+        q[2 * k] = low_colour(x);
+        q[2 * k + 1] = high_colour(x);
     }
     q
 }
@@ -106,12 +106,12 @@ pub fn palette_3_2(e: Ends, f: Ends) -> [[u8; 4]; 16]
 {
     let mut q = [[0u8; 4]; 16];
     for k in 0..4usize {
-        let x = mixed_colors(e, get_weight_2(k));
-        let y = mixed_colors(f, get_weight_2(k));
-        q[4 * k] = low_color(x);
-        q[4 * k + 1] = high_color(x);
-        q[4 * k + 2] = low_color(y);
-        q[4 * k + 3] = high_color(y);
+        let x = mixed_colours(e, get_weight_2(k));
+        let y = mixed_colours(f, get_weight_2(k));
+        q[4 * k] = low_colour(x);
+        q[4 * k + 1] = high_colour(x);
+        q[4 * k + 2] = low_colour(y);
+        q[4 * k + 3] = high_colour(y);
     }
     q
 }
@@ -122,12 +122,12 @@ pub fn palette_3_3(e: Ends, f: Ends) -> [[u8; 4]; 32]
 {
     let mut q = [[0u8; 4]; 32];
     for k in 0..8usize {
-        let x = mixed_colors(e, get_weight_3(k));
-        let y = mixed_colors(f, get_weight_3(k));
-        q[4 * k] = low_color(x);
-        q[4 * k + 1] = high_color(x);
-        q[4 * k + 2] = low_color(y);
-        q[4 * k + 3] = high_color(y);
+        let x = mixed_colours(e, get_weight_3(k));
+        let y = mixed_colours(f, get_weight_3(k));
+        q[4 * k] = low_colour(x);
+        q[4 * k + 1] = high_colour(x);
+        q[4 * k + 2] = low_colour(y);
+        q[4 * k + 3] = high_colour(y);
     }
     q
 }
@@ -141,7 +141,7 @@ pub fn palette_3_3(e: Ends, f: Ends) -> [[u8; 4]; 32]
 //     (i + 2) / 4
 //           0  0  1  1  1  1  2  2  2  2  3  3  3  3  4  4
 fn weights_of(x: u64) -> u64
-    ensures { λ r. ⌜ r ≡ row 8 8 (λ j. weightOf 4 (part x 4 (2 * j))) ⌝ }
+    ensures { λ r. ⌜ r ≡ evenly 8 8 (λ j. weightOf 4 (part x 4 (2 * j))) ⌝ }
 {
     let indexes = x & 0x0F0F_0F0F_0F0F_0F0F;
     4 * indexes + (((indexes + 0x0202_0202_0202_0202) >> 2) & 0x0707_0707_0707_0707)
@@ -150,7 +150,7 @@ fn weights_of(x: u64) -> u64
 // Of eight weights, a byte each, those at place i and i + 4. They stand 32 bits apart, as `two_shades` wants them, and are taken times 4.
 fn weights_at(weights: u64, i: usize) -> u64
     requires { ⌜ i < 4 ⌝ }
-    ensures { λ r. ⌜ r ≡ row 2 32 (λ h. 4 * part weights 8 (i + 4 * h)) ⌝ }
+    ensures { λ r. ⌜ r ≡ evenly 2 32 (λ h. 4 * part weights 8 (i + 4 * h)) ⌝ }
 {
     4 * ((weights >> (8 * (i as u32))) & 0x00FF_0000_00FF)
 }
@@ -166,11 +166,11 @@ pub fn mix_16(e: Ends, x: u64) -> [[u8; 4]; 16]
     let mut output = [[0u8; 4]; 16];
     for i in 0..4usize {
         let two = two_shades(e, weights_at(even, i));
-        output[2 * i] = low_color(two);
-        output[2 * i + 8] = high_color(two);
+        output[2 * i] = low_colour(two);
+        output[2 * i + 8] = high_colour(two);
         let next = two_shades(e, weights_at(odd, i));
-        output[2 * i + 1] = low_color(next);
-        output[2 * i + 9] = high_color(next);
+        output[2 * i + 1] = low_colour(next);
+        output[2 * i + 9] = high_colour(next);
     }
     output
 }

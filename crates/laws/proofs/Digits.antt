@@ -3,7 +3,8 @@
 use mathlib.Core.Path.{_≡_, refl, sym, ap, ap₂, _∙_}
 use mathlib.Core.List.{List, [], _∷_, _++_}
 use Prim.Native.Nat.{ℕ, zero, suc, _+_, _*_, _/_, _%_, _^_, _<_}
-use native.Mathlib.Nat.{mod-lt, mod-eq-of-lt, mod-one, add-zero, zero-add, add-comm, add-assoc, div-one, zero-lt-suc, not-suc-le-zero, le-of-suc-le-suc, mul-one, add-mul, mul-assoc}
+use native.Mathlib.Nat.{mod-lt, mod-eq-of-lt, mod-one, add-zero, zero-add, add-comm, add-assoc, div-one, zero-lt-suc, not-suc-le-zero}
+use native.Mathlib.Nat.{le-of-suc-le-suc, mul-one, add-mul, mul-assoc}
 use native.Mathlib.Omega.{arith}
 use lib.ListN.{length, getD, take}
 use lib.Arith.{digits-lt}
@@ -54,4 +55,5 @@ join-append (more {w = u} {v = x} {ws = us} {vs = xs} h f) ws vs =
     ap (λ (y : ℕ). y * 2 ^ u + x) (join-append f ws vs)
     ∙ ap (λ (y : ℕ). y + x) (add-mul (join ws vs * 2 ^ total us) (join us xs) (2 ^ u))
     ∙ add-assoc (join ws vs * 2 ^ total us * 2 ^ u) (join us xs * 2 ^ u) x
-    ∙ ap (λ (y : ℕ). y + (join us xs * 2 ^ u + x)) (mul-assoc (join ws vs) (2 ^ total us) (2 ^ u) ∙ ap (λ (y : ℕ). join ws vs * y) (sym (pow-add 2 (total us) u)))
+    ∙ ap (λ (y : ℕ). y + (join us xs * 2 ^ u + x))
+    (mul-assoc (join ws vs) (2 ^ total us) (2 ^ u) ∙ ap (λ (y : ℕ). join ws vs * y) (sym (pow-add 2 (total us) u)))

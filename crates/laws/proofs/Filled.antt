@@ -44,5 +44,6 @@ module _ {A : Type 0} {n : ℕ} {d : A} {f : ℕ → A} where
 abbrev pub Upto : {A : Type 0} → ℕ → A → (ℕ → A) → ℕ → ℕ → List A → Type 0
 Upto n d f m j out = Part n d f (λ k. j ≤ k → m ≤ k) out
 
-pub upto-next : {A : Type 0} {n m : ℕ} {d : A} {f : ℕ → A} {out : List A} (j : ℕ) (v : A) → Upto n d f m j out → j < n → v ≡ f j → Upto n d f m (j + 1) (set out j v)
+pub upto-next : {A : Type 0} {n m : ℕ} {d : A} {f : ℕ → A} {out : List A} (j : ℕ) (v : A) → Upto n d f m j out → j < n → v ≡ f j
+    → Upto n d f m (j + 1) (set out j v)
 upto-next j v h l e = part-set j v h l e (λ k lk q ne above. q (omega arith))

@@ -11,7 +11,7 @@ pub mod First
 pub mod Refusals
 pub mod Digits
 pub mod Rows
-pub mod EqualRows
+pub mod Evenly
 pub mod RowParts
 pub mod Downwards
 pub mod Padding

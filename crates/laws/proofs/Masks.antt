@@ -34,15 +34,21 @@ join-plus (more {w = w} {v = x} {ws = ws} {vs = xs} h f) (more {v = y} {vs = ys}
 -- both, of rows that are tables
 pub plus-table : (n : ℕ) (a b : ℕ → ℕ) → plus (table n a) (table n b) ≡ table n (λ k. a k + b k)
 plus-table zero a b = rw (table-none a, table-none (λ k. a k + b k))
-plus-table (suc n) a b = rw (table-cons n a, table-cons n b, table-cons n (λ k. a k + b k)) (ap {B = List ℕ} (λ l. (a 0 + b 0) ∷ l) (plus-table n (λ k. a (suc k)) (λ k. b (suc k))))
+plus-table (suc n) a b =
+    rw (table-cons n a, table-cons n b, table-cons n (λ k. a k + b k))
+    (ap {B = List ℕ} (λ l. (a 0 + b 0) ∷ l) (plus-table n (λ k. a (suc k)) (λ k. b (suc k))))
 
 pub ands-table : (n : ℕ) (a b : ℕ → ℕ) → ands (table n a) (table n b) ≡ table n (λ k. bitAnd (a k) (b k))
 ands-table zero a b = rw (table-none a, table-none (λ k. bitAnd (a k) (b k)))
-ands-table (suc n) a b = rw (table-cons n a, table-cons n b, table-cons n (λ k. bitAnd (a k) (b k))) (ap {B = List ℕ} (λ l. bitAnd (a 0) (b 0) ∷ l) (ands-table n (λ k. a (suc k)) (λ k. b (suc k))))
+ands-table (suc n) a b =
+    rw (table-cons n a, table-cons n b, table-cons n (λ k. bitAnd (a k) (b k)))
+    (ap {B = List ℕ} (λ l. bitAnd (a 0) (b 0) ∷ l) (ands-table n (λ k. a (suc k)) (λ k. b (suc k))))
 
 inserted-low : (n p : ℕ) → inserted n p ≡ (n / 2 ^ p * 2) * 2 ^ p + n % 2 ^ p
 unfolding inserted
-inserted-low n p = ap (λ (x : ℕ). n / 2 ^ p * x + n % 2 ^ p) (pow-add 2 p 1 ∙ mul-comm (2 ^ p) (2 ^ 1)) ∙ ap (λ (x : ℕ). x + n % 2 ^ p) (sym (mul-assoc (n / 2 ^ p) 2 (2 ^ p)))
+inserted-low n p =
+    ap (λ (x : ℕ). n / 2 ^ p * x + n % 2 ^ p) (pow-add 2 p 1 ∙ mul-comm (2 ^ p) (2 ^ 1))
+    ∙ ap (λ (x : ℕ). x + n % 2 ^ p) (sym (mul-assoc (n / 2 ^ p) 2 (2 ^ p)))
 
 -- taking the bit out undoes putting it in
 pub removed-inserted : (n p : ℕ) → removed (inserted n p) p ≡ n

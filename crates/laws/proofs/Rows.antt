@@ -32,18 +32,21 @@ module _ {A : Type 0} where
   pub table-mid : (i j : ℕ) (f : ℕ → A) → table (i + suc j) f ≡ table i f ++ (f i ∷ table j (λ k. f (suc (i + k))))
   table-mid zero j f = rw (zero-add (suc j), table-none f) (table-cons j f ∙ ap {B = List A} (λ l. f 0 ∷ l) (simp zero-add))
   table-mid (suc i) j f =
-      rw (suc-add i (suc j), table-cons i f) (table-cons (i + suc j) f ∙ ap {B = List A} (λ l. f 0 ∷ l) (table-mid i j (λ k. f (suc k)) ∙ simp suc-add))
+      rw (suc-add i (suc j), table-cons i f) (table-cons (i + suc j) f ∙ ap {B = List A} (λ l. f 0 ∷ l)
+      (table-mid i j (λ k. f (suc k)) ∙ simp suc-add))
 
   pub table-more : (n : ℕ) (f : ℕ → A) → table (suc n) f ≡ table n f ++ (f n ∷ [])
   table-more zero f = rw (table-cons 0 f, table-none f, table-none (λ k. f (suc k)))
   table-more (suc n) f =
-      table-cons (suc n) f ∙ ap {B = List A} (λ l. f 0 ∷ l) (table-more n (λ k. f (suc k))) ∙ ap {B = List A} (λ l. l ++ (f (suc n) ∷ [])) (sym (table-cons n f))
+      table-cons (suc n) f ∙ ap {B = List A} (λ l. f 0 ∷ l) (table-more n (λ k. f (suc k)))
+      ∙ ap {B = List A} (λ l. l ++ (f (suc n) ∷ [])) (sym (table-cons n f))
 
   pub take-table : (i n : ℕ) (f : ℕ → A) → i ≤ n → take i (table n f) ≡ table i f
   take-table zero n f h = sym (table-none f)
   take-table (suc i) zero f h = absurd (not-suc-le-zero h)
   take-table (suc i) (suc n) f h =
-      ap (take (suc i)) (table-cons n f) ∙ ap {B = List A} (λ l. f 0 ∷ l) (take-table i n (λ k. f (suc k)) (le-of-suc-le-suc h)) ∙ sym (table-cons i f)
+      ap (take (suc i)) (table-cons n f) ∙ ap {B = List A} (λ l. f 0 ∷ l) (take-table i n (λ k. f (suc k)) (le-of-suc-le-suc h))
+      ∙ sym (table-cons i f)
 
 -- totals
 pub total-more : (n : ℕ) (f : ℕ → ℕ) → total (table (suc n) f) ≡ total (table n f) + f n
@@ -84,7 +87,8 @@ pub split-table : (n : ℕ) (f : ℕ → ℕ) (x : ℕ) → split (table n f) x 
 split-table n f x =
     let g : ℕ → ℕ = λ k. x / 2 ^ total (table k f) % 2 ^ f k in
     let e : length (split (table n f) x) ≡ n = length-split (table n f) x ∙ length-table n f in
-    ext-getD 0 (split (table n f) x) (table n g) (e ∙ sym (length-table n g)) (λ k l. let h : k < n = rw e at l in digit n f x k h ∙ sym (getD-table n g 0 k h))
+    ext-getD 0 (split (table n f) x) (table n g) (e ∙ sym (length-table n g))
+    (λ k l. let h : k < n = rw e at l in digit n f x k h ∙ sym (getD-table n g 0 k h))
 
 -- values v 0, v 1, .. within the widths, and one more on top of those that are joined
 fit-snoc : {us xs : List ℕ} → Fit us xs → (w v : ℕ) → v < 2 ^ w → Fit (us ++ (w ∷ [])) (xs ++ (v ∷ []))
@@ -93,7 +97,8 @@ fit-snoc (more k f) w v h = more k (fit-snoc f w v h)
 
 pub fit-table : (n : ℕ) (f v : ℕ → ℕ) → ((k : ℕ) → k < n → v k < 2 ^ f k) → Fit (table n f) (table n v)
 fit-table zero f v h = rw (table-none f, table-none v) none
-fit-table (suc n) f v h = rw (table-more n f, table-more n v) (fit-snoc (fit-table n f v (λ k l. h k (omega arith))) (f n) (v n) (h n (le-refl (suc n))))
+fit-table (suc n) f v h =
+    rw (table-more n f, table-more n v) (fit-snoc (fit-table n f v (λ k l. h k (omega arith))) (f n) (v n) (h n (le-refl (suc n))))
 
 pub join-more : (n : ℕ) (f v : ℕ → ℕ) → ((k : ℕ) → k < n → v k < 2 ^ f k)
     → join (table (suc n) f) (table (suc n) v) ≡ v n * 2 ^ total (table n f) + join (table n f) (table n v)

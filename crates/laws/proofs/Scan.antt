@@ -28,7 +28,8 @@ pub scan-found : (n : ℕ) (f : ℕ → Bool) → below n f ≡ false → (k : �
 scan-found zero f e = absurd (no-both refl e)
 scan-found (suc n) f e = go (f n) refl e (scan-found n f)
   where
-    go : (b : Bool) → f n ≡ b → both b (below n f) ≡ false → (below n f ≡ false → (k : ℕ) × ((k < n) × (f k ≡ false))) → (k : ℕ) × ((k < suc n) × (f k ≡ false))
+    go : (b : Bool) → f n ≡ b → both b (below n f) ≡ false → (below n f ≡ false → (k : ℕ) × ((k < n) × (f k ≡ false)))
+        → (k : ℕ) × ((k < suc n) × (f k ≡ false))
     go true t e more = let (k, (h, x)) = more e in (k, (lt-trans h (le-refl (suc n)), x))
     go false t e more = (n, (le-refl (suc n), t))
 

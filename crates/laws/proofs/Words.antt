@@ -2,7 +2,8 @@
 -- Assumes nothing.
 use mathlib.Core.Path.{_≡_, sym, ap, ap₂, _∙_}
 use Prim.Native.Nat.{ℕ, _+_, _-_, _*_, _/_, _%_, _^_, _≤_, _<_}
-use native.Mathlib.Nat.{add-assoc, add-comm, mul-assoc, mul-comm, add-mul, one-mul, mod-lt, mod-eq-of-lt, mul-add-div-right, mul-add-mod-self-right, div-add-mod', lt-of-le-of-lt, lt-of-lt-of-le, div-le-self, div-eq-of-lt}
+use native.Mathlib.Nat.{add-assoc, add-comm, mul-assoc, mul-comm, add-mul, one-mul, mod-lt, mod-eq-of-lt, mul-add-div-right, mul-add-mod-self-right}
+use native.Mathlib.Nat.{div-add-mod', lt-of-le-of-lt, lt-of-lt-of-le, div-le-self, div-eq-of-lt}
 use native.Mathlib.Omega.{arith}
 use lib.Dec.{lit<}
 use lib.Arith.{digits-lt}
@@ -17,7 +18,8 @@ one-shl l h = shl-exact {a = 1} 1 l 64 (lit< tt) (omega arith) ∙ one-mul (2 ^ 
 pub shl-keeps : (a j k : ℕ) → (a * 2 ^ k) % 2 ^ (j + k) ≡ (a % 2 ^ j) * 2 ^ k
 shl-keeps a j k =
     ap (λ (x : ℕ). (x * 2 ^ k) % 2 ^ (j + k)) (sym (div-add-mod' a (2 ^ j)))
-    ∙ ap₂ (λ (x y : ℕ). x % y) (add-mul (a / 2 ^ j * 2 ^ j) (a % 2 ^ j) (2 ^ k) ∙ ap (λ (x : ℕ). x + a % 2 ^ j * 2 ^ k) (mul-assoc (a / 2 ^ j) (2 ^ j) (2 ^ k))) (pow-add 2 j k)
+    ∙ ap₂ (λ (x y : ℕ). x % y) (add-mul (a / 2 ^ j * 2 ^ j) (a % 2 ^ j) (2 ^ k) ∙ ap (λ (x : ℕ). x + a % 2 ^ j * 2 ^ k)
+    (mul-assoc (a / 2 ^ j) (2 ^ j) (2 ^ k))) (pow-add 2 j k)
     ∙ mul-add-mod-self-right (a / 2 ^ j) (2 ^ j * 2 ^ k) (a % 2 ^ j * 2 ^ k)
     ∙ ap (λ (x : ℕ). (a % 2 ^ j * 2 ^ k) % x) (sym (pow-add 2 j k))
     ∙ mod-eq-of-lt (shl-lt j k (mod-lt a (pow-pos j)))
@@ -26,7 +28,8 @@ shl-keeps a j k =
 twice-keeps : (a c k : ℕ) → ((a * 2 ^ 1) % 2 ^ (c + 1 + k) * 2 ^ k) % 2 ^ (c + 1 + k) ≡ a % 2 ^ c * 2 ^ (1 + k)
 twice-keeps a c k =
     shl-keeps ((a * 2 ^ 1) % 2 ^ (c + 1 + k)) (c + 1) k
-    ∙ ap (λ (x : ℕ). x * 2 ^ k) (ap (λ (x : ℕ). (a * 2 ^ 1) % 2 ^ x % 2 ^ (c + 1)) (add-comm (c + 1) k) ∙ mod-mod-pow (a * 2 ^ 1) k (c + 1) ∙ shl-keeps a c 1)
+    ∙ ap (λ (x : ℕ). x * 2 ^ k) (ap (λ (x : ℕ). (a * 2 ^ 1) % 2 ^ x % 2 ^ (c + 1)) (add-comm (c + 1) k) ∙ mod-mod-pow (a * 2 ^ 1) k (c + 1)
+    ∙ shl-keeps a c 1)
     ∙ mul-assoc (a % 2 ^ c) (2 ^ 1) (2 ^ k)
     ∙ ap (λ (x : ℕ). a % 2 ^ c * x) (sym (pow-add 2 1 k))
 
@@ -54,7 +57,8 @@ module _ (lo hi j c : ℕ) where
       ∙ sym pair-div
 
 -- the 64 bits from bit c on: both words, the high word alone, and nothing
-pub window-low : (lo hi c : ℕ) → lo < 2 ^ 64 → c < 64 → bitOr (lo / 2 ^ c) (((hi * 2 ^ 1) % 2 ^ 64 * 2 ^ (63 - c)) % 2 ^ 64) ≡ (hi * 2 ^ 64 + lo) / 2 ^ c % 2 ^ 64
+pub window-low : (lo hi c : ℕ) → lo < 2 ^ 64 → c < 64
+    → bitOr (lo / 2 ^ c) (((hi * 2 ^ 1) % 2 ^ 64 * 2 ^ (63 - c)) % 2 ^ 64) ≡ (hi * 2 ^ 64 + lo) / 2 ^ c % 2 ^ 64
 window-low lo hi c hl hc =
     let e : c + (64 - c) ≡ 64 = omega arith in
     let f : 64 - c + c ≡ 64 = omega arith in

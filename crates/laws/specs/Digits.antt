@@ -21,8 +21,8 @@ join (w ∷ ws) [] = 0
 join (w ∷ ws) (v ∷ vs) = join ws vs * 2 ^ w + v
 
 -- the number whose digits are f 0, f 1, .., f (n - 1), in k bits each
-unfoldable pub row : ℕ → ℕ → (ℕ → ℕ) → ℕ
-row n k f = join (table n (λ i. k)) (table n f)
+unfoldable pub evenly : ℕ → ℕ → (ℕ → ℕ) → ℕ
+evenly n k f = join (table n (λ i. k)) (table n f)
 
 -- as many values as widths, each within its width
 pub data Fit : List ℕ → List ℕ → Type 0 where

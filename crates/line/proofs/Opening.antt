@@ -23,23 +23,23 @@ use Rattle.bc7_format.specs.WellFormed.{WellFormed}
 use Rattle.bc7_format.proofs.Opening.{opened-good}
 use Rattle.bits.specs.Stream.{held, skipped}
 use Rattle.bits.proofs.On.{On}
-use Rattle.bc7_format.specs.Fields.{headEnd}
-use Rattle.bc7_places.specs.Modes.{rowOf}
+use Rattle.bc7_format.specs.Fields.{leadEnd}
+use Rattle.bc7_places.specs.Modes.{modeRowOf}
 use Rattle.bc7_places.specs.Splits.{splitRead}
-use Rattle.bc7_places.proofs.splits.Heads.{marker-on, split-is, split-on}
+use Rattle.bc7_places.proofs.splits.Leads.{marker-on, split-is, split-on}
 use Rattle.bc7_places.specs.Lines.{OfLine, partOf}
 use Rattle.line.proofs.parts.Parts.{IsPart, is-part}
 use Rattle.bc7_places.proofs.lines.Parts.{of-line}
 use Rattle.line_rules.specs.Read.{lineRead, noLine, readAs, readRefusal}
 use Rattle.line_rules.proofs.Reading.{read-is}
 use Rattle.line.specs.Opened.{IsOpened}
-use Rattle.line.specs.Reading.{PartSmall, ReadReady, lineAt, widthsIn}
+use Rattle.line.specs.Reading.{PartSmall, ReadReady, lineHeld, widthsIn}
 use Rattle.line.proofs.Standing.{part-small, read-ready, stands-as-read, widths-are}
 
 -- the values start behind the marker and the split
-head-end : (m : ℕ) → m + 1 + (partitionBits m + rotationBits m + indexModeBits m) ≡ headEnd m
-unfolding headEnd
-head-end m = omega arith
+lead-end : (m : ℕ) → m + 1 + (partitionBits m + rotationBits m + indexModeBits m) ≡ leadEnd m
+unfolding leadEnd
+lead-end m = omega arith
 
 module _ (bs : List ℕ) (sixteen : Fit eights bs) (low : modeOf bs < 8) where
   pub good : WellFormed (modeOf bs) (splitOf bs) (opened bs)
@@ -47,13 +47,13 @@ module _ (bs : List ℕ) (sixteen : Fit eights bs) (low : modeOf bs < 8) where
 
   -- what is opened is the line
   pub line-is : (l : ℕ) → l < lines (modeOf bs) → {o : Opened} → IsOpened bs l o → IsPart (modeOf bs) (splitOf bs) l (o .part)
-  line-is l h i = is-part good l h {row = rowOf (modeOf bs)} refl (i .part)
+  line-is l h i = is-part good l h {row = modeRowOf (modeOf bs)} refl (i .part)
 
 -- the stream behind the marker
 pub stands-low : {mode : ℕ} {b s : BitStream} → mode < 8 → b .at ≡ 0 → s ≡ skipped b (mode + 1) → s .at ≤ 128
 stands-low h zb es = rw (es, zb) (omega arith)
 
-module _ (bs : List ℕ) {mode : ℕ} {row : ModeRow} (em : mode ≡ modeOf bs) (er : row ≡ rowOf mode) {b s : BitStream} {r : ReadSplit}
+module _ (bs : List ℕ) {mode : ℕ} {row : ModeRow} (em : mode ≡ modeOf bs) (er : row ≡ modeRowOf mode) {b s : BitStream} {r : ReadSplit}
     (hb : held b ≡ number bs) (zb : b .at ≡ 0) (es : s ≡ skipped b (mode + 1)) (e : r ≡ splitRead row s) where
   on : On (number bs) (mode + 1) s
   on = marker-on mode hb zb es
@@ -63,14 +63,14 @@ module _ (bs : List ℕ) {mode : ℕ} {row : ModeRow} (em : mode ≡ modeOf bs) 
   the-split = split-is mode er on e ∙ ap (λ (m : ℕ). splitAt m (number bs)) em
 
   pub asks : Fit eights bs → mode < 8 → (l : ℕ) → l < lines mode → OfLine row (r .split) l
-  asks sixteen low l h = rw the-split (of-line (good bs sixteen (rw em at low)) l (rw em at h) (er ∙ ap rowOf em))
+  asks sixteen low l h = rw the-split (of-line (good bs sixteen (rw em at low)) l (rw em at h) (er ∙ ap modeRowOf em))
 
   pub is-opened : {x : LinePart} (l : ℕ) → x ≡ partOf row (r .split) l → IsOpened bs l (record { stream = r .stream; part = x })
   is-opened l ex =
       let o = split-on row on e in
       record {
         holds = o .of;
-        stands = o .stands ∙ rw er (head-end mode) ∙ ap headEnd em;
+        stands = o .stands ∙ rw er (lead-end mode) ∙ ap leadEnd em;
         part = ex ∙ rw (er, the-split, em);
       }
 
@@ -98,12 +98,12 @@ module _ (bs : List ℕ) (sixteen : Fit eights bs) (low : modeOf bs < 8) (l : �
   pub ready-part : PartSmall (o .part)
   ready-part = part-small (good bs sixteen low) l hl is
 
-  module _ {row : ModeRow} (er : row ≡ rowOf (modeOf bs)) where
+  module _ {row : ModeRow} (er : row ≡ modeRowOf (modeOf bs)) where
     pub ready-read : ReadReady (o .stream) row l (o .part)
     unfolding opened
     ready-read = read-ready (good bs sixteen low) l hl is (number bs) (λ y h. refl) (o .stream) (i .holds) (i .stands) er
 
-    pub read-0 : {r v : Replacement} → r ≡ lineAt (o .stream) (modeOf bs) row l (o .part) → v ≡ widthsIn (o .part)
+    pub read-0 : {r v : Replacement} → r ≡ lineHeld (o .stream) (modeOf bs) row l (o .part) → v ≡ widthsIn (o .part)
         → record { refusal = 0; line = r; widths = v } ≡ lineRead bs l
     unfolding opened
     read-0 e f =

@@ -18,18 +18,18 @@ use Rattle.bc7_format.specs.declared.Split.{Split}
 use Rattle.laws.specs.Tables.{pick, table, tableFrom}
 use Rattle.laws.proofs.Joining.{table-same}
 use Rattle.bcn_format.specs.Block.{field}
-use Rattle.bc7_format.specs.Lines.{Line, arrayOf, has, indexPlace, lineOf, own, pPlace, valuePlace}
+use Rattle.bc7_format.specs.Lines.{Line, indexSetOf, has, indexPlace, lineOf, own, pPlace, valuePlace}
 use Rattle.bc7_format.specs.Modes.{kindOfMode, lines, pCount}
 use Rattle.bc7_format.specs.Places.{Place, atPlace, inside, pos, width, psFrom, firstFrom, placeCount}
 use Rattle.bc7_format.specs.WellFormed.{WellFormed}
-use Rattle.bc7_format.proofs.Meaning.{array-lt}
+use Rattle.bc7_format.proofs.Meaning.{index-set-lt}
 use Rattle.bc7_format.proofs.Modes.{good-index-mode, lines-le}
 use Rattle.bc7_format.proofs.Places.{inside-index}
 use Rattle.bc7_format.proofs.Starts.{start, start-le}
 use Rattle.bits.specs.Stream.{held}
 use Rattle.bcn_format.specs.Indexes.{part}
-use Rattle.bc7_format.specs.Fields.{headEnd}
-use Rattle.bc7_places.specs.Modes.{rowOf}
+use Rattle.bc7_format.specs.Fields.{leadEnd}
+use Rattle.bc7_places.specs.Modes.{modeRowOf}
 use Rattle.line_rules.specs.Read.{givenAs, widthsOf}
 use Rattle.line_rules.specs.Replace.{ownWidth}
 use Rattle.line_rules.proofs.Own.{own-none, own-some}
@@ -43,9 +43,9 @@ use Rattle.bc7_places.specs.Places.{fieldsOf}
 use Rattle.line.proofs.fields.Indexes.{before-word, rising, stood-small}
 use Rattle.line.proofs.fields.Putting.{p-next, p-there, value-next, value-there}
 use Rattle.bc7_places.proofs.places.Starting.{channel-low, channel-starts, channelAt, p-low, p-starts, set-starts}
-use Rattle.line.proofs.fields.Whole.{head-low, two-of-1, whole-start}
+use Rattle.line.proofs.fields.Whole.{lead-low, two-of-1, whole-start}
 use Rattle.line.proofs.fields.Taking.{first-read, one-read, second-read}
-use Rattle.line.specs.Reading.{PartSmall, ReadReady, lineAt, psAt, setAt, twoAt, widthsIn}
+use Rattle.line.specs.Reading.{PartSmall, ReadReady, lineHeld, psAt, setAt, twoAt, widthsIn}
 
 -- a replacement from its parts
 eight : (v : ℕ → ℕ → ℕ) {a0 a1 a2 a3 b0 b1 b2 b3 : ℕ} → a0 ≡ v 0 0 → a1 ≡ v 0 1 → a2 ≡ v 0 2 → a3 ≡ v 0 3 → b0 ≡ v 1 0 → b1 ≡ v 1 1 → b2 ≡ v 1 2
@@ -86,7 +86,7 @@ module _ {m : ℕ} {s : Split} {f : Place → ℕ} (g : WellFormed m s f) (l : �
   part-small = record { colour = is .colour-small; alpha = is .alpha-small; p = is .p-small; map = is .map; index = is .most }
 
   abbrev at : Fields
-  at = fieldsOf (rowOf m) (headEnd m) l (arrayOf s l)
+  at = fieldsOf (modeRowOf m) (leadEnd m) l (indexSetOf s l)
 
   module _ (n : ℕ) (fn : (y : Place) → T (inside y) → atPlace m s n y ≡ f y) where
     abbrev mine : Place → ℕ
@@ -114,7 +114,7 @@ module _ {m : ℕ} {s : Split} {f : Place → ℕ} (g : WellFormed m s f) (l : �
     p-is : pick (eqb (pCount m) 0) 0 1 ≡ x .p
     p-is = sym (own-widths g l hl .p 0 (omega arith)) ∙ is .p 0 (omega arith)
 
-    ps-are : psAt n m (at .p) l (x .p) ≡ record { a = mine (pPlace m l 0); b = mine (pPlace m l 1) }
+    ps-are : psAt n m (at .p) l (x .p) ≡ record { first = mine (pPlace m l 0); second = mine (pPlace m l 1) }
     unfolding psAt pPlace pos width fieldsOf
     ps-are = go (eqb m 1) refl
       where
@@ -134,12 +134,12 @@ module _ {m : ℕ} {s : Split} {f : Place → ℕ} (g : WellFormed m s f) (l : �
             ∙ ap (λ (b : Bool). start m s (psFrom + pick b l (2 * l + 0))) (sym (ne-eqb m 1 n1))
 
         go : (b : Bool) → eqb m 1 ≡ b
-            → pick b (record { a = field n (at .p + l) 1; b = field n (at .p + l) 1 }) (twoAt n (at .p + 2 * l) (x .p))
-            ≡ record { a = mine (pPlace m l 0); b = mine (pPlace m l 1) }
-        go true t = ap₂ (λ (y z : ℕ). record { a = y; b = z }) (one t 0 (omega arith)) (one t 1 (omega arith))
+            → pick b (record { first = field n (at .p + l) 1; second = field n (at .p + l) 1 }) (twoAt n (at .p + 2 * l) (x .p))
+            ≡ record { first = mine (pPlace m l 0); second = mine (pPlace m l 1) }
+        go true t = ap₂ (λ (y z : ℕ). record { first = y; second = z }) (one t 0 (omega arith)) (one t 1 (omega arith))
         go false t =
             let n1 : m ≢ 1 = eqb-false m 1 t in
-            ap₂ (λ (y z : ℕ). record { a = y; b = z })
+            ap₂ (λ (y z : ℕ). record { first = y; second = z })
             (first-read m s l f n fn (pPlace m l 0) (pPlace m l 1) (x .p) (p-there g l hl 0 (omega arith)) (p-there g l hl 1 (omega arith))
             (p-next g l hl n1) (is .p 0 (omega arith)) (is .p 1 (omega arith)) refl refl (at .p + 2 * l) (starts n1))
             (second-read m s l f n fn (pPlace m l 0) (pPlace m l 1) (x .p) (p-there g l hl 0 (omega arith)) (p-there g l hl 1 (omega arith))
@@ -148,7 +148,7 @@ module _ {m : ℕ} {s : Split} {f : Place → ℕ} (g : WellFormed m s f) (l : �
     -- the indexes
     index-there : (q : ℕ) → q < 16 → T (inside (indexPlace s l q))
     unfolding indexPlace
-    index-there q h = inside-index (array-lt s l (good-index-mode g)) h
+    index-there q h = inside-index (index-set-lt s l (good-index-mode g)) h
 
     by-own : (q : ℕ) → q < 16 → pick (ownPixel (x .pixels) q) (f (indexPlace s l q)) 0 ≡ mine (indexPlace s l q)
     unfolding own
@@ -177,12 +177,12 @@ module _ {m : ℕ} {s : Split} {f : Place → ℕ} (g : WellFormed m s f) (l : �
         own-lt false h = pow-pos (x .index)
 
     -- the whole line, of a stream that stands where the values start
-    module _ (q : BitStream) (hq : held q ≡ n) (aq : q .at ≡ headEnd m) {row : ModeRow} (er : row ≡ rowOf m) where
+    module _ (q : BitStream) (hq : held q ≡ n) (aq : q .at ≡ leadEnd m) {row : ModeRow} (er : row ≡ modeRowOf m) where
       fields-are : fieldsAt q row l x ≡ at
       fields-are = rw (er, aq, is .set)
 
-      pub stands-as-read : lineAt q m row l x ≡ givenAs (lineOf m s l f)
-      unfolding lineAt lineOf
+      pub stands-as-read : lineHeld q m row l x ≡ givenAs (lineOf m s l f)
+      unfolding lineHeld lineOf
       stands-as-read =
           rw (hq, fields-are, er, ps-are, set-are)
           (given-of (lineOf m s l f)
@@ -202,7 +202,7 @@ module _ {m : ℕ} {s : Split} {f : Place → ℕ} (g : WellFormed m s f) (l : �
       pub read-ready : ReadReady q row l x
       read-ready = record {
         mode-row = record { mode = m; low = g .mode; is = er };
-        start = rw aq (head-low m (g .mode));
+        start = rw aq (lead-low m (g .mode));
         line = l3;
         small = part-small;
         red = rw fields-are (low 0 (omega arith));
@@ -219,7 +219,7 @@ module _ {m : ℕ} {s : Split} {f : Place → ℕ} (g : WellFormed m s f) (l : �
         });
       }
         where
-          set-low : start m s (firstFrom + (16 * arrayOf s l + 0)) ≤ 128
+          set-low : start m s (firstFrom + (16 * indexSetOf s l + 0)) ≤ 128
           set-low =
               rw (← (whole-start g))
-              (start-le m s (firstFrom + (16 * arrayOf s l + 0)) placeCount (omega (arith, array-lt s l (good-index-mode g))) (omega arith))
+              (start-le m s (firstFrom + (16 * indexSetOf s l + 0)) placeCount (omega (arith, index-set-lt s l (good-index-mode g))) (omega arith))

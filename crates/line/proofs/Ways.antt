@@ -13,7 +13,7 @@ use lib.ListN.{length, getD}
 use Rattle.line.specs.declared.Opened.{Opened}
 use Rattle.bits.specs.declared.stream.BitStream.{BitStream}
 use Rattle.bc7_places.specs.declared.lines.LinePart.{LinePart}
-use Rattle.line.specs.declared.parts.Stored.{Stored}
+use Rattle.line.specs.declared.parts.StoredLine.{StoredLine}
 use Rattle.line_rules.specs.declared.Replacement.{Replacement}
 use Rattle.bc7_places.specs.declared.modes.ModeRow.{ModeRow}
 use Rattle.bc7_format.specs.declared.Split.{Split}
@@ -30,7 +30,7 @@ use Rattle.bc7_format.specs.Splits.{splitOf}
 use Rattle.bc7_format.proofs.Reserved.{reserved-mode, zero-byte}
 use Rattle.bits.specs.Stream.{held}
 use Rattle.bcn_format.specs.Indexes.{indexWidths}
-use Rattle.bc7_places.specs.Modes.{rowOf}
+use Rattle.bc7_places.specs.Modes.{modeRowOf}
 use Rattle.line_rules.specs.Acceptable.{Within, callRules}
 use Rattle.line_rules.specs.Replace.{after, callOf, lineGiven, refusal, refusalIn, replaced, replacedAs}
 use Rattle.line_rules.proofs.Accepting.{on-block, second}
@@ -121,7 +121,7 @@ module _ (bs : List ℕ) (sixteen : Fit eights bs) (l : ℕ) (g : Replacement) (
             pub below-mask : wd ≤ mask
             below-mask = rw (word-is, em) (mask-above is g small kept)
 
-            module _ (same : differ ≡ false) {st : Stored} (es : st ≡ storedAs x g wd mask) where
+            module _ (same : differ ≡ false) {st : StoredLine} (es : st ≡ storedAs x g wd mask) where
               accepted : refusal bs (callOf l g) ≡ 0
               unfolding lineGiven
               accepted =
@@ -132,13 +132,13 @@ module _ (bs : List ℕ) (sixteen : Fit eights bs) (l : ℕ) (g : Replacement) (
               unfolding refusal
               in-mode = accepted
 
-              pub ready : {row : ModeRow} → row ≡ rowOf m → LineReady (o .stream) m row l x mask st
+              pub ready : {row : ModeRow} → row ≡ modeRowOf m → LineReady (o .stream) m row l x mask st
               unfolding opened
               ready er =
                   line-ready (good bs sixteen low) l (lineGiven g) in-mode is (is-stored is g small kept (rw (word-is, em) at es)) (number bs)
                   (λ y h. refl) em (o .stream) (i .holds) (i .stands) er
 
-              pub way-0 : {row : ModeRow} → row ≡ rowOf m → (r : BitStream) → r .low < 2 ^ 64 → r .high < 2 ^ 64
+              pub way-0 : {row : ModeRow} → row ≡ modeRowOf m → (r : BitStream) → r .low < 2 ^ 64 → r .high < 2 ^ 64
                   → held r ≡ linePut (o .stream) m row l x mask st
                   → replacedAs 0 (bytesOf (held r)) ≡ replaced bs l g
               unfolding opened replaced after

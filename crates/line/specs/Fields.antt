@@ -9,7 +9,7 @@ use lib.ListN.{getD}
 use Rattle.bits.specs.declared.stream.BitStream.{BitStream}
 use Rattle.bc7_places.specs.declared.places.Fields.{Fields}
 use Rattle.bc7_places.specs.declared.lines.LinePart.{LinePart}
-use Rattle.line.specs.declared.parts.Stored.{Stored}
+use Rattle.line.specs.declared.parts.StoredLine.{StoredLine}
 use Rattle.bc7_places.specs.declared.modes.ModeRow.{ModeRow}
 use Rattle.laws.specs.Digits.{Fit, join, replacedAt, split}
 use Rattle.laws.specs.Tables.{pick}
@@ -76,10 +76,10 @@ pub record SetReady (n k a : ℕ) (x : LinePart) (mask new : ℕ) : Type 0 where
 abbrev pub fieldsAt : BitStream → ModeRow → ℕ → LinePart → Fields
 fieldsAt s row l x = fieldsOf row (s .at) l (x .set)
 
-abbrev pub valuesPut : BitStream → ℕ → ModeRow → ℕ → LinePart → Stored → ℕ
+abbrev pub valuesPut : BitStream → ℕ → ModeRow → ℕ → LinePart → StoredLine → ℕ
 valuesPut s mode row l x new = psPut (endpointsPut (held s) (fieldsAt s row l x) x (new .endpoints)) mode (fieldsAt s row l x .p) l (x .p) (new .p)
 
-unfoldable pub linePut : BitStream → ℕ → ModeRow → ℕ → LinePart → ℕ → Stored → ℕ
+unfoldable pub linePut : BitStream → ℕ → ModeRow → ℕ → LinePart → ℕ → StoredLine → ℕ
 linePut s mode row l x mask new = setPut (valuesPut s mode row l x new) (row .kind) (fieldsAt s row l x .indexes) x mask (new .indexes)
 
 -- a field of w bits at a that a number has room for, and a pair of them
@@ -96,7 +96,7 @@ pub record PairReady (a w x y : ℕ) : Type 0 where
   pub first : x < 2 ^ w
   pub second : y < 2 ^ w
 
-pub record LineReady (s : BitStream) (mode : ℕ) (row : ModeRow) (l : ℕ) (x : LinePart) (mask : ℕ) (new : Stored) : Type 0 where
+pub record LineReady (s : BitStream) (mode : ℕ) (row : ModeRow) (l : ℕ) (x : LinePart) (mask : ℕ) (new : StoredLine) : Type 0 where
   pub mode-row : OfMode row
   pub start : s .at ≤ 16
   pub line : l < 3

@@ -8,12 +8,12 @@ use Rattle.bc7_format.specs.Modes.{modeOf}
 use Rattle.bcn_format.specs.Block.{number}
 use Rattle.bc7_format.specs.Splits.{splitOf}
 use Rattle.bits.specs.Stream.{held}
-use Rattle.bc7_format.specs.Fields.{headEnd}
-use Rattle.bc7_places.specs.Modes.{rowOf}
+use Rattle.bc7_format.specs.Fields.{leadEnd}
+use Rattle.bc7_places.specs.Modes.{modeRowOf}
 use Rattle.bc7_places.specs.Lines.{partOf}
 
 -- the stream holds the block and stands where its values start, and the part is that of line l
 pub record IsOpened (bs : List ℕ) (l : ℕ) (o : Opened) : Type 0 where
   pub holds : held (o .stream) ≡ number bs
-  pub stands : o .stream .at ≡ headEnd (modeOf bs)
-  pub part : o .part ≡ partOf (rowOf (modeOf bs)) (splitOf bs) l
+  pub stands : o .stream .at ≡ leadEnd (modeOf bs)
+  pub part : o .part ≡ partOf (modeRowOf (modeOf bs)) (splitOf bs) l

@@ -7,7 +7,7 @@ use lib.Dec.{eqb, ltb}
 use lib.ListN.{getD}
 use Rattle.bc7_places.specs.declared.lines.Pixels.{Pixels}
 use Rattle.bc7_places.specs.declared.lines.LinePart.{LinePart}
-use Rattle.line.specs.declared.parts.Stored.{Stored}
+use Rattle.line.specs.declared.parts.StoredLine.{StoredLine}
 use Rattle.line_rules.specs.declared.Replacement.{Replacement}
 use Rattle.laws.specs.Digits.{join}
 use Rattle.laws.specs.Tables.{below, both, pick, table}
@@ -27,10 +27,10 @@ partsFit x g =
     (below 8 (λ i. ltb (getD (g .endpoints) i 0) (2 ^ pick (eqb (i % 4) 3) (x .alpha) (x .colour)))))
 
 -- a given line as it is stored: turned round where the index at the anchor has its top bit set
-abbrev pub asGiven : Replacement → ℕ → Stored
+abbrev pub asGiven : Replacement → ℕ → StoredLine
 asGiven g x = record { endpoints = g .endpoints; p = g .p; indexes = x }
 
-abbrev pub turnedRound : Replacement → ℕ → Stored
+abbrev pub turnedRound : Replacement → ℕ → StoredLine
 turnedRound g x =
     let e : ℕ → ℕ = λ i. getD (g .endpoints) i 0 in
     record {
@@ -39,5 +39,5 @@ turnedRound g x =
       indexes = x;
     }
 
-unfoldable pub storedAs : LinePart → Replacement → ℕ → ℕ → Stored
+unfoldable pub storedAs : LinePart → Replacement → ℕ → ℕ → StoredLine
 storedAs part g x mask = pick (eqb (field x (part .anchor * part .index + (part .index - 1)) 1) 0) (asGiven g x) (turnedRound g (mask - x))

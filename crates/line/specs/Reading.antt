@@ -4,7 +4,7 @@ use mathlib.Core.List.{List, [], _∷_}
 use Prim.Native.Nat.{ℕ, _+_, _*_, _≤_, _<_}
 use lib.Bits.{bitAnd}
 use lib.Dec.{eqb}
-use Rattle.line.specs.declared.reading.Two.{Two}
+use Rattle.line.specs.declared.reading.PerEndpoint.{PerEndpoint}
 use Rattle.bits.specs.declared.stream.BitStream.{BitStream}
 use Rattle.bc7_places.specs.declared.lines.LinePart.{LinePart}
 use Rattle.line_rules.specs.declared.Replacement.{Replacement}
@@ -19,11 +19,11 @@ use Rattle.bc7_places.specs.Lines.{ownPixel}
 use Rattle.line.specs.Fields.{fieldsAt, setBefore}
 
 -- two values of w bits from bit a on
-abbrev pub twoAt : ℕ → ℕ → ℕ → Two
-twoAt n a w = record { a = field n a w; b = field n (a + w) w }
+abbrev pub twoAt : ℕ → ℕ → ℕ → PerEndpoint
+twoAt n a w = record { first = field n a w; second = field n (a + w) w }
 
-unfoldable pub psAt : ℕ → ℕ → ℕ → ℕ → ℕ → Two
-psAt n mode a l w = pick (eqb mode 1) (record { a = field n (a + l) 1; b = field n (a + l) 1 }) (twoAt n (a + 2 * l) w)
+unfoldable pub psAt : ℕ → ℕ → ℕ → ℕ → ℕ → PerEndpoint
+psAt n mode a l w = pick (eqb mode 1) (record { first = field n (a + l) 1; second = field n (a + l) 1 }) (twoAt n (a + 2 * l) w)
 
 -- the indexes of the line, of its set as it stands
 unfoldable pub setAt : ℕ → ℕ → ℕ → LinePart → List ℕ
@@ -37,18 +37,19 @@ pub record SetThere (k a : ℕ) (x : LinePart) : Type 0 where
   pub below : a ≤ 128
 
 -- the line, of a stream that stands where the values start
-abbrev pub rowsOf : Two → Two → Two → Two → List ℕ
-rowsOf r g b a = r .a ∷ g .a ∷ b .a ∷ a .a ∷ r .b ∷ g .b ∷ b .b ∷ a .b ∷ []
+abbrev pub endpointsFrom : PerEndpoint → PerEndpoint → PerEndpoint → PerEndpoint → List ℕ
+endpointsFrom r g b a = r .first ∷ g .first ∷ b .first ∷ a .first ∷ r .second ∷ g .second ∷ b .second ∷ a .second ∷ []
 
-unfoldable pub lineAt : BitStream → ℕ → ModeRow → ℕ → LinePart → Replacement
-lineAt s mode row l x =
+unfoldable pub lineHeld : BitStream → ℕ → ModeRow → ℕ → LinePart → Replacement
+lineHeld s mode row l x =
     let n = held s in
     let at = fieldsAt s row l x in
     let p = psAt n mode (at .p) l (x .p) in
     record {
       endpoints =
-          rowsOf (twoAt n (at .red) (x .colour)) (twoAt n (at .green) (x .colour)) (twoAt n (at .blue) (x .colour)) (twoAt n (at .alpha) (x .alpha));
-      p = p .a ∷ p .b ∷ [];
+          endpointsFrom (twoAt n (at .red) (x .colour)) (twoAt n (at .green) (x .colour)) (twoAt n (at .blue) (x .colour))
+          (twoAt n (at .alpha) (x .alpha));
+      p = p .first ∷ p .second ∷ [];
       indexes = setAt n (row .kind) (at .indexes) x;
     }
 

@@ -5,7 +5,7 @@ ghost use lib.ListN.{getD};
 ghost use Rattle.laws.specs.Digits.{replacedAt};
 ghost use Rattle.bits.specs.Stream.{held};
 ghost use Rattle.line.specs.Fields.{FieldReady, LineReady, PairReady, SetReady, Step, linePut, psPut, setPut, standing, twoPut};
-use crate::parts::Stored;
+use crate::parts::StoredLine;
 use bc7_places::lines::LinePart;
 use bc7_places::modes::ModeRow;
 use bc7_places::places::fields_of;
@@ -102,7 +102,7 @@ pub fn put_line(
     line: u32,
     part: LinePart,
     mask: u64,
-    new: Stored,
+    new: StoredLine,
 ) -> BitStream
     requires { ⌜ LineReady s mode row line part mask new ⌝ }
     ensures { λ r. ⌜ held r ≡ linePut s mode row line part mask new ⌝ }

@@ -1,4 +1,4 @@
-// Replacing a line of a block and reading one: an endpoint pair with its p bits and its indexes. Of the block only the head is read,
+// Replacing a line of a block and reading one: an endpoint pair with its p bits and its indexes. Of the block only the lead is read,
 // which says where the line's own fields stand. They are put into the block's number, turned where the index at the line's anchor has
 // its top bit set, and nothing else changes; or they are taken out of it.
 ghost use mathlib.Core.Path.{_≡_};
@@ -20,7 +20,7 @@ use crate::parts::mask_of;
 use crate::parts::only_own;
 use crate::parts::oriented;
 use crate::parts::parts_fit;
-use crate::reading::line_at;
+use crate::reading::line_held;
 use crate::reading::widths_of;
 use bc7_places::lines::LinePart;
 use bc7_places::lines::line_part;
@@ -167,7 +167,7 @@ pub fn read_line(block: [u8; 16], line: u32) -> LineRead
     }
     let opened = open_line(block, mode, row, line);
     let part = opened.part;
-    let stands = line_at(opened.stream, mode, row, line, part);
+    let stands = line_held(opened.stream, mode, row, line, part);
     let widths = widths_of(part);
     LineRead {
         refusal: 0,

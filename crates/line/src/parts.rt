@@ -87,27 +87,27 @@ pub fn only_own(indexes: u64, mask: u64) -> bool
 }
 
 // A line as it is stored, its indexes in one word.
-pub struct Stored {
+pub struct StoredLine {
     pub endpoints: [u8; 8],
     pub p: [u8; 2],
     pub indexes: u64,
 }
 
 // Turned where the index at the anchor has its top bit set: each index i becomes last - i, which is one subtraction for all.
-pub fn oriented(part: LinePart, new: Replacement, indexes: u64, mask: u64) -> Stored
+pub fn oriented(part: LinePart, new: Replacement, indexes: u64, mask: u64) -> StoredLine
     requires { ⌜ (0 < part .index) × (part .index ≤ 4) × (part .anchor < 16) × (indexes ≤ mask) ⌝ }
     ensures { λ r. ⌜ r ≡ storedAs part new indexes mask ⌝ }
 {
     let e = new.endpoints;
     let p = new.p;
     if top_of(indexes, part.index, part.anchor) == 0 {
-        return Stored {
+        return StoredLine {
             endpoints: e,
             p: p,
             indexes: indexes,
         };
     }
-    Stored {
+    StoredLine {
         endpoints: [e[4], e[5], e[6], e[7], e[0], e[1], e[2], e[3]],
         p: [p[1], p[0]],
         indexes: mask - indexes,

@@ -4,7 +4,7 @@ ghost use Prim.Native.Nat.{_≤_, _<_};
 ghost use Rattle.laws.specs.Tables.{pick, table};
 ghost use Rattle.bits.specs.Stream.{held};
 ghost use Rattle.bc7_places.specs.Lines.{ownPixel};
-ghost use Rattle.line.specs.Reading.{PartSmall, ReadReady, SetThere, lineAt, psAt, setAt, twoAt, widthsIn};
+ghost use Rattle.line.specs.Reading.{PartSmall, ReadReady, SetThere, lineHeld, psAt, setAt, twoAt, widthsIn};
 use crate::fields::standing_at;
 use crate::parts::at_own;
 use crate::parts::mask_of;
@@ -18,31 +18,34 @@ use record::reading::parts_of;
 use record::reading::read_indexes;
 
 // What the first and the second endpoint have.
-pub struct Two {
-    pub a: u8,
-    pub b: u8,
+pub struct PerEndpoint {
+    pub first: u8,
+    pub second: u8,
 }
 
 // Two values of one width side by side.
-fn two_at(s: BitStream, at: u32, width: u32) -> Two
+fn two_at(s: BitStream, at: u32, width: u32) -> PerEndpoint
     requires { ⌜ (at ≤ 128) × (width ≤ 8) ⌝ }
     ensures { λ r. ⌜ r ≡ twoAt (held s) at width ⌝ }
 {
     let both = standing_at(s, at).consume_2(width);
-    Two {
-        a: both.first as u8,
-        b: both.second as u8,
+    PerEndpoint {
+        first: both.first as u8,
+        second: both.second as u8,
     }
 }
 
 // In mode 1 one p bit serves both endpoints.
-fn p_at(s: BitStream, mode: u8, at: u32, line: u32, width: u32) -> Two
+fn p_at(s: BitStream, mode: u8, at: u32, line: u32, width: u32) -> PerEndpoint
     requires { ⌜ (at ≤ 100) × (line < 3) × (width ≤ 1) ⌝ }
     ensures { λ r. ⌜ r ≡ psAt (held s) mode at line width ⌝ }
 {
     if mode == 1 {
         let one = two_at(s, at + line, 1);
-        return Two { a: one.a, b: one.a };
+        return PerEndpoint {
+            first: one.first,
+            second: one.first,
+        };
     }
     two_at(s, at + 2 * line, width)
 }
@@ -62,9 +65,9 @@ fn set_at(s: BitStream, kind: u8, at: u32, part: LinePart) -> [u8; 16]
 }
 
 // The stream stands where the values start.
-pub fn line_at(s: BitStream, mode: u8, row: ModeRow, line: u32, part: LinePart) -> Replacement
+pub fn line_held(s: BitStream, mode: u8, row: ModeRow, line: u32, part: LinePart) -> Replacement
     requires { ⌜ ReadReady s row line part ⌝ }
-    ensures { λ r. ⌜ r ≡ lineAt s mode row line part ⌝ }
+    ensures { λ r. ⌜ r ≡ lineHeld s mode row line part ⌝ }
 {
     let fields = fields_of(row, s.at, line, part.set);
     let red = two_at(s, fields.red, part.colour);
@@ -75,16 +78,16 @@ pub fn line_at(s: BitStream, mode: u8, row: ModeRow, line: u32, part: LinePart) 
     let indexes = set_at(s, row.kind, fields.indexes, part);
     Replacement {
         endpoints: [
-            red.a,
-            green.a,
-            blue.a,
-            alpha.a,
-            red.b,
-            green.b,
-            blue.b,
-            alpha.b,
+            red.first,
+            green.first,
+            blue.first,
+            alpha.first,
+            red.second,
+            green.second,
+            blue.second,
+            alpha.second,
         ],
-        p: [p.a, p.b],
+        p: [p.first, p.second],
         indexes: indexes,
     }
 }

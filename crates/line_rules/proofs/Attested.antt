@@ -13,14 +13,15 @@ use Rattle.laws.specs.Tables.{table, tableFrom}
 use Rattle.laws.specs.Calls.{run}
 use Rattle.bcn_format.specs.Block.{bytesOf, number, trailing}
 use Rattle.bc7_format.specs.Modes.{modeOf, endpointCount, kindOfMode, modeRow}
-use Rattle.bc7_format.specs.Lines.{anchorOf, arrayOf, has, indexPlace, laid, lineBits, lineOf, own, pPlace, turned, valuePlace, withLine}
+use Rattle.bc7_format.specs.Lines.{anchorOf, indexSetOf, has, indexPlace, laid, lineBits, lineOf, own, pPlace, turned, valuePlace, withLine}
 use Rattle.bcn_format.specs.Partitions.{anchors2, anchors3, digits, marks, strings2, strings3, subset2, subset3}
 use Rattle.bc7_format.specs.Places.{atPlace, blockOf, listOf, opened, placeAt, pos, width, widths}
 use Rattle.bc7_format.specs.Splits.{splitAt, splitOf}
 use Rattle.bc7_format.proofs.Examples.{block4, block5, block7}
 use Rattle.line_rules.specs.Calls.{afterAll}
 use Rattle.line_rules.specs.Read.{givenAs, lineRead, readRefusal, widthsOf}
-use Rattle.line_rules.specs.Replace.{after, callOf, indexFits, lineFits, lineGiven, oriented, ownWidth, pFits, put, refusal, refusalIn, replaced, valueFits}
+use Rattle.line_rules.specs.Replace.{after, callOf, indexFits, lineFits, lineGiven, oriented, ownWidth, pFits, put, refusal, refusalIn}
+use Rattle.line_rules.specs.Replace.{replaced, valueFits}
 
 -- two endpoints, of which the first has this red and this p; indexes at the pixels 8 to 15, of which 15 is the anchor, and one at pixel
 -- 0, which is another line's
@@ -121,7 +122,9 @@ nothing = parts (replicate 8 0) (0 ∷ 0 ∷ []) (replicate 16 0)
 -- each is answered so; and of two calls on a line the later decides
 pub lines-replaced : (map (λ c. replaced (c .block) (c .line) (c .given)) claims ≡ map (λ c. record { refusal = c .number; block = c .left }) claims)
     × (afterAll block7 (callOf 1 (given7 1) ∷ callOf 1 (given7 2) ∷ []) ≡ turned7)
-unfolding run table tableFrom digits marks strings2 strings3 subset2 subset3 anchors2 anchors3 modeRow kindOfMode endpointCount placeAt pos width widths trailing number modeOf splitAt splitOf atPlace opened has valuePlace pPlace arrayOf indexPlace lineBits lineOf replaced after refusal refusalIn lineFits valueFits pFits indexFits ownWidth lineGiven put oriented withLine laid turned anchorOf blockOf listOf first bytesOf
+unfolding run table tableFrom digits marks strings2 strings3 subset2 subset3 anchors2 anchors3 modeRow kindOfMode endpointCount placeAt pos width
+    widths trailing number modeOf splitAt splitOf atPlace opened has valuePlace pPlace indexSetOf indexPlace lineBits lineOf replaced after refusal
+    refusalIn lineFits valueFits pFits indexFits ownWidth lineGiven put oriented withLine laid turned anchorOf blockOf listOf first bytesOf
 lines-replaced = (refl, refl)
 
 -- line 1 of block7, the lower half; line 1 of block4, its scalar, whose indexes are the first; no line 2, and none of a reserved block
@@ -133,5 +136,7 @@ pub lines-read : lineRead block7 1 ∷ lineRead block4 1 ∷ lineRead block4 2 �
     reads 2 nothing nothing ∷
     reads 1 nothing nothing ∷
     []
-unfolding first table tableFrom digits marks strings2 strings3 subset2 subset3 anchors2 anchors3 modeRow kindOfMode endpointCount placeAt pos width widths trailing number modeOf splitAt splitOf atPlace opened has valuePlace pPlace arrayOf indexPlace own lineOf ownWidth lineRead readRefusal givenAs widthsOf
+unfolding first table tableFrom digits marks strings2 strings3 subset2 subset3 anchors2 anchors3 modeRow kindOfMode endpointCount placeAt pos width
+    widths trailing number modeOf splitAt splitOf atPlace opened has valuePlace pPlace indexSetOf indexPlace own lineOf ownWidth lineRead readRefusal
+    givenAs widthsOf
 lines-read = refl

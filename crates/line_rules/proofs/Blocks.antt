@@ -15,7 +15,7 @@ use Rattle.laws.specs.Refusals.{first}
 use Rattle.laws.specs.Tables.{pick}
 use Rattle.bcn_format.specs.Block.{eights, trailing}
 use Rattle.bc7_format.specs.Modes.{modeOf}
-use Rattle.bc7_format.specs.Lines.{draws, has, isDrawn, laid, meant, pixel, rotated, shown, withLine}
+use Rattle.bc7_format.specs.Lines.{draws, has, isDrawn, laid, meansShown, pixel, rotated, shown, withLine}
 use Rattle.bc7_format.specs.Places.{Place, blockOf, inside, opened}
 use Rattle.bc7_format.specs.Splits.{rotation, splitOf}
 use Rattle.bc7_format.specs.WellFormed.{WellFormed}
@@ -144,8 +144,8 @@ module _ (bs : List ℕ) (sixteen : Fit eights bs) where
 
   -- an accepted call draws, wherever its line draws, what was given
   pub given-drawn : (c : Call) (q ch : ℕ) → refusal bs c ≡ 0 → q < 16 → ch < 4 → draws (modeOf bs) (splitOf bs) (c .line) q ch ≡ true
-      → pixel (after bs c) q ch ≡ meant (modeOf bs) (splitOf bs) (c .line) (c .given) q ch
-  unfolding refusal step isAccepted meant
+      → pixel (after bs c) q ch ≡ meansShown (modeOf bs) (splitOf bs) (c .line) (c .given) q ch
+  unfolding refusal step isAccepted meansShown
   given-drawn c q ch e hq hc dr =
       let l = accepted-open bs c e in
       let p = drawn-by (modeOf bs) (splitOf bs) (c .line) q ch dr in

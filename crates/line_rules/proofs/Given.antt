@@ -7,24 +7,26 @@ use Prim.Native.Nat.{ℕ, _^_, _<_, _≤_}
 use borrow.Author.Tests.{eqb-false, not-true}
 use Rattle.bc7_format.specs.declared.Split.{Split}
 use Rattle.laws.specs.Tables.{pick}
-use Rattle.bc7_format.specs.Lines.{Line, indexPlace, isDrawn, lineAt, lineBits, lineOf, means, own, pPlace, rotated, shown, turned, valuePlace, withLine}
+use Rattle.bc7_format.specs.Lines.{Line, indexPlace, isDrawn, lineAt, lineBits, lineOf, meansStored, own, pPlace, rotated, shown, turned, valuePlace}
+use Rattle.bc7_format.specs.Lines.{withLine}
 use Rattle.bc7_format.specs.Modes.{channelBits, pCount}
 use Rattle.bc7_format.specs.Places.{Place}
 use Rattle.bc7_format.specs.Splits.{rotation}
 use Rattle.bc7_format.specs.WellFormed.{WellFormed}
 use Rattle.bc7_format.proofs.Lens.{own-same}
-use Rattle.bc7_format.proofs.Meaning.{good-rotation, has-index, has-p, has-value, laid-index, laid-p, laid-value, line-bits, means-ext, rotated-lt, turned-means}
+use Rattle.bc7_format.proofs.Meaning.{good-rotation, has-index, has-p, has-value, laid-index, laid-p, laid-value, line-bits, means-ext, rotated-lt}
+use Rattle.bc7_format.proofs.Meaning.{turned-means}
 use Rattle.line_rules.specs.Acceptable.{Acceptable}
 use Rattle.line_rules.specs.Replace.{oriented, put, refusalIn, topSet}
 use Rattle.line_rules.proofs.Accepting.{accepted-is}
 use Rattle.line_rules.proofs.Put.{bounded}
 
 oriented-means : (m : ℕ) (s : Split) (l : ℕ) (ln : Line) (q c : ℕ) → 2 ≤ lineBits m s l → lineBits m s l ≤ 4 → ln .index q < 2 ^ lineBits m s l
-    → means m s l (oriented m s l ln) q c ≡ means m s l ln q c
+    → meansStored m s l (oriented m s l ln) q c ≡ meansStored m s l ln q c
 unfolding oriented
 oriented-means m s l ln q c h2 h4 hi = go (topSet m s l ln)
   where
-    go : (b : Bool) → means m s l (pick b (turned (lineBits m s l) ln) ln) q c ≡ means m s l ln q c
+    go : (b : Bool) → meansStored m s l (pick b (turned (lineBits m s l) ln) ln) q c ≡ meansStored m s l ln q c
     go true = turned-means m s l ln q c h2 h4 hi
     go false = refl
 
@@ -39,7 +41,7 @@ same-oriented m s l ln e = go (topSet m s l ln)
 module _ {m : ℕ} {s : Split} {f : Place → ℕ} (g : WellFormed m s f) where
   pub shown-given : (l : ℕ) (ln : Line) (q c : ℕ) → refusalIn m s l ln ≡ 0 → q < 16 → c < 4
       → isDrawn m (rotated (rotation s) c) ≡ true → lineAt s q (rotated (rotation s) c) ≡ l
-      → shown m s (put m s l ln f) q c ≡ means m s l ln q (rotated (rotation s) c)
+      → shown m s (put m s l ln f) q c ≡ meansStored m s l ln q (rotated (rotation s) c)
   unfolding shown put lineOf lineAt
   shown-given l ln q c e hq hc dr at-l =
       rw (dr, at-l)

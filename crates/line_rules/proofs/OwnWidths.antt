@@ -12,7 +12,7 @@ use Rattle.bc7_format.specs.declared.Split.{Split}
 use Rattle.laws.specs.Tables.{pick}
 use Rattle.laws.proofs.Cases.{pick-lt}
 use Rattle.laws.proofs.Tests.{no-both}
-use Rattle.bc7_format.specs.Lines.{arrayOf, has, indexPlace, lineBits, lineOfPlace, pPlace, valuePlace}
+use Rattle.bc7_format.specs.Lines.{indexSetOf, has, indexPlace, lineBits, lineOfPlace, pPlace, valuePlace}
 use Rattle.bc7_format.specs.Modes.{channelBits, endpointCount, indexBits, lines, pCount}
 use Rattle.bc7_format.specs.Places.{Place, index, pbit, value, width}
 use Rattle.bc7_format.specs.Splits.{isVector, subset}
@@ -28,13 +28,13 @@ module _ {m : ℕ} {s : Split} {f : Place → ℕ} (g : WellFormed m s f) (l : �
   h3 : l < 3
   h3 = omega (arith, lines-le m (g .mode))
 
-  wide : (q : ℕ) → width m [] (indexPlace s l q) ≡ indexBits m (arrayOf s l)
+  wide : (q : ℕ) → width m [] (indexPlace s l q) ≡ indexBits m (indexSetOf s l)
   unfolding width indexPlace
   wide q = refl
 
-  outside : (q : ℕ) → lineOfPlace m s (index (arrayOf s l) q) ≢ l → ownWidth m s l (indexPlace s l q) ≡ 0
+  outside : (q : ℕ) → lineOfPlace m s (index (indexSetOf s l) q) ≢ l → ownWidth m s l (indexPlace s l q) ≡ 0
   unfolding indexPlace
-  outside q n = own-not m s l (index (arrayOf s l) q) n
+  outside q n = own-not m s l (index (indexSetOf s l) q) n
 
   value-bits : (k c : ℕ) → k < 2 → c < 4
       → ownWidth m s l (valuePlace s l k c) ≡ pick (isVector s) (pick (eqb (pick (eqb c 3) 1 0) l) (channelBits m c) 0) (channelBits m c)
@@ -80,11 +80,12 @@ module _ {m : ℕ} {s : Split} {f : Place → ℕ} (g : WellFormed m s f) (l : �
   unfolding ownWidth lineBits
   index-bits q hq = go (isVector s) refl (eqb (subset s q) l) refl
     where
-      full : (isVector s ≡ false → subset s q ≡ l) → pick (has m s l (indexPlace s l q)) (width m [] (indexPlace s l q)) 0 ≡ indexBits m (arrayOf s l)
+      full : (isVector s ≡ false → subset s q ≡ l)
+          → pick (has m s l (indexPlace s l q)) (width m [] (indexPlace s l q)) 0 ≡ indexBits m (indexSetOf s l)
       full e = rw (has-index g l hl q hq e) (wide q)
 
       go : (v : Bool) → isVector s ≡ v → (b : Bool) → eqb (subset s q) l ≡ b
-          → ownWidth m s l (indexPlace s l q) ≡ pick v (indexBits m (arrayOf s l)) (pick b (indexBits m (arrayOf s l)) 0)
+          → ownWidth m s l (indexPlace s l q) ≡ pick v (indexBits m (indexSetOf s l)) (pick b (indexBits m (indexSetOf s l)) 0)
       go true v b e = full (λ f. absurd (no-both v f))
       go false v true e = full (λ f. eqb-true (subset s q) l e)
       go false v false e = outside q (λ z. eqb-false (subset s q) l e (rw v at z))

@@ -13,13 +13,13 @@ use lib.Pow.{pow-mono, pow-pos, ones-sub-lt}
 use Rattle.bc7_format.specs.declared.Split.{Split}
 use Rattle.laws.specs.Tables.{pick}
 use Rattle.laws.proofs.Tests.{both-left, both-right, no-both, true-T}
-use Rattle.bc7_format.specs.Lines.{Line, anchorOf, arrayOf, has, indexPlace, laid, lineBits, lineOfPlace, pPlace, turned, valuePlace, withLine}
+use Rattle.bc7_format.specs.Lines.{Line, anchorOf, indexSetOf, has, indexPlace, laid, lineBits, lineOfPlace, pPlace, turned, valuePlace, withLine}
 use Rattle.bc7_format.specs.Modes.{channelBits, endpointCount, indexBits, pCount, secondBits}
 use Rattle.bcn_format.specs.Partitions.{among}
-use Rattle.bc7_format.specs.Places.{Place, head, index, inside, pbit, value, width}
+use Rattle.bc7_format.specs.Places.{Place, lead, index, inside, pbit, value, width}
 use Rattle.bc7_format.specs.Splits.{anchors, indexMode, isVector, subset}
 use Rattle.bc7_format.specs.WellFormed.{WellFormed}
-use Rattle.bc7_format.proofs.Lens.{has-head, has-parts}
+use Rattle.bc7_format.proofs.Lens.{has-lead, has-parts}
 use Rattle.bc7_format.proofs.Modes.{good-64, good-index-mode, good-subset, good-vector, lines-le, the-anchor}
 use Rattle.line_rules.specs.Acceptable.{Acceptable, Within}
 use Rattle.line_rules.specs.Replace.{oriented, ownWidth, put, refusalIn, topSet}
@@ -96,11 +96,11 @@ module _ (m : ℕ) (s : Split) (l : ℕ) (ln : Line) where
       go true e = omega (arith, leb-true (2 ^ (w - 1)) (ln .index (anchorOf s l)) e, double, pow-pos (w - 1))
       go false e = leb-false _ _ e
 
--- the array of a line, from a place that it has
-array-is : (v : Bool) (a i l sub : ℕ) → a < 2 → i < 2 → pick v (pick (eqb a i) 0 1) sub ≡ l → (v ≡ false → a ≡ 0)
+-- the index set of a line, from a place that it has
+index-set-is : (v : Bool) (a i l sub : ℕ) → a < 2 → i < 2 → pick v (pick (eqb a i) 0 1) sub ≡ l → (v ≡ false → a ≡ 0)
     → a ≡ pick v (pick (eqb l 0) i (1 - i)) 0
-array-is false a i l sub ha hi e z = z refl
-array-is true a i l sub ha hi e z = go (eqb a i) refl e
+index-set-is false a i l sub ha hi e z = z refl
+index-set-is true a i l sub ha hi e z = go (eqb a i) refl e
   where
     go : (b : Bool) → eqb a i ≡ b → pick b 0 1 ≡ l → a ≡ pick (eqb l 0) i (1 - i)
     go true p q = rw (eq-eqb l 0 (sym q)) (eqb-true a i p)
@@ -131,12 +131,12 @@ module _ {m : ℕ} {s : Split} {f : Place → ℕ} (g : WellFormed m s f) where
       go true v = let z : e % 2 ≡ e = omega (arith, there, good-vector g v .ends) in z
       go false v = let z : e / 2 ≡ l = rw v at (has-parts m s l (value c e) h .2) in let y : 2 * l + e % 2 ≡ e = omega arith in y
 
-  pub has-array : (l a q : ℕ) → has m s l (index a q) ≡ true → a ≡ arrayOf s l
-  unfolding arrayOf width
-  has-array l a q h =
+  pub has-index-set : (l a q : ℕ) → has m s l (index a q) ≡ true → a ≡ indexSetOf s l
+  unfolding indexSetOf width
+  has-index-set l a q h =
       let p = has-parts m s l (index a q) h in
       let ha : a < 2 = ltb→lt a 2 (both-left (ltb a 2) (ltb q 16) (p .0)) in
-      array-is (isVector s) a (indexMode s) l (subset s q) ha (good-index-mode g) (p .2) (λ v. only-first a ha (p .1) (good-subset g v .second))
+      index-set-is (isVector s) a (indexMode s) l (subset s q) ha (good-index-mode g) (p .2) (λ v. only-first a ha (p .1) (good-subset g v .second))
     where
       only-first : (a : ℕ) → a < 2 → indexBits m a ≢ 0 → secondBits m ≡ 0 → a ≡ 0
       only-first zero ha n z = refl
@@ -147,7 +147,7 @@ module _ {m : ℕ} {s : Split} {f : Place → ℕ} (g : WellFormed m s f) where
   laid-fits : (l : ℕ) (ln : Line) → l < 9 → Bounded m s l ln → (1 ≤ lineBits m s l → ln .index (anchorOf s l) < 2 ^ (lineBits m s l - 1))
       → (x : Place) → has m s l x ≡ true → laid m ln x < 2 ^ width m (anchors s) x
   unfolding laid width lineBits
-  laid-fits l ln hl w low (head k) h = absurd (no-both h (has-head m s l k hl))
+  laid-fits l ln hl w low (lead k) h = absurd (no-both h (has-lead m s l k hl))
   laid-fits l ln hl w low (value c e) h =
       let p = has-parts m s l (value c e) h in
       let hc : c < 4 = ltb→lt c 4 (both-left (ltb c 4) (ltb e 6) (p .0)) in
@@ -164,14 +164,14 @@ module _ {m : ℕ} {s : Split} {f : Place → ℕ} (g : WellFormed m s f) where
       p : T (inside (index a q)) × (width m [] (index a q) ≢ 0) × (lineOfPlace m s (index a q) ≡ l)
       p = has-parts m s l (index a q) h
 
-      ea : a ≡ arrayOf s l
-      ea = has-array l a q h
+      ea : a ≡ indexSetOf s l
+      ea = has-index-set l a q h
 
       hq : q < 16
       hq = ltb→lt q 16 (both-right (ltb a 2) (ltb q 16) (p .0))
 
-      one : 1 ≤ indexBits m (arrayOf s l)
-      one = let n : indexBits m (arrayOf s l) ≢ 0 = rw ea at (p .1) in omega arith
+      one : 1 ≤ indexBits m (indexSetOf s l)
+      one = let n : indexBits m (indexSetOf s l) ≢ 0 = rw ea at (p .1) in omega arith
 
       sub : isVector s ≡ false → subset s q ≡ l
       sub v = rw v at (p .2)
@@ -198,8 +198,8 @@ module _ {m : ℕ} {s : Split} {f : Place → ℕ} (g : WellFormed m s f) where
       hl : l < 9
       hl = omega (arith, a .line, lines-le m (g .mode))
 
-      kept : (k : ℕ) → pick (has m s l (head k)) (laid m (oriented m s l ln) (head k)) (f (head k)) ≡ f (head k)
-      kept k = rw (has-head m s l k hl)
+      kept : (k : ℕ) → pick (has m s l (lead k)) (laid m (oriented m s l ln) (lead k)) (f (lead k)) ≡ f (lead k)
+      kept k = rw (has-lead m s l k hl)
 
       go : (x : Place) → T (inside x) → (b : Bool) → has m s l x ≡ b → pick b (laid m (oriented m s l ln) x) (f x) < 2 ^ width m (anchors s) x
       go x i true h = laid-fits l (oriented m s l ln) hl (bounded-oriented m s l ln (bounded m s l ln (a .within))) (anchor-low m s l ln) x h

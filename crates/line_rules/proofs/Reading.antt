@@ -23,12 +23,13 @@ use Rattle.laws.proofs.Refusals.{Answers, accepted-when, answers, by-not-ltb, n
 use Rattle.laws.proofs.Tests.{T-true, both-left, both-right, no-both, not-so}
 use Rattle.bcn_format.specs.Block.{eights}
 use Rattle.bc7_format.specs.Modes.{modeOf, lines}
-use Rattle.bc7_format.specs.Lines.{Line, anchorOf, draws, has, indexPlace, laid, lineBits, lineOf, meant, own, pPlace, pixel, rotated, shown, turned, valuePlace, withLine}
+use Rattle.bc7_format.specs.Lines.{Line, anchorOf, draws, has, indexPlace, laid, lineBits, lineOf, meansShown, own, pPlace, pixel, rotated, shown}
+use Rattle.bc7_format.specs.Lines.{turned, valuePlace, withLine}
 use Rattle.bcn_format.specs.Partitions.{among}
-use Rattle.bc7_format.specs.Places.{Place, head, index, inside, opened, pbit, value, width}
+use Rattle.bc7_format.specs.Places.{Place, lead, index, inside, opened, pbit, value, width}
 use Rattle.bc7_format.specs.Splits.{anchors, rotation, splitOf}
 use Rattle.bc7_format.specs.WellFormed.{WellFormed}
-use Rattle.bc7_format.proofs.Lens.{has-head, has-one, has-parts, line-from}
+use Rattle.bc7_format.proofs.Lens.{has-lead, has-one, has-parts, line-from}
 use Rattle.bc7_format.proofs.Meaning.{good-rotation, laid-index, laid-p, laid-value, means-ext, rotated-lt}
 use Rattle.bc7_format.proofs.Modes.{anchor-is, anchor-lt, good-64, lines-le}
 use Rattle.bc7_format.proofs.Opening.{block-ext, block-opened, opened-good}
@@ -43,7 +44,7 @@ use Rattle.line_rules.proofs.Draws.{drawn-by}
 use Rattle.line_rules.proofs.Given.{same-oriented}
 use Rattle.line_rules.proofs.Own.{no-width}
 use Rattle.line_rules.proofs.OwnWidths.{own-widths}
-use Rattle.line_rules.proofs.Put.{has-array, own-pbit, own-value}
+use Rattle.line_rules.proofs.Put.{has-index-set, own-pbit, own-value}
 
 -- two lines of which a replacement says the same
 pub record Agree (a b : Line) : Type 0 where
@@ -85,7 +86,7 @@ given-back g he hp hi =
 
 laid-same : (m : ℕ) (a b : Line) → Agree a b → (x : Place) → T (inside x) → laid m a x ≡ laid m b x
 unfolding laid
-laid-same m a b h (head k) i = refl
+laid-same m a b h (lead k) i = refl
 laid-same m a b h (value c e) i = h .value (e % 2) c (mod-lt e (lit< tt)) (ltb→lt c 4 (both-left (ltb c 4) (ltb e 6) i))
 laid-same m a b h (pbit k) i = h .p _ (pick-lt (eqb m 1) 0 (k % 2) 2 (lit< tt) (mod-lt k (lit< tt)))
 laid-same m a b h (index a' q) i = h .index q (ltb→lt q 16 (both-right (ltb a' 2) (ltb q 16) i))
@@ -98,10 +99,10 @@ module _ {m : ℕ} {s : Split} {f : Place → ℕ} (g : WellFormed m s f) (l : �
 
   laid-own : (x : Place) → has m s l x ≡ true → laid m (lineOf m s l f) x ≡ f x
   unfolding laid lineOf indexPlace
-  laid-own (head k) h = absurd (no-both h (has-head m s l k (omega (arith, lines-le m (g .mode)))))
+  laid-own (lead k) h = absurd (no-both h (has-lead m s l k (omega (arith, lines-le m (g .mode)))))
   laid-own (value c e) h = ap (own m s l f) (own-value g l c e h) ∙ own-is (value c e) h
   laid-own (pbit k) h = ap (own m s l f) (own-pbit m s l k h) ∙ own-is (pbit k) h
-  laid-own (index a q) h = ap (λ (j : ℕ). own m s l f (index j q)) (sym (has-array g l a q h)) ∙ own-is (index a q) h
+  laid-own (index a q) h = ap (λ (j : ℕ). own m s l f (index j q)) (sym (has-index-set g l a q h)) ∙ own-is (index a q) h
 
   -- what is read fits, and needs no turn
   own-fits : (x : Place) → own m s l f x < 2 ^ ownWidth m s l x
@@ -203,8 +204,8 @@ module _ (bs : List ℕ) (sixteen : Fit eights bs) where
 
     -- it draws what the block shows
     pub read-drawn : (q ch : ℕ) → q < 16 → ch < 4 → draws (modeOf bs) (splitOf bs) l q ch ≡ true
-        → meant (modeOf bs) (splitOf bs) l (lineGiven (lineRead bs l .line)) q ch ≡ pixel bs q ch
-    unfolding pixel shown meant
+        → meansShown (modeOf bs) (splitOf bs) l (lineGiven (lineRead bs l .line)) q ch ≡ pixel bs q ch
+    unfolding pixel shown meansShown
     read-drawn q ch hq hc dr =
         let p = drawn-by (modeOf bs) (splitOf bs) l q ch dr in
         let a = given-line (lineOf (modeOf bs) (splitOf bs) l (opened bs)) in
@@ -301,7 +302,7 @@ module _ (bs : List ℕ) (sixteen : Fit eights bs) where
         ∙ rw (after-mode bs sixteen c, after-split bs sixteen c) (given-ext _ _ read-back)
 
     pub put-draws : (q ch : ℕ) → q < 16 → ch < 4 → draws m s l q ch ≡ true
-        → meant m s l (lineGiven (lineRead (after bs c) l .line)) q ch ≡ meant m s l (c .given) q ch
+        → meansShown m s l (lineGiven (lineRead (after bs c) l .line)) q ch ≡ meansShown m s l (c .given) q ch
     put-draws q ch hq hc dr =
         let d : draws (modeOf (after bs c)) (splitOf (after bs c)) l q ch ≡ true = rw (after-mode bs sixteen c, after-split bs sixteen c) dr in
         (rw (after-mode bs sixteen c, after-split bs sixteen c) at (read-drawn (after bs c) (after-sixteen bs sixteen c) l read-after q ch hq hc d))

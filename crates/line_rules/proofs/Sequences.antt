@@ -17,7 +17,7 @@ use Rattle.laws.proofs.calls.Slots.{Store, last-calls, last-seen, same-last, tr
 use Rattle.laws.proofs.calls.Trading.{Trade, run-good}
 use Rattle.bcn_format.specs.Block.{eights}
 use Rattle.bc7_format.specs.Modes.{modeOf, lines}
-use Rattle.bc7_format.specs.Lines.{draws, has, laid, lineOfPlace, meant, pixel}
+use Rattle.bc7_format.specs.Lines.{draws, has, laid, lineOfPlace, meansShown, pixel}
 use Rattle.bcn_format.specs.Partitions.{among, or}
 use Rattle.bc7_format.specs.Places.{Place, blockOf, inside as insideBlock, opened}
 use Rattle.bc7_format.specs.Splits.{splitOf}
@@ -26,7 +26,8 @@ use Rattle.bc7_format.proofs.Opening.{block-ext, block-opened}
 use Rattle.line_rules.specs.Calls.{afterAll, isAccepted, isOf, last, lastOfEach, seen}
 use Rattle.line_rules.specs.Replace.{Call, after, oriented, refusal}
 use Rattle.line_rules.proofs.Accepting.{accepted-is}
-use Rattle.line_rules.proofs.Blocks.{after-mode, after-sixteen, after-split, given-drawn, others-kept, places-kept, places-stored, reserved-or, reserved-same, same-refusal, unchanged}
+use Rattle.line_rules.proofs.Blocks.{after-mode, after-sixteen, after-split, given-drawn, others-kept, places-kept, places-stored, reserved-or}
+use Rattle.line_rules.proofs.Blocks.{reserved-same, same-refusal, unchanged}
 use Rattle.line_rules.proofs.Draws.{drawn-by-one}
 
 -- what no call changes
@@ -162,7 +163,7 @@ sequence-draws m s l q ch hq hc dr = last-seen (stays m s) (record {
   set = λ bs c g e.
       let p = is-of m s bs c l g e in
       (rw (g .mode, g .split) at (given-drawn bs (g .sixteen) c q ch (p .0) hq hc (rw (g .mode, g .split, p .1) dr)))
-      ∙ ap (λ (k : ℕ). meant m s k (c .given) q ch) (p .1);
+      ∙ ap (λ (k : ℕ). meansShown m s k (c .given) q ch) (p .1);
   kept =
       λ bs c g e. not-of m s (λ b. pixel b q ch) bs c l g e
       (λ n. others-kept bs (g .sixteen) c q ch (rw (g .mode, g .split) (drawn-by-one m s l (c .line) q ch (λ z. n (sym z)) dr)));

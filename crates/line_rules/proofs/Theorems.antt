@@ -16,7 +16,7 @@ use Rattle.laws.proofs.Refusals.{accepted-when as met-when, exactly}
 use Rattle.laws.proofs.calls.Trading.{inside as inside-list}
 use Rattle.bcn_format.specs.Block.{eights}
 use Rattle.bc7_format.specs.Modes.{modeOf, lines}
-use Rattle.bc7_format.specs.Lines.{draws, has, laid, meant, pixel, pixels}
+use Rattle.bc7_format.specs.Lines.{draws, has, laid, meansShown, pixel, pixels}
 use Rattle.bcn_format.specs.Partitions.{among}
 use Rattle.bc7_format.specs.Places.{Place, inside, opened}
 use Rattle.bc7_format.specs.Splits.{splitOf}
@@ -27,10 +27,12 @@ use Rattle.line_rules.specs.Calls.{afterAll, last, lastOfEach, seen}
 use Rattle.line_rules.specs.Read.{TooWide, givenAs, lineRead, readRules, turnedIn}
 use Rattle.line_rules.specs.Replace.{Call, after, callOf, lineGiven, oriented, refusal, replaced, replacedAs, topSet}
 use Rattle.line_rules.proofs.Accepting.{on-block}
-use Rattle.line_rules.proofs.Blocks.{after-mode, after-sixteen, after-split, full-alpha, given-drawn, others-kept, places-kept, places-stored, same-refusal, unchanged}
+use Rattle.line_rules.proofs.Blocks.{after-mode, after-sixteen, after-split, full-alpha, given-drawn, others-kept, places-kept, places-stored}
+use Rattle.line_rules.proofs.Blocks.{same-refusal, unchanged}
 use Rattle.line_rules.proofs.Draws.{drawn-by-one}
 use Rattle.line_rules.proofs.OwnWidths.{own-widths}
-use Rattle.line_rules.proofs.Reading.{given-back, other-read, put-draws, put-is-read, read-after, read-answers, read-drawn, read-not-turned, replaced-by-read}
+use Rattle.line_rules.proofs.Reading.{given-back, other-read, put-draws, put-is-read, read-after, read-answers, read-drawn, read-not-turned}
+use Rattle.line_rules.proofs.Reading.{replaced-by-read}
 use Rattle.line_rules.proofs.Sequences.{all-stays, bytes-trade, first-stays, lasts, same-lasts, sequence-draws, trading}
 use Rattle.line_rules.proofs.TooWide.{refused-with-3}
 use Rattle.line_rules.specs.Promises.{ReadsLine, Replaces}
@@ -55,7 +57,7 @@ refused-when bs h c = exactly (on-block bs h c)
 
 -- after an accepted call, whatever the line draws is what the given endpoints, p bits and full indexes mean, turned or not
 pub accepted-draws : (bs : List ℕ) → Fit eights bs → (c : Call) (q ch : ℕ) → q < 16 → ch < 4 → refusal bs c ≡ 0
-    → draws (modeOf bs) (splitOf bs) (c .line) q ch ≡ true → pixel (after bs c) q ch ≡ meant (modeOf bs) (splitOf bs) (c .line) (c .given) q ch
+    → draws (modeOf bs) (splitOf bs) (c .line) q ch ≡ true → pixel (after bs c) q ch ≡ meansShown (modeOf bs) (splitOf bs) (c .line) (c .given) q ch
 accepted-draws bs h c q ch hq hc e d = given-drawn bs h c q ch e hq hc d
 
 -- it stores, at every place that the line has, the line as it is given, or turned round where the index at its anchor has its top
@@ -118,9 +120,9 @@ pub record Traded (bs : List ℕ) (c d : Call) : Type 0 where
   pub bytes : after (after bs c) d ≡ after (after bs d) c
   pub drawn : pixels (after (after bs c) d) ≡ pixels (after (after bs d) c)
   pub first-seen : (q ch : ℕ) → q < 16 → ch < 4 → refusal bs c ≡ 0 → draws (modeOf bs) (splitOf bs) (c .line) q ch ≡ true
-      → pixel (after (after bs c) d) q ch ≡ meant (modeOf bs) (splitOf bs) (c .line) (c .given) q ch
+      → pixel (after (after bs c) d) q ch ≡ meansShown (modeOf bs) (splitOf bs) (c .line) (c .given) q ch
   pub second-seen : (q ch : ℕ) → q < 16 → ch < 4 → refusal bs d ≡ 0 → draws (modeOf bs) (splitOf bs) (d .line) q ch ≡ true
-      → pixel (after (after bs c) d) q ch ≡ meant (modeOf bs) (splitOf bs) (d .line) (d .given) q ch
+      → pixel (after (after bs c) d) q ch ≡ meansShown (modeOf bs) (splitOf bs) (d .line) (d .given) q ch
   pub rest : (q ch : ℕ) → draws (modeOf bs) (splitOf bs) (c .line) q ch ≡ false → draws (modeOf bs) (splitOf bs) (d .line) q ch ≡ false
       → pixel (after (after bs c) d) q ch ≡ pixel bs q ch
 
@@ -130,7 +132,7 @@ kept-twice bs h c d q ch n = others-kept (after bs c) (after-sixteen bs h c) d q
 
 seen-first : (bs : List ℕ) → Fit eights bs → (c d : Call) → c .line ≢ d .line → (q ch : ℕ) → q < 16 → ch < 4 → refusal bs c ≡ 0
     → draws (modeOf bs) (splitOf bs) (c .line) q ch ≡ true
-    → pixel (after (after bs c) d) q ch ≡ meant (modeOf bs) (splitOf bs) (c .line) (c .given) q ch
+    → pixel (after (after bs c) d) q ch ≡ meansShown (modeOf bs) (splitOf bs) (c .line) (c .given) q ch
 seen-first bs h c d n q ch hq hc e z =
     kept-twice bs h c d q ch (drawn-by-one (modeOf bs) (splitOf bs) (c .line) (d .line) q ch n z) ∙ accepted-draws bs h c q ch hq hc e z
 
@@ -175,7 +177,7 @@ read-refused-when bs h l = exactly (read-answers bs h l)
 -- it draws what the block shows
 pub read-draws : (bs : List ℕ) → Fit eights bs → (l : ℕ) → lineRead bs l .refusal ≡ 0 → (q ch : ℕ) → q < 16 → ch < 4
     → draws (modeOf bs) (splitOf bs) l q ch ≡ true
-    → meant (modeOf bs) (splitOf bs) l (lineGiven (lineRead bs l .line)) q ch ≡ pixel bs q ch
+    → meansShown (modeOf bs) (splitOf bs) l (lineGiven (lineRead bs l .line)) q ch ≡ pixel bs q ch
 unfolding lineRead
 read-draws = read-drawn
 
@@ -193,8 +195,8 @@ pub record PutAndRead (bs : List ℕ) (l : ℕ) (g : Replacement) : Type 0 where
   pub turned : topSet (modeOf bs) (splitOf bs) l (lineGiven g) ≡ true
       → lineRead (after bs (callOf l g)) l .line ≡ givenAs (turnedIn (modeOf bs) (splitOf bs) l (lineGiven g))
   pub draws-the-same : (q ch : ℕ) → q < 16 → ch < 4 → draws (modeOf bs) (splitOf bs) l q ch ≡ true
-      → meant (modeOf bs) (splitOf bs) l (lineGiven (lineRead (after bs (callOf l g)) l .line)) q ch
-      ≡ meant (modeOf bs) (splitOf bs) l (lineGiven g) q ch
+      → meansShown (modeOf bs) (splitOf bs) l (lineGiven (lineRead (after bs (callOf l g)) l .line)) q ch
+      ≡ meansShown (modeOf bs) (splitOf bs) l (lineGiven g) q ch
 
 -- (g is a replacement of 8 values, 2 p bits and 16 indexes)
 pub put-and-read : (bs : List ℕ) → Fit eights bs → (l : ℕ) (g : Replacement) → length (g .endpoints) ≡ 8 → length (g .p) ≡ 2

@@ -24,7 +24,8 @@ pub record Within (m : ℕ) (s : Split) (l : ℕ) (ln : Line) : Type 0 where
 -- channels of the mode, of which alpha may have no bits. A p bit has one bit, where the mode has p bits at all. An index has the
 -- line's width, at the pixels of the line
 pub record OwnWidths (m : ℕ) (s : Split) (l : ℕ) : Type 0 where
-  pub value : (k c : ℕ) → k < 2 → c < 4 → ownWidth m s l (valuePlace s l k c) ≡ pick (isVector s) (pick (eqb (pick (eqb c 3) 1 0) l) (channelBits m c) 0) (channelBits m c)
+  pub value : (k c : ℕ) → k < 2 → c < 4
+      → ownWidth m s l (valuePlace s l k c) ≡ pick (isVector s) (pick (eqb (pick (eqb c 3) 1 0) l) (channelBits m c) 0) (channelBits m c)
   pub p : (k : ℕ) → k < 2 → ownWidth m s l (pPlace m l k) ≡ pick (eqb (pCount m) 0) 0 1
   pub index : (q : ℕ) → q < 16 → ownWidth m s l (indexPlace s l q) ≡ pick (isVector s) (lineBits m s l) (pick (eqb (subset s q) l) (lineBits m s l) 0)
 

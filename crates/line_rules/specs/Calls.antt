@@ -7,7 +7,7 @@ use lib.Dec.{eqb}
 use Rattle.bc7_format.specs.declared.Split.{Split}
 use Rattle.laws.specs.Tables.{both}
 use Rattle.laws.specs.Calls as calls
-use Rattle.bc7_format.specs.Lines.{meant}
+use Rattle.bc7_format.specs.Lines.{meansShown}
 use Rattle.line_rules.specs.Replace.{Call, after, refusalIn}
 
 -- the block after a list of calls
@@ -31,4 +31,4 @@ lastOfEach m s ls cs = calls.lastOfEach (isOf m s) ls cs
 
 -- of a list of one call or none: what that call means in channel c of pixel q, or what was there before
 abbrev pub seen : ℕ → Split → ℕ → ℕ → ℕ → ℕ → List Call → ℕ
-seen m s l q c before cs = calls.seen (λ (call : Call). meant m s l (call .given) q c) before cs
+seen m s l q c before cs = calls.seen (λ (call : Call). meansShown m s l (call .given) q c) before cs

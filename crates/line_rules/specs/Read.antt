@@ -55,7 +55,8 @@ readAs n ln ws = record { refusal = n; line = givenAs ln; widths = givenAs ws }
 unfoldable pub lineRead : List ℕ → ℕ → LineRead
 lineRead bs l =
     let read : Bool = eqb (readRefusal bs l) 0 in
-    readAs (readRefusal bs l) (pick read (lineOf (modeOf bs) (splitOf bs) l (opened bs)) noLine) (pick read (widthsOf (modeOf bs) (splitOf bs) l) noLine)
+    readAs (readRefusal bs l) (pick read (lineOf (modeOf bs) (splitOf bs) l (opened bs)) noLine)
+    (pick read (widthsOf (modeOf bs) (splitOf bs) l) noLine)
 
 -- a given line turned round as it is read: other pixels have no index in it
 unfoldable pub turnedIn : ℕ → Split → ℕ → Line → Line

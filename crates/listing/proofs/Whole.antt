@@ -1,4 +1,4 @@
--- The machine fed with an input that is there whole, turn by turn.
+-- The machine fed with an input that is there whole, round by round.
 -- Assumes nothing.
 use mathlib.Core.Path.{_≡_, _∙_, ap, sym, subst}
 use mathlib.Core.Logic.{⊎-elim}
@@ -13,7 +13,7 @@ use Rattle.laws.proofs.Cases.{lt-or}
 use Rattle.laws.proofs.Padding.{written-long, written-none, written-then}
 use Rattle.listing_rules.specs.Listing.{listing}
 use Rattle.listing_rules.specs.Machine.{NextEnd, Ready, atStart, nextOf, spareOf, textOf, wantedOf}
-use Rattle.listing_rules.proofs.Turns.{done, ready-start, rest-start, restOf, step}
+use Rattle.listing_rules.proofs.Rounds.{done, ready-start, rest-start, restOf, step}
 
 -- the next n bytes, cut out of the input, are the next n bytes of what is left of it
 module _ (s : List ℕ) (at n end : ℕ) (e : NextEnd at n (length s) end) where
@@ -55,11 +55,11 @@ module _ {s out₀ out : List ℕ} {m : Machine} {at said : ℕ} (f : Fed s out�
       let l = came-length s at (wantedOf m) end e in
       (f .ready, omega (arith, l, e .few), omega (arith, l, e .within, e .behind, f .room, f .long))
 
-  pub fed-turn : {end : ℕ} {out' : List ℕ} {said' : ℕ} {m' : Machine} → NextEnd at (wantedOf m) (length s) end
+  pub fed-round : {end : ℕ} {out' : List ℕ} {said' : ℕ} {m' : Machine} → NextEnd at (wantedOf m) (length s) end
       → let came = take (end - at) (drop at s) in
       Written out said (textOf m came) out' said' → said' + spareOf (nextOf m came) ≤ said + 40 * (length came / 16) + spareOf m
       → m' ≡ nextOf m came → Ready m' → Fed s out₀ out' m' end said'
-  fed-turn {end} {out'} {said'} {m'} e w b n r = record {
+  fed-round {end} {out'} {said'} {m'} e w b n r = record {
     ready = r;
     within = e .within;
     room = omega (arith, came-length s at (wantedOf m) end e, e .within, e .behind, f .room, b, ap spareOf n);

@@ -10,9 +10,10 @@ ghost use Rattle.laws.specs.Tables.{pick};
 ghost use Rattle.sheet_head.specs.Heads.{Sized};
 ghost use Rattle.sheet_head.specs.Reader.{Going, hasEnded};
 ghost use Rattle.laws.specs.Padding.{Written};
-ghost use Rattle.listing_rules.specs.Listing.{blockText, listed, unlessExact};
+ghost use Rattle.listing_rules.specs.Listing.{blockListed, listed, unlessExact};
 ghost use Rattle.listing_rules.specs.Promises.{GoesOn, SaysListing, SaysNext, Wants};
-ghost use Rattle.listing_rules.specs.Machine.{InRows, NextEnd, Ready, atHead, atStart, begun, ended, headText, inRows, nextAtHead, nextInRows, nextOf, spareOf, takenOf, textAtHead, textInRows, turnsOf, wantedOf};
+ghost use Rattle.listing_rules.specs.Machine.{InRows, NextEnd, Ready, atHead, atStart, begun, ended, headText, inRows, nextAtHead, nextInRows};
+ghost use Rattle.listing_rules.specs.Machine.{nextOf, spareOf, takenOf, textAtHead, textInRows, roundsOf, wantedOf};
 use bc7::decode_bc7_block;
 use bc7_places::modes::mode_of;
 use listing_rules::Machine;
@@ -39,19 +40,19 @@ fn take_next(reader: HeadReader, came: &[u8]) -> HeadReader
     take_byte(reader, came[0])
 }
 
-// A block's line to a place of the output; the place behind it.
+// A block's text to a place of the output; the place behind it.
 fn list_block(block: [u8; 16], number: u32, at: usize, out: &mut [u8]) -> usize
     requires { ⌜ at + 40 ≤ length (now out) ⌝ }
-    ensures { λ r. ⌜ Written (now (out .entry)) at (blockText number block) (now (out .exit)) r ⌝ }
+    ensures { λ r. ⌜ Written (now (out .entry)) at (blockListed number block) (now (out .exit)) r ⌝ }
     ensures { λ r. ⌜ r ≤ at + 40 ⌝ }
 {
     let pixels = decode_bc7_block(block);
     let first = pixels[0];
-    crate::text::block_line(number, mode_of(block), first, at, out)
+    crate::text::block_text(number, mode_of(block), first, at, out)
 }
 
-// The lines of the whole blocks among these bytes, numbered from `from` on, to a place of the output; the place behind them.
-// No line has more than 40 bytes.
+// The texts of the whole blocks among these bytes, numbered from `from` on, to a place of the output; the place behind them.
+// No text has more than 40 bytes.
 fn list_blocks(blocks: &[u8], from: u32, at: usize, out: &mut [u8]) -> usize
     requires { ⌜ (from + length (now blocks) < 2 ^ 32) × (at + 40 * (length (now blocks) / 16) ≤ length (now out)) ⌝ }
     ensures { λ r. ⌜ Written (now (out .entry)) at (listed from (now (blocks .entry))) (now (out .exit)) r ⌝ }
@@ -168,7 +169,7 @@ fn next_in_rows(columns: u32, rows: u32, from: u32, got: usize) -> Machine
 pub fn next(machine: Machine, came: &[u8]) -> Machine
     requires { ⌜ Ready machine ⌝ }
     ensures { λ r. ⌜ GoesOn machine (now (came .entry)) r ⌝ }
-    ensures { λ r. ⌜ Ready r × (turnsOf r ≤ turnsOf machine - 1) ⌝ }
+    ensures { λ r. ⌜ Ready r × (roundsOf r ≤ roundsOf machine - 1) ⌝ }
 {
     let phase = machine.phase;
     match phase {
@@ -184,7 +185,7 @@ pub fn next(machine: Machine, came: &[u8]) -> Machine
 pub fn wanted(machine: Machine) -> usize
     requires { ⌜ Ready machine ⌝ }
     ensures { λ r. ⌜ Wants machine r ⌝ }
-    ensures { λ r. ⌜ (r ≤ 16384) × (r ≤ 16384 * turnsOf machine) ⌝ }
+    ensures { λ r. ⌜ (r ≤ 16384) × (r ≤ 16384 * roundsOf machine) ⌝ }
 {
     let phase = machine.phase;
     match phase {
@@ -205,7 +206,7 @@ fn refuse_unless(exact: bool, at: usize, out: &mut [u8]) -> usize
     if exact {
         return at;
     }
-    crate::text::refused_line(10, at, out)
+    crate::text::refused_text(10, at, out)
 }
 
 // What is said of a head.
@@ -215,9 +216,9 @@ fn list_head(head: Head, at: usize, out: &mut [u8]) -> usize
     ensures { λ r. ⌜ r ≤ at + 40 ⌝ }
 {
     if head.refusal != 0 {
-        return crate::text::refused_line(head.refusal, at, out);
+        return crate::text::refused_text(head.refusal, at, out);
     }
-    crate::text::sheet_line(head.width, head.height, at, out)
+    crate::text::sheet_text(head.width, head.height, at, out)
 }
 
 fn list_at_head(reader: HeadReader, came: &[u8], at: usize, out: &mut [u8]) -> usize

@@ -1,5 +1,5 @@
-// The lines of a sheet's listing, written straight to a place of the output: numbers in decimal, single spaces, and the end
-// of the line. Each function answers the place behind what it wrote, and no other byte changes. What a line says about a
+// The texts of a sheet's listing, written straight to a place of the output: numbers in decimal, single spaces, and the end
+// of the line. Each function answers the place behind what it wrote, and no other byte changes. What a text says about a
 // block stands here; which blocks are listed is said in `listing`.
 ghost use mathlib.Core.Path.{_≡_};
 ghost use mathlib.Core.List.{[], _∷_};
@@ -114,8 +114,8 @@ fn put_pixel(pixel: [u8; 4], at: usize, out: &mut [u8]) -> usize
     put_spaced(pixel[3], alpha, out)
 }
 
-// The first line of a listing: `sheet`, width and height.
-pub fn sheet_line(width: u32, height: u32, at: usize, out: &mut [u8]) -> usize
+// The first text of a listing: `sheet`, width and height.
+pub fn sheet_text(width: u32, height: u32, at: usize, out: &mut [u8]) -> usize
     requires { ⌜ at + 40 ≤ length (now out) ⌝ }
     ensures { λ r. ⌜ SaysSheet width height (now (out .entry)) at (now (out .exit)) r ⌝ }
     ensures { λ r. ⌜ r ≤ at + 40 ⌝ }
@@ -132,8 +132,8 @@ fn opacity_mark(mode: u8) -> u8
     if mode < 4 { b'o' } else { b'-' }
 }
 
-// The line of a block: its number, its mode, the four channels of its pixel 0, and its opacity mark.
-pub fn block_line(number: u32, mode: u8, pixel: [u8; 4], at: usize, out: &mut [u8]) -> usize
+// The text of a block: its number, its mode, the four channels of its pixel 0, and its opacity mark.
+pub fn block_text(number: u32, mode: u8, pixel: [u8; 4], at: usize, out: &mut [u8]) -> usize
     requires { ⌜ at + 40 ≤ length (now out) ⌝ }
     ensures { λ r. ⌜ SaysBlock number mode pixel (now (out .entry)) at (now (out .exit)) r ⌝ }
     ensures { λ r. ⌜ r ≤ at + 40 ⌝ }
@@ -144,8 +144,8 @@ pub fn block_line(number: u32, mode: u8, pixel: [u8; 4], at: usize, out: &mut [u
     put(b'\n', marked, out)
 }
 
-// The line of a refusal.
-pub fn refused_line(refusal: u8, at: usize, out: &mut [u8]) -> usize
+// The text of a refusal.
+pub fn refused_text(refusal: u8, at: usize, out: &mut [u8]) -> usize
     requires { ⌜ at + 40 ≤ length (now out) ⌝ }
     ensures { λ r. ⌜ SaysRefused refusal (now (out .entry)) at (now (out .exit)) r ⌝ }
     ensures { λ r. ⌜ r ≤ at + 40 ⌝ }

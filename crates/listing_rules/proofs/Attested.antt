@@ -11,7 +11,8 @@ use Rattle.laws.specs.Tables.{table, tableFrom}
 use Rattle.bc7_format.specs.Modes.{modeOf, endpointCount, kindOfMode, modeRow}
 use Rattle.bcn_format.specs.Block.{number, trailing}
 use Rattle.bcn_format.specs.Drawing.{drawn, promoted, weightOf, weights}
-use Rattle.bc7_format.specs.Lines.{eight, arrayOf, has, indexPlace, lineAt, lineBits, lineOf, means, own, pPlace, pixel, pixels, rotated, shown, valuePlace}
+use Rattle.bc7_format.specs.Lines.{eight, indexSetOf, has, indexPlace, lineAt, lineBits, lineOf, meansStored, own, pPlace, pixel, pixels, rotated}
+use Rattle.bc7_format.specs.Lines.{shown, valuePlace}
 use Rattle.bcn_format.specs.Partitions.{anchors2, anchors3, digits, marks, strings2, strings3, subset2, subset3}
 use Rattle.bc7_format.specs.Places.{atPlace, opened, placeAt, pos, width, widths}
 use Rattle.bc7_format.specs.Splits.{splitAt, splitOf}
@@ -19,11 +20,11 @@ use Rattle.bc7_format.proofs.Examples.{block0, block3, block4}
 use Rattle.sheet_head.specs.Geometry.{blocksOf}
 use Rattle.sheet_head.specs.Heads.{formIn, headRefusal, heightIn, readHead, sizeRefusal, widthIn}
 use Rattle.sheet_head.specs.Numbers.{raised, readGroups, readNumber}
-use Rattle.listing_rules.specs.Text.{ascii, blockLine, channels, decimal, digitsIn, opacityMark, refusedLine, sheetLine}
+use Rattle.listing_rules.specs.Text.{ascii, blockText, channels, decimal, digitsIn, opacityMark, refusedText, sheetText}
 use Rattle.sheet_rules.specs.Rows.{blockAt}
-use Rattle.listing_rules.specs.Listing.{blockText, blocksListing, blocksText, listed, listing}
+use Rattle.listing_rules.specs.Listing.{blockListed, blocksListing, blocksText, listed, listing}
 
--- lines of text; 10 ends each
+-- texts; 10 ends each
 pub text : List String → List ℕ
 text [] = []
 text (s ∷ more) = ascii s ++ (10 ∷ []) ++ text more
@@ -40,5 +41,9 @@ pub listings-hold : map listing (sheet (replicate 16 0) ∷ sheet (replicate 17 
     ("sheet 5 6" ∷ "0 0 24 41 57 255 o" ∷ "1 3 3 5 7 255 o" ∷ "2 4 11 29 44 28 -" ∷ "refused 10" ∷ []) ∷
     ("refused 8" ∷ []) ∷
     [])
-unfolding text listing blocksListing listed blocksText blockText readHead headRefusal formIn widthIn heightIn readNumber readGroups raised first sizeRefusal blocksOf blockAt sheetLine refusedLine blockLine channels opacityMark decimal digitsIn ascii table tableFrom digits marks strings2 strings3 subset2 subset3 anchors2 anchors3 weights weightOf drawn promoted eight modeRow kindOfMode endpointCount placeAt pos width widths trailing number modeOf splitAt splitOf atPlace opened has valuePlace pPlace arrayOf indexPlace own lineOf lineBits means rotated lineAt shown pixel pixels
+unfolding text listing blocksListing listed blocksText blockListed readHead headRefusal formIn widthIn heightIn readNumber readGroups raised first
+    sizeRefusal blocksOf blockAt sheetText refusedText blockText channels opacityMark decimal digitsIn ascii table tableFrom digits marks strings2
+    strings3 subset2 subset3 anchors2 anchors3 weights weightOf drawn promoted eight modeRow kindOfMode endpointCount placeAt pos width widths
+    trailing number modeOf splitAt splitOf atPlace opened has valuePlace pPlace indexSetOf indexPlace own lineOf lineBits meansStored rotated lineAt
+    shown pixel pixels
 listings-hold = refl

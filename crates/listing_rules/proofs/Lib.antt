@@ -1,7 +1,7 @@
 -- The laws that the proofs cite, and the theorems.
 pub mod Attested
 pub mod Rows
-pub mod Turns
+pub mod Rounds
 pub mod Room
 pub mod Theorems
 pub mod text

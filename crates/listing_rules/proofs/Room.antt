@@ -34,7 +34,7 @@ spare-in End = omega arith
 spare-in Listed = omega arith
 spare-in Refused = omega arith
 
--- beside the lines of blocks there are two more at the most
+-- beside the texts of blocks there are two more at the most
 pub spare-most : (m : Machine) → spareOf m ≤ 80
 spare-most m = spare-in (m .phase)
 

@@ -15,9 +15,9 @@ use Rattle.laws.specs.Tables.{pick}
 use Rattle.laws.proofs.Cases.{lt-or}
 use Rattle.sheet_head.specs.Geometry.{across, blocksOf}
 use Rattle.sheet_head.specs.Heads.{readHead}
-use Rattle.listing_rules.specs.Text.{refusedLine, sheetLine}
+use Rattle.listing_rules.specs.Text.{refusedText, sheetText}
 use Rattle.sheet_rules.specs.Rows.{blockAt}
-use Rattle.listing_rules.specs.Listing.{blockText, blocksListing, blocksText, listed, listing, rowsListing}
+use Rattle.listing_rules.specs.Listing.{blockListed, blocksListing, blocksText, listed, listing, rowsListing}
 
 -- blocks in the first of two lists, and in the second
 module _ (xs ys : List ℕ) where
@@ -33,7 +33,7 @@ module _ (xs ys : List ℕ) where
   unfolding blocksText
   text-first from zero h = refl
   text-first from (suc n) h =
-      ap₂ (λ (a b : List ℕ). a ++ b) (text-first from n (omega arith)) (ap (blockText (from + n)) (in-first (16 * n) (omega arith)))
+      ap₂ (λ (a b : List ℕ). a ++ b) (text-first from n (omega arith)) (ap (blockListed (from + n)) (in-first (16 * n) (omega arith)))
 
   text-both : (from c n : ℕ) → length xs ≡ 16 * c → blocksText from (c + n) (xs ++ ys) ≡ blocksText from c xs ++ blocksText (from + c) n ys
   unfolding blocksText
@@ -42,10 +42,10 @@ module _ (xs ys : List ℕ) where
       let at : 16 * (c + n) ≡ length xs + 16 * n = omega arith in
       ap (λ (m : ℕ). blocksText from m (xs ++ ys)) (add-suc c n)
       ∙ ap₂ (λ (a b : List ℕ). a ++ b) (text-both from c n e)
-      (ap₂ blockText (sym (add-assoc from c n)) (ap (blockAt (xs ++ ys)) at ∙ in-second (16 * n)))
+      (ap₂ blockListed (sym (add-assoc from c n)) (ap (blockAt (xs ++ ys)) at ∙ in-second (16 * n)))
       ∙ append-assoc (blocksText from c xs) (blocksText (from + c) n ys) _
 
-  -- the lines of both, where the first has whole blocks
+  -- the texts of both, where the first has whole blocks
   pub listed-both : (from c : ℕ) → length xs ≡ 16 * c → listed from (xs ++ ys) ≡ listed from xs ++ listed (from + c) ys
   unfolding listed
   listed-both from c e =
@@ -62,9 +62,9 @@ same-test a n m h = go (eqb n (a + m)) refl
     go true e = eq-eqb (n - a) m (omega (arith, eqb-true n (a + m) e))
     go false e = ne-eqb (n - a) m (λ q. eqb-false n (a + m) e (omega arith))
 
--- the lines of n blocks that are numbered from a number on, and the refusal
+-- the texts of n blocks that are numbered from a number on, and the refusal
 blocksFrom : ℕ → ℕ → List ℕ → List ℕ
-blocksFrom from n bs = listed from (take (16 * n) bs) ++ pick (eqb (length bs) (16 * n)) [] (refusedLine 10)
+blocksFrom from n bs = listed from (take (16 * n) bs) ++ pick (eqb (length bs) (16 * n)) [] (refusedText 10)
 
 module _ (c from k : ℕ) (bs : List ℕ) where
   more : 16 * (suc k * c) ≡ 16 * c + 16 * (k * c)
@@ -92,7 +92,7 @@ module _ (c from k : ℕ) (bs : List ℕ) where
       let rest = drop (16 * c) bs in
       rw (le-leb (16 * c) (length bs) h) (ap (λ (t : List ℕ). listed from row ++ t) e
       ∙ sym (append-assoc (listed from row) (listed (from + c) (take (16 * (k * c)) rest)) _)
-      ∙ ap₂ (λ (t : List ℕ) (b : Bool). t ++ pick b [] (refusedLine 10))
+      ∙ ap₂ (λ (t : List ℕ) (b : Bool). t ++ pick b [] (refusedText 10))
       (sym (ap (λ (m : ℕ). listed from (take m bs)) more ∙ ap (listed from) (take-add (16 * c) (16 * (k * c)) bs)
       ∙ listed-both row (take (16 * (k * c)) rest) from c (length-take-le (16 * c) bs h)))
       (ap (λ (n : ℕ). eqb n (16 * (k * c))) (length-drop (16 * c) bs) ∙ same-test (16 * c) (length bs) (16 * (k * c)) h ∙ ap (eqb (length bs))
@@ -114,17 +114,17 @@ rows-are-listing c k bs = rows-are-blocks c 0 k bs
 
 module _ (s : List ℕ) where
   -- a refused head prints only `refused` and the number
-  pub listing-refused : (readHead s .refusal ≡ 0 → ⊥) → listing s ≡ refusedLine (readHead s .refusal)
+  pub listing-refused : (readHead s .refusal ≡ 0 → ⊥) → listing s ≡ refusedText (readHead s .refusal)
   unfolding listing
   listing-refused ne = rw (ne-eqb (readHead s .refusal) 0 ne)
 
-  -- an accepted one its line, and then the rows of blocks, one at a time, from the byte behind those of the head on
+  -- an accepted one its text, and then the rows of blocks, one at a time, from the byte behind those of the head on
   pub listing-by-rows : readHead s .refusal ≡ 0
-      → listing s ≡ sheetLine (readHead s .width) (readHead s .height) ++ rowsListing (across (readHead s .width)) 0 (across (readHead s .height))
+      → listing s ≡ sheetText (readHead s .width) (readHead s .height) ++ rowsListing (across (readHead s .width)) 0 (across (readHead s .height))
       (drop (readHead s .start) s)
   unfolding listing blocksOf
   listing-by-rows e =
       let w = readHead s .width in
       let h = readHead s .height in
-      rw (eq-eqb (readHead s .refusal) 0 e) (ap (λ (t : List ℕ). sheetLine w h ++ t)
+      rw (eq-eqb (readHead s .refusal) 0 e) (ap (λ (t : List ℕ). sheetText w h ++ t)
       (sym (rows-are-listing (across w) (across h) (drop (readHead s .start) s))))

@@ -10,31 +10,32 @@ use Rattle.laws.specs.Tables.{table, tableFrom}
 use Rattle.bc7_format.specs.Modes.{modeOf, endpointCount, kindOfMode, modeRow}
 use Rattle.bcn_format.specs.Block.{number, trailing}
 use Rattle.bcn_format.specs.Drawing.{drawn, promoted, weightOf, weights}
-use Rattle.bc7_format.specs.Lines.{eight, arrayOf, has, indexPlace, lineAt, lineBits, lineOf, means, own, pPlace, pixel, pixels, rotated, shown, valuePlace}
+use Rattle.bc7_format.specs.Lines.{eight, indexSetOf, has, indexPlace, lineAt, lineBits, lineOf, meansStored, own, pPlace, pixel, pixels, rotated}
+use Rattle.bc7_format.specs.Lines.{shown, valuePlace}
 use Rattle.bcn_format.specs.Partitions.{anchors2, anchors3, digits, marks, strings2, strings3, subset2, subset3}
 use Rattle.bc7_format.specs.Places.{atPlace, opened, placeAt, pos, width, widths}
 use Rattle.bc7_format.specs.Splits.{splitAt, splitOf}
 use Rattle.sheet_head.specs.Geometry.{blocksOf}
 use Rattle.sheet_head.specs.Heads.{formIn, headRefusal, heightIn, readHead, sizeRefusal, widthIn}
 use Rattle.sheet_head.specs.Numbers.{raised, readGroups, readNumber}
-use Rattle.listing_rules.specs.Text.{ascii, blockLine, channels, decimal, digitsIn, newline, opacityMark, sheetLine}
+use Rattle.listing_rules.specs.Text.{ascii, blockText, channels, decimal, digitsIn, newline, opacityMark, sheetText}
 use Rattle.sheet_rules.specs.Rows.{blockAt}
 use Rattle.listing_rules.specs.declared.Machine.{Machine}
-use Rattle.listing_rules.specs.Listing.{blockText, blocksListing, blocksText, listed, listing}
+use Rattle.listing_rules.specs.Listing.{blockListed, blocksListing, blocksText, listed, listing}
 use Rattle.listing_rules.specs.Promises.{GoesOn, Says, SaysBlock, SaysListing, SaysNext, SaysRefused, SaysSheet, Wants}
-use Rattle.listing_rules.specs.Machine.{Run, atStart, over, textOf, turn, turnsOf, wantedOf}
-use Rattle.listing_rules.proofs.Turns.{ready-start, rest-start, runs}
+use Rattle.listing_rules.specs.Machine.{Run, atStart, over, textOf, round, roundsOf, wantedOf}
+use Rattle.listing_rules.proofs.Rounds.{ready-start, rest-start, runs}
 
 -- a run over each input, and what it says
 pub machine-lists : (s : List ℕ) → Run atStart s (listing s)
-machine-lists s = subst (λ (t : List ℕ). Run atStart s t) (rest-start s) (runs (turnsOf atStart) atStart s (le-refl _) ready-start)
+machine-lists s = subst (λ (t : List ℕ). Run atStart s t) (rest-start s) (runs (roundsOf atStart) atStart s (le-refl _) ready-start)
 
 -- there is no other
 pub one-run : {m : Machine} {s t u : List ℕ} → Run m s t → Run m s u → t ≡ u
 one-run (over e) (over f) = refl
-one-run (over e) (turn n r) = absurd (n e)
-one-run (turn n r) (over e) = absurd (n e)
-one-run {m} {s} (turn n r) (turn o q) = ap (λ (t : List ℕ). textOf m (take (wantedOf m) s) ++ t) (one-run r q)
+one-run (over e) (round n r) = absurd (n e)
+one-run (round n r) (over e) = absurd (n e)
+one-run {m} {s} (round n r) (round o q) = ap (λ (t : List ℕ). textOf m (take (wantedOf m) s) ++ t) (one-run r q)
 
 -- any two results that a promise admits coincide: the output whole, and the place behind the text
 says-one : {text before after after' : List ℕ} {at next next' : ℕ} → Says text before at after next → Says text before at after' next'
@@ -71,5 +72,9 @@ determined-wanted m a b p q = p ∙ sym q
 -- document 01's example: block D and a reserved block
 pub document-lists : listing (0x01 ∷ 0x05 ∷ 0x04 ∷ (0x60 ∷ (replicate 5 0 ++ (0xFC ∷ 0x03 ∷ replicate 24 0))))
     ≡ (ascii "sheet 5 4" ++ (newline ∷ [])) ++ ((ascii "0 5 255 0 0 0 -" ++ (newline ∷ [])) ++ (ascii "1 8 0 0 0 0 -" ++ (newline ∷ [])))
-unfolding listing blocksListing listed blocksText blockText readHead headRefusal formIn widthIn heightIn readNumber readGroups raised first sizeRefusal blocksOf blockAt sheetLine blockLine channels opacityMark decimal digitsIn ascii table tableFrom digits marks strings2 strings3 subset2 subset3 anchors2 anchors3 weights weightOf drawn promoted eight modeRow kindOfMode endpointCount placeAt pos width widths trailing number modeOf splitAt splitOf atPlace opened has valuePlace pPlace arrayOf indexPlace own lineOf lineBits means rotated lineAt shown pixel pixels
+unfolding listing blocksListing listed blocksText blockListed readHead headRefusal formIn widthIn heightIn readNumber readGroups raised first
+    sizeRefusal blocksOf blockAt sheetText blockText channels opacityMark decimal digitsIn ascii table tableFrom digits marks strings2 strings3
+    subset2 subset3 anchors2 anchors3 weights weightOf drawn promoted eight modeRow kindOfMode endpointCount placeAt pos width widths trailing number
+    modeOf splitAt splitOf atPlace opened has valuePlace pPlace indexSetOf indexPlace own lineOf lineBits meansStored rotated lineAt shown pixel
+    pixels
 document-lists = refl

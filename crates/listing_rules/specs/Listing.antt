@@ -10,27 +10,27 @@ use Rattle.bc7_format.specs.Modes.{modeOf}
 use Rattle.bc7_format.specs.Lines.{pixels}
 use Rattle.sheet_head.specs.Geometry.{blocksOf}
 use Rattle.sheet_head.specs.Heads.{readHead}
-use Rattle.listing_rules.specs.Text.{blockLine, refusedLine, sheetLine}
+use Rattle.listing_rules.specs.Text.{blockText, refusedText, sheetText}
 use Rattle.sheet_rules.specs.Rows.{blockAt}
 
--- the line of a block
-unfoldable pub blockText : ℕ → List ℕ → List ℕ
-blockText number block = blockLine number (modeOf block) (getD (pixels block) 0 [])
+-- the text of a block
+unfoldable pub blockListed : ℕ → List ℕ → List ℕ
+blockListed number block = blockText number (modeOf block) (getD (pixels block) 0 [])
 
--- the lines of n blocks that stand one after the other, numbered from `from` on
+-- the texts of n blocks that stand one after the other, numbered from `from` on
 unfoldable pub blocksText : ℕ → ℕ → List ℕ → List ℕ
 blocksText from zero bs = []
-blocksText from (suc n) bs = blocksText from n bs ++ blockText (from + n) (blockAt bs (16 * n))
+blocksText from (suc n) bs = blocksText from n bs ++ blockListed (from + n) (blockAt bs (16 * n))
 
--- the lines of the whole blocks among these bytes
+-- the texts of the whole blocks among these bytes
 unfoldable pub listed : ℕ → List ℕ → List ℕ
 listed from bs = blocksText from (length bs / 16) bs
 
 -- a refusal, unless the block bytes are exactly as many as needed
 abbrev pub unlessExact : Bool → List ℕ
-unlessExact exact = pick exact [] (refusedLine 10)
+unlessExact exact = pick exact [] (refusedText 10)
 
--- n blocks are declared: the lines of those that are there, and a refusal unless the bytes are exactly as many as needed
+-- n blocks are declared: the texts of those that are there, and a refusal unless the bytes are exactly as many as needed
 unfoldable pub blocksListing : ℕ → List ℕ → List ℕ
 blocksListing n bs = listed 0 (take (16 * n) bs) ++ unlessExact (eqb (length bs) (16 * n))
 
@@ -39,8 +39,8 @@ unfoldable pub listing : List ℕ → List ℕ
 listing s =
     let h = readHead s in
     pick (eqb (h .refusal) 0)
-    (sheetLine (h .width) (h .height) ++ blocksListing (blocksOf h) (drop (h .start) s))
-    (refusedLine (h .refusal))
+    (sheetText (h .width) (h .height) ++ blocksListing (blocksOf h) (drop (h .start) s))
+    (refusedText (h .refusal))
 
 -- the same of k rows of c blocks, one row at a time; it ends with the first row that is cut off, and a byte behind the last row is
 -- refused
@@ -48,4 +48,4 @@ unfoldable pub rowsListing : ℕ → ℕ → ℕ → List ℕ → List ℕ
 rowsListing c from zero bs = unlessExact (eqb (length bs) 0)
 rowsListing c from (suc k) bs =
     listed from (take (16 * c) bs)
-    ++ pick (leb (16 * c) (length bs)) (rowsListing c (from + c) k (drop (16 * c) bs)) (refusedLine 10)
+    ++ pick (leb (16 * c) (length bs)) (rowsListing c (from + c) k (drop (16 * c) bs)) (refusedText 10)

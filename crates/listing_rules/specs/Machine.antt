@@ -14,7 +14,7 @@ use Rattle.sheet_head.specs.declared.Head.{Head as SheetHead}
 use Rattle.sheet_head.specs.declared.reader.HeadReader.{HeadReader}
 use Rattle.laws.specs.Tables.{pick}
 use Rattle.sheet_head.specs.Reader.{Going, atForm, byteTaken, hasEnded, refusedWith}
-use Rattle.listing_rules.specs.Text.{refusedLine, sheetLine}
+use Rattle.listing_rules.specs.Text.{refusedText, sheetText}
 use Rattle.listing_rules.specs.Listing.{listed, unlessExact}
 
 -- the reader after what came of the head's next byte; the head is cut off where none came
@@ -41,7 +41,7 @@ ended exact = record { phase = pick exact Listed Refused; reader = atForm; colum
 
 -- behind a head: what is said of it, and the state
 unfoldable pub headText : SheetHead → List ℕ
-headText h = pick (eqb (h .refusal) 0) (sheetLine (h .width) (h .height)) (refusedLine (h .refusal))
+headText h = pick (eqb (h .refusal) 0) (sheetText (h .width) (h .height)) (refusedText (h .refusal))
 
 unfoldable pub begun : SheetHead → Machine
 begun h = pick (eqb (h .refusal) 0) (inRows (across (h .width)) (across (h .height)) 0) (ended false)
@@ -94,7 +94,7 @@ nextOf m came = nextIn (m .phase) m came
 -- a run over an input: the machine is fed with what it wants for as long as it wants something; what it says, put together
 pub data Run : Machine → List ℕ → List ℕ → Type 0 where
   over : {m : Machine} {s : List ℕ} → wantedOf m ≡ 0 → Run m s []
-  turn : {m : Machine} {s t : List ℕ} → (wantedOf m ≡ 0 → ⊥) → Run (nextOf m (take (wantedOf m) s)) (drop (wantedOf m) s) t
+  round : {m : Machine} {s t : List ℕ} → (wantedOf m ≡ 0 → ⊥) → Run (nextOf m (take (wantedOf m) s)) (drop (wantedOf m) s) t
       → Run m s (textOf m (take (wantedOf m) s) ++ t)
 
 -- what holds in every state that a run comes to
@@ -114,16 +114,16 @@ ReadyIn Refused m = Unit {0}
 abbrev pub Ready : Machine → Type 0
 Ready m = ReadyIn (m .phase) m
 
--- how many turns it still takes at the most
-abbrev pub turnsIn : Phase → Machine → ℕ
-turnsIn Head m = 9 - (m .reader .head .start + m .reader .groups) + 1026
-turnsIn Row m = m .rows + 1
-turnsIn End m = 1
-turnsIn Listed m = 0
-turnsIn Refused m = 0
+-- how many rounds it still takes at the most
+abbrev pub roundsIn : Phase → Machine → ℕ
+roundsIn Head m = 9 - (m .reader .head .start + m .reader .groups) + 1026
+roundsIn Row m = m .rows + 1
+roundsIn End m = 1
+roundsIn Listed m = 0
+roundsIn Refused m = 0
 
-abbrev pub turnsOf : Machine → ℕ
-turnsOf m = turnsIn (m .phase) m
+abbrev pub roundsOf : Machine → ℕ
+roundsOf m = roundsIn (m .phase) m
 
 -- how many bytes it may still say besides 40 for each block
 abbrev pub spareIn : Phase → ℕ

@@ -8,7 +8,7 @@ use Rattle.listing_rules.specs.declared.Machine.{Machine}
 use Rattle.laws.specs.Padding.{Written}
 use Rattle.listing_rules.specs.Listing.{listing}
 use Rattle.listing_rules.specs.Machine.{nextOf, textOf, wantedOf}
-use Rattle.listing_rules.specs.Text.{blockLine, refusedLine, sheetLine}
+use Rattle.listing_rules.specs.Text.{blockText, refusedText, sheetText}
 
 -- a text is said: from what stood in the output and the place, what stands there then, and the place behind it
 abbrev pub Says : List ℕ → List ℕ → ℕ → List ℕ → ℕ → Type 0
@@ -16,13 +16,13 @@ Says text before at after next = Written before at text after next
 
 -- the three lines
 abbrev pub SaysSheet : ℕ → ℕ → List ℕ → ℕ → List ℕ → ℕ → Type 0
-SaysSheet w h = Says (sheetLine w h)
+SaysSheet w h = Says (sheetText w h)
 
 abbrev pub SaysBlock : ℕ → ℕ → List ℕ → List ℕ → ℕ → List ℕ → ℕ → Type 0
-SaysBlock number m px = Says (blockLine number m px)
+SaysBlock number m px = Says (blockText number m px)
 
 abbrev pub SaysRefused : ℕ → List ℕ → ℕ → List ℕ → ℕ → Type 0
-SaysRefused n = Says (refusedLine n)
+SaysRefused n = Says (refusedText n)
 
 -- what the machine wants, says and is next, and a whole listing
 abbrev pub Wants : Machine → ℕ → Type 0

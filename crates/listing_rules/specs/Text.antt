@@ -1,4 +1,4 @@
--- The lines of a listing, as bytes.
+-- The texts of a listing, as bytes.
 -- Assumes nothing.
 use Prim.Native.Nat.{ℕ, zero, suc, _+_, _/_, _%_}
 use Prim.Native.Char.{code}
@@ -35,8 +35,8 @@ abbrev pub spaced : ℕ → List ℕ
 spaced n = space ∷ decimal n
 
 -- `sheet` with width and height
-unfoldable pub sheetLine : ℕ → ℕ → List ℕ
-sheetLine w h = ascii "sheet " ++ decimal w ++ (space ∷ []) ++ decimal h ++ (newline ∷ [])
+unfoldable pub sheetText : ℕ → ℕ → List ℕ
+sheetText w h = ascii "sheet " ++ decimal w ++ (space ∷ []) ++ decimal h ++ (newline ∷ [])
 
 -- the opacity mark: `o` (111) for modes 0 to 3 and `-` (45) otherwise
 unfoldable pub opacityMark : ℕ → ℕ
@@ -46,9 +46,9 @@ unfoldable pub channels : List ℕ → List ℕ
 channels px = spaced (getD px 0 0) ++ spaced (getD px 1 0) ++ spaced (getD px 2 0) ++ spaced (getD px 3 0)
 
 -- number, mode, the four channels of pixel 0, the opacity mark
-unfoldable pub blockLine : ℕ → ℕ → List ℕ → List ℕ
-blockLine number m px = decimal number ++ spaced m ++ channels px ++ (space ∷ []) ++ (opacityMark m ∷ []) ++ (newline ∷ [])
+unfoldable pub blockText : ℕ → ℕ → List ℕ → List ℕ
+blockText number m px = decimal number ++ spaced m ++ channels px ++ (space ∷ []) ++ (opacityMark m ∷ []) ++ (newline ∷ [])
 
 -- `refused` and the number
-unfoldable pub refusedLine : ℕ → List ℕ
-refusedLine n = ascii "refused" ++ spaced n ++ (newline ∷ [])
+unfoldable pub refusedText : ℕ → List ℕ
+refusedText n = ascii "refused" ++ spaced n ++ (newline ∷ [])

@@ -1,3 +1,3 @@
 pub mod Counts
 pub mod Maps
-pub mod SetWords
+pub mod PartitionWords

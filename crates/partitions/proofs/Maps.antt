@@ -98,7 +98,8 @@ pub shareOf : (b n w q : ℕ) → q < n → w / 2 ^ (b * q) % 2 ^ b ≡ getD (sp
 shareOf b zero w q h = absurd (not-suc-le-zero h)
 shareOf b (suc n) w zero h = ap (λ (x : ℕ). w / 2 ^ x % 2 ^ b) (mul-zero b) ∙ ap (λ (x : ℕ). x % 2 ^ b) (div-one w)
 shareOf b (suc n) w (suc q) h =
-    ap (λ (x : ℕ). x % 2 ^ b) (ap (λ (x : ℕ). w / 2 ^ x) (let z : b * suc q ≡ b + b * q = mul-suc b q ∙ add-comm (b * q) b in z) ∙ sym (shr-shr w b (b * q)))
+    ap (λ (x : ℕ). x % 2 ^ b) (ap (λ (x : ℕ). w / 2 ^ x) (let z : b * suc q ≡ b + b * q = mul-suc b q ∙ add-comm (b * q) b in z) ∙ sym
+    (shr-shr w b (b * q)))
     ∙ shareOf b n (w / 2 ^ b) q (le-of-suc-le-suc h)
 
 share : (b w q : ℕ) → q < 16 → field w (b * q) b ≡ getD (subsets b w) q 0
@@ -108,7 +109,9 @@ share b w q h = shareOf b 16 w q h
 -- the subset of a pixel
 pub subset-in2 : (a q : ℕ) → a < 64 → q < 16 → field (map2 a .«subset_indexes») q 1 ≡ subset2 a q
 unfolding subset2
-subset-in2 a q ha hq = ap (λ (x : ℕ). field (map2 a .«subset_indexes») x 1) (let z : q ≡ 1 * q = omega arith in z) ∙ share 1 (map2 a .«subset_indexes») q hq ∙ ap (λ (l : List ℕ). getD l q 0) (digits2 a ha)
+subset-in2 a q ha hq =
+    ap (λ (x : ℕ). field (map2 a .«subset_indexes») x 1) (let z : q ≡ 1 * q = omega arith in z) ∙ share 1 (map2 a .«subset_indexes») q hq
+    ∙ ap (λ (l : List ℕ). getD l q 0) (digits2 a ha)
 
 pub subset-in3 : (a q : ℕ) → a < 64 → q < 16 → field (map3 a .«subset_indexes») (2 * q) 2 ≡ subset3 a q
 unfolding subset3
@@ -197,4 +200,5 @@ anchors-hold3 = tt
 
 pub anchor-in3 : (a l : ℕ) → a < 64 → l < 3
     → anchor3 a l ≡ pick (eqb l 0) 0 (pick (eqb (subset3 a (map3 a .«fixup_index_2»)) l) (map3 a .«fixup_index_2») (map3 a .«fixup_index_3»))
-anchor-in3 a l ha hl = eqb→eq _ _ (at 3 (λ l. eqb (anchor3 a l) (chosen a l)) (at 64 (λ a. below 3 (λ l. eqb (anchor3 a l) (chosen a l))) anchors-hold3 a ha) l hl)
+anchor-in3 a l ha hl =
+    eqb→eq _ _ (at 3 (λ l. eqb (anchor3 a l) (chosen a l)) (at 64 (λ a. below 3 (λ l. eqb (anchor3 a l) (chosen a l))) anchors-hold3 a ha) l hl)

@@ -19,7 +19,8 @@ abbrev pub mapOf2 : String → Subset2Map
 mapOf2 s = record { «subset_indexes» = join (replicate 16 1) (digits s); «fixup_index_2» = getD (marks 0 s) 0 0 }
 
 abbrev pub mapOf3 : String → Subset3Map
-mapOf3 s = record { «subset_indexes» = join (replicate 16 2) (digits s); «fixup_index_2» = getD (marks 0 s) 0 0; «fixup_index_3» = getD (marks 0 s) 1 0 }
+mapOf3 s =
+    record { «subset_indexes» = join (replicate 16 2) (digits s); «fixup_index_2» = getD (marks 0 s) 0 0; «fixup_index_3» = getD (marks 0 s) 1 0 }
 
 unfoldable pub map2 : ℕ → Subset2Map
 map2 a = mapOf2 (getD strings2 a "")

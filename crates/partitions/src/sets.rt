@@ -6,12 +6,12 @@
 // The sum with 0 behind each table costs nothing: there the arms meet, so that one fact is left to prove and not one an arm.
 ghost use mathlib.Core.Path.{_≡_};
 ghost use Prim.Native.Nat.{_<_};
-ghost use Rattle.partitions.specs.Sets.{set2, set3};
+ghost use Rattle.partitions.specs.Sets.{partitionWord2, partitionWord3};
 
 // Two subsets, two bits a pixel: modes 3 and 7.
-pub fn set_2_2(id: u8) -> u64
+pub fn partition_word_2_2(id: u8) -> u64
     requires { ⌜ id < 64 ⌝ }
-    ensures { λ r. ⌜ r ≡ set2 2 id ⌝ }
+    ensures { λ r. ⌜ r ≡ partitionWord2 2 id ⌝ }
 {
     let set = match id {
         0 => 0x000F_0000_5050_5050,
@@ -84,9 +84,9 @@ pub fn set_2_2(id: u8) -> u64
 }
 
 // Two subsets, three bits a pixel: mode 1.
-pub fn set_2_3(id: u8) -> u64
+pub fn partition_word_2_3(id: u8) -> u64
     requires { ⌜ id < 64 ⌝ }
-    ensures { λ r. ⌜ r ≡ set2 3 id ⌝ }
+    ensures { λ r. ⌜ r ≡ partitionWord2 3 id ⌝ }
 {
     let set = match id {
         0 => 0x000F_2402_4024_0240,
@@ -159,9 +159,9 @@ pub fn set_2_3(id: u8) -> u64
 }
 
 // Three subsets, two bits a pixel: mode 2.
-pub fn set_3_2(id: u8) -> u64
+pub fn partition_word_3_2(id: u8) -> u64
     requires { ⌜ id < 64 ⌝ }
-    ensures { λ r. ⌜ r ≡ set3 2 id ⌝ }
+    ensures { λ r. ⌜ r ≡ partitionWord3 2 id ⌝ }
 {
     let set = match id {
         0 => 0x00F3_0000_AA68_5050,
@@ -234,9 +234,9 @@ pub fn set_3_2(id: u8) -> u64
 }
 
 // Three subsets, three bits a pixel: mode 0, which has the first sixteen partitions alone.
-pub fn set_3_3(id: u8) -> u64
+pub fn partition_word_3_3(id: u8) -> u64
     requires { ⌜ id < 16 ⌝ }
-    ensures { λ r. ⌜ r ≡ set3 3 id ⌝ }
+    ensures { λ r. ⌜ r ≡ partitionWord3 3 id ⌝ }
 {
     let set = match id {
         0 => 0x00F3_4922_9024_0240,

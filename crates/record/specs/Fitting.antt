@@ -15,7 +15,7 @@ use Rattle.bc7_format.specs.Modes.{kindOfMode}
 use Rattle.bc7_format.specs.Splits.{anchors, indexMode, kindOf, partition, rotation}
 use Rattle.record_rules.specs.Answers.{Within}
 use Rattle.record_rules.specs.Records.{fits, says}
-use Rattle.bc7_places.specs.Modes.{rowOf}
+use Rattle.bc7_places.specs.Modes.{modeRowOf}
 use Rattle.bc7_places.specs.Splits.{anchorsOf}
 
 -- does what a split has fit the row's widths
@@ -28,8 +28,8 @@ abbrev pub valueBits : ModeRow → ℕ → ℕ
 valueBits row i = pick (ltb (i / 4) (row .endpoints)) (pick (eqb (i % 4) 3) (row .alpha) (row .colour)) 0
 
 -- do the indexes at these three pixels fit w bits
-abbrev pub topsClear : List ℕ → Anchors → ℕ → Bool
-topsClear vs a w = both (ltb (getD vs (a .a) 0) (2 ^ w)) (both (ltb (getD vs (a .b) 0) (2 ^ w)) (ltb (getD vs (a .c) 0) (2 ^ w)))
+abbrev pub topsZero : List ℕ → Anchors → ℕ → Bool
+topsZero vs a w = both (ltb (getD vs (a .a) 0) (2 ^ w)) (both (ltb (getD vs (a .b) 0) (2 ^ w)) (ltb (getD vs (a .c) 0) (2 ^ w)))
 
 -- does everything fit as it is stored, where the anchors' indexes have a bit less
 abbrev pub storedFit : Record → Bool
@@ -38,7 +38,7 @@ storedFit r = fits (r .mode) (anchors (r .split)) (says r)
 -- a record of its mode's kind in which everything fits its full width, with the row of that mode
 pub record Full (r : Record) (row : ModeRow) : Type 0 where
   pub low : r .mode < 8
-  pub is : row ≡ rowOf (r .mode)
+  pub is : row ≡ modeRowOf (r .mode)
   pub kind : kindOf (r .split) ≡ kindOfMode (r .mode)
   pub within : Within r
 

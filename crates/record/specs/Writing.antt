@@ -13,7 +13,7 @@ use Rattle.bc7_format.specs.Places.{Place, inside, placeAt, width, firstFrom, v
 use Rattle.bc7_format.specs.Splits.{anchors, kindOf}
 use Rattle.bits.specs.Writer.{writerOf, written}
 use Rattle.record_rules.specs.Records.{says}
-use Rattle.bc7_places.specs.Modes.{rowOf}
+use Rattle.bc7_places.specs.Modes.{modeRowOf}
 use mathlib.Core.List.{List}
 use Rattle.bc7_places.specs.declared.splits.Anchors.{Anchors}
 use Rattle.bcn_format.specs.Indexes.{Rising, anchorCount, anchorsOfKind, indexWidths}
@@ -22,7 +22,7 @@ use Rattle.bc7_places.specs.Splits.{ArePixels, anchorsOf}
 -- a record that packs, with the row of its mode: everything fits as it is stored
 pub record Packable (r : Record) (row : ModeRow) : Type 0 where
   pub low : r .mode < 8
-  pub is : row ≡ rowOf (r .mode)
+  pub is : row ≡ modeRowOf (r .mode)
   pub kind : kindOf (r .split) ≡ kindOfMode (r .mode)
   pub fits : (x : Place) → T (inside x) → says r x < 2 ^ width (r .mode) (anchors (r .split)) x
 

@@ -10,7 +10,7 @@ ghost use Rattle.laws.specs.Tables.{below, pick, table};
 ghost use Rattle.record_rules.specs.Records.{fits, says};
 ghost use Rattle.bc7_places.specs.Modes.{IsRow, OfMode};
 ghost use Rattle.bc7_places.specs.Splits.{ArePixels};
-ghost use Rattle.record.specs.Fitting.{FullWith, splitFits, storedFit, topsClear, valueBits};
+ghost use Rattle.record.specs.Fitting.{FullWith, splitFits, storedFit, topsZero, valueBits};
 use bc7_format::Split;
 use bc7_places::modes::ModeRow;
 use bc7_places::splits::Anchors;
@@ -159,9 +159,9 @@ pub fn record_fits(record: Record, row: ModeRow) -> bool
 }
 
 // Do the anchors' indexes of a set do without their top bits?
-fn tops_clear(indexes: [u8; 16], anchors: Anchors, width: u32) -> bool
+fn tops_zero(indexes: [u8; 16], anchors: Anchors, width: u32) -> bool
     requires { ⌜ (0 < width) × (width ≤ 4) × ArePixels anchors ⌝ }
-    ensures { λ r. ⌜ r ≡ topsClear indexes anchors (width - 1) ⌝ }
+    ensures { λ r. ⌜ r ≡ topsZero indexes anchors (width - 1) ⌝ }
 {
     let a = anchors.a;
     if !value_fits(indexes[a], width - 1) {
@@ -182,12 +182,12 @@ pub fn anchors_fit(record: Record, row: ModeRow, anchors: Anchors) -> bool
     ensures { λ r. ⌜ r ≡ storedFit «record» ⌝ }
 {
     let first = record.first;
-    if !tops_clear(first, anchors, row.first) {
+    if !tops_zero(first, anchors, row.first) {
         return false;
     }
     if row.kind != 3 {
         return true;
     }
     let second = record.second;
-    tops_clear(second, anchors, row.second)
+    tops_zero(second, anchors, row.second)
 }

@@ -140,9 +140,9 @@ pub fn read_record(block: [u8; 16], mode: u8, row: ModeRow) -> Record
     requires { ⌜ OfBlock block mode row ⌝ }
     ensures { λ r. ⌜ r ≡ recordOf block ⌝ }
 {
-    let head = read_split(row, BitStream::new(block).skip(mode as u32 + 1));
-    let split = head.split;
-    let values = read_endpoints(row, head.stream);
+    let lead = read_split(row, BitStream::new(block).skip(mode as u32 + 1));
+    let split = lead.split;
+    let values = read_endpoints(row, lead.stream);
     let endpoints = values.endpoints;
     let bits = read_p(row, values.stream);
     let p = bits.p;

@@ -4,7 +4,7 @@ ghost use mathlib.Core.Path.{_≡_};
 ghost use mathlib.Core.List.{[]};
 ghost use Prim.Native.Nat.{ℕ, _+_, _-_, _*_, _^_, _<_, _≤_};
 ghost use lib.ListN.{getD};
-ghost use Rattle.laws.specs.Digits.{Fit, join, row};
+ghost use Rattle.laws.specs.Digits.{Fit, join, evenly};
 ghost use Rattle.bcn_format.specs.Block.{field};
 ghost use Rattle.bc7_format.specs.Places.{blockOf, firstFrom, placeCount, psFrom, valuesFrom};
 ghost use Rattle.bcn_format.specs.Indexes.{anchorCount, anchorsOfKind, indexWidths};
@@ -46,7 +46,7 @@ pub fn top_of(word: u64, width: u32, index: usize) -> u64
 // The values of a channel as one word, endpoint 0 lowest.
 fn channel_word(e: [u8; 24], count: usize, channel: usize, width: u32) -> u64
     requires { ⌜ (count ≤ 6) × (channel < 4) × (width ≤ 8) × ((k : ℕ) → k < count → getD e (4 * k + channel) 0 < 2 ^ width) ⌝ }
-    ensures { λ r. ⌜ r ≡ row count width (λ k. getD e (4 * k + channel) 0) ⌝ }
+    ensures { λ r. ⌜ r ≡ evenly count width (λ k. getD e (4 * k + channel) 0) ⌝ }
 {
     let mut word: u64 = 0;
     let mut k = count;
@@ -60,7 +60,7 @@ fn channel_word(e: [u8; 24], count: usize, channel: usize, width: u32) -> u64
 // The p bits as one word.
 fn p_word(p: [u8; 6], count: usize) -> u64
     requires { ⌜ (count ≤ 6) × ((k : ℕ) → k < count → getD p k 0 < 2 ^ 1) ⌝ }
-    ensures { λ r. ⌜ r ≡ row count 1 (λ k. getD p k 0) ⌝ }
+    ensures { λ r. ⌜ r ≡ evenly count 1 (λ k. getD p k 0) ⌝ }
 {
     let mut word: u64 = 0;
     let mut k = count;
@@ -72,7 +72,7 @@ fn p_word(p: [u8; 6], count: usize) -> u64
 }
 
 // Marker and split.
-fn push_head(record: Record, row: ModeRow) -> BitWriter
+fn push_lead(record: Record, row: ModeRow) -> BitWriter
     requires { ⌜ Packable «record» row ⌝ }
     ensures { λ r. ⌜ r ≡ upto «record» valuesFrom ⌝ }
 {
@@ -153,8 +153,8 @@ pub fn write_record(record: Record, row: ModeRow, anchors: Anchors) -> [u8; 16]
     requires { ⌜ PackableWith «record» row anchors ⌝ }
     ensures { λ r. ⌜ r ≡ blockOf («record» .mode) («record» .split) (says «record») ⌝ }
 {
-    let head = push_head(record, row);
-    let values = push_endpoints(head, record, row);
+    let lead = push_lead(record, row);
+    let values = push_endpoints(lead, record, row);
     let p = push_p(values, record, row);
     push_indexes(p, record, row, anchors).finish()
 }

@@ -70,7 +70,8 @@ pub record Bytes : Type 0 where
       ≡ block 0 block7 ∷ block 0 block4 ∷ refused 5 ∷ refused 5 ∷ refused 5 ∷ refused 3 ∷ []
 
 pub bytes-hold : Bytes
-unfolding recordByte recordBytes recordOfBytes replacementOf replacementBytes valueAt packedBytes bytesRefusal spelt packed packRefusal fits first says blockOf listOf bytesOf table tableFrom placeAt width widths modeRow kindOfMode endpointCount anchors2 digits marks strings2
+unfolding recordByte recordBytes recordOfBytes replacementOf replacementBytes valueAt packedBytes bytesRefusal spelt packed packRefusal fits first
+    says blockOf listOf bytesOf table tableFrom placeAt width widths modeRow kindOfMode endpointCount anchors2 digits marks strings2
 bytes-hold = record {
   of-records = refl;
   to-records = refl;

@@ -47,11 +47,11 @@ module _ (g : Replacement) (j : ℕ) where
   index-at h = rw (le-ltb (10 + j) 8 (omega arith), le-ltb (10 + j) 10 (omega arith)) (behind 10 j (g .indexes))
 
 -- the four bytes before them
-pub head-laid : (r : Record) (k s i : ℕ) (out : List ℕ) → length out ≡ placeCount → k ≡ kindOf (r .split) → s ≡ splitByte (r .split)
+pub lead-laid : (r : Record) (k s i : ℕ) (out : List ℕ) → length out ≡ placeCount → k ≡ kindOf (r .split) → s ≡ splitByte (r .split)
     → i ≡ indexMode (r .split)
     → Filled placeCount 0 (recordByte r) valuesFrom (set (set (set (set out 0 (r .mode)) 1 k) 2 s) 3 i)
 unfolding recordByte
-head-laid r k s i out long ek es ei =
+lead-laid r k s i out long ek es ei =
     filled-next 3 i (filled-next 2 s (filled-next 1 k (filled-next {out = out} 0 (r .mode) (filled-none long) (lit< tt) refl) (lit< tt) ek)
     (lit< tt) es) (lit< tt) ei
 

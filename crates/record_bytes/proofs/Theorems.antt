@@ -27,9 +27,9 @@ use Rattle.bcn_format.specs.Block.{eights}
 use Rattle.bc7_format.specs.Modes.{modeOf}
 use Rattle.bc7_format.specs.Splits.{indexMode, kindOf, ofKind}
 use Rattle.bc7_format.proofs.Reserved.{open-mode}
-use Rattle.record_rules.specs.Records.{Shaped, made, packRefusal, packed, packedAs, recordOf, taken}
+use Rattle.record_rules.specs.Records.{Shaped, made, packRefusal, packed, packedAs, recordOf, takenApart}
 use Rattle.record_rules.proofs.Answering.{packing}
-use Rattle.record_rules.proofs.Packing.{taken-open}
+use Rattle.record_rules.proofs.Packing.{apart-open}
 use Rattle.record_rules.proofs.Theorems.{pack-unpack, unpack-pack}
 use Rattle.record_bytes.specs.Wire.{bytesFrom, bytesRules, packedBytes, recordByte, recordBytes, recordOfBytes, spelt, splitByte}
 use Rattle.record_bytes.proofs.Laying.{first-at, p-bit-at, second-at, value-at}
@@ -113,15 +113,15 @@ module _ (bs : List ℕ) (long : length bs ≡ placeCount) (k : getD bs 1 0 ≤ 
       getD-table n (λ j. getD bs (o + j) 0) 0 (i - o) (omega arith) ∙ ap (λ (j : ℕ). getD bs j 0) (let z : o + (i - o) ≡ i = omega arith in z)
 
   -- the first four
-  head-byte : (i : ℕ) → i < valuesFrom → recordByte r i ≡ getD bs i 0
+  lead-byte : (i : ℕ) → i < valuesFrom → recordByte r i ≡ getD bs i 0
   unfolding recordByte recordOfBytes spelt
-  head-byte zero h = refl
-  head-byte (suc zero) h = kind-of-kind (getD bs 1 0) (getD bs 2 0) (getD bs 3 0) k
-  head-byte (suc (suc zero)) h =
+  lead-byte zero h = refl
+  lead-byte (suc zero) h = kind-of-kind (getD bs 1 0) (getD bs 2 0) (getD bs 3 0) k
+  lead-byte (suc (suc zero)) h =
       sym (eqb→eq _ _ (both-left (eqb (getD bs 2 0) (splitByte (r .split))) (eqb (getD bs 3 0) (indexMode (r .split))) (true-T _ said)))
-  head-byte (suc (suc (suc zero))) h =
+  lead-byte (suc (suc (suc zero))) h =
       sym (eqb→eq _ _ (both-right (eqb (getD bs 2 0) (splitByte (r .split))) (eqb (getD bs 3 0) (indexMode (r .split))) (true-T _ said)))
-  head-byte (suc (suc (suc (suc i)))) h = absurd (let y : ⊥ = omega arith in y)
+  lead-byte (suc (suc (suc (suc i)))) h = absurd (let y : ⊥ = omega arith in y)
 
   -- and those of the arrays
   array-byte : (i : ℕ) → valuesFrom ≤ i → i < placeCount → recordByte r i ≡ getD bs i 0
@@ -142,20 +142,20 @@ module _ (bs : List ℕ) (long : length bs ≡ placeCount) (k : getD bs 1 0 ≤ 
   bytes-of-its-record =
       ext-getD 0 _ bs (length-table placeCount _ ∙ sym long) (λ i l.
       let h : i < placeCount = subst (λ (m : ℕ). i < m) (length-table placeCount (recordByte r)) l in
-      getD-table placeCount (recordByte r) 0 i h ∙ ⊎-elim (head-byte i) (λ g. array-byte i g h) (lt-or i valuesFrom))
+      getD-table placeCount (recordByte r) 0 i h ∙ ⊎-elim (lead-byte i) (λ g. array-byte i g h) (lt-or i valuesFrom))
 
 -- a record that was taken apart has its arrays
-taken-shaped : (bs : List ℕ) → modeOf bs < 8 → Shaped (taken bs .«record»)
+apart-shaped : (bs : List ℕ) → modeOf bs < 8 → Shaped (takenApart bs .«record»)
 unfolding recordOf made
-taken-shaped bs o =
-    rw (ap (λ (u : Unpacked). u .«record») (taken-open bs o))
+apart-shaped bs o =
+    rw (ap (λ (u : Unpacked). u .«record») (apart-open bs o))
     (record { endpoints = length-table 24 _; p = length-table 6 _; first = length-table 16 _; second = length-table 16 _ })
 
 -- DEMAND 2 ON THE BYTES. Packing what taking a block apart wrote gives the block back
-pub pack-unpack-bytes : (bs : List ℕ) → Fit eights bs → getD bs 0 0 ≢ 0 → packedBytes (recordBytes (taken bs .«record»)) ≡ packedAs 0 bs
+pub pack-unpack-bytes : (bs : List ℕ) → Fit eights bs → getD bs 0 0 ≢ 0 → packedBytes (recordBytes (takenApart bs .«record»)) ≡ packedAs 0 bs
 pack-unpack-bytes bs h n =
-    let r : Record = taken bs .«record» in
-    let same : recordOfBytes (recordBytes r) ≡ r = record-of-its-bytes r (taken-shaped bs (open-mode bs h n)) in
+    let r : Record = takenApart bs .«record» in
+    let same : recordOfBytes (recordBytes r) ≡ r = record-of-its-bytes r (apart-shaped bs (open-mode bs h n)) in
     let accepted : packRefusal (recordOfBytes (recordBytes r)) ≡ 0 = ap packRefusal same ∙ packing-is r
     ∙ ap (λ (p : Packed). p .refusal) (pack-unpack bs h n) in
     sym (as-record (recordBytes r) (kind-named r) (λ e. let y : ⊥ = omega (arith, e, accepted) in y) (its-bytes-spell r same)) ∙ ap packed same
@@ -163,14 +163,14 @@ pack-unpack-bytes bs h n =
 
 -- and taking apart what packing made of accepted bytes gives those bytes
 pub unpack-pack-bytes : (bs : List ℕ) → length bs ≡ placeCount → packedBytes bs .refusal ≡ 0
-    → recordBytes (taken (packedBytes bs .block) .«record») ≡ bs
+    → recordBytes (takenApart (packedBytes bs .block) .«record») ≡ bs
 unfolding packedBytes
 unpack-pack-bytes bs long e =
     let (k, (low, (kind, (said, (w, (c, u)))))) = bytes-packing bs .met e in
     let r : Record = recordOfBytes bs in
     let p : packRefusal r ≡ 0 = accepted-when (packing r) .1 (low, (kind, (w, (c, tt)))) in
     let same : packed r ≡ packedBytes bs = as-record bs k (λ z. let y : ⊥ = omega (arith, z, p) in y) said in
-    ap (λ (b : Packed). recordBytes (taken (b .block) .«record»)) (sym same)
+    ap (λ (b : Packed). recordBytes (takenApart (b .block) .«record»)) (sym same)
     ∙ ap (λ (u : Unpacked). recordBytes (u .«record»)) (unpack-pack r (said-shaped bs) (sym (packing-is r) ∙ p))
     ∙ bytes-of-its-record bs long k said
 

@@ -1,4 +1,4 @@
--- A record and a replacement as rows of bytes.
+-- A record and a replacement as bytes.
 -- Assumes nothing.
 use mathlib.Core.Path.{_≡_}
 use mathlib.Core.Bool.{Bool, not, true}
@@ -16,7 +16,7 @@ use Rattle.laws.specs.Tables.{both, pick, table}
 use Rattle.bc7_format.specs.Modes.{kindOfMode}
 use Rattle.bc7_format.specs.Splits.{indexMode, kindOf, ofKind}
 use Rattle.line_rules.specs.Read.{valueAt}
-use Rattle.record_rules.specs.Answers.{TopsClear, Within}
+use Rattle.record_rules.specs.Answers.{TopsZero, Within}
 use Rattle.record_rules.specs.Records.{packRefusal, packed, packedAs}
 use Rattle.bc7_format.specs.Places.{valuesFrom, psFrom, firstFrom, secondFrom, placeCount}
 
@@ -27,7 +27,7 @@ splitByte (Two a) = a
 splitByte (Three a) = a
 splitByte (Vector r i) = r
 
--- 66 bytes: four of the head, 24 endpoint values, 6 p bits, 16 first and 16 second indexes
+-- 66 bytes: four of the lead, 24 endpoint values, 6 p bits, 16 first and 16 second indexes
 unfoldable pub recordByte : Record → ℕ → ℕ
 recordByte r i =
     pick (ltb i valuesFrom) (getD (r .mode ∷ kindOf (r .split) ∷ splitByte (r .split) ∷ indexMode (r .split) ∷ []) i 0)
@@ -81,7 +81,7 @@ bytesRules bs =
     unless 5 (kindOf (r .split) ≡ kindOfMode (r .mode)) ∷
     unless 3 (spelt bs ≡ true) ∷
     unless 3 (Within r) ∷
-    unless 6 (TopsClear r) ∷
+    unless 6 (TopsZero r) ∷
     []
 
 -- the replacement that 26 bytes say: 8 endpoint values, 2 p bits, 16 indexes

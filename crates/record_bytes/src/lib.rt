@@ -1,4 +1,4 @@
-// Records and replacements as rows of bytes, the form in which C and the test program hand them over. A record is 66 bytes:
+// Records and replacements as bytes, the form in which C and the test program hand them over. A record is 66 bytes:
 // mode, kind (0 whole, 1 two subsets, 2 three, 3 vector and scalar), partition or rotation, index mode, 24 endpoint values,
 // 6 p bits, 16 first and 16 second indexes.
 ghost use mathlib.Core.Path.{_≡_};

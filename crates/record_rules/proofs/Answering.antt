@@ -15,10 +15,10 @@ use Rattle.laws.proofs.Refusals.{Answers, Met, accepted-when, answer-0, answer-
 use Rattle.laws.proofs.Tests.{T-true, at, below-intro, true-T}
 use Rattle.bc7_format.specs.Modes.{indexBits, kindOfMode}
 use Rattle.bcn_format.specs.Partitions.{among}
-use Rattle.bc7_format.specs.Places.{Place, blockOf, head, index, inside, pbit, placeAt, pos, value, width, placeCount}
+use Rattle.bc7_format.specs.Places.{Place, blockOf, lead, index, inside, pbit, placeAt, pos, value, width, placeCount}
 use Rattle.bc7_format.specs.Splits.{anchors, kindOf}
 use Rattle.bc7_format.proofs.Places.{inside-placeAt, placeAt-pos, pos-lt}
-use Rattle.record_rules.specs.Answers.{TopsClear, Within, packRules}
+use Rattle.record_rules.specs.Answers.{TopsZero, Within, packRules}
 use Rattle.record_rules.specs.Records.{fits, packRefusal, packed, packedAs, says}
 
 -- the test of all places, and each place
@@ -44,20 +44,20 @@ module _ (r : Record) where
   abbrev Stored : Type 0
   Stored = (x : Place) → T (inside x) → says r x < 2 ^ width m (anchors s) x
 
-  pub clear-stored : Within r → TopsClear r → Stored
+  pub zero-tops-stored : Within r → TopsZero r → Stored
   unfolding width
-  clear-stored w c (head k) i = w (head k) i
-  clear-stored w c (value ch e) i = w (value ch e) i
-  clear-stored w c (pbit k) i = w (pbit k) i
-  clear-stored w c (index a q) i = go (among q (anchors s)) refl
+  zero-tops-stored w c (lead k) i = w (lead k) i
+  zero-tops-stored w c (value ch e) i = w (value ch e) i
+  zero-tops-stored w c (pbit k) i = w (pbit k) i
+  zero-tops-stored w c (index a q) i = go (among q (anchors s)) refl
     where
       go : (b : Bool) → among q (anchors s) ≡ b → says r (index a q) < 2 ^ pick b (indexBits m a - 1) (indexBits m a)
       go true e = c a q i (true-T _ e)
       go false e = w (index a q) i
 
-  pub stored-clear : Stored → TopsClear r
+  pub stored-zero-tops : Stored → TopsZero r
   unfolding width
-  stored-clear f a q i t = rw (T-true (among q (anchors s)) t) at (f (index a q) i)
+  stored-zero-tops f a q i t = rw (T-true (among q (anchors s)) t) at (f (index a q) i)
 
   -- each test and its rule
   pub packing : Answers (packRefusal r) (packRules r)
@@ -66,8 +66,8 @@ module _ (r : Record) where
       rule (by-ltb tt 7 m) λ low.
       rule (by-not-eqb tt (kindOf s) (kindOfMode m)) λ kind.
       rule (by-not tt (fits m [] (says r)) (fits-at m [] (says r)) (fits-of m [] (says r))) λ w.
-      rule (by-not tt (fits m (anchors s) (says r)) (λ e. stored-clear (fits-at m (anchors s) (says r) e))
-      (λ c. fits-of m (anchors s) (says r) (clear-stored w c))) λ c.
+      rule (by-not tt (fits m (anchors s) (says r)) (λ e. stored-zero-tops (fits-at m (anchors s) (says r) e))
+      (λ c. fits-of m (anchors s) (says r) (zero-tops-stored w c))) λ c.
       none)
 
   -- what the code answers, by the rules on its way

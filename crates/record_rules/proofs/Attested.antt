@@ -16,7 +16,7 @@ use Rattle.bcn_format.specs.Partitions.{anchors2, anchors3, digits, marks, stri
 use Rattle.bc7_format.specs.Places.{atPlace, blockOf, listOf, opened, placeAt, pos, width, widths}
 use Rattle.bc7_format.specs.Splits.{splitAt, splitOf}
 use Rattle.bc7_format.proofs.Examples.{block4, block7}
-use Rattle.record_rules.specs.Records.{fits, made, packRefusal, packed, recordOf, says, taken}
+use Rattle.record_rules.specs.Records.{fits, made, packRefusal, packed, recordOf, says, takenApart}
 
 abbrev sixteenZeros : List ℕ
 sixteenZeros = 0 ∷ 0 ∷ 0 ∷ 0 ∷ 0 ∷ 0 ∷ 0 ∷ 0 ∷ 0 ∷ 0 ∷ 0 ∷ 0 ∷ 0 ∷ 0 ∷ 0 ∷ 0 ∷ []
@@ -76,8 +76,9 @@ abbrev refused : ℕ → Packed
 refused n = block n sixteenZeros
 
 -- the records of two blocks; a reserved block is refused with 1
-pub records-of-blocks : map taken (block4 ∷ block7 ∷ sixteenZeros ∷ []) ≡ unpacked 0 record4 ∷ unpacked 0 record7 ∷ unpacked 1 (zerosOf 0) ∷ []
-unfolding taken recordOf made table tableFrom atPlace opened placeAt pos width widths trailing number modeOf splitAt splitOf modeRow kindOfMode endpointCount anchors2 anchors3 digits marks strings2 strings3
+pub records-of-blocks : map takenApart (block4 ∷ block7 ∷ sixteenZeros ∷ []) ≡ unpacked 0 record4 ∷ unpacked 0 record7 ∷ unpacked 1 (zerosOf 0) ∷ []
+unfolding takenApart recordOf made table tableFrom atPlace opened placeAt pos width widths trailing number modeOf splitAt splitOf modeRow kindOfMode
+    endpointCount anchors2 anchors3 digits marks strings2 strings3
 records-of-blocks = refl
 
 -- the blocks of these records; refused are a mode above 7, a split of another kind, a red of six bits, a second index where there is
@@ -85,5 +86,6 @@ records-of-blocks = refl
 pub blocks-of-records : map packed (record4 ∷ record7 ∷ zerosOf 8 ∷ like7 Whole 32 topSet lastOne ∷ like7 (Two 13) 32 topSet lastOne
     ∷ like7 (Two 13) 1 topSet lastOne ∷ like7 (Two 13) 1 topSet sixteenZeros ∷ [])
     ≡ block 0 block4 ∷ block 0 block7 ∷ refused 5 ∷ refused 5 ∷ refused 3 ∷ refused 3 ∷ refused 6 ∷ []
-unfolding packed packRefusal fits first says blockOf listOf bytesOf table tableFrom placeAt width widths modeRow kindOfMode endpointCount anchors2 anchors3 digits marks strings2 strings3
+unfolding packed packRefusal fits first says blockOf listOf bytesOf table tableFrom placeAt width widths modeRow kindOfMode endpointCount anchors2
+    anchors3 digits marks strings2 strings3
 blocks-of-records = refl

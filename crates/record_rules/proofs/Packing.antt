@@ -22,25 +22,25 @@ use Rattle.laws.proofs.Part.{getD-table, table-is}
 use Rattle.laws.proofs.Tests.{at, both-left, both-right}
 use Rattle.bcn_format.specs.Block.{eights}
 use Rattle.bc7_format.specs.Modes.{modeOf}
-use Rattle.bc7_format.specs.Places.{Place, blockOf, head, index, inside, opened, pbit, value, width}
+use Rattle.bc7_format.specs.Places.{Place, blockOf, lead, index, inside, opened, pbit, value, width}
 use Rattle.bc7_format.specs.Splits.{anchors, indexMode, ofKind, partition, rotation}
 use Rattle.bc7_format.specs.WellFormed.{WellFormed}
 use Rattle.bc7_format.proofs.Modes.{good-parts}
 use Rattle.bc7_format.proofs.Opening.{block-ext, good-kind, opened-good}
 use Rattle.bc7_format.proofs.Places.{inside-value, split-of-kind, width-le}
 use Rattle.record_rules.specs.Answers.{packRules}
-use Rattle.record_rules.specs.Records.{Shaped, made, packRefusal, packed, packedAs, recordOf, says, taken, unpackedAs, zeroRecord}
-use Rattle.record_rules.proofs.Answering.{clear-stored, packed-as, packing, stored-clear}
+use Rattle.record_rules.specs.Records.{Shaped, made, packRefusal, packed, packedAs, recordOf, says, takenApart, unpackedAs, zeroRecord}
+use Rattle.record_rules.proofs.Answering.{zero-tops-stored, packed-as, packing, stored-zero-tops}
 
 module _ {m : ℕ} {s : Split} {f : Place → ℕ} (g : WellFormed m s f) where
   -- the record of what stands at the places says just that
   pub says-made : (x : Place) → T (inside x) → says (made m s f) x ≡ f x
   unfolding says made
-  says-made (head zero) h = sym (g .marker)
-  says-made (head (suc zero)) h = good-parts g .0
-  says-made (head (suc (suc zero))) h = good-parts g .1
-  says-made (head (suc (suc (suc zero)))) h = good-parts g .2
-  says-made (head (suc (suc (suc (suc k))))) h = absurd (let l = ltb→lt (suc (suc (suc (suc k)))) 4 h in let z : ⊥ = omega arith in z)
+  says-made (lead zero) h = sym (g .marker)
+  says-made (lead (suc zero)) h = good-parts g .0
+  says-made (lead (suc (suc zero))) h = good-parts g .1
+  says-made (lead (suc (suc (suc zero)))) h = good-parts g .2
+  says-made (lead (suc (suc (suc (suc k))))) h = absurd (let l = ltb→lt (suc (suc (suc (suc k)))) 4 h in let z : ⊥ = omega arith in z)
   says-made (value c e) h =
       let hc : c < 4 = ltb→lt c 4 (both-left (ltb c 4) (ltb e 6) h) in
       let he : e < 6 = ltb→lt e 6 (both-right (ltb c 4) (ltb e 6) h) in
@@ -80,7 +80,7 @@ made-says r sh =
 good-met : (r : Record) → WellFormed (r .mode) (r .split) (says r) → Met (packRules r)
 good-met r g = (
   omega (arith, g .mode),
-  (good-kind g, (λ x i. lt-of-lt-of-le (g .fits x i) (pow-mono (width-le (r .mode) (anchors (r .split)) x)), (stored-clear r (g .fits), tt))),
+  (good-kind g, (λ x i. lt-of-lt-of-le (g .fits x i) (pow-mono (width-le (r .mode) (anchors (r .split)) x)), (stored-zero-tops r (g .fits), tt))),
 )
 
 pub good-accepted : (r : Record) → WellFormed (r .mode) (r .split) (says r) → packRefusal r ≡ 0
@@ -90,8 +90,8 @@ good-accepted r g = accepted-when (packing r) .1 (good-met r g)
 pub good-ext : {m : ℕ} {s : Split} {f h : Place → ℕ} → ((x : Place) → T (inside x) → h x ≡ f x) → WellFormed m s f → WellFormed m s h
 good-ext {m} {s} {f} {h} e g = record {
   mode = g .mode;
-  marker = e (head 0) tt ∙ g .marker;
-  splits = rw (e (head 1) tt, e (head 2) tt, e (head 3) tt) (g .splits);
+  marker = e (lead 0) tt ∙ g .marker;
+  splits = rw (e (lead 1) tt, e (lead 2) tt, e (lead 3) tt) (g .splits);
   fits = λ x i. subst (λ (v : ℕ). v < 2 ^ width m (anchors s) x) (sym (e x i)) (g .fits x i);
 }
 
@@ -112,7 +112,7 @@ packs-good r e =
       mode = omega arith;
       marker = refl;
       splits = sym (split-of-kind s ∙ ap (λ (k : ℕ). ofKind k (partition s) (rotation s) (indexMode s)) kind);
-      fits = clear-stored r full tops;
+      fits = zero-tops-stored r full tops;
     }
 
 -- what taking apart answers, by the test of its mode
@@ -120,13 +120,13 @@ module _ (bs : List ℕ) where
   abbrev answer : Bool → Unpacked
   answer b = pick b (unpackedAs 1 zeroRecord) (unpackedAs 0 (recordOf bs))
 
-  pub taken-reserved : modeOf bs ≡ 8 → taken bs ≡ unpackedAs 1 zeroRecord
-  unfolding taken
-  taken-reserved e = ap answer (eq-eqb (modeOf bs) 8 e)
+  pub apart-reserved : modeOf bs ≡ 8 → takenApart bs ≡ unpackedAs 1 zeroRecord
+  unfolding takenApart
+  apart-reserved e = ap answer (eq-eqb (modeOf bs) 8 e)
 
-  pub taken-open : modeOf bs < 8 → taken bs ≡ unpackedAs 0 (recordOf bs)
-  unfolding taken
-  taken-open o = ap answer (ne-eqb (modeOf bs) 8 (λ z. let y : ⊥ = omega arith in y))
+  pub apart-open : modeOf bs < 8 → takenApart bs ≡ unpackedAs 0 (recordOf bs)
+  unfolding takenApart
+  apart-open o = ap answer (ne-eqb (modeOf bs) 8 (λ z. let y : ⊥ = omega arith in y))
 
 -- the record of a block says what stands in the block
 pub record-says : (bs : List ℕ) → Fit eights bs → modeOf bs < 8 → (x : Place) → T (inside x) → says (recordOf bs) x ≡ opened bs x

@@ -25,38 +25,38 @@ use Rattle.bc7_format.proofs.Lens.{shown-ext}
 use Rattle.bc7_format.proofs.Opening.{block-opened, mode-block, opened-block, opened-good, split-block}
 use Rattle.bc7_format.proofs.Reserved.{open-mode, reserved-mode}
 use Rattle.record_rules.specs.Answers.{packRules}
-use Rattle.record_rules.specs.Records.{Shaped, made, packed, packedAs, recordOf, says, taken, unpackedAs, zeroRecord}
+use Rattle.record_rules.specs.Records.{Shaped, made, packed, packedAs, recordOf, says, takenApart, unpackedAs, zeroRecord}
 use Rattle.record_rules.proofs.Answering.{packing}
-use Rattle.record_rules.proofs.Packing.{good-accepted, good-packs, made-ext, made-says, packs-good, record-says, taken-open, taken-reserved}
+use Rattle.record_rules.proofs.Packing.{good-accepted, good-packs, made-ext, made-says, packs-good, record-says, apart-open, apart-reserved}
 use Rattle.record_rules.specs.Promises.{Packs, Unpacks}
 
 -- taking apart refuses a block exactly when it is reserved, and then answers 1 and the zero record
-pub refused-when-reserved : (bs : List ℕ) → Fit eights bs → (taken bs ≡ unpackedAs 1 zeroRecord) ↔ (getD bs 0 0 ≡ 0)
+pub refused-when-reserved : (bs : List ℕ) → Fit eights bs → (takenApart bs ≡ unpackedAs 1 zeroRecord) ↔ (getD bs 0 0 ≡ 0)
 refused-when-reserved bs h = (
   λ e. ⊎-elim (λ z. z) (λ p. absurd
-      (let n = ap (λ (u : Unpacked). u .refusal) (sym e ∙ taken-open bs (open-mode bs h (λ z. omega arith))) in let y : ⊥ = omega (arith, n) in y))
+      (let n = ap (λ (u : Unpacked). u .refusal) (sym e ∙ apart-open bs (open-mode bs h (λ z. omega arith))) in let y : ⊥ = omega (arith, n) in y))
       (eq-zero-or-pos (getD bs 0 0)),
-  λ z. taken-reserved bs (reserved-mode bs z),
+  λ z. apart-reserved bs (reserved-mode bs z),
 )
 
 -- every other block is accepted
-pub taken-when-open : (bs : List ℕ) → Fit eights bs → getD bs 0 0 ≢ 0 → taken bs ≡ unpackedAs 0 (recordOf bs)
-taken-when-open bs h n = taken-open bs (open-mode bs h n)
+pub apart-when-open : (bs : List ℕ) → Fit eights bs → getD bs 0 0 ≢ 0 → takenApart bs ≡ unpackedAs 0 (recordOf bs)
+apart-when-open bs h n = apart-open bs (open-mode bs h n)
 
 -- packing what taking apart answers gives the block back
-pub pack-unpack : (bs : List ℕ) → Fit eights bs → getD bs 0 0 ≢ 0 → packed (taken bs .«record») ≡ packedAs 0 bs
+pub pack-unpack : (bs : List ℕ) → Fit eights bs → getD bs 0 0 ≢ 0 → packed (takenApart bs .«record») ≡ packedAs 0 bs
 unfolding recordOf
 pack-unpack bs h n =
     let o : modeOf bs < 8 = open-mode bs h n in
-    ap packed (ap (λ (u : Unpacked). u .«record») (taken-open bs o)) ∙ good-packs (opened-good bs h o) ∙ ap (packedAs 0) (block-opened bs h o)
+    ap packed (ap (λ (u : Unpacked). u .«record») (apart-open bs o)) ∙ good-packs (opened-good bs h o) ∙ ap (packedAs 0) (block-opened bs h o)
 
 -- taking apart what packing accepted gives the record back
-pub unpack-pack : (r : Record) → Shaped r → packed r .refusal ≡ 0 → taken (packed r .block) ≡ unpackedAs 0 r
+pub unpack-pack : (r : Record) → Shaped r → packed r .refusal ≡ 0 → takenApart (packed r .block) ≡ unpackedAs 0 r
 unfolding packed recordOf
 unpack-pack r sh e =
     let g : WellFormed (r .mode) (r .split) (says r) = packs-good r e in
     let bs : List ℕ = blockOf (r .mode) (r .split) (says r) in
-    rw e (taken-open bs (rw (mode-block g) (g .mode))
+    rw e (apart-open bs (rw (mode-block g) (g .mode))
     ∙ ap (unpackedAs 0) (rw (mode-block g, split-block g) (made-ext (r .mode) (r .split) (opened bs) (says r) (opened-block g) ∙ made-says r sh)))
 
 -- a record is accepted exactly if what it says is what a block holds

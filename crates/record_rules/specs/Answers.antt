@@ -17,8 +17,8 @@ abbrev pub Within : Record → Type 0
 Within r = (x : Place) → T (inside x) → says r x < 2 ^ width (r .mode) [] x
 
 -- no anchor's index has its top bit set
-abbrev pub TopsClear : Record → Type 0
-TopsClear r = (a q : ℕ) → T (inside (index a q)) → T (among q (anchors (r .split))) → says r (index a q) < 2 ^ (indexBits (r .mode) a - 1)
+abbrev pub TopsZero : Record → Type 0
+TopsZero r = (a q : ℕ) → T (inside (index a q)) → T (among q (anchors (r .split))) → says r (index a q) < 2 ^ (indexBits (r .mode) a - 1)
 
 -- the rules of packing: a record gets the number of the first that it breaks
 abbrev pub packRules : Record → List Rule
@@ -26,5 +26,5 @@ packRules r =
     unless 5 (r .mode ≤ 7) ∷
     unless 5 (kindOf (r .split) ≡ kindOfMode (r .mode)) ∷
     unless 3 (Within r) ∷
-    unless 6 (TopsClear r) ∷
+    unless 6 (TopsZero r) ∷
     []

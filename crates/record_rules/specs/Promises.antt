@@ -6,10 +6,10 @@ use Prim.Native.Nat.{ℕ}
 use Rattle.record_rules.specs.declared.Record.{Record}
 use Rattle.record_rules.specs.declared.Unpacked.{Unpacked}
 use Rattle.record_rules.specs.declared.Packed.{Packed}
-use Rattle.record_rules.specs.Records.{packed, taken}
+use Rattle.record_rules.specs.Records.{packed, takenApart}
 
 abbrev pub Unpacks : List ℕ → Unpacked → Type 0
-Unpacks block answer = answer ≡ taken block
+Unpacks block answer = answer ≡ takenApart block
 
 abbrev pub Packs : Record → Packed → Type 0
 Packs r answer = answer ≡ packed r

@@ -14,7 +14,7 @@ use Rattle.bc7_format.specs.declared.Split.the-variants.{Whole}
 use Rattle.laws.specs.Refusals.{first, refuse}
 use Rattle.laws.specs.Tables.{below, pick, table}
 use Rattle.bc7_format.specs.Modes.{modeOf, kindOfMode}
-use Rattle.bc7_format.specs.Places.{Place, blockOf, head, index, opened, pbit, placeAt, value, width, placeCount}
+use Rattle.bc7_format.specs.Places.{Place, blockOf, lead, index, opened, pbit, placeAt, value, width, placeCount}
 use Rattle.bc7_format.specs.Splits.{anchors, indexMode, kindOf, partition, rotation, splitOf}
 
 -- the record of what stands at the places
@@ -30,7 +30,7 @@ made m s f = record {
 
 -- what a record says of a place
 unfoldable pub says : Record → Place → ℕ
-says r (head k) = getD (2 ^ r .mode ∷ partition (r .split) ∷ rotation (r .split) ∷ indexMode (r .split) ∷ []) k 0
+says r (lead k) = getD (2 ^ r .mode ∷ partition (r .split) ∷ rotation (r .split) ∷ indexMode (r .split) ∷ []) k 0
 says r (value c e) = getD (r .endpoints) (4 * e + c) 0
 says r (pbit k) = getD (r .p) k 0
 says r (index a q) = pick (eqb a 0) (getD (r .first) q 0) (getD (r .second) q 0)
@@ -56,8 +56,8 @@ zeroRecord = record {
 unfoldable pub recordOf : List ℕ → Record
 recordOf bs = made (modeOf bs) (splitOf bs) (opened bs)
 
-unfoldable pub taken : List ℕ → Unpacked
-taken bs = pick (eqb (modeOf bs) 8) (unpackedAs 1 zeroRecord) (unpackedAs 0 (recordOf bs))
+unfoldable pub takenApart : List ℕ → Unpacked
+takenApart bs = pick (eqb (modeOf bs) 8) (unpackedAs 1 zeroRecord) (unpackedAs 0 (recordOf bs))
 
 -- does what stands at each place fit its width, where the pixels of `an` are anchors
 unfoldable pub fits : ℕ → List ℕ → (Place → ℕ) → Bool

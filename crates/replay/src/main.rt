@@ -266,7 +266,7 @@ fn sheet_call() -> bool {
     sheet_call_of(&mut sheet[..end])
 }
 
-// The listing has 40 bytes for each block at the most, and two lines more.
+// The listing has 40 bytes for each block at the most, and two texts more.
 fn list_call_of(sheet: &mut [u8]) -> bool
     requires { ⌜ length (now sheet) ≤ 65536 ⌝ }
 {

@@ -13,7 +13,7 @@ use Rattle.sheet_head.specs.Heads.{readHead, writeHead}
 use Rattle.line_rules.specs.declared.LineRead.{LineRead}
 use Rattle.line_rules.specs.Read.{lineRead}
 use Rattle.line_rules.specs.Replace.{replaced}
-use Rattle.record_rules.specs.Records.{taken}
+use Rattle.record_rules.specs.Records.{takenApart}
 use Rattle.sheet_rules.specs.Rows.{rowOut, rowRefusal}
 use Rattle.sheet_rules.specs.Sheets.{sheetAfter, sheetRefusal}
 use Rattle.record_bytes.specs.Wire.{packedBytes, recordBytes, replacementBytes, replacementOf}
@@ -35,7 +35,7 @@ abbrev pub Decodes : List ℕ → List (List ℕ) → Type 0
 Decodes block after = after ≡ pixels block
 
 abbrev pub Unpacks : List ℕ → List ℕ → ℕ → List ℕ → Type 0
-Unpacks block before = Writes (taken block .refusal) (recordBytes (taken block .«record»)) before
+Unpacks block before = Writes (takenApart block .refusal) (recordBytes (takenApart block .«record»)) before
 
 abbrev pub Packs : List ℕ → List ℕ → ℕ → List ℕ → Type 0
 Packs bytes before = Writes (packedBytes bytes .refusal) (packedBytes bytes .block) before

@@ -1,7 +1,8 @@
 // The C face: the public calls of blocks and sheets, for the consoles' display code. A refused call changes nothing that it
 // was lent. What a call promises has one name, in specs/Promises. include/rinchovek.h declares these functions and says what a
 // C caller has to know; `rt staticlib rinchovek` writes the archive.
-ghost use Rattle.rinchovek.specs.Promises.{Decodes, Packs, ReadsLine, Replaces, Unpacks, Versions, DecodesRow, ReadsHead, ReplacesIn, WritesHead};
+ghost use Rattle.rinchovek.specs.Promises.{Decodes, Packs, ReadsLine, Replaces, Unpacks, Versions, DecodesRow, ReadsHead, ReplacesIn};
+ghost use Rattle.rinchovek.specs.Promises.{WritesHead};
 use bc7::decode_bc7_block;
 use line::read_line;
 use line::replace_line;
@@ -43,8 +44,8 @@ pub extern "C" fn rinchovek_bc7_unpack(block: &[u8; 16], bytes: &mut [u8; 66]) -
     if unpacked.refusal != 0 {
         return unpacked.refusal as u32;
     }
-    let taken = unpacked.record;
-    *bytes = record_bytes(taken);
+    let apart = unpacked.record;
+    *bytes = record_bytes(apart);
     0
 }
 
@@ -135,7 +136,7 @@ pub extern "C" fn rinchovek_sheet_write_head(
     0
 }
 
-// One row of blocks as rows of pixels, cut at the edges of the picture.
+// One row of blocks as scanlines, cut at the edges of the picture.
 #[no_mangle]
 pub extern "C" fn rinchovek_sheet_decode_row(
     width: u32,

@@ -5,7 +5,7 @@ use mathlib.Core.List.{List}
 use Prim.Native.Nat.{ℕ}
 use lib.ListN.{length}
 use borrow.Author.Tests.{ne-eqb}
-use Rattle.sheet_head.specs.Geometry.{shown}
+use Rattle.sheet_head.specs.Geometry.{sideShown}
 use Rattle.sheet_rules.specs.Rows.{rowBytes, rowOut, rowRefusal}
 use Rattle.sheet_rules.proofs.Refusing.{Accepted, drawn, told}
 
@@ -17,6 +17,6 @@ module _ (w h row : ℕ) (blocks out : List ℕ) {r : ℕ} (e : r ≡ rowRefusal
   unfolding rowOut
   kept ne = (e, rw (← e, ne-eqb r 0 ne))
 
-  pub drawn-by : r ≡ 0 → {lines : ℕ} → lines ≡ shown h row → {after : List ℕ} → after ≡ rowBytes w lines blocks
+  pub drawn-by : r ≡ 0 → {scanlines : ℕ} → scanlines ≡ sideShown h row → {after : List ℕ} → after ≡ rowBytes w scanlines blocks
       → (0 ≡ rowRefusal w h row (length blocks) (length out)) × (after ≡ rowOut w h row blocks out)
   drawn-by z l d = (sym z ∙ e, d ∙ ap (λ (n : ℕ). rowBytes w n blocks) l ∙ sym (drawn w h row blocks out (sym e ∙ z)))

@@ -1,4 +1,4 @@
-// A sheet of blocks: one row of blocks drawn as lines of pixels, and a line replaced in a block of a sheet. Both calls take
+// A sheet of blocks: one row of blocks drawn as scanlines, and a line replaced in a block of a sheet. Both calls take
 // every input and say why they refuse one.
 ghost use Rattle.sheet_rules.specs.Rows.{DecodesRow};
 ghost use Rattle.sheet_rules.specs.Sheets.{ReplacesInSheet};
@@ -13,7 +13,7 @@ pub mod blocks;
 pub mod output;
 pub mod rows;
 
-// One row of blocks as lines of pixels, top first. A refused call leaves the output as it was.
+// One row of blocks as scanlines, top first. A refused call leaves the output as it was.
 pub fn decode_row(width: u32, height: u32, row: u32, blocks: &[u8], out: &mut [u8]) -> u8
     ensures { λ r. ⌜ DecodesRow width height row (now (blocks .entry)) (now (out .entry)) r (now (out .exit)) ⌝ }
 {

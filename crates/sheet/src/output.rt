@@ -1,11 +1,11 @@
-// The pixels of a block, laid line by line into their column of a row of blocks. A block at the right edge shows only some of
-// its columns, a block at the lower edge only some of its lines.
+// The pixels of a block, laid scanline by scanline into their column of a row of blocks. A block at the right edge shows only some of
+// its columns, a block at the lower edge only some of its scanlines.
 ghost use mathlib.Core.Path.{_≡_};
 ghost use Prim.Native.Nat.{_+_, _*_, _≤_, _<_};
 ghost use lib.ListN.{length, getD};
 ghost use Rattle.laws.specs.Tables.{over};
-ghost use Rattle.sheet_head.specs.Geometry.{outLength, shown};
-ghost use Rattle.sheet.specs.Columns.{lineByte, withColumn};
+ghost use Rattle.sheet_head.specs.Geometry.{outLength, sideShown};
+ghost use Rattle.sheet.specs.Columns.{scanlineByte, withColumn};
 use sheet_head::geometry::shown_in;
 
 fn put_pixel(pixel: [u8; 4], at: usize, out: &mut [u8])
@@ -18,10 +18,10 @@ fn put_pixel(pixel: [u8; 4], at: usize, out: &mut [u8])
     out[at + 3] = pixel[3];
 }
 
-// The first n pixels of line y of a block.
-fn put_line(px: [[u8; 4]; 16], y: usize, n: usize, at: usize, out: &mut [u8])
+// The first n pixels of scanline y of a block.
+fn put_scanline(px: [[u8; 4]; 16], y: usize, n: usize, at: usize, out: &mut [u8])
     requires { ⌜ (y < 4) × (n ≤ 4) × (at + 4 * n ≤ length (now out)) ⌝ }
-    ensures { λ _. ⌜ now (out .exit) ≡ over (now (out .entry)) at (4 * n) (lineByte px y) ⌝ }
+    ensures { λ _. ⌜ now (out .exit) ≡ over (now (out .entry)) at (4 * n) (scanlineByte px y) ⌝ }
 {
     for k in 0..n {
         let pixel = px[4 * y + k];
@@ -29,31 +29,31 @@ fn put_line(px: [[u8; 4]; 16], y: usize, n: usize, at: usize, out: &mut [u8])
     }
 }
 
-// The lines of a block, into its column c of a row of blocks that is w pixels wide; n pixels of each are shown.
-fn put_lines(px: [[u8; 4]; 16], c: usize, w: usize, n: usize, lines: usize, out: &mut [u8])
-    requires { ⌜ (lines ≤ 4) × (4 * c < w) × (w ≤ 65536) × (n ≡ shown w c) × (length (now out) ≡ outLength w lines) ⌝ }
+// The scanlines of a block, into its column c of a row of blocks that is w pixels wide; n pixels of each are shown.
+fn put_scanlines(px: [[u8; 4]; 16], c: usize, w: usize, n: usize, scanlines: usize, out: &mut [u8])
+    requires { ⌜ (scanlines ≤ 4) × (4 * c < w) × (w ≤ 65536) × (n ≡ sideShown w c) × (length (now out) ≡ outLength w scanlines) ⌝ }
     ensures { λ _. ⌜ now (out .exit) ≡ withColumn w px c (now (out .entry)) ⌝ }
 {
-    let line = 4 * w;
-    for y in 0..lines {
-        put_line(px, y, n, y * line + 16 * c, out);
+    let scanline = 4 * w;
+    for y in 0..scanlines {
+        put_scanline(px, y, n, y * scanline + 16 * c, out);
     }
 }
 
 // All that is shown of a block, into its column. Nearly every block is shown whole: its loops then have constant bounds, which
 // is what makes rows fast.
-pub fn put_block(px: [[u8; 4]; 16], c: usize, w: usize, lines: usize, out: &mut [u8])
-    requires { ⌜ (lines ≤ 4) × (4 * c < w) × (w ≤ 65536) × (length (now out) ≡ outLength w lines) ⌝ }
+pub fn put_block(px: [[u8; 4]; 16], c: usize, w: usize, scanlines: usize, out: &mut [u8])
+    requires { ⌜ (scanlines ≤ 4) × (4 * c < w) × (w ≤ 65536) × (length (now out) ≡ outLength w scanlines) ⌝ }
     ensures { λ _. ⌜ now (out .exit) ≡ withColumn w px c (now (out .entry)) ⌝ }
 {
     let n = shown_in(w, c);
     if n < 4 {
-        put_lines(px, c, w, n, lines, out);
+        put_scanlines(px, c, w, n, scanlines, out);
         return;
     }
-    if lines < 4 {
-        put_lines(px, c, w, 4, lines, out);
+    if scanlines < 4 {
+        put_scanlines(px, c, w, 4, scanlines, out);
         return;
     }
-    put_lines(px, c, w, 4, 4, out);
+    put_scanlines(px, c, w, 4, 4, out);
 }

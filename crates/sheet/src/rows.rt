@@ -33,13 +33,13 @@ pub fn row_refusal(width: u32, height: u32, row: u32, given: usize, room: usize)
 }
 
 // All blocks of a row.
-pub fn put_row(w: usize, lines: usize, blocks: &[u8], out: &mut [u8])
-    requires { ⌜ (lines ≤ 4) × (0 < w) × (w ≤ 65536) × (length (now blocks) ≡ rowLength w) × (length (now out) ≡ outLength w lines) ⌝ }
-    ensures { λ _. ⌜ now (out .exit) ≡ rowBytes w lines (now (blocks .entry)) ⌝ }
+pub fn put_row(w: usize, scanlines: usize, blocks: &[u8], out: &mut [u8])
+    requires { ⌜ (scanlines ≤ 4) × (0 < w) × (w ≤ 65536) × (length (now blocks) ≡ rowLength w) × (length (now out) ≡ outLength w scanlines) ⌝ }
+    ensures { λ _. ⌜ now (out .exit) ≡ rowBytes w scanlines (now (blocks .entry)) ⌝ }
 {
     let columns = blocks.len() / 16;
     for c in 0..columns {
         let px = bc7::decode_bc7_block(load(blocks, 16 * c));
-        put_block(px, c, w, lines, out);
+        put_block(px, c, w, scanlines, out);
     }
 }

@@ -66,7 +66,8 @@ pub record Heads : Type 0 where
       ≡ 6 ∷ 51 ∷ 99 ∷ 32 ∷ 60 ∷ []
 
 pub heads-hold : Heads
-unfolding groups readGroups readNumber raised readHead headRefusal formIn widthIn heightIn first sizeRefusal writeHead headBytes padded formTaken heightTaken lastTaken groupTaken readBy blocksOf placeOf
+unfolding groups readGroups readNumber raised readHead headRefusal formIn widthIn heightIn first sizeRefusal writeHead headBytes padded formTaken
+    heightTaken lastTaken groupTaken readBy blocksOf placeOf
 heads-hold = record {
   numbers-written = refl;
   numbers-read = refl;

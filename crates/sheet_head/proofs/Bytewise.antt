@@ -25,7 +25,8 @@ use Rattle.laws.proofs.Refusals.{accepted-when, exactly}
 use Rattle.laws.proofs.Tests.{no-both}
 use Rattle.sheet_head.specs.Heads.{Sized, form, formIn, headOf, headRules, heightIn, readHead, sizeRefusal, widthIn}
 use Rattle.sheet_head.specs.Numbers.{found, noNumber, raised, readGroups, readNumber}
-use Rattle.sheet_head.specs.Reader.{Going, Reading, atForm, awaiting, before, byteTaken, emptyAbove, endedIn, formTaken, groupTaken, hasEnded, heightTaken, lastTaken, nextNumber, numberIn, readBy, refusedWith}
+use Rattle.sheet_head.specs.Reader.{Going, Reading, atForm, awaiting, before, byteTaken, emptyAbove, endedIn, formTaken, groupTaken, hasEnded}
+use Rattle.sheet_head.specs.Reader.{heightTaken, lastTaken, nextNumber, numberIn, readBy, refusedWith}
 use Rattle.sheet_head.proofs.Heading.{accepted, head-rules, refusal-is, refused, size-0, size-refused, sized}
 use Rattle.sheet_head.proofs.Reading.{cut-off, last-group, more-groups, near, no-group, raised-none, raised-some}
 
@@ -453,7 +454,8 @@ module _ {r : HeadReader} (g : Going r) where
 
       height-in : (t : Bool) → eqb (sizeRefusal (r .head .width) n) 0 ≡ t
           → Stepped r (pick t (awaiting Ended (headOf 0 (r .head .width) n next)) (refusedWith (sizeRefusal (r .head .width) n)))
-      height-in true e = record { going = λ u. absurd (no-both refl u); on = λ u. absurd (no-both refl u); sized-head = λ u z. sized _ _ (eqb-true _ 0 e) }
+      height-in true e =
+          record { going = λ u. absurd (no-both refl u); on = λ u. absurd (no-both refl u); sized-head = λ u z. sized _ _ (eqb-true _ 0 e) }
       height-in false e = stepped-refused r _ (eqb-false _ 0 e)
 
       go : (p : Stage) → endedIn p ≡ false → next ≤ before p + 3 → Stepped r (numberIn p (r .head) n next)

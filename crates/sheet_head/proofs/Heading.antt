@@ -45,7 +45,9 @@ module _ (w h : ℕ) where
 module _ (s : List ℕ) where
   pub head-rules : Answers (headRefusal s) (headRules (formIn s) (widthIn s) (heightIn s))
   unfolding headRefusal
-  head-rules = answers (rule by-answer λ a. rule (by-not-eqb tt (formIn s .value) form) λ b. rule by-answer λ c. rule by-answer λ d. rule (size-test _ _) λ z. none)
+  head-rules =
+      answers (rule by-answer λ a. rule (by-not-eqb tt (formIn s .value) form) λ b. rule by-answer λ c. rule by-answer λ d. rule
+      (size-test _ _) λ z. none)
 
   pub refused : (r : ℕ) → headRefusal s ≡ r → r ≢ 0 → headOf r 0 0 0 ≡ readHead s
   unfolding readHead

@@ -15,7 +15,8 @@ use Rattle.sheet_head.specs.declared.HeadBytes.{HeadBytes}
 use Rattle.laws.specs.Refusals.{Given}
 use Rattle.laws.proofs.Cases.{lt-or}
 use Rattle.laws.proofs.Refusals.{Answers, accepted-when, alone, exactly}
-use Rattle.sheet_head.specs.Heads.{ReadsHead, Sized, WritesHead, form, formIn, headBytes, headOf, headRefusal, headRules, heightIn, readHead, sizeRefusal, sizeRules, widthIn, writeHead}
+use Rattle.sheet_head.specs.Heads.{ReadsHead, Sized, WritesHead, form, formIn, headBytes, headOf, headRefusal, headRules, heightIn, readHead}
+use Rattle.sheet_head.specs.Heads.{sizeRefusal, sizeRules, widthIn, writeHead}
 use Rattle.sheet_head.specs.Numbers.{Bytes, found, groups, noNumber, numberBytes, numbersEnd, raised, readGroups, readNumber}
 use Rattle.sheet_head.specs.Geometry.{across, blocksOf, placeOf, wholeLength}
 use Rattle.sheet_head.specs.Reader.{atForm, readBy}
@@ -109,7 +110,13 @@ module _ (s : List ℕ) (at : ℕ) where
   pub number-read-when : Bytes s → (readNumber s at .refusal ≡ 0) ↔ Standing s at
   unfolding readNumber
   number-read-when y = (
-    λ e. record { number = readNumber s at .value; rest = drop (readNumber s at .next) s; small = value-small 3 at (drop at s); bytes = number-one-form s at y e },
+    λ e. record {
+      number = readNumber s at .value;
+      rest = drop (readNumber s at .next) s;
+      small = value-small 3 at
+          (drop at s);
+      bytes = number-one-form s at y e;
+    },
     λ n. rw (n .bytes) (ap (λ (r : Number). r .refusal) (groups-read 2 (n .number) at (n .rest) (n .small))),
   )
 

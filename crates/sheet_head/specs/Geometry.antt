@@ -8,16 +8,16 @@ use Rattle.sheet_head.specs.declared.Head.{Head}
 abbrev pub across : ℕ → ℕ
 across n = (n + 3) / 4
 
--- how many lines of a height the row of blocks n shows, and how many columns of a width the column of blocks n
-abbrev pub shown : ℕ → ℕ → ℕ
-shown side n = min 4 (side - 4 * n)
+-- how many scanlines of a height the row of blocks n shows, and how many columns of a width the column of blocks n
+abbrev pub sideShown : ℕ → ℕ → ℕ
+sideShown side n = min 4 (side - 4 * n)
 
--- the bytes of a row of blocks, and of so many lines of pixels
+-- the bytes of a row of blocks, and of so many scanlines of pixels
 abbrev pub rowLength : ℕ → ℕ
 rowLength w = 16 * across w
 
 abbrev pub outLength : ℕ → ℕ → ℕ
-outLength w lines = lines * (4 * w)
+outLength w scanlines = scanlines * (4 * w)
 
 -- how many blocks a sheet has
 unfoldable pub blocksOf : Head → ℕ

@@ -2,7 +2,7 @@
 // each stands. Nothing else in the code knows these formulas.
 ghost use mathlib.Core.Path.{_≡_};
 ghost use Prim.Native.Nat.{_*_, _≤_, _<_};
-ghost use Rattle.sheet_head.specs.Geometry.{across, blocksOf, outLength, placeOf, rowLength, shown, wholeLength};
+ghost use Rattle.sheet_head.specs.Geometry.{across, blocksOf, outLength, placeOf, rowLength, sideShown, wholeLength};
 ghost use Rattle.sheet_head.specs.Heads.{Sized, limit};
 use crate::Head;
 
@@ -14,10 +14,10 @@ pub fn blocks_across(side: u32) -> u32
     (side + 3) / 4
 }
 
-// Of a height, the lines that a row of blocks shows; of a width, the columns that a column of blocks shows.
+// Of a height, the scanlines that a row of blocks shows; of a width, the columns that a column of blocks shows.
 pub fn shown_in(side: usize, n: usize) -> usize
     requires { ⌜ 4 * n < side ⌝ }
-    ensures { λ r. ⌜ r ≡ shown side n ⌝ }
+    ensures { λ r. ⌜ r ≡ sideShown side n ⌝ }
 {
     let left = side - 4 * n;
     if left < 4 { left } else { 4 }
@@ -31,12 +31,12 @@ pub fn row_length(width: u32) -> usize
     16 * blocks_across(width) as usize
 }
 
-// The bytes of so many lines of pixels.
-pub fn out_length(width: usize, lines: usize) -> usize
-    requires { ⌜ (width ≤ limit) × (lines ≤ 4) ⌝ }
-    ensures { λ r. ⌜ r ≡ outLength width lines ⌝ }
+// The bytes of so many scanlines of pixels.
+pub fn out_length(width: usize, scanlines: usize) -> usize
+    requires { ⌜ (width ≤ limit) × (scanlines ≤ 4) ⌝ }
+    ensures { λ r. ⌜ r ≡ outLength width scanlines ⌝ }
 {
-    lines * (4 * width)
+    scanlines * (4 * width)
 }
 
 // How many blocks a sheet has: 1,048,576 at the most.

@@ -10,10 +10,11 @@ use Rattle.laws.specs.Tables.{over, table, tableFrom}
 use Rattle.bcn_format.specs.Block.{bytesOf, number, trailing}
 use Rattle.bc7_format.specs.Modes.{modeOf, endpointCount, kindOfMode, modeRow}
 use Rattle.bcn_format.specs.Drawing.{drawn, promoted, weightOf, weights}
-use Rattle.bc7_format.specs.Lines.{eight, anchorOf, arrayOf, has, indexPlace, laid, lineAt, lineBits, lineOf, means, own, pPlace, pixel, pixels, rotated, shown, turned, valuePlace, withLine}
+use Rattle.bc7_format.specs.Lines.{eight, anchorOf, indexSetOf, has, indexPlace, laid, lineAt, lineBits, lineOf, meansStored, own, pPlace, pixel}
+use Rattle.bc7_format.specs.Lines.{pixels, rotated, shown, turned, valuePlace, withLine}
 use Rattle.bc7_format.specs.Places.{atPlace, blockOf, listOf, opened, placeAt, pos, width, widths}
 use Rattle.bc7_format.specs.Splits.{splitAt, splitOf}
-use Rattle.sheet_head.specs.Geometry.{across, blocksOf, placeOf, shown as linesShown}
+use Rattle.sheet_head.specs.Geometry.{across, blocksOf, placeOf, sideShown}
 use Rattle.sheet_head.specs.Heads.{formIn, headRefusal, heightIn, readHead, sizeRefusal, widthIn}
 use Rattle.sheet_head.specs.Numbers.{raised, readGroups, readNumber}
 use Rattle.line_rules.specs.Replace.{after, indexFits, lineFits, lineGiven, oriented, ownWidth, pFits, put, refusal, refusalIn, replaced, valueFits}
@@ -47,19 +48,19 @@ sheet block2 = (0x01 ∷ 0x05 ∷ 0x06 ∷ []) ++ shade10 ++ shade20 ++ block2 +
 abbrev pub small : List ℕ
 small = sheet shade30
 
--- a pixel by its red and its green, which are twice what is stored; and a line of the picture: four pixels of the block on the left,
+-- a pixel by its red and its green, which are twice what is stored; and a scanline of the picture: four pixels of the block on the left,
 -- and of that on the right the first, which has the same red
 abbrev px : ℕ → ℕ → List ℕ
 px red green = red ∷ green ∷ 14 ∷ 254 ∷ []
 
-abbrev line : ℕ → ℕ → ℕ → ℕ → ℕ → ℕ → List ℕ
-line left right a b c d = px a left ++ px b left ++ px c left ++ px d left ++ px a right
+abbrev scanline : ℕ → ℕ → ℕ → ℕ → ℕ → ℕ → List ℕ
+scanline left right a b c d = px a left ++ px b left ++ px c left ++ px d left ++ px a right
 
-abbrev upperLines : List ℕ
-upperLines = line 20 40 0 15 34 49 ++ line 20 40 64 79 98 113 ++ line 20 40 128 143 161 176 ++ line 20 40 191 206 225 240
+abbrev upperScanlines : List ℕ
+upperScanlines = scanline 20 40 0 15 34 49 ++ scanline 20 40 64 79 98 113 ++ scanline 20 40 128 143 161 176 ++ scanline 20 40 191 206 225 240
 
-abbrev pub lowerLines : List ℕ
-lowerLines = line 60 80 0 15 34 49 ++ line 60 80 64 79 98 113
+abbrev pub lowerScanlines : List ℕ
+lowerScanlines = scanline 60 80 0 15 34 49 ++ scanline 60 80 64 79 98 113
 
 -- a line for block 2, which is turned; and the block with it: 5 6 7 8, p 0 and 1 2 3 4, p 1, and the indexes 7 14 14 and so on
 abbrev given : Replacement
@@ -90,7 +91,7 @@ nines n = replicate n 9
 -- each call is refused for what the next ones are refused for too
 abbrev pub rowClaims : List Row
 rowClaims =
-    decode 5 6 1 lower (nines 40) 0 lowerLines ∷
+    decode 5 6 1 lower (nines 40) 0 lowerScanlines ∷
     decode 0 6 2 shade30 (nines 41) 9 (nines 41) ∷
     decode 5 6 2 shade30 (nines 41) 12 (nines 41) ∷
     decode 5 6 1 shade30 (nines 41) 10 (nines 41) ∷
@@ -130,8 +131,8 @@ sheetClaims =
 pub record Sheets : Type 0 where
   pub columns : map across (1 ∷ 4 ∷ 5 ∷ 4096 ∷ []) ≡ 1 ∷ 1 ∷ 2 ∷ 1024 ∷ []
   pub in-all : blocksOf (record { refusal = 0; width = 9; height = 6; start = 3 }) ≡ 6
-  pub lines : map (linesShown 6) (0 ∷ 1 ∷ 2 ∷ []) ≡ 4 ∷ 2 ∷ 0 ∷ []
-  pub shown : picture 5 6 (drop 3 small) ≡ upperLines ++ lowerLines
+  pub scanlines : map (sideShown 6) (0 ∷ 1 ∷ 2 ∷ []) ≡ 4 ∷ 2 ∷ 0 ∷ []
+  pub picture-shown : picture 5 6 (drop 3 small) ≡ upperScanlines ++ lowerScanlines
   pub blocks : map (blockIn small) (0 ∷ 1 ∷ 2 ∷ 3 ∷ []) ≡ shade10 ∷ shade20 ∷ shade30 ∷ shade40 ∷ []
   pub row-answers : map (λ c. rowRefusal (c .wide) (c .high) (c .row) (length (c .blocks)) (length (c .out))) rowClaims
       ≡ map (λ c. c .answer) rowClaims
@@ -140,12 +141,16 @@ pub record Sheets : Type 0 where
   pub sheets : map (λ c. sheetAfter (c .before) (c .block) (c .of-block) given) sheetClaims ≡ map (λ c. c .left) sheetClaims
 
 pub sheets-hold : Sheets
-unfolding over table tableFrom weights weightOf drawn promoted eight modeRow kindOfMode endpointCount placeAt pos width widths trailing number modeOf splitAt splitOf atPlace opened has valuePlace pPlace arrayOf indexPlace own lineOf lineBits means rotated lineAt shown pixel pixels picture pictureByte blockAt channel rowByte rowBytes rowOut rowRefusal blockIn blocksOf findRefusal placeOf putBlock replacedIn sheetAfter sheetRefusal first sizeRefusal readHead headRefusal formIn widthIn heightIn readNumber readGroups raised replaced after refusal refusalIn lineFits valueFits pFits indexFits ownWidth lineGiven put oriented withLine laid turned anchorOf blockOf listOf bytesOf
+unfolding over table tableFrom weights weightOf drawn promoted eight modeRow kindOfMode endpointCount placeAt pos width widths trailing number modeOf
+    splitAt splitOf atPlace opened has valuePlace pPlace indexSetOf indexPlace own lineOf lineBits meansStored rotated lineAt shown pixel pixels
+    picture pictureByte blockAt channel rowByte rowBytes rowOut rowRefusal blockIn blocksOf findRefusal placeOf putBlock replacedIn sheetAfter
+    sheetRefusal first sizeRefusal readHead headRefusal formIn widthIn heightIn readNumber readGroups raised replaced after refusal refusalIn lineFits
+    valueFits pFits indexFits ownWidth lineGiven put oriented withLine laid turned anchorOf blockOf listOf bytesOf
 sheets-hold = record {
   columns = refl;
   in-all = refl;
-  lines = refl;
-  shown = refl;
+  scanlines = refl;
+  picture-shown = refl;
   blocks = refl;
   row-answers = refl;
   rows = refl;

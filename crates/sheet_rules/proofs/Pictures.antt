@@ -12,7 +12,7 @@ use Rattle.laws.specs.Tables.{table, tableFrom}
 use Rattle.laws.proofs.Joining.{table-append, table-same}
 use Rattle.laws.proofs.Part.{getD-table, length-table}
 use Rattle.bc7_format.specs.Lines.{pixel, pixels}
-use Rattle.sheet_head.specs.Geometry.{across, placeOf, shown}
+use Rattle.sheet_head.specs.Geometry.{across, placeOf, sideShown}
 use Rattle.sheet_head.specs.Heads.{Sized, readHead}
 use Rattle.laws.proofs.Refusals.{accepted-when}
 use Rattle.sheet_rules.specs.Pictures.{blockShowing, decodedRows, picture, pictureByte, pixelIn, rowOf}
@@ -59,26 +59,26 @@ module _ (w : ℕ) (pos : 0 < w) (all : List ℕ) (n k : ℕ) (four : k / (4 * w
 
 -- one row more
 module _ (w h : ℕ) (pos : 0 < w) (all : List ℕ) (n : ℕ) where
-  next-byte : (k : ℕ) → k < shown h n * (4 * w) → rowByte w (rowOf w all n) k ≡ pictureByte w all (min (4 * n) h * (4 * w) + k)
+  next-byte : (k : ℕ) → k < sideShown h n * (4 * w) → rowByte w (rowOf w all n) k ≡ pictureByte w all (min (4 * n) h * (4 * w) + k)
   next-byte k l =
-      let q : k / (4 * w) < shown h n = div-lt-iff-lt-mul {k = 4 * w} {x = k} {y = shown h n} (omega arith) .1 l in
+      let q : k / (4 * w) < sideShown h n = div-lt-iff-lt-mul {k = 4 * w} {x = k} {y = sideShown h n} (omega arith) .1 l in
       let e : 4 * n ≡ min (4 * n) h = omega arith in
       row-byte w pos all n k (omega arith) ∙ ap (λ (m : ℕ). pictureByte w all (m * (4 * w) + k)) e
 
-  next-row : table (min (4 * n) h * (4 * w)) (pictureByte w all) ++ table (shown h n * (4 * w)) (rowByte w (rowOf w all n))
+  next-row : table (min (4 * n) h * (4 * w)) (pictureByte w all) ++ table (sideShown h n * (4 * w)) (rowByte w (rowOf w all n))
       ≡ table (min (4 * suc n) h * (4 * w)) (pictureByte w all)
   next-row =
-      let e : min (4 * n) h + shown h n ≡ min (4 * suc n) h = omega arith in
+      let e : min (4 * n) h + sideShown h n ≡ min (4 * suc n) h = omega arith in
       ap (λ (t : List ℕ). table (min (4 * n) h * (4 * w)) (pictureByte w all) ++ t)
-      (table-same 0 (shown h n * (4 * w)) (rowByte w (rowOf w all n)) (λ k. pictureByte w all (min (4 * n) h * (4 * w) + k)) next-byte)
-      ∙ table-append 0 (min (4 * n) h * (4 * w)) (shown h n * (4 * w)) (pictureByte w all)
-      ∙ ap (λ (m : ℕ). table m (pictureByte w all)) (sym (add-mul (min (4 * n) h) (shown h n) (4 * w)) ∙ ap (λ (m : ℕ). m * (4 * w)) e)
+      (table-same 0 (sideShown h n * (4 * w)) (rowByte w (rowOf w all n)) (λ k. pictureByte w all (min (4 * n) h * (4 * w) + k)) next-byte)
+      ∙ table-append 0 (min (4 * n) h * (4 * w)) (sideShown h n * (4 * w)) (pictureByte w all)
+      ∙ ap (λ (m : ℕ). table m (pictureByte w all)) (sym (add-mul (min (4 * n) h) (sideShown h n) (4 * w)) ∙ ap (λ (m : ℕ). m * (4 * w)) e)
 
 nothing : (f : ℕ → ℕ) → table 0 f ≡ []
 unfolding table tableFrom
 nothing f = refl
 
--- decoding row n of a whole sheet's blocks is never refused, and writes that row's lines
+-- decoding row n of a whole sheet's blocks is never refused, and writes that row's scanlines
 module _ (w h : ℕ) (z : Sized w h) (all : List ℕ) (whole : length all ≡ 16 * (across h * across w)) where
   module _ (n : ℕ) (below : n < across h) where
     row-long : length (rowOf w all n) ≡ 16 * across w
@@ -87,14 +87,14 @@ module _ (w h : ℕ) (z : Sized w h) (all : List ℕ) (whole : length all ≡ 16
         simp (length-take, length-drop)
         (omega (arith, whole, mul-le-mul-right {m = n + 1} {n = across h} (across w) (omega arith), add-mul n 1 (across w)))
 
-    row-told : (out : List ℕ) → length out ≡ shown h n * (4 * w) → rowRefusal w h n (length (rowOf w all n)) (length out) ≡ 0
+    row-told : (out : List ℕ) → length out ≡ sideShown h n * (4 * w) → rowRefusal w h n (length (rowOf w all n)) (length out) ≡ 0
     row-told out room = accepted-when (row-rules w h n (length (rowOf w all n)) (length out)) .1 (z, (below, (row-long, (room, tt))))
 
-    pub row-decoded : (out : List ℕ) → length out ≡ shown h n * (4 * w)
-        → (rowRefusal w h n (length (rowOf w all n)) (length out) ≡ 0) × (rowOut w h n (rowOf w all n) out ≡ rowBytes w (shown h n) (rowOf w all n))
+    pub row-decoded : (out : List ℕ) → length out ≡ sideShown h n * (4 * w)
+        → (rowRefusal w h n (length (rowOf w all n)) (length out) ≡ 0) × (rowOut w h n (rowOf w all n) out ≡ rowBytes w (sideShown h n) (rowOf w all n))
     row-decoded out room = (row-told out room, drawn w h n (rowOf w all n) out (row-told out room))
 
-  module _ (outs : ℕ → List ℕ) (room : (n : ℕ) → n < across h → length (outs n) ≡ shown h n * (4 * w)) where
+  module _ (outs : ℕ → List ℕ) (room : (n : ℕ) → n < across h → length (outs n) ≡ sideShown h n * (4 * w)) where
     rows-are : (n : ℕ) → n ≤ across h → decodedRows w h all outs n ≡ table (min (4 * n) h * (4 * w)) (pictureByte w all)
     unfolding decodedRows rowBytes
     rows-are zero l =
@@ -142,7 +142,7 @@ module _ (s : List ℕ) (b x y : ℕ) (column : x / 4 ≡ b % across (readHead s
       ∙ ap (λ (bs : List ℕ). pixel bs (pixelIn x y) c) block-shown-there
 
 -- each byte is a channel of exactly one shown pixel
-pub record Shown (w h : ℕ) (all : List ℕ) (k : ℕ) : Type 0 where
+pub record ByteShown (w h : ℕ) (all : List ℕ) (k : ℕ) : Type 0 where
   pub x : ℕ
   pub y : ℕ
   pub c : ℕ
@@ -156,7 +156,7 @@ pub picture-long : (w h : ℕ) (all : List ℕ) → length (picture w h all) ≡
 unfolding picture
 picture-long w h all = length-table (h * (4 * w)) (pictureByte w all)
 
-pub each-byte : (w h : ℕ) (all : List ℕ) (k : ℕ) → 0 < w → k < h * (4 * w) → Shown w h all k
+pub each-byte : (w h : ℕ) (all : List ℕ) (k : ℕ) → 0 < w → k < h * (4 * w) → ByteShown w h all k
 each-byte w h all k pos l =
     let in-line : k % (4 * w) < 4 * w = mod-lt k (omega arith) in
     let line : k / (4 * w) < h = div-lt-iff-lt-mul {k = 4 * w} {x = k} {y = h} (omega arith) .1 l in

@@ -18,7 +18,7 @@ use Rattle.laws.specs.Calls as calls
 use Rattle.laws.proofs.calls.Parts.{alike as parts-alike, trade}
 use Rattle.laws.proofs.calls.Trading.{Trade, inside, woven, woven-told}
 use Rattle.bc7_format.specs.Modes.{modeOf, lines}
-use Rattle.bc7_format.specs.Lines.{draws, meant, pixel}
+use Rattle.bc7_format.specs.Lines.{draws, meansShown, pixel}
 use Rattle.bc7_format.specs.Splits.{splitOf}
 use Rattle.sheet_head.specs.Geometry.{blocksOf, placeOf}
 use Rattle.sheet_head.specs.Heads.{readHead}
@@ -30,7 +30,8 @@ use Rattle.line_rules.proofs.Theorems.{accepted-draws, last-call-is-seen, other
 use Rattle.sheet_rules.specs.Calls.{SheetCall, WholeSheet, callsOn, onBlock, refusalOn, sheetWith, sheetWithAll}
 use Rattle.sheet_rules.specs.Rows.{DecodesRow, rowRefusal, rowRules}
 use Rattle.sheet_rules.specs.Sheets.{ReplacesInSheet, blockIn, sheetRules}
-use Rattle.sheet_rules.proofs.Calling.{Same, all-block, all-kept, answered-as-block, beyond, in-words, none-changes, parts, same-here, same-on, sixteen, unchanged, whole-or, with-kept, with-named, with-other}
+use Rattle.sheet_rules.proofs.Calling.{Same, all-block, all-kept, answered-as-block, beyond, in-words, none-changes, parts, same-here, same-on}
+use Rattle.sheet_rules.proofs.Calling.{sixteen, unchanged, whole-or, with-kept, with-named, with-other}
 use Rattle.sheet_rules.proofs.Refusing.{row-rules, undrawn}
 use Rattle.sheet_rules.proofs.Replacing.{accepted-is}
 use Rattle.sheet_rules.proofs.Storing.{put-long, put-outside}
@@ -107,7 +108,7 @@ module _ (s : List ℕ) (z : WholeSheet s) (c : SheetCall) (b : ℕ) (l : b < bl
 module _ (s : List ℕ) (z : WholeSheet s) (c : SheetCall) (l : c .block < blocksOf (readHead s)) where
   pub sheet-accepted-draws : (q ch : ℕ) → q < 16 → ch < 4 → refusalOn s c ≡ 0
       → draws (modeOf (blockIn s (c .block))) (splitOf (blockIn s (c .block))) (c .line) q ch ≡ true
-      → pixel (blockIn (sheetWith s c) (c .block)) q ch ≡ meant (modeOf (blockIn s (c .block))) (splitOf (blockIn s (c .block))) (c .line)
+      → pixel (blockIn (sheetWith s c) (c .block)) q ch ≡ meansShown (modeOf (blockIn s (c .block))) (splitOf (blockIn s (c .block))) (c .line)
       (onBlock c .given) q ch
   sheet-accepted-draws q ch hq hc e d =
       ap (λ (b : List ℕ). pixel b q ch) (with-named s z c (c .block) l refl)
@@ -157,11 +158,11 @@ pub record SheetTraded (s : List ℕ) (c d : SheetCall) : Type 0 where
   pub bytes : sheetWith (sheetWith s c) d ≡ sheetWith (sheetWith s d) c
   pub first-seen : (q ch : ℕ) → q < 16 → ch < 4 → refusalOn s c ≡ 0 → draws (modeOf (blockIn s (c .block))) (splitOf (blockIn s (c .block)))
       (c .line) q ch ≡ true
-      → pixel (blockIn (sheetWith (sheetWith s c) d) (c .block)) q ch ≡ meant (modeOf (blockIn s (c .block))) (splitOf (blockIn s (c .block)))
+      → pixel (blockIn (sheetWith (sheetWith s c) d) (c .block)) q ch ≡ meansShown (modeOf (blockIn s (c .block))) (splitOf (blockIn s (c .block)))
       (c .line) (onBlock c .given) q ch
   pub second-seen : (q ch : ℕ) → q < 16 → ch < 4 → refusalOn s d ≡ 0 → draws (modeOf (blockIn s (d .block))) (splitOf (blockIn s (d .block)))
       (d .line) q ch ≡ true
-      → pixel (blockIn (sheetWith (sheetWith s c) d) (d .block)) q ch ≡ meant (modeOf (blockIn s (d .block))) (splitOf (blockIn s (d .block)))
+      → pixel (blockIn (sheetWith (sheetWith s c) d) (d .block)) q ch ≡ meansShown (modeOf (blockIn s (d .block))) (splitOf (blockIn s (d .block)))
       (d .line) (onBlock d .given) q ch
   pub rest : (b q ch : ℕ) → b < blocksOf (readHead s)
       → (c .block ≡ b → draws (modeOf (blockIn s b)) (splitOf (blockIn s b)) (c .line) q ch ≡ false)
@@ -186,7 +187,7 @@ module _ (s : List ℕ) (y : Bytes s) (c d : SheetCall) where
   -- a call after it on another block or line leaves what it draws
   seen-through : Apart c d → (q ch : ℕ) → q < 16 → ch < 4 → refusalOn s c ≡ 0 → draws (modeOf (blockIn s (c .block)))
       (splitOf (blockIn s (c .block))) (c .line) q ch ≡ true
-      → pixel (blockIn (sheetWith (sheetWith s c) d) (c .block)) q ch ≡ meant (modeOf (blockIn s (c .block))) (splitOf (blockIn s (c .block)))
+      → pixel (blockIn (sheetWith (sheetWith s c) d) (c .block)) q ch ≡ meansShown (modeOf (blockIn s (c .block))) (splitOf (blockIn s (c .block)))
       (c .line) (onBlock c .given) q ch
   seen-through apart q ch hq hc e dr =
       let w = accepted-in s y c e in

@@ -15,7 +15,7 @@ blockShowing w all x y = blockAt all (16 * (y / 4 * across w + x / 4))
 abbrev pub pixelIn : ℕ → ℕ → ℕ
 pixelIn x y = 4 * (y % 4) + x % 4
 
--- the picture: line by line, red green blue alpha
+-- the picture: scanline by scanline, red green blue alpha
 unfoldable pub pictureByte : ℕ → List ℕ → ℕ → ℕ
 pictureByte w all k =
     let x = k % (4 * w) / 4 in

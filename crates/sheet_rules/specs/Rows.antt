@@ -9,7 +9,7 @@ use lib.ListN.{length, getD, take, drop}
 use Rattle.laws.specs.Refusals.{Rule, first, refuse, unless}
 use Rattle.laws.specs.Tables.{pick, table}
 use Rattle.bc7_format.specs.Lines.{pixels}
-use Rattle.sheet_head.specs.Geometry.{across, outLength, rowLength, shown}
+use Rattle.sheet_head.specs.Geometry.{across, outLength, rowLength, sideShown}
 use Rattle.sheet_head.specs.Heads.{Sized, sizeRefusal}
 
 -- the block at a place of a list of bytes
@@ -20,7 +20,7 @@ blockAt s at = take 16 (drop at s)
 unfoldable pub channel : List (List ℕ) → ℕ → ℕ → ℕ
 channel px q c = getD (getD px q []) c 0
 
--- byte k of a row of blocks, whose lines are 4 · w bytes long: column x, line y, channel
+-- byte k of a row of blocks, whose scanlines are 4 · w bytes long: column x, scanline y, channel
 unfoldable pub rowByte : ℕ → List ℕ → ℕ → ℕ
 rowByte w blocks k =
     let x = k % (4 * w) / 4 in
@@ -28,7 +28,7 @@ rowByte w blocks k =
     channel (pixels (blockAt blocks (16 * (x / 4)))) (4 * y + x % 4) (k % 4)
 
 unfoldable pub rowBytes : ℕ → ℕ → List ℕ → List ℕ
-rowBytes w lines blocks = table (outLength w lines) (rowByte w blocks)
+rowBytes w scanlines blocks = table (outLength w scanlines) (rowByte w blocks)
 
 -- 9, 12, 10, 11; of the block bytes and the output only the lengths matter
 unfoldable pub rowRefusal : ℕ → ℕ → ℕ → ℕ → ℕ → ℕ
@@ -36,15 +36,15 @@ rowRefusal w h row given room =
     first
     (sizeRefusal w h
     ∷ refuse 12 (leb (across h) row) ∷ refuse 10 (not (eqb given (rowLength w)))
-    ∷ refuse 11 (not (eqb room (outLength w (shown h row)))) ∷ [])
+    ∷ refuse 11 (not (eqb room (outLength w (sideShown h row)))) ∷ [])
 
 abbrev pub rowRules : ℕ → ℕ → ℕ → ℕ → ℕ → List Rule
 rowRules w h row given room =
-    unless 9 (Sized w h) ∷ unless 12 (row < across h) ∷ unless 10 (given ≡ rowLength w) ∷ unless 11 (room ≡ outLength w (shown h row)) ∷ []
+    unless 9 (Sized w h) ∷ unless 12 (row < across h) ∷ unless 10 (given ≡ rowLength w) ∷ unless 11 (room ≡ outLength w (sideShown h row)) ∷ []
 
 -- the output afterwards
 unfoldable pub rowOut : ℕ → ℕ → ℕ → List ℕ → List ℕ → List ℕ
-rowOut w h row blocks out = pick (eqb (rowRefusal w h row (length blocks) (length out)) 0) (rowBytes w (shown h row) blocks) out
+rowOut w h row blocks out = pick (eqb (rowRefusal w h row (length blocks) (length out)) 0) (rowBytes w (sideShown h row) blocks) out
 
 -- what `decode_row` promises: its answer, and every byte of the output
 abbrev pub DecodesRow : ℕ → ℕ → ℕ → List ℕ → List ℕ → ℕ → List ℕ → Type 0

@@ -138,8 +138,8 @@ fn list_with(buffer: &mut [u8], text: &mut [u8]) -> Outcome
     }
 }
 
-// A buffer of 16,384 zero bytes, which is as much as the machine ever wants, and room for what it says of that: 1,024 lines of
-// 40 bytes, the first line and a refusal.
+// A buffer of 16,384 zero bytes, which is as much as the machine ever wants, and room for what it says of that: 1,024 texts of
+// 40 bytes, the first text and a refusal.
 fn list_input() -> Outcome {
     let mut buffer = [0u8; 16384];
     let mut text = [0u8; 41040];

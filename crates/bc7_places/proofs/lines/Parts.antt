@@ -12,7 +12,7 @@ use Rattle.bc7_format.specs.declared.Split.{Split}
 use Rattle.bc7_format.specs.declared.Split.the-variants.{Whole, Two, Three, Vector}
 use Rattle.bc7_places.specs.declared.modes.ModeRow.{ModeRow}
 use Rattle.laws.specs.Tables.{pick}
-use Rattle.bc7_format.specs.Lines.{anchorOf, arrayOf, lineBits}
+use Rattle.bc7_format.specs.Lines.{anchorOf, indexSetOf, lineBits}
 use Rattle.bc7_format.specs.Modes.{kindOfMode, lines, alphaBits, channelBits, colourBits}
 use Rattle.bc7_format.specs.Places.{Place}
 use Rattle.bc7_format.specs.Splits.{indexMode, isVector, kindOf, subset}
@@ -20,15 +20,15 @@ use Rattle.bc7_format.specs.WellFormed.{WellFormed}
 use Rattle.bc7_format.proofs.Modes.{good-64, good-index-mode}
 use Rattle.bc7_format.proofs.Opening.{good-kind}
 use Rattle.bc7_format.proofs.Subsets.{good-lines}
-use Rattle.bc7_places.specs.Lines.{OfLine, anchorIn, linePixels, partOf, setOf, ownPixel}
-use Rattle.bc7_places.specs.Modes.{rowOf}
+use Rattle.bc7_places.specs.Lines.{OfLine, anchorIn, linePixels, partOf, indexSetIn, ownPixel}
+use Rattle.bc7_places.specs.Modes.{modeRowOf}
 use Rattle.bc7_places.specs.Splits.{anchorsOf}
 use Rattle.bc7_places.proofs.lines.Maps.{anchor-is, own-pixel}
 use Rattle.bc7_places.proofs.splits.VectorKind.{vector-kind, vector-mode}
 
 -- the set of a line
-set-is : (s : Split) (l : ℕ) → indexMode s < 2 → (isVector s ≡ true → l < 2) → setOf s l ≡ arrayOf s l
-unfolding arrayOf
+set-is : (s : Split) (l : ℕ) → indexMode s < 2 → (isVector s ≡ true → l < 2) → indexSetIn s l ≡ indexSetOf s l
+unfolding indexSetOf
 set-is Whole l hi hl = refl
 set-is (Two a) l hi hl = refl
 set-is (Three a) l hi hl = refl
@@ -50,14 +50,14 @@ module _ {m : ℕ} {s : Split} {f : Place → ℕ} (g : WellFormed m s f) (l : �
   pub two : isVector s ≡ true → l < 2
   two v = by-kind 3 refl (eqb-true _ 3 (vector-kind s ∙ v))
 
-  pub sets : setOf s l ≡ arrayOf s l
+  pub sets : indexSetIn s l ≡ indexSetOf s l
   sets = set-is s l (good-index-mode g) two
 
-  pub of-line : {row : ModeRow} → row ≡ rowOf m → OfLine row s l
+  pub of-line : {row : ModeRow} → row ≡ modeRowOf m → OfLine row s l
   of-line e = record { kind = rw e (sym (good-kind g)); partition = good-64 g }
 
   -- the width of its index, and its anchor
-  pub bits-is : partOf (rowOf m) s l .index ≡ lineBits m s l
+  pub bits-is : partOf (modeRowOf m) s l .index ≡ lineBits m s l
   unfolding lineBits
   bits-is = rw sets refl
 
@@ -66,7 +66,7 @@ module _ {m : ℕ} {s : Split} {f : Place → ℕ} (g : WellFormed m s f) (l : �
 
   -- the width of a channel in the line: of a vector and its scalar, red, green and blue are line 0's and alpha is line 1's
   pub value-widths : (c : ℕ) → pick (isVector s) (pick (eqb (pick (eqb c 3) 1 0) l) (channelBits m c) 0) (channelBits m c)
-      ≡ pick (eqb c 3) (partOf (rowOf m) s l .alpha) (partOf (rowOf m) s l .colour)
+      ≡ pick (eqb c 3) (partOf (modeRowOf m) s l .alpha) (partOf (modeRowOf m) s l .colour)
   value-widths c = rw (vector-mode g) (go (isVector s) refl (eqb c 3))
     where
       line : (l : ℕ) (b : Bool) → l < 2
@@ -88,7 +88,7 @@ module _ {m : ℕ} {s : Split} {f : Place → ℕ} (g : WellFormed m s f) (l : �
   -- and that of its index at a pixel
   pub index-widths : (q : ℕ) → q < 16
       → pick (isVector s) (lineBits m s l) (pick (eqb (subset s q) l) (lineBits m s l) 0)
-      ≡ pick (ownPixel (linePixels s l) q) (partOf (rowOf m) s l .index) 0
+      ≡ pick (ownPixel (linePixels s l) q) (partOf (modeRowOf m) s l .index) 0
   index-widths q hq = rw (bits-is, own-pixel s l q (good-64 g) hq) (go (isVector s))
     where
       go : (v : Bool)

@@ -8,7 +8,7 @@ use lib.Pow.{pow-mono}
 use Rattle.bc7_places.specs.declared.modes.ModeRow.{ModeRow}
 use Rattle.bc7_format.specs.Modes.{endpointCount, kindOfMode, modeRow, partitionBits}
 use Rattle.bc7_format.proofs.Modes.{by-vector, six-bits}
-use Rattle.bc7_places.specs.Modes.{OfMode, rowOf}
+use Rattle.bc7_places.specs.Modes.{OfMode, modeRowOf}
 
 pub record Small (row : ModeRow) : Type 0 where
   pub split : row .partition + row .rotation + row .«index_mode» ≤ 6
@@ -24,20 +24,20 @@ pub record Small (row : ModeRow) : Type 0 where
   pub second : row .second ≤ 4
   pub kind : row .kind ≤ 3
 
-small-row : (m : ℕ) → m < 8 → Small (rowOf m)
+small-mode-row : (m : ℕ) → m < 8 → Small (modeRowOf m)
 unfolding modeRow kindOfMode endpointCount
-small-row zero h = omega arith
-small-row (suc zero) h = omega arith
-small-row (suc (suc zero)) h = omega arith
-small-row (suc (suc (suc zero))) h = omega arith
-small-row (suc (suc (suc (suc zero)))) h = omega arith
-small-row (suc (suc (suc (suc (suc zero))))) h = omega arith
-small-row (suc (suc (suc (suc (suc (suc zero)))))) h = omega arith
-small-row (suc (suc (suc (suc (suc (suc (suc zero))))))) h = omega arith
-small-row (suc (suc (suc (suc (suc (suc (suc (suc m)))))))) h = absurd (let z : ⊥ = omega arith in z)
+small-mode-row zero h = omega arith
+small-mode-row (suc zero) h = omega arith
+small-mode-row (suc (suc zero)) h = omega arith
+small-mode-row (suc (suc (suc zero))) h = omega arith
+small-mode-row (suc (suc (suc (suc zero)))) h = omega arith
+small-mode-row (suc (suc (suc (suc (suc zero))))) h = omega arith
+small-mode-row (suc (suc (suc (suc (suc (suc zero)))))) h = omega arith
+small-mode-row (suc (suc (suc (suc (suc (suc (suc zero))))))) h = omega arith
+small-mode-row (suc (suc (suc (suc (suc (suc (suc (suc m)))))))) h = absurd (let z : ⊥ = omega arith in z)
 
 pub small : {row : ModeRow} → OfMode row → Small row
-small o = subst Small (sym (o .is)) (small-row (o .mode) (o .low))
+small o = subst Small (sym (o .is)) (small-mode-row (o .mode) (o .low))
 
 -- a vector and its scalar have two sets
 pub second-bits : {row : ModeRow} → OfMode row → row .kind ≡ 3 → 0 < row .second

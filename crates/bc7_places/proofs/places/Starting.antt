@@ -14,24 +14,24 @@ use Rattle.laws.specs.Digits.{total}
 use Rattle.bc7_places.specs.declared.places.Fields.{Fields}
 use Rattle.laws.specs.Tables.{below, both, implies, pick, table, tableFrom}
 use Rattle.laws.proofs.Tests.{at, both-left, both-right, implied, no-both}
-use Rattle.bc7_format.specs.Lines.{arrayOf, valuePlace}
+use Rattle.bc7_format.specs.Lines.{indexSetOf, valuePlace}
 use Rattle.bc7_format.specs.Modes.{endpointCount, firstBits, kindOfMode, lines, modeRow, pCount}
 use Rattle.bc7_format.specs.Places.{Place, placeAt, pos, width, widths, valuesFrom, psFrom, firstFrom, secondFrom}
 use Rattle.bc7_format.specs.Splits.{anchors, isVector}
 use Rattle.bc7_format.specs.WellFormed.{WellFormed}
-use Rattle.bc7_format.proofs.Meaning.{array-lt}
+use Rattle.bc7_format.proofs.Meaning.{index-set-lt}
 use Rattle.bc7_format.proofs.Modes.{good-index-mode, good-vector}
 use Rattle.bc7_format.proofs.Starts.{start}
 use Rattle.bcn_format.specs.Indexes.{indexWidth, indexWidths}
 use Rattle.bcn_format.proofs.Expanding.{size-1}
-use Rattle.bc7_format.specs.Fields.{headEnd}
+use Rattle.bc7_format.specs.Fields.{leadEnd}
 use Rattle.bc7_format.proofs.Fields.{begins}
-use Rattle.bc7_places.specs.Modes.{rowOf}
+use Rattle.bc7_places.specs.Modes.{modeRowOf}
 use Rattle.bc7_places.proofs.splits.VectorKind.{vector-mode}
 use Rattle.bc7_places.specs.Places.{fieldsOf}
 
 abbrev at-line : ℕ → ℕ → Fields
-at-line m l = fieldsOf (rowOf m) (headEnd m) l 0
+at-line m l = fieldsOf (modeRowOf m) (leadEnd m) l 0
 
 abbrev pub channelAt : Fields → ℕ → ℕ
 channelAt at c = pick (eqb c 0) (at .red) (pick (eqb c 1) (at .green) (pick (eqb c 2) (at .blue) (at .alpha)))
@@ -53,12 +53,12 @@ lineTest : Split → ℕ → ℕ → Bool
 lineTest s m l = implies (ltb l (lines m)) (both (below 4 (channelTest s m l)) (pTest s m l))
 
 all-start : (s : Split) → T (below 8 (λ m. below 3 (lineTest s m)))
-unfolding lineTest channelTest pTest fieldsOf start widths table tableFrom placeAt width headEnd implies modeRow kindOfMode endpointCount
+unfolding lineTest channelTest pTest fieldsOf start widths table tableFrom placeAt width leadEnd implies modeRow kindOfMode endpointCount
 all-start s = tt
 
 -- the second set is there where there is a vector, and then each set has one anchor
-second-set : (s : Split) (l : ℕ) → arrayOf s l ≡ 1 → isVector s ≡ true
-unfolding arrayOf
+second-set : (s : Split) (l : ℕ) → indexSetOf s l ≡ 1 → isVector s ≡ true
+unfolding indexSetOf
 second-set Whole l e = absurd (let y : ⊥ = omega arith in y)
 second-set (Two a) l e = absurd (let y : ⊥ = omega arith in y)
 second-set (Three a) l e = absurd (let y : ⊥ = omega arith in y)
@@ -119,9 +119,9 @@ module _ {m : ℕ} {s : Split} {f : Place → ℕ} (g : WellFormed m s f) (l : �
   first-starts : at-line m l .indexes ≡ start m s firstFrom
   first-starts = eqb→eq _ _ (both-right (leb (at-line m l .p) 100) _ rest)
 
-  pub set-starts : fieldsOf (rowOf m) (headEnd m) l (arrayOf s l) .indexes ≡ start m s (firstFrom + (16 * arrayOf s l + 0))
+  pub set-starts : fieldsOf (modeRowOf m) (leadEnd m) l (indexSetOf s l) .indexes ≡ start m s (firstFrom + (16 * indexSetOf s l + 0))
   unfolding fieldsOf
-  set-starts = go (arrayOf s l) (array-lt s l (good-index-mode g)) refl
+  set-starts = go (indexSetOf s l) (index-set-lt s l (good-index-mode g)) refl
     where
       behind : isVector s ≡ true → start m s secondFrom ≡ start m s firstFrom + (16 * firstBits m - 1)
       behind v =
@@ -132,7 +132,7 @@ module _ {m : ℕ} {s : Split} {f : Place → ℕ} (g : WellFormed m s f) (l : �
           size-first : total (table 16 (indexWidth (firstBits m) (0 ∷ []))) ≡ 16 * firstBits m - 1
           size-first = one-anchor (firstBits m) (omega (arith, good-vector g v .least1))
 
-      go : (a : ℕ) → a < 2 → arrayOf s l ≡ a → fieldsOf (rowOf m) (headEnd m) l a .indexes ≡ start m s (firstFrom + (16 * a + 0))
+      go : (a : ℕ) → a < 2 → indexSetOf s l ≡ a → fieldsOf (modeRowOf m) (leadEnd m) l a .indexes ≡ start m s (firstFrom + (16 * a + 0))
       go zero h e = first-starts
       go (suc zero) h e = ap (λ (x : ℕ). x + (16 * firstBits m - 1)) first-starts ∙ sym (behind (second-set s l e))
       go (suc (suc a)) h e = absurd (let y : ⊥ = omega arith in y)

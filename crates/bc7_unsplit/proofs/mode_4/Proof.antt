@@ -15,15 +15,15 @@ use Rattle.bits.specs.Stream.{held}
 use Rattle.bits.proofs.On.{On, field-lt, got-64, got-8, on-64, on-8}
 use Rattle.bcn_format.specs.Indexes.{part}
 use Rattle.indexes.proofs.Reading.{got-indexes, on-indexes}
-use Rattle.bc7_format.specs.Fields.{endByte, headEnd, valueStart}
+use Rattle.bc7_format.specs.Fields.{endByte, leadEnd, valueStart}
 use Rattle.bcn_format.specs.Painting.{four, between}
 use Rattle.bc7_format.specs.Rotating.{swapped}
 use Rattle.bc7_format.proofs.Pictures.{four-ext}
 use Rattle.bc7_format.proofs.Fields.{second-4, split-4}
-use Rattle.drawing.specs.declared.color.Stored.{Stored}
+use Rattle.drawing.specs.declared.colour.Stored.{Stored}
 use Rattle.drawing.specs.Words.{endpoint, withAlpha}
-use Rattle.drawing.proofs.color.Words.{endpoint-one}
-use Rattle.bc7_format.proofs.Ends.{clear-shown}
+use Rattle.drawing.proofs.colour.Words.{endpoint-one}
+use Rattle.bc7_format.proofs.Ends.{translucent-shown}
 use Rattle.bc7_unsplit.specs.Crossing.{crossed}
 use Rattle.bc7_unsplit.proofs.Laws.{by-set, vector-either, words-apart, words-summed}
 use Rattle.bc7_unsplit.proofs.mode_4.Statement.{statement}
@@ -82,7 +82,7 @@ swap-channels-requires c κs =
     omega (arith, rotation .small)
 
 returns : tie.Need-returns
-unfolding splitAt kindOfMode modeRow endpointCount field valueStart headEnd
+unfolding splitAt kindOfMode modeRow endpointCount field valueStart leadEnd
 returns c =
     let third = c .before .before in
     let first = third .before .before in
@@ -115,7 +115,7 @@ returns c =
       p = 0;
     } in
     let shown =
-    clear-shown 4 n {l = 0} {p = 0} refl
+    translucent-shown 4 n {l = 0} {p = 0} refl
     (record {
       red = got-64 on-r 10 (r .take .ensures .same);
       green = got-64 on-g 10 (g .take2 .ensures .same);

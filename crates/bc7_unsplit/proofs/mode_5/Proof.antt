@@ -12,17 +12,17 @@ use Rattle.bc7_format.proofs.Starts.{index-start}
 use Rattle.bits.specs.Stream.{held}
 use Rattle.bits.proofs.On.{On, field-lt, got-64, got-8, on-64, on-8}
 use Rattle.indexes.proofs.Reading.{got-indexes, on-indexes}
-use Rattle.bc7_format.specs.Fields.{endByte, headEnd, valueStart}
+use Rattle.bc7_format.specs.Fields.{endByte, leadEnd, valueStart}
 use Rattle.bcn_format.specs.Painting.{four, between, painted}
 use Rattle.bc7_format.specs.Rotating.{swapped}
 use Rattle.bc7_format.proofs.Pictures.{four-ext}
 use Rattle.bc7_format.proofs.Fields.{second-5, split-5}
-use Rattle.drawing.specs.declared.color.Stored.{Stored}
+use Rattle.drawing.specs.declared.colour.Stored.{Stored}
 use Rattle.drawing.specs.Words.{endpoint, withAlpha}
-use Rattle.drawing.proofs.color.Words.{endpoint-one}
+use Rattle.drawing.proofs.colour.Words.{endpoint-one}
 use Rattle.drawing.specs.declared.keys.Keys.{Keys}
 use Rattle.drawing.specs.Keys.{keyAt}
-use Rattle.bc7_format.proofs.Ends.{clear-shown}
+use Rattle.bc7_format.proofs.Ends.{translucent-shown}
 use Rattle.bc7_unsplit.proofs.Laws.{by-set, paired, vector-either}
 use Rattle.bc7_unsplit.proofs.mode_5.Statement.{statement}
 use Rattle.bc7_unsplit.proofs.mode_5.Tie as tie
@@ -66,7 +66,7 @@ swap-channels-requires c κs =
     omega (arith, rotation .small)
 
 returns : tie.Need-returns
-unfolding splitAt kindOfMode modeRow endpointCount field valueStart headEnd
+unfolding splitAt kindOfMode modeRow endpointCount field valueStart leadEnd
 returns c =
     let keys = c .before .before in
     let palette = keys .before in
@@ -97,7 +97,7 @@ returns c =
       p = 0;
     } in
     let shown =
-    clear-shown 5 n {l = 0} {p = 0} refl
+    translucent-shown 5 n {l = 0} {p = 0} refl
     (record {
       red = got-64 on-r 14 (r .take .ensures .same);
       green = got-64 on-g 14 (g .take2 .ensures .same);

@@ -13,12 +13,12 @@ use Rattle.bits.specs.Stream.{held}
 use Rattle.bits.proofs.On.{On, got-64, on-64}
 use Rattle.bcn_format.specs.Indexes.{part}
 use Rattle.indexes.proofs.Reading.{got-indexes}
-use Rattle.bc7_format.specs.Fields.{endByte, headEnd, pStart, valueStart}
+use Rattle.bc7_format.specs.Fields.{endByte, leadEnd, pStart, valueStart}
 use Rattle.bcn_format.specs.Painting.{four, between, painted}
 use Rattle.bc7_format.proofs.Pictures.{drawn-each, four-ext, one-palette}
 use Rattle.drawing.specs.Words.{endpoint, withP}
-use Rattle.drawing.proofs.color.Words.{endpoint-one}
-use Rattle.bc7_format.proofs.Ends.{clear-p-shown, two-ps}
+use Rattle.drawing.proofs.colour.Words.{endpoint-one}
+use Rattle.bc7_format.proofs.Ends.{translucent-p-shown, two-ps}
 use Rattle.bc7_unsplit.proofs.Laws.{whole-keys}
 use Rattle.bc7_unsplit.proofs.mode_6.Statement.{statement}
 use Rattle.bc7_unsplit.proofs.mode_6.Tie as tie
@@ -48,7 +48,7 @@ mix-16-requires : tie.Need-mix-16-requires
 mix-16-requires c κs = c .alone-p .ensures .one
 
 returns : tie.Need-returns
-unfolding splitAt kindOfMode modeRow endpointCount field valueStart pStart headEnd
+unfolding splitAt kindOfMode modeRow endpointCount field valueStart pStart leadEnd
 returns c =
     let ends = c .before .alone-p .ensures in
     let x = c .before .before in
@@ -66,7 +66,7 @@ returns c =
     let on-p = on-64 on-a 14 (a .take4 .ensures .same) in
     let on-x = on-64 on-p 2 (p .take5 .ensures .same) in
     let shown =
-    clear-p-shown 6 n {l = 0} refl
+    translucent-p-shown 6 n {l = 0} refl
     (record {
       red = got-64 on-r 14 (r .take .ensures .same);
       green = got-64 on-g 14 (g .take2 .ensures .same);

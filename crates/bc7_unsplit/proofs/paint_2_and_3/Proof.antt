@@ -69,11 +69,11 @@ fits c =
 add-word : tie.Need-add-word Inv-loop μ-loop
 add-word c = record { fits = fits c }
 
-cast-low-color : tie.Need-cast-low-color Inv-loop μ-loop
-cast-low-color c = omega (arith, fits c)
+cast-low-colour : tie.Need-cast-low-colour Inv-loop μ-loop
+cast-low-colour c = omega (arith, fits c)
 
-low-color-requires : tie.Need-low-color-requires Inv-loop μ-loop
-low-color-requires c κs = search needs
+low-colour-requires : tie.Need-low-colour-requires Inv-loop μ-loop
+low-colour-requires c κs = search needs
 
 mul-output : tie.Need-mul-output Inv-loop μ-loop
 mul-output c = omega arith
@@ -94,7 +94,7 @@ loop-again c =
     let at = x .before in
     let s = at .before .before in
     made-next (at .before .loop .inv) (at .loop-test .taken)
-    (c .low-color .ensures
+    (c .low-colour .ensures
     ∙ ap₂ (λ (i j : ℕ). take 4 (wordBytes (getD (s .args .t1) i 0 + getD (s .args .t2) j 0))) (is (s .pre .1) (x .get-index .ensures))
     (is (s .pre .2) (y .get-index2 .ensures)))
 
@@ -118,8 +118,8 @@ paint-2-and-3-spec =
     mul-word-2
     array-read-word-2
     add-word
-    cast-low-color
-    low-color-requires
+    cast-low-colour
+    low-colour-requires
     mul-output
     array-set-from-output
     add-i

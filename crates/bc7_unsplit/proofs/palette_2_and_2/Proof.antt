@@ -9,10 +9,10 @@ use borrow.Author.Needs.{needs}
 use Rattle.laws.specs.Tables.{table}
 use Rattle.laws.proofs.Filled.{Filled, filled-all, filled-four, filled-none}
 use Rattle.bcn_format.specs.Painting.{between}
-use Rattle.drawing.specs.declared.color.Ends.{Ends}
+use Rattle.drawing.specs.declared.colour.Ends.{Ends}
 use Rattle.drawing.specs.Words.{Alone, endpoint, wordBytes}
 use Rattle.bc7_unsplit.specs.Crossing.{kept, keptWord}
-use Rattle.bc7_unsplit.proofs.Crossing.{alpha-fits, both-kept, colors-fit, high-pairs, low-pairs, pairAt, pairs}
+use Rattle.bc7_unsplit.proofs.Crossing.{alpha-fits, both-kept, colours-fit, high-pairs, low-pairs, pairAt, pairs}
 use Rattle.bc7_unsplit.proofs.palette_2_and_2.Statement.{statement}
 use Rattle.bc7_unsplit.proofs.palette_2_and_2.Tie as tie
 
@@ -71,7 +71,7 @@ array-read-with-alphas c = omega arith
 with-alphas-requires : tie.Need-with-alphas-requires Inv-loop μ-loop
 with-alphas-requires c κs =
     let start = words (c .before .before) in (
-      colors-fit (start .e) (start .one) 0 1 (omega arith) (omega arith) (start .low-is),
+      colours-fit (start .e) (start .one) 0 1 (omega arith) (omega arith) (start .low-is),
       alpha-fits (start .e) (start .one) (start .alphas-are)
           (c .before .loop .j) (c .loop-test .taken),
     )
@@ -86,13 +86,13 @@ with-alphas-requires-2 : tie.Need-with-alphas-requires-2 Inv-loop μ-loop
 with-alphas-requires-2 c κs =
     let at = c .before in
     let start = words (at .before .before) in (
-      colors-fit (start .e) (start .one) 2 3 (omega arith) (omega arith) (start .high-is),
+      colours-fit (start .e) (start .one) 2 3 (omega arith) (omega arith) (start .high-is),
       alpha-fits (start .e) (start .one) (start .alphas-are)
           (at .before .loop .j) (at .loop-test .taken),
     )
 
-low-color-requires : tie.Need-low-color-requires Inv-loop μ-loop
-low-color-requires c κs = search needs
+low-colour-requires : tie.Need-low-colour-requires Inv-loop μ-loop
+low-colour-requires c κs = search needs
 
 mul-q : tie.Need-mul-q Inv-loop μ-loop
 mul-q c = omega arith
@@ -103,8 +103,8 @@ mul-q-2 c = omega arith
 array-set-from-q : tie.Need-array-set-from-q Inv-loop μ-loop
 array-set-from-q c = omega arith
 
-high-color-requires : tie.Need-high-color-requires Inv-loop μ-loop
-high-color-requires c κs = search needs
+high-colour-requires : tie.Need-high-colour-requires Inv-loop μ-loop
+high-colour-requires c κs = search needs
 
 mul-q-3 : tie.Need-mul-q-3 Inv-loop μ-loop
 mul-q-3 c = omega arith
@@ -118,8 +118,8 @@ mul-q-4 c = omega arith
 array-set-from-q-2 : tie.Need-array-set-from-q-2 Inv-loop μ-loop
 array-set-from-q-2 c = omega arith
 
-low-color-requires-2 : tie.Need-low-color-requires-2 Inv-loop μ-loop
-low-color-requires-2 c κs = search needs
+low-colour-requires-2 : tie.Need-low-colour-requires-2 Inv-loop μ-loop
+low-colour-requires-2 c κs = search needs
 
 mul-q-5 : tie.Need-mul-q-5 Inv-loop μ-loop
 mul-q-5 c = omega arith
@@ -133,8 +133,8 @@ mul-q-6 c = omega arith
 array-set-from-q-3 : tie.Need-array-set-from-q-3 Inv-loop μ-loop
 array-set-from-q-3 c = omega arith
 
-high-color-requires-2 : tie.Need-high-color-requires-2 Inv-loop μ-loop
-high-color-requires-2 c κs = search needs
+high-colour-requires-2 : tie.Need-high-colour-requires-2 Inv-loop μ-loop
+high-colour-requires-2 c κs = search needs
 
 mul-q-7 : tie.Need-mul-q-7 Inv-loop μ-loop
 mul-q-7 c = omega arith
@@ -162,11 +162,11 @@ loop-again c =
     let two = at .before .before in
     let j = at .before .loop .j in
     let p =
-    low-pairs _ (two .before .before .keep .result) (two .keep2 .result) j (x .with-alphas .ensures) (c .before .before .before .low-color .ensures)
-    (c .before .before .high-color .ensures) in
+    low-pairs _ (two .before .before .keep .result) (two .keep2 .result) j (x .with-alphas .ensures) (c .before .before .before .low-colour .ensures)
+    (c .before .before .high-colour .ensures) in
     let q =
-    high-pairs _ (two .before .before .keep .result) (two .keep2 .result) j (y .with-alphas2 .ensures) (c .before .low-color2 .ensures)
-    (c .high-color2 .ensures) in
+    high-pairs _ (two .before .before .keep .result) (two .keep2 .result) j (y .with-alphas2 .ensures) (c .before .low-colour2 .ensures)
+    (c .high-colour2 .ensures) in
     (omega arith, filled-four j (at .before .loop .inv .1) (omega arith) (p .0) (p .1) (q .0) (q .1))
 
 returns : tie.Need-returns Inv-loop μ-loop
@@ -193,21 +193,21 @@ palette-2-and-2-spec =
     mul-with-alphas-2
     array-read-with-alphas-2
     with-alphas-requires-2
-    low-color-requires
+    low-colour-requires
     mul-q
     mul-q-2
     array-set-from-q
-    high-color-requires
+    high-colour-requires
     mul-q-3
     add-q
     mul-q-4
     array-set-from-q-2
-    low-color-requires-2
+    low-colour-requires-2
     mul-q-5
     add-q-2
     mul-q-6
     array-set-from-q-3
-    high-color-requires-2
+    high-colour-requires-2
     mul-q-7
     add-q-3
     mul-q-8

@@ -13,10 +13,10 @@ use Rattle.bc7_unsplit.proofs.words_2.Statement.{statement}
 use Rattle.bc7_unsplit.proofs.words_2.Tie as tie
 
 abbrev Inv-loop : tie.InvT-loop
-Inv-loop e color q₀ k₀ q k = (k ≤ 2) × Filled 4 0 (λ i. keptWord color (between 2 (endpoint e 0 0) (endpoint e 0 1) i)) (2 * k) q
+Inv-loop e colour q₀ k₀ q k = (k ≤ 2) × Filled 4 0 (λ i. keptWord colour (between 2 (endpoint e 0 0) (endpoint e 0 1) i)) (2 * k) q
 
 abbrev μ-loop : tie.MeasureT-loop
-μ-loop e color q₀ k₀ q k = 2 - k
+μ-loop e colour q₀ k₀ q k = 2 - k
 
 loop-holds : tie.Need-loop-holds Inv-loop μ-loop
 loop-holds c = (omega arith, filled-none refl)
@@ -70,8 +70,8 @@ loop-again c =
     let e1 = endpoint (s .args .e) 0 1 in (
       omega arith,
       filled-two k (at .before .loop .inv .1) (omega arith)
-          (low-kept (s .args .color) 2 (2 * k) (2 * k + 1) e0 e1 (x .before .shades-2 .ensures) (x .keep .ensures) (c .before .low-word .ensures))
-          (high-kept (s .args .color) 2 (2 * k) (2 * k + 1) e0 e1 (x .before .shades-2 .ensures) (x .keep .ensures) (c .high-word .ensures)),
+          (low-kept (s .args .colour) 2 (2 * k) (2 * k + 1) e0 e1 (x .before .shades-2 .ensures) (x .keep .ensures) (c .before .low-word .ensures))
+          (high-kept (s .args .colour) 2 (2 * k) (2 * k + 1) e0 e1 (x .before .shades-2 .ensures) (x .keep .ensures) (c .high-word .ensures)),
     )
 
 returns : tie.Need-returns Inv-loop μ-loop

@@ -35,7 +35,8 @@ returns : tie.Need-returns
 returns c =
     let x = c .before .before .before .before .consume-bits .ensures .same in
     let y = c .before .before .consume-bit .ensures .same in
-    opens-at _ (c .before .before .before .before .before .skip .ensures) (ap (λ (r : Bits8). r .value) x, ap (λ (r : Bits8). r .stream) x) (ap (λ (r : Bit). r .value) y, ap (λ (r : Bit). r .stream) y)
+    opens-at _ (c .before .before .before .before .before .skip .ensures) (ap (λ (r : Bits8). r .value) x, ap (λ (r : Bits8). r .stream) x)
+    (ap (λ (r : Bit). r .value) y, ap (λ (r : Bit). r .stream) y)
     (ap (λ (r : Bits64). r .value) (c .consume-bits-64 .ensures .same))
 
 pub read-opening-spec : {M : Type 1} → statement M

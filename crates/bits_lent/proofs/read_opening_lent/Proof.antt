@@ -16,7 +16,8 @@ use ghost.Atoms.{Atoms}
 use contract.Monad.{Fun}
 use contract.Running.{givenOf, tables, tablesOf}
 use types.Kit.{Given, ‵, _$_, _∵_, !, qed, by, move, keep, fjoin, suffices, frame, done}
-use types.Run.{look, init, forget, stop, from, load, lit, of-opd, addr, and-then, no-more, assigns, land, returns, enter, alloc1, alloc0, params1, pass1, pass0, free1, free0}
+use types.Run.{look, init, forget, stop, from, load, lit, of-opd, addr, and-then, no-more, assigns, land, returns, enter, alloc1, alloc0, params1}
+use types.Run.{pass1, pass0, free1, free0}
 use types.Part.{agg}
 use sound.WpLaws.{fmOf, WpFn-mono}
 use denote.RattleType.{owns}
@@ -67,19 +68,26 @@ module _ {M : Type 1} (𝓤 : URA M) (H : Heap 𝓤) (A : Atoms 𝓤) (W : Given
 
     ends : (r : Opening) → r ≡ openingAt h → Is O.the-row r (O′.lowered r ∷ []) → ent 𝓤 (emp 𝓤) (Post (O′.lowered r))
     ends r e is =
-        qed W (‵ ftrue ∷ []) ∵ suffices ! _ (ends-at 𝓤 H A f.ended stays (f.clauses 𝓤 H A mem run) W at (O′.lowered r) r (tt, tt) (tt, tt)) $ says ! e $ frame ! $
-        nothing ! $ nothing ! $ fjoin ! $ owned ! O.the-row (Is O.the-row) (LL.makes O.the-type O′.the-plain 𝓤 H A) r _ is $ move ! (1 ∷ 0 ∷ []) $ done !
+        qed W (‵ ftrue ∷ []) ∵ suffices ! _ (ends-at 𝓤 H A f.ended stays (f.clauses 𝓤 H A mem run) W at (O′.lowered r) r (tt, tt)
+        (tt, tt)) $ says ! e $ frame ! $
+        nothing ! $ nothing ! $ fjoin ! $ owned ! O.the-row (Is O.the-row) (LL.makes O.the-type O′.the-plain 𝓤 H A) r _ is $ move !
+        (1 ∷ 0 ∷ []) $ done !
 
-    module _ (𝓣 : Tables 𝓤 H) (knows-skip : Triple 𝓤 (𝓣 .C skip-def.name) (lent the-skip 𝓤 H A)) (knows-bits : Triple 𝓤 (𝓣 .C bits-def.name) (lent the-bits 𝓤 H A))
-        (knows-bit : Triple 𝓤 (𝓣 .C bit-def.name) (lent the-bit 𝓤 H A)) (knows-bits-64 : Triple 𝓤 (𝓣 .C bits-64-def.name) (lent the-bits-64 𝓤 H A)) where
-      walk : h .at + 50 < 2 ^ 32 → IsStream h → ent 𝓤 (onEntry 𝓤 H A f.signature tt tt (h, tt) (T′.lowered h ∷ [], tt)) (WpFn 𝓤 H (𝓣 .C) (𝓣 .Λ) code.function (T′.lowered h ∷ []) Post)
+    module _ (𝓣 : Tables 𝓤 H) (knows-skip : Triple 𝓤 (𝓣 .C skip-def.name) (lent the-skip 𝓤 H A))
+        (knows-bits : Triple 𝓤 (𝓣 .C bits-def.name) (lent the-bits 𝓤 H A))
+        (knows-bit : Triple 𝓤 (𝓣 .C bit-def.name) (lent the-bit 𝓤 H A))
+        (knows-bits-64 : Triple 𝓤 (𝓣 .C bits-64-def.name) (lent the-bits-64 𝓤 H A)) where
+      walk : h .at + 50 < 2 ^ 32 → IsStream h
+          → ent 𝓤 (onEntry 𝓤 H A f.signature tt tt (h, tt) (T′.lowered h ∷ [], tt)) (WpFn 𝓤 H (𝓣 .C) (𝓣 .Λ) code.function (T′.lowered h ∷ []) Post)
       walk ok is =
           let fm = fmOf 𝓤 H (W .laws) 𝓣 in
-          qed W (‵ ftrue ∷ ‵ (owns (T.the-row ∷ []) (h, tt) (T′.lowered h ∷ [], tt)) ∷ []) ∵ enter ! (𝓣 .C) (𝓣 .Λ) code.function (T′.lowered h ∷ []) _ $
+          qed W (‵ ftrue ∷ ‵ (owns (T.the-row ∷ []) (h, tt) (T′.lowered h ∷ [], tt)) ∷ []) ∵ enter ! (𝓣 .C) (𝓣 .Λ) code.function
+          (T′.lowered h ∷ []) _ $
           alloc1 ! (λ l₀. alloc1 ! (λ l₁. alloc1 ! (λ l₂. alloc1 ! (λ l₃. alloc1 ! (λ l₄. alloc1 ! (λ l₅.
           alloc1 ! (λ l₆. alloc1 ! (λ l₇. alloc1 ! (λ l₈. alloc1 ! (λ l₉. alloc1 ! (λ l₁₀. alloc0 ! $ params1 ! $
           pass1 ! (init ! 18 refl (stream-typed 𝓤 H A W h is)) $ pass0 ! $
-          assigns ! (of-opd ! (load ! (from ! (stop !)) (look ! 18 refl))) (from ! (stop !)) (init ! 16 refl (stream-typed 𝓤 H A W h is)) $ move ! (16 ∷ []) $
+          assigns ! (of-opd ! (load ! (from ! (stop !)) (look ! 18 refl))) (from ! (stop !)) (init ! 16 refl (stream-typed 𝓤 H A W h is)) $ move !
+          (16 ∷ []) $
           -- [_2; _10; …; _9; …; _8; …; _7; …; _6; …; _5; …; _4; …; _3; …; …_2; _1; …; _0; …]
           assigns ! (addr ! (from ! (stop !))) (from ! (stop !)) (init ! 7 refl (tt, tt)) $
           lends the-skip 𝓤 H A W l₂ h (λ _. (5, tt)) fm knows-skip is (λ _. omega arith) (λ _. ((refl, lit< tt), tt))
@@ -88,27 +96,34 @@ module _ {M : Type 1} (𝓤 : URA M) (H : Heap 𝓤) (A : Atoms 𝓤) (W : Given
           let at₁ = ap (λ (s : BitStream). s .at) e₁ in
           lends the-bits 𝓤 H A W l₂ s₁ (λ _. (2, tt)) fm knows-bits is₁ (λ _. (omega arith, omega arith, omega arith)) (λ _. ((refl, lit< tt), tt))
           (λ _ i j. and-then ! (load ! (from ! (stop !)) (look ! 6 refl)) (and-then ! (lit ! tt) (no-more !))) (λ _ x s₂ e₂ is-x is₂.
-          land ! (from ! (stop !)) (init ! 15 refl (typed a-u8 𝓤 H A W x is-x)) $ assigns ! (addr ! (from ! (stop !))) (from ! (stop !)) (init ! 3 refl (tt, tt)) $
+          land ! (from ! (stop !)) (init ! 15 refl (typed a-u8 𝓤 H A W x is-x)) $ assigns ! (addr ! (from ! (stop !))) (from ! (stop !))
+          (init ! 3 refl (tt, tt)) $
           let at₂ = ap (λ (s : BitStream). s .at) (e₂ .1) in
           lends the-bit 𝓤 H A W l₂ s₂ (λ _. tt) fm knows-bit is₂ (λ _. omega arith) (λ _. tt)
           (λ _ i j. and-then ! (load ! (from ! (stop !)) (look ! 4 refl)) (no-more !)) (λ _ y s₃ e₃ is-y is₃.
-          land ! (from ! (stop !)) (init ! 13 refl (typed a-bool 𝓤 H A W y is-y)) $ assigns ! (addr ! (from ! (stop !))) (from ! (stop !)) (init ! 1 refl (tt, tt)) $
+          land ! (from ! (stop !)) (init ! 13 refl (typed a-bool 𝓤 H A W y is-y)) $ assigns ! (addr ! (from ! (stop !))) (from ! (stop !))
+          (init ! 1 refl (tt, tt)) $
           let at₃ = ap (λ (s : BitStream). s .at) (e₃ .1) in
-          lends the-bits-64 𝓤 H A W l₂ s₃ (λ _. (42, tt)) fm knows-bits-64 is₃ (λ _. (omega arith, omega arith, omega arith)) (λ _. ((refl, lit< tt), tt))
+          lends the-bits-64 𝓤 H A W l₂ s₃ (λ _. (42, tt)) fm knows-bits-64 is₃ (λ _. (omega arith, omega arith, omega arith))
+          (λ _. ((refl, lit< tt), tt))
           (λ _ i j. and-then ! (load ! (from ! (stop !)) (look ! 2 refl)) (and-then ! (lit ! tt) (no-more !))) (λ _ z s₄ e₄ is-z is₄.
           let r : Opening = record { rotation = x; «index_mode» = y; endpoints = z } in
           let is-r = LL.owes O.the-type O′.the-laws r (is-x, (is-y, (is-z, tt))) in
           land ! (from ! (stop !)) (init ! 11 refl (typed a-u64 𝓤 H A W z is-z)) $
-          assigns ! (agg ! (and-then ! (load ! (from ! (stop !)) (look ! 15 refl)) (and-then ! (load ! (from ! (stop !)) (look ! 13 refl)) (and-then ! (load ! (from ! (stop !)) (look ! 11 refl)) (no-more !)))))
+          assigns ! (agg ! (and-then ! (load ! (from ! (stop !)) (look ! 15 refl))
+          (and-then ! (load ! (from ! (stop !)) (look ! 13 refl)) (and-then ! (load ! (from ! (stop !)) (look ! 11 refl)) (no-more !)))))
           (from ! (stop !)) (init ! 20 refl (LL.lawful O.the-type O′.the-laws 𝓤 H A W .typed r _ is-r .0)) $
           returns ! (look ! 20 refl) $ forget ! 0 refl $ forget ! 1 refl $ forget ! 3 refl $ forget ! 5 refl $ forget ! 7 refl $
           forget ! 9 refl $ forget ! 11 refl $ forget ! 13 refl $ forget ! 15 refl $ forget ! 18 refl $ forget ! 20 refl $
           move ! (20 ∷ 21 ∷ []) $ free1 ! $ move ! (18 ∷ 19 ∷ []) $ free1 ! $ move ! (0 ∷ 17 ∷ []) $ free1 ! $ move ! (14 ∷ 15 ∷ []) $ free1 ! $
-          move ! (12 ∷ 13 ∷ []) $ free1 ! $ move ! (10 ∷ 11 ∷ []) $ free1 ! $ move ! (8 ∷ 9 ∷ []) $ free1 ! $ move ! (6 ∷ 7 ∷ []) $ free1 ! $ move ! (4 ∷ 5 ∷ []) $ free1 ! $ move ! (2 ∷ 3 ∷ []) $ free1 ! $ free1 ! $ free0 ! $
+          move ! (12 ∷ 13 ∷ []) $ free1 ! $ move ! (10 ∷ 11 ∷ []) $ free1 ! $ move ! (8 ∷ 9 ∷ []) $ free1 ! $ move ! (6 ∷ 7 ∷ []) $ free1 ! $ move !
+          (4 ∷ 5 ∷ []) $ free1 ! $ move ! (2 ∷ 3 ∷ []) $ free1 ! $ free1 ! $ free0 ! $
           keep ! (0 ∷ []) $ by ! (ends r (opens-at h e₁ e₂ e₃ (e₄ .0)) is-r))))))))))))))))
 
-  meets : (𝓣 : Tables 𝓤 H) → Triple 𝓤 (𝓣 .C skip-def.name) (lent the-skip 𝓤 H A) → Triple 𝓤 (𝓣 .C bits-def.name) (lent the-bits 𝓤 H A) → Triple 𝓤 (𝓣 .C bit-def.name) (lent the-bit 𝓤 H A)
-      → Triple 𝓤 (𝓣 .C bits-64-def.name) (lent the-bits-64 𝓤 H A) → Meets 𝓤 H A f.signature (WpFn 𝓤 H (𝓣 .C) (𝓣 .Λ) code.function) (f.spec 𝓤 H A mem run)
+  meets : (𝓣 : Tables 𝓤 H) → Triple 𝓤 (𝓣 .C skip-def.name) (lent the-skip 𝓤 H A) → Triple 𝓤 (𝓣 .C bits-def.name) (lent the-bits 𝓤 H A)
+      → Triple 𝓤 (𝓣 .C bit-def.name) (lent the-bit 𝓤 H A)
+      → Triple 𝓤 (𝓣 .C bits-64-def.name) (lent the-bits-64 𝓤 H A)
+      → Meets 𝓤 H A f.signature (WpFn 𝓤 H (𝓣 .C) (𝓣 .Λ) code.function) (f.spec 𝓤 H A mem run)
   meets 𝓣 k₁ k₂ k₃ k₄ =
       walk-meets 𝓤 H A f.ended stays W (goes-dropped 𝓤 H A W 0 (plain (λ _. T.the-row)) yes (λ κs x f. refl), tt) (f.clauses 𝓤 H A mem run)
       (WpFn 𝓤 H (𝓣 .C) (𝓣 .Λ) code.function) (WpFn-mono 𝓤 H (W .laws) 𝓣 code.function)
@@ -125,4 +140,5 @@ read-opening-lent-spec 𝓤 H 𝓜 𝓖 𝓡 =
     (cited 𝓤 H (lent the-skip 𝓤 H (𝓖 .A)) 𝓜 𝓡 code.env skip-def.name skip-def.routine code.calls-bits-lent·skip (skip-thm.met 𝓤 H 𝓜 𝓖 𝓡))
     (cited 𝓤 H (lent the-bits 𝓤 H (𝓖 .A)) 𝓜 𝓡 code.env bits-def.name bits-def.routine code.calls-bits-lent·consume-bits (bits-thm.met 𝓤 H 𝓜 𝓖 𝓡))
     (cited 𝓤 H (lent the-bit 𝓤 H (𝓖 .A)) 𝓜 𝓡 code.env bit-def.name bit-def.routine code.calls-bits-lent·consume-bit (bit-thm.met 𝓤 H 𝓜 𝓖 𝓡))
-    (cited 𝓤 H (lent the-bits-64 𝓤 H (𝓖 .A)) 𝓜 𝓡 code.env bits-64-def.name bits-64-def.routine code.calls-bits-lent·consume-bits-64 (bits-64-thm.met 𝓤 H 𝓜 𝓖 𝓡)))
+    (cited 𝓤 H (lent the-bits-64 𝓤 H (𝓖 .A)) 𝓜 𝓡 code.env bits-64-def.name bits-64-def.routine code.calls-bits-lent·consume-bits-64
+    (bits-64-thm.met 𝓤 H 𝓜 𝓖 𝓡)))

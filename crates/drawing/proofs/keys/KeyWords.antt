@@ -12,9 +12,9 @@ use lib.Bits.{bitAnd}
 use lib.Dec.{eqb}
 use lib.ListN.{getD, set}
 use lib.Pow.{mod-mod-pow, pow-add, pow-mono, pow-pos, shr-shr}
-use Rattle.laws.specs.Digits.{row}
+use Rattle.laws.specs.Digits.{evenly}
 use Rattle.laws.specs.Tables.{pick}
-use Rattle.laws.proofs.EqualRows.{row-linear, row-mask, row-part, row-same}
+use Rattle.laws.proofs.Evenly.{evenly-linear, evenly-mask, evenly-part, evenly-same}
 use Rattle.bcn_format.specs.Indexes.{part}
 use Rattle.bcn_format.proofs.Making.{Made, made-two}
 use Rattle.drawing.specs.declared.keys.Keys.{Keys}
@@ -22,21 +22,21 @@ use Rattle.drawing.specs.Keys.{everyOther, keyAt, keyOf, keysOf}
 
 -- ones in the lower half of each field of 2 * w bits
 abbrev pub evens : ℕ → ℕ
-evens w = row 8 (2 * w) (λ i. 2 ^ w - 1)
+evens w = evenly 8 (2 * w) (λ i. 2 ^ w - 1)
 
 -- they take every other field of w bits
-every-other : (w o x : ℕ) → bitAnd (x / 2 ^ (o * w)) (evens w) ≡ row 8 (2 * w) (λ i. part x w (2 * i + o))
+every-other : (w o x : ℕ) → bitAnd (x / 2 ^ (o * w)) (evens w) ≡ evenly 8 (2 * w) (λ i. part x w (2 * i + o))
 unfolding part
 every-other w o x =
-    row-mask 8 (2 * w) w (omega arith) (x / 2 ^ (o * w))
-    ∙ row-same 8 (2 * w) _ _ (λ i l.
+    evenly-mask 8 (2 * w) w (omega arith) (x / 2 ^ (o * w))
+    ∙ evenly-same 8 (2 * w) _ _ (λ i l.
     let place : o * w + i * (2 * w) ≡ (2 * i + o) * w = omega arith in
     ap (λ (y : ℕ). y % 2 ^ w) (shr-shr x (o * w) (i * (2 * w)) ∙ ap (λ (y : ℕ). x / 2 ^ y) place))
 
 pub keys-word : (w s x map o : ℕ) → bitAnd (x / 2 ^ (o * w)) (evens w) * 2 ^ s + bitAnd (map / 2 ^ (o * w)) (evens w) ≡ everyOther w s x map o
 keys-word w s x map o =
     ap₂ (λ (y z : ℕ). y * 2 ^ s + z) (every-other w o x) (every-other w o map)
-    ∙ row-linear 8 (2 * w) (2 ^ s) (λ i. part x w (2 * i + o)) (λ i. part map w (2 * i + o))
+    ∙ evenly-linear 8 (2 * w) (2 ^ s) (λ i. part x w (2 * i + o)) (λ i. part map w (2 * i + o))
 
 -- painting: the colour of each pixel, looked up in a palette by its key, two pixels at a time
 abbrev pub colourOf : ℕ → ℕ → Keys → List (List ℕ) → ℕ → List ℕ
@@ -73,7 +73,7 @@ module _ (w s x map : ℕ) (room : s ≤ w) (small : (q : ℕ) → q < 16 → pa
       let y : ℕ = everyOther w s x map o / 2 ^ (i * (2 * w)) in
       sym (mod-mod-pow y (w - s) (w + s))
       ∙ ap (λ (k : ℕ). y % 2 ^ k % 2 ^ (w + s)) whole
-      ∙ ap (λ (k : ℕ). k % 2 ^ (w + s)) (row-part 8 (2 * w) (λ i. keyOf w s x map (2 * i + o))
+      ∙ ap (λ (k : ℕ). k % 2 ^ (w + s)) (evenly-part 8 (2 * w) (λ i. keyOf w s x map (2 * i + o))
       (λ j l. lt-of-lt-of-le (key-lt (2 * j + o) (omega arith)) (pow-mono (omega arith))) i hi)
       ∙ mod-eq-of-lt (key-lt (2 * i + o) (omega arith))
 

@@ -11,11 +11,11 @@ use Rattle.laws.specs.Tables.{table}
 use Rattle.laws.proofs.Filled.{Filled, filled-all, filled-four, filled-none, filled-two}
 use Rattle.bcn_format.specs.Drawing.{weightOf}
 use Rattle.bcn_format.specs.Painting.{between}
-use Rattle.drawing.specs.declared.color.Ends.{Ends}
+use Rattle.drawing.specs.declared.colour.Ends.{Ends}
 use Rattle.drawing.specs.Words.{Alone, blend, blends, Bytes, endpoint, laned, Lanes, lanesOf, woven}
-use Rattle.drawing.proofs.color.Mixing.{blend-lt, blends-fit}
-use Rattle.drawing.proofs.color.Words.{fit-zip, lanes-laned}
-use Rattle.drawing.specs.Colors.{keyed, lerped, shade}
+use Rattle.drawing.proofs.colour.Mixing.{blend-lt, blends-fit}
+use Rattle.drawing.proofs.colour.Words.{fit-zip, lanes-laned}
+use Rattle.drawing.specs.Colours.{keyed, lerped, shade}
 use Rattle.drawing.proofs.palette.Weights.{between-is}
 
 -- the colours of two subsets at a weight

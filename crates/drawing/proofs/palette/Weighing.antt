@@ -10,9 +10,9 @@ use lib.Bits.{bitAnd}
 use lib.Dec.{T, eqb, eqb→eq}
 use lib.ListN.{length, set}
 use lib.Pow.{field, mod-mod-pow, pow-pos, shr-shr}
-use Rattle.laws.specs.Digits.{row}
+use Rattle.laws.specs.Digits.{evenly}
 use Rattle.laws.specs.Tables.{below, table, tableFrom}
-use Rattle.laws.proofs.EqualRows.{row-linear, row-mask, row-part, row-same}
+use Rattle.laws.proofs.Evenly.{evenly-linear, evenly-mask, evenly-part, evenly-same}
 use Rattle.laws.proofs.Part.{Part, part-all, part-none, part-set}
 use Rattle.laws.proofs.Tests.{at}
 use Rattle.bcn_format.specs.Drawing.{weightOf, weights}
@@ -39,48 +39,48 @@ module _ (x : ℕ) where
   unfolding part
   index-lt j = mod-lt (x / 2 ^ (2 * j * 4)) (pow-pos 4)
 
-  pub indexes : bitAnd x 0x0F0F_0F0F_0F0F_0F0F ≡ row 8 8 index
-  unfolding row table tableFrom part
+  pub indexes : bitAnd x 0x0F0F_0F0F_0F0F_0F0F ≡ evenly 8 8 index
+  unfolding evenly table tableFrom part
   indexes =
-      row-mask 8 8 4 (omega arith) x
-      ∙ row-same 8 8 _ _ (λ i l. let e : i * 8 ≡ 2 * i * 4 = omega arith in ap (λ (s : ℕ). x / 2 ^ s % 2 ^ 4) e)
+      evenly-mask 8 8 4 (omega arith) x
+      ∙ evenly-same 8 8 _ _ (λ i l. let e : i * 8 ≡ 2 * i * 4 = omega arith in ap (λ (s : ℕ). x / 2 ^ s % 2 ^ 4) e)
 
   -- what is added for each four
-  more-two : row 8 8 index + 0x0202_0202_0202_0202 ≡ row 8 8 (λ j. index j + 2)
-  unfolding row table tableFrom
+  more-two : evenly 8 8 index + 0x0202_0202_0202_0202 ≡ evenly 8 8 (λ j. index j + 2)
+  unfolding evenly table tableFrom
   more-two = omega arith
 
-  fourths : bitAnd (row 8 8 (λ j. index j + 2) / 2 ^ 2) 0x0707_0707_0707_0707 ≡ row 8 8 (λ j. (index j + 2) / 4 % 8)
-  unfolding row table tableFrom
+  fourths : bitAnd (evenly 8 8 (λ j. index j + 2) / 2 ^ 2) 0x0707_0707_0707_0707 ≡ evenly 8 8 (λ j. (index j + 2) / 4 % 8)
+  unfolding evenly table tableFrom
   fourths =
-      let y : ℕ = row 8 8 (λ j. index j + 2) in
-      row-mask 8 8 3 (omega arith) (y / 2 ^ 2)
-      ∙ row-same 8 8 _ _ (λ i l.
+      let y : ℕ = evenly 8 8 (λ j. index j + 2) in
+      evenly-mask 8 8 3 (omega arith) (y / 2 ^ 2)
+      ∙ evenly-same 8 8 _ _ (λ i l.
       let z : ℕ = y / 2 ^ (i * 8) in
       ap (λ (u : ℕ). u % 2 ^ 3) (shr-shr y 2 (i * 8) ∙ ap (λ (s : ℕ). y / 2 ^ s) (add-comm 2 (i * 8)) ∙ sym (shr-shr y (i * 8) 2))
       ∙ sym (mod-mod-pow (z / 2 ^ 2) 3 3)
       ∙ ap (λ (u : ℕ). u % 2 ^ 3)
-      (sym (field z 6 2) ∙ ap (λ (u : ℕ). u / 2 ^ 2) (row-part 8 8 (λ j. index j + 2) (λ j h. omega (arith, index-lt j)) i l)))
+      (sym (field z 6 2) ∙ ap (λ (u : ℕ). u / 2 ^ 2) (evenly-part 8 8 (λ j. index j + 2) (λ j h. omega (arith, index-lt j)) i l)))
 
-  weights-word : row 8 8 index * 4 + row 8 8 (λ j. (index j + 2) / 4 % 8) ≡ row 8 8 (λ j. weightOf 4 (index j))
-  weights-word = row-linear 8 8 4 index (λ j. (index j + 2) / 4 % 8) ∙ row-same 8 8 _ _ (λ j l. weight-is (index j) (index-lt j))
+  weights-word : evenly 8 8 index * 4 + evenly 8 8 (λ j. (index j + 2) / 4 % 8) ≡ evenly 8 8 (λ j. weightOf 4 (index j))
+  weights-word = evenly-linear 8 8 4 index (λ j. (index j + 2) / 4 % 8) ∙ evenly-same 8 8 _ _ (λ j l. weight-is (index j) (index-lt j))
 
   pub weights-are : 4 * bitAnd x 0x0F0F_0F0F_0F0F_0F0F
-      + bitAnd ((bitAnd x 0x0F0F_0F0F_0F0F_0F0F + 0x0202_0202_0202_0202) / 2 ^ 2) 0x0707_0707_0707_0707 ≡ row 8 8 (λ j. weightOf 4 (index j))
+      + bitAnd ((bitAnd x 0x0F0F_0F0F_0F0F_0F0F + 0x0202_0202_0202_0202) / 2 ^ 2) 0x0707_0707_0707_0707 ≡ evenly 8 8 (λ j. weightOf 4 (index j))
   weights-are =
       ap (λ (i : ℕ). 4 * i + bitAnd ((i + 0x0202_0202_0202_0202) / 2 ^ 2) 0x0707_0707_0707_0707) indexes
-      ∙ ap₂ (λ (y z : ℕ). y + z) (mul-comm 4 (row 8 8 index)) (ap (λ (y : ℕ). bitAnd (y / 2 ^ 2) 0x0707_0707_0707_0707) more-two ∙ fourths)
+      ∙ ap₂ (λ (y z : ℕ). y + z) (mul-comm 4 (evenly 8 8 index)) (ap (λ (y : ℕ). bitAnd (y / 2 ^ 2) 0x0707_0707_0707_0707) more-two ∙ fourths)
       ∙ weights-word
 
 -- a weight of eight, and two that are 32 bits apart
-module _ (x i : ℕ) (hi : i < 4) {all : ℕ} (ea : all ≡ row 8 8 (λ j. weightOf 4 (part x 4 (2 * j)))) where
+module _ (x i : ℕ) (hi : i < 4) {all : ℕ} (ea : all ≡ evenly 8 8 (λ j. weightOf 4 (part x 4 (2 * j)))) where
   weight-64 : (j : ℕ) → weightOf 4 (part x 4 (2 * j)) ≤ 64
   weight-64 j = weight-le 4 (part x 4 (2 * j)) (omega arith) (omega arith) (index-lt x j)
 
   weight-at : (j : ℕ) → j < 8 → part all 8 j ≡ weightOf 4 (part x 4 (2 * j))
   unfolding part
   weight-at j h =
-      ap (λ (y : ℕ). y / 2 ^ (j * 8) % 2 ^ 8) ea ∙ row-part 8 8 (λ j. weightOf 4 (part x 4 (2 * j))) (λ k l. omega (arith, weight-64 k)) j h
+      ap (λ (y : ℕ). y / 2 ^ (j * 8) % 2 ^ 8) ea ∙ evenly-part 8 8 (λ j. weightOf 4 (part x 4 (2 * j))) (λ k l. omega (arith, weight-64 k)) j h
 
   pub record Two (w : ℕ) : Type 0 where
     pub low : w % 2 ^ 32 ≡ 4 * weightOf 4 (part x 4 (2 * i))
@@ -88,8 +88,8 @@ module _ (x i : ℕ) (hi : i < 4) {all : ℕ} (ea : all ≡ row 8 8 (λ j. weigh
     pub low-256 : w % 2 ^ 32 ≤ 256
     pub high-256 : w / 2 ^ 32 ≤ 256
 
-  pub two-weights : {w : ℕ} → w ≡ row 2 32 (λ h. 4 * part all 8 (i + 4 * h)) → Two w
-  unfolding row table tableFrom
+  pub two-weights : {w : ℕ} → w ≡ evenly 2 32 (λ h. 4 * part all 8 (i + 4 * h)) → Two w
+  unfolding evenly table tableFrom
   two-weights e =
       let a : part all 8 (i + 0) ≡ weightOf 4 (part x 4 (2 * i)) = ap (part all 8) (omega arith) ∙ weight-at i (omega arith) in
       let next : 2 * (i + 4) ≡ 2 * i + 8 = omega arith in
@@ -100,16 +100,16 @@ module _ (x i : ℕ) (hi : i < 4) {all : ℕ} (ea : all ≡ row 8 8 (λ j. weigh
       record { low = omega arith; high = omega arith; low-256 = omega arith; high-256 = omega arith }
 
 -- how they are taken out
-four-times : (f : ℕ → ℕ) → 4 * row 2 32 f ≡ row 2 32 (λ h. 4 * f h)
-unfolding row table tableFrom
+four-times : (f : ℕ → ℕ) → 4 * evenly 2 32 f ≡ evenly 2 32 (λ h. 4 * f h)
+unfolding evenly table tableFrom
 four-times f = omega arith
 
-pub taken : (all i : ℕ) → 4 * bitAnd (all / 2 ^ (8 * i)) 0x00FF_0000_00FF ≡ row 2 32 (λ h. 4 * part all 8 (i + 4 * h))
-unfolding row table tableFrom part
-taken all i =
+pub weights-taken : (all i : ℕ) → 4 * bitAnd (all / 2 ^ (8 * i)) 0x00FF_0000_00FF ≡ evenly 2 32 (λ h. 4 * part all 8 (i + 4 * h))
+unfolding evenly table tableFrom part
+weights-taken all i =
     ap (λ (y : ℕ). 4 * y)
-    (row-mask 2 32 8 (omega arith) (all / 2 ^ (8 * i))
-    ∙ row-same 2 32 _ (λ h. part all 8 (i + 4 * h)) (λ h l.
+    (evenly-mask 2 32 8 (omega arith) (all / 2 ^ (8 * i))
+    ∙ evenly-same 2 32 _ (λ h. part all 8 (i + 4 * h)) (λ h l.
     let place : 8 * i + h * 32 ≡ (i + 4 * h) * 8 = omega arith in
     ap (λ (y : ℕ). y % 2 ^ 8) (shr-shr all (8 * i) (h * 32) ∙ ap (λ (s : ℕ). all / 2 ^ s) place)))
     ∙ four-times (λ h. part all 8 (i + 4 * h))

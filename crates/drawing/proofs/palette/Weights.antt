@@ -9,7 +9,7 @@ use lib.ListN.{getD}
 use Rattle.bcn_format.specs.Drawing.{drawn, weightOf}
 use Rattle.bcn_format.proofs.Drawing.{scaled, weight-le}
 use Rattle.bcn_format.specs.Painting.{four, between}
-use Rattle.drawing.specs.Colors.{lerped}
+use Rattle.drawing.specs.Colours.{lerped}
 
 module _ (b k : ℕ) (least : 2 ≤ b) (most : b ≤ 4) (below : k < 2 ^ b) {w : ℕ} (e : w ≡ 4 * weightOf b k) where
   pub weight-256 : w ≤ 256

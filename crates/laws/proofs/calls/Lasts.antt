@@ -127,5 +127,7 @@ module _ {L C : Type 0} (of : L → C → Bool) (single : (l k : L) (c : C) → 
   pub last-of-each : (l : L) (ls : List L) (cs : List C) → List·Memᴰ l ls → last (of l) (lastOfEach of ls cs) ≡ last (of l) cs
   unfolding lastOfEach
   last-of-each l (k ∷ ls) cs (List·Memᴰ·head e) =
-      last-append (of l) (last (of k) cs) (lastOfEach of ls cs) ∙ or-second (either l ls cs) (subst (λ (j : L). last (of l) (last (of j) cs) ≡ last (of l) cs) e (same l cs))
-  last-of-each l (k ∷ ls) cs (List·Memᴰ·tail m) = last-append (of l) (last (of k) cs) (lastOfEach of ls cs) ∙ or-first (last-of-each l ls cs m) (again l k cs)
+      last-append (of l) (last (of k) cs) (lastOfEach of ls cs)
+      ∙ or-second (either l ls cs) (subst (λ (j : L). last (of l) (last (of j) cs) ≡ last (of l) cs) e (same l cs))
+  last-of-each l (k ∷ ls) cs (List·Memᴰ·tail m) =
+      last-append (of l) (last (of k) cs) (lastOfEach of ls cs) ∙ or-first (last-of-each l ls cs m) (again l k cs)

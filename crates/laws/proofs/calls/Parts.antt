@@ -11,7 +11,8 @@ use Rattle.laws.specs.Calls.{callsOn, run}
 use Rattle.laws.proofs.calls.Trading.{Trade, run-good}
 
 -- `part c` is the part that c names, `there c` the call on it, `get s b` part b of s, for the parts there are
-pub record Parts {S B C D : Type 0} (after : S → C → S) (act : B → D → B) (part : C → ℕ) (there : C → D) (Good : S → Type 0) (get : S → ℕ → B) (In : ℕ → Type 0) : Type 0 where
+pub record Parts {S B C D : Type 0} (after : S → C → S) (act : B → D → B) (part : C → ℕ) (there : C → D) (Good : S → Type 0) (get : S → ℕ → B)
+    (In : ℕ → Type 0) : Type 0 where
   pub good : (s : S) (c : C) → Good s → Good (after s c)
   pub named : (s : S) (c : C) (b : ℕ) → Good s → In b → part c ≡ b → get (after s c) b ≡ act (get s b) (there c)
   pub other : (s : S) (c : C) (b : ℕ) → Good s → In b → part c ≢ b → get (after s c) b ≡ get s b
@@ -26,7 +27,8 @@ module _ {C D : Type 0} (part : C → ℕ) (there : C → D) (b : ℕ) (c : C) (
   unfolding callsOn
   off-it n = rw (ne-eqb (part c) b n)
 
-module _ {S B C D : Type 0} {after : S → C → S} {act : B → D → B} {part : C → ℕ} {there : C → D} {Good : S → Type 0} {get : S → ℕ → B} {In : ℕ → Type 0}
+module _ {S B C D : Type 0} {after : S → C → S} {act : B → D → B} {part : C → ℕ} {there : C → D} {Good : S → Type 0} {get : S → ℕ → B} {In : ℕ
+    → Type 0}
     (p : Parts after act part there Good get In) where
   -- each part is what the calls that name it leave of it
   pub part-run : (cs : List C) (s : S) (b : ℕ) → Good s → In b → get (run after s cs) b ≡ run act (get s b) (callsOn part there b cs)
@@ -39,8 +41,11 @@ module _ {S B C D : Type 0} {after : S → C → S} {act : B → D → B} {part 
       go (no n) = rw (off-it part there b c cs n, p .other s c b g i n)
 
   -- calls that leave every part alike leave the same
-  pub alike : (cs ds : List C) (s : S) → Good s → ((b : ℕ) → In b → run act (get s b) (callsOn part there b cs) ≡ run act (get s b) (callsOn part there b ds)) → run after s cs ≡ run after s ds
-  alike cs ds s g e = p .whole _ _ (run-good after Good (p .good) cs s g) (run-good after Good (p .good) ds s g) (λ b i. part-run cs s b g i ∙ e b i ∙ sym (part-run ds s b g i))
+  pub alike : (cs ds : List C) (s : S) → Good s
+      → ((b : ℕ) → In b → run act (get s b) (callsOn part there b cs) ≡ run act (get s b) (callsOn part there b ds)) → run after s cs ≡ run after s ds
+  alike cs ds s g e =
+      p .whole _ _ (run-good after Good (p .good) cs s g) (run-good after Good (p .good) ds s g)
+      (λ b i. part-run cs s b g i ∙ e b i ∙ sym (part-run ds s b g i))
 
   -- two calls trade places if they do so on the part that both name
   pub trade : (c d : C) (s : S) → Good s
@@ -71,5 +76,6 @@ module _ {S B C D : Type 0} {after : S → C → S} {act : B → D → B} {part 
     good = p .good;
     bytes = λ s c d g n. trade c d s g (λ b i e f. absurd (n (e ∙ sym f)));
     unseen = λ s c d g n.
-        ⊎-elim (λ i. named _ d (p .good s c g) i ∙ ap (λ (x : B). tell x (there d)) (p .other s c (part d) g i n) ∙ sym (named s d g i)) (beyond s c d g) (known (part d));
+        ⊎-elim (λ i. named _ d (p .good s c g) i ∙ ap (λ (x : B). tell x (there d)) (p .other s c (part d) g i n) ∙ sym (named s d g i))
+        (beyond s c d g) (known (part d));
   }

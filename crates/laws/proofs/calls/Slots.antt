@@ -38,7 +38,8 @@ pub record Store {S C L X A : Type 0} (after : S → C → S) (Good : S → Type
   pub slots : (l : L) (c : C) → of l c ≡ true → slot l ≡ true
   pub single : (l k : L) (c : C) → of l c ≡ true → of k c ≡ true → l ≡ k
 
-module _ {S C L X A : Type 0} {after : S → C → S} {Good : S → Type 0} {read : S → X → A} {slot : L → Bool} {of : L → C → Bool} (t : Store after Good read slot of) where
+module _ {S C L X A : Type 0} {after : S → C → S} {Good : S → Type 0} {read : S → X → A} {slot : L → Bool} {of : L → C → Bool}
+    (t : Store after Good read slot of) where
   pub cell-seen : (cs : List C) (s : S) (x : X) → Good s → read (run after s cs) x ≡ seen (t .shows x) (read s x) (last (of (t .owner x)) cs)
   cell-seen cs s x g = last-seen (t .good) (record { set = λ s c. t .set s c x; kept = λ s c. t .kept s c x }) cs s g
 
@@ -58,7 +59,8 @@ module _ {S C L X A : Type 0} {after : S → C → S} {Good : S → Type 0} {rea
   idle c s g n = same-last (c ∷ []) [] s g (λ l q. passed (of l) c (n l))
 
   -- so the last call of each slot is enough, in whichever order the slots are named
-  pub last-calls : (cs : List C) (ls : List L) (s : S) → Good s → ((l : L) → slot l ≡ true → List·Memᴰ l ls) → run after s cs ≡ run after s (lastOfEach of ls cs)
+  pub last-calls : (cs : List C) (ls : List L) (s : S) → Good s → ((l : L) → slot l ≡ true → List·Memᴰ l ls)
+      → run after s cs ≡ run after s (lastOfEach of ls cs)
   last-calls cs ls s g all = same-last cs (lastOfEach of ls cs) s g (λ l q. sym (last-of-each of (t .single) l ls cs (all l q)))
 
   -- and calls of different slots trade places

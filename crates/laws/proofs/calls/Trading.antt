@@ -13,7 +13,8 @@ run-good after Good good [] s g = g
 run-good after Good good (c ∷ cs) s g = run-good after Good good cs (after s c) (good s c g)
 
 -- so an answer that goes by what is kept alone is the same after any list
-pub same-answer : {S C : Type 0} (after : S → C → S) (Good : S → Type 0) → ((s : S) (c : C) → Good s → Good (after s c)) → (answer : S → C → ℕ) (key : C → ℕ)
+pub same-answer : {S C : Type 0} (after : S → C → S) (Good : S → Type 0) → ((s : S) (c : C) → Good s → Good (after s c))
+    → (answer : S → C → ℕ) (key : C → ℕ)
     → ((s : S) (c : C) → Good s → answer s c ≡ key c) → (cs : List C) (s : S) (d : C) → Good s → answer (run after s cs) d ≡ answer s d
 same-answer after Good good answer key known cs s d g = known (run after s cs) d (run-good after Good good cs s g) ∙ sym (known s d g)
 
@@ -23,18 +24,20 @@ pub record Trade {S C : Type 0} (after : S → C → S) (answer : S → C → �
   pub bytes : (s : S) (c d : C) → Good s → Apart c d → after (after s c) d ≡ after (after s d) c
   pub unseen : (s : S) (c d : C) → Good s → Apart c d → answer (after s c) d ≡ answer s d
 
-pub turned : {C : Type 0} {xs ys zs : List C} → Woven xs ys zs → Woven ys xs zs
-turned nothing = nothing
-turned (left w) = right (turned w)
-turned (right w) = left (turned w)
+pub sides-exchanged : {C : Type 0} {xs ys zs : List C} → Woven xs ys zs → Woven ys xs zs
+sides-exchanged nothing = nothing
+sides-exchanged (left w) = right (sides-exchanged w)
+sides-exchanged (right w) = left (sides-exchanged w)
 
 fewer : {C : Type 0} {Apart : C → C → Type 0} {c : C} {xs ys : List C} → AllApart Apart (c ∷ xs) ys → AllApart Apart xs ys
 fewer none = none
 fewer (more (more a h) k) = more h (fewer k)
 
-module _ {S C : Type 0} {after : S → C → S} {answer : S → C → ℕ} {Good : S → Type 0} {Apart : C → C → Type 0} (t : Trade after answer Good Apart) where
+module _ {S C : Type 0} {after : S → C → S} {answer : S → C → ℕ} {Good : S → Type 0} {Apart : C → C → Type 0}
+    (t : Trade after answer Good Apart) where
   -- two neighbours inside a longer list
-  pub inside : (xs : List C) (c d : C) (ys : List C) (s : S) → Good s → Apart c d → run after s (xs ++ (c ∷ d ∷ ys)) ≡ run after s (xs ++ (d ∷ c ∷ ys))
+  pub inside : (xs : List C) (c d : C) (ys : List C) (s : S) → Good s → Apart c d
+      → run after s (xs ++ (c ∷ d ∷ ys)) ≡ run after s (xs ++ (d ∷ c ∷ ys))
   unfolding run
   inside [] c d ys s g a = ap (λ (s : S). run after s ys) (t .bytes s c d g a)
   inside (x ∷ xs) c d ys s g a = inside xs c d ys (after s x) (t .good s x g) a
@@ -49,17 +52,20 @@ module _ {S C : Type 0} {after : S → C → S} {answer : S → C → ℕ} {Good
   unfolding told
   told-past d [] s g none = refl
   told-past d (c ∷ cs) s g (more a h) =
-      ap₂ {C = List ℕ} _∷_ (t .unseen s d c g a) (ap (λ (s : S). told after answer s cs) (t .bytes s d c g a) ∙ told-past d cs (after s c) (t .good s c g) h)
+      ap₂ {C = List ℕ} _∷_ (t .unseen s d c g a)
+      (ap (λ (s : S). told after answer s cs) (t .bytes s d c g a) ∙ told-past d cs (after s c) (t .good s c g) h)
 
   -- TWO DESKS: however their calls come in, the state is that of one desk after the other
   pub woven : {xs ys zs : List C} → Woven xs ys zs → AllApart Apart xs ys → (s : S) → Good s → run after s zs ≡ run after (run after s xs) ys
   unfolding run
   woven nothing h s g = refl
   woven (left {c = c} w) h s g = woven w (fewer h) (after s c) (t .good s c g)
-  woven (right {c = c} {xs = xs} {ys = ys} w) (more a h) s g = woven w h (after s c) (t .good s c g) ∙ ap (λ (s : S). run after s ys) (past c xs s g a)
+  woven (right {c = c} {xs = xs} {ys = ys} w) (more a h) s g =
+      woven w h (after s c) (t .good s c g) ∙ ap (λ (s : S). run after s ys) (past c xs s g a)
 
   -- and each desk is answered as if it were alone
-  pub woven-told : {xs ys zs : List C} (w : Woven xs ys zs) → AllApart Apart xs ys → (s : S) → Good s → toldLeft after answer w s ≡ told after answer s xs
+  pub woven-told : {xs ys zs : List C} (w : Woven xs ys zs) → AllApart Apart xs ys → (s : S) → Good s
+      → toldLeft after answer w s ≡ told after answer s xs
   unfolding told toldLeft
   woven-told nothing h s g = refl
   woven-told (left {c = c} w) h s g = ap {B = List ℕ} (λ ns. answer s c ∷ ns) (woven-told w (fewer h) (after s c) (t .good s c g))
@@ -92,5 +98,6 @@ module _ {S C N : Type 0} {after : S → C → S} {answer : S → C → ℕ} {Go
   beside = record {
     good = λ p c g. subst True (sym (step p c g)) (true _ (t .good _ c (g .0)));
     bytes = λ p c d g a. steps p c d g ∙ ap both (t .bytes _ c d (g .0) a) ∙ sym (steps p d c g);
-    unseen = λ p c d g a. ap {A = S × N} (λ q. answer2 q d) (step p c g) ∙ answered _ d (t .good _ c (g .0)) ∙ t .unseen _ c d (g .0) a ∙ sym (told-as p d g);
+    unseen = λ p c d g a. ap {A = S × N} (λ q. answer2 q d) (step p c g) ∙ answered _ d (t .good _ c (g .0)) ∙ t .unseen _ c d (g .0) a ∙ sym
+        (told-as p d g);
   }

@@ -14,13 +14,13 @@ use Rattle.laws.specs.Tables.{pick, table}
 use Rattle.laws.proofs.Cases.{pick-less}
 use Rattle.laws.proofs.Digits.{join-lt, split-join}
 use Rattle.laws.proofs.Rows.{fit-table, split-table}
-use Rattle.bc7_format.specs.Lines.{Line, arrayOf, has, indexPlace, laid, lineBits, withLine}
+use Rattle.bc7_format.specs.Lines.{Line, indexSetOf, has, indexPlace, laid, lineBits, withLine}
 use Rattle.bc7_format.specs.Modes.{indexBits, kindOfMode}
 use Rattle.bcn_format.specs.Partitions.{among}
 use Rattle.bc7_format.specs.Places.{Place, atPlace, index, width, firstFrom}
 use Rattle.bc7_format.specs.Splits.{anchors}
 use Rattle.bc7_format.specs.WellFormed.{WellFormed}
-use Rattle.bc7_format.proofs.Meaning.{array-lt}
+use Rattle.bc7_format.proofs.Meaning.{index-set-lt}
 use Rattle.bc7_format.proofs.Modes.{good-64, good-index-mode}
 use Rattle.bc7_format.proofs.Opening.{good-kind}
 use Rattle.bc7_format.proofs.Places.{inside-index}
@@ -58,7 +58,7 @@ module _ {m : ℕ} {s : Split} {f : Place → ℕ} (g : WellFormed m s f) (l : �
   k = kindOfMode m
 
   abbrev a : ℕ
-  a = arrayOf s l
+  a = indexSetOf s l
 
   abbrev own : ℕ → Bool
   own q = ownPixel (x .pixels) q
@@ -67,7 +67,7 @@ module _ {m : ℕ} {s : Split} {f : Place → ℕ} (g : WellFormed m s f) (l : �
   stood q = f (indexPlace s l q)
 
   ha : a < 2
-  ha = array-lt s l (good-index-mode g)
+  ha = index-set-lt s l (good-index-mode g)
 
   bits : w ≡ indexBits m a
   unfolding lineBits

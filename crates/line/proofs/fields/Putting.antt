@@ -19,13 +19,14 @@ use Rattle.laws.proofs.Part.{getD-table}
 use Rattle.laws.proofs.Rows.{digit, length-split}
 use Rattle.laws.proofs.Tests.{both-left, both-right, not-so}
 use Rattle.bcn_format.specs.Block.{bytesOf}
-use Rattle.bc7_format.specs.Lines.{Line, arrayOf, has, indexPlace, laid, pPlace, valuePlace, withLine}
+use Rattle.bc7_format.specs.Lines.{Line, indexSetOf, has, indexPlace, laid, pPlace, valuePlace, withLine}
 use Rattle.bc7_format.specs.Modes.{indexBits, lines, pCount}
-use Rattle.bc7_format.specs.Places.{Place, atPlace, blockOf, head, index, inside, pbit, pos, value, width, widths, valuesFrom, psFrom, firstFrom, placeCount}
+use Rattle.bc7_format.specs.Places.{Place, atPlace, blockOf, lead, index, inside, pbit, pos, value, width, widths, valuesFrom, psFrom, firstFrom}
+use Rattle.bc7_format.specs.Places.{placeCount}
 use Rattle.bc7_format.specs.Splits.{anchors, isVector}
 use Rattle.bc7_format.specs.WellFormed.{WellFormed}
-use Rattle.bc7_format.proofs.Lens.{has-head}
-use Rattle.bc7_format.proofs.Meaning.{array-lt, has-p, laid-p, laid-value}
+use Rattle.bc7_format.proofs.Lens.{has-lead}
+use Rattle.bc7_format.proofs.Meaning.{index-set-lt, has-p, laid-p, laid-value}
 use Rattle.bc7_format.proofs.Modes.{good-index-mode, lines-le}
 use Rattle.bc7_format.proofs.Opening.{good-total}
 use Rattle.bc7_format.proofs.Places.{inside-index, inside-pbit, inside-value, length-widths, list-at, list-ext, placeAt-pos, pos-lt, pos-one}
@@ -36,7 +37,7 @@ use Rattle.line_rules.specs.Acceptable.{OwnWidths}
 use Rattle.line_rules.specs.Replace.{ownWidth}
 use Rattle.line_rules.proofs.Own.{has-width}
 use Rattle.line_rules.proofs.OwnWidths.{own-widths}
-use Rattle.line_rules.proofs.Put.{has-array, own-pbit, own-value}
+use Rattle.line_rules.proofs.Put.{has-index-set, own-pbit, own-value}
 use Rattle.line.proofs.fields.Groups.{own-laid, pair-put}
 use Rattle.line.proofs.fields.Runs.{Upto, begin, more, passed}
 
@@ -82,13 +83,13 @@ module _ {m : ℕ} {s : Split} {f : Place → ℕ} (g : WellFormed m s f) (l : �
   abbrev Until : ℕ → ℕ → Type 0
   Until k n = Upto m s l o f k n
 
-  -- the head is no line's
-  pub after-head : (n : ℕ) → ((x : Place) → T (inside x) → atPlace m s n x ≡ f x) → Until valuesFrom n
+  -- the lead is no line's
+  pub after-lead : (n : ℕ) → ((x : Place) → T (inside x) → atPlace m s n x ≡ f x) → Until valuesFrom n
   unfolding pos
-  after-head n e = passed m s l o f valuesFrom (omega arith) (begin m s l o f n e) none
+  after-lead n e = passed m s l o f valuesFrom (omega arith) (begin m s l o f n e) none
     where
       none : (x : Place) → T (inside x) → 0 ≤ pos x → pos x < valuesFrom → has m s l x ≡ false
-      none (head k) i p q = has-head m s l k (omega (arith, h3 g l hl))
+      none (lead k) i p q = has-lead m s l k (omega (arith, h3 g l hl))
       none (value c e) i p q = absurd (let y : ⊥ = omega arith in y)
       none (pbit k) i p q = absurd (let y : ⊥ = omega arith in y)
       none (index a q') i p q = absurd (let y : ⊥ = omega arith in y)
@@ -116,7 +117,7 @@ module _ {m : ℕ} {s : Split} {f : Place → ℕ} (g : WellFormed m s f) (l : �
 
       only : (x : Place) → T (inside x) → valuesFrom + 6 * c ≤ pos x → pos x < valuesFrom + 6 * c + 6 → has m s l x ≡ true
           → (x ≡ valuePlace s l 0 c) ⊎ (x ≡ valuePlace s l 1 c)
-      only (head k) i p q h = absurd (let k4 : k < 4 = ltb→lt k 4 i in let y : ⊥ = omega arith in y)
+      only (lead k) i p q h = absurd (let k4 : k < 4 = ltb→lt k 4 i in let y : ⊥ = omega arith in y)
       only (value c' e) i p q h =
           let he : e < 6 = ltb→lt e 6 (both-right (ltb c' 4) (ltb e 6) i) in
           let ec : c' ≡ c = omega arith in
@@ -127,7 +128,7 @@ module _ {m : ℕ} {s : Split} {f : Place → ℕ} (g : WellFormed m s f) (l : �
   -- the p bits
   p-only : (x : Place) → T (inside x) → psFrom ≤ pos x → pos x < firstFrom → has m s l x ≡ true → (k : ℕ) × (x ≡ pbit k)
   unfolding pos
-  p-only (head k) i p q h = absurd (let k4 : k < 4 = ltb→lt k 4 i in let y : ⊥ = omega arith in y)
+  p-only (lead k) i p q h = absurd (let k4 : k < 4 = ltb→lt k 4 i in let y : ⊥ = omega arith in y)
   p-only (value c e) i p q h =
       absurd
       (let c4 : c < 4 = ltb→lt c 4 (both-left (ltb c 4) (ltb e 6) i) in
@@ -202,9 +203,9 @@ module _ {m : ℕ} {s : Split} {f : Place → ℕ} (g : WellFormed m s f) (l : �
           ⊎-elim {C = ⊥} (λ d. omega arith) (λ d. omega arith) r)
 
   -- the set of indexes, as they are stored
-  pub indexes-put : (v n n' : ℕ) → v < 2 ^ total (indexWidths (indexBits m (arrayOf s l)) (anchors s))
-      → split (indexWidths (indexBits m (arrayOf s l)) (anchors s)) v ≡ table 16 (λ q. withLine m s l o f (indexPlace s l q))
-      → n' ≡ replacedAt n (start m s (firstFrom + (16 * arrayOf s l + 0))) (total (indexWidths (indexBits m (arrayOf s l)) (anchors s))) v
+  pub indexes-put : (v n n' : ℕ) → v < 2 ^ total (indexWidths (indexBits m (indexSetOf s l)) (anchors s))
+      → split (indexWidths (indexBits m (indexSetOf s l)) (anchors s)) v ≡ table 16 (λ q. withLine m s l o f (indexPlace s l q))
+      → n' ≡ replacedAt n (start m s (firstFrom + (16 * indexSetOf s l + 0))) (total (indexWidths (indexBits m (indexSetOf s l)) (anchors s))) v
       → Until firstFrom n
       → Until placeCount n'
   unfolding indexWidths indexPlace pos width
@@ -214,10 +215,10 @@ module _ {m : ℕ} {s : Split} {f : Place → ℕ} (g : WellFormed m s f) (l : �
       (rw all e) u holds others
     where
       a : ℕ
-      a = arrayOf s l
+      a = indexSetOf s l
 
       ha : a < 2
-      ha = array-lt s l (good-index-mode g)
+      ha = index-set-lt s l (good-index-mode g)
 
       wide : ℕ → ℕ
       wide q = indexWidth (indexBits m a) (anchors s) q
@@ -242,7 +243,7 @@ module _ {m : ℕ} {s : Split} {f : Place → ℕ} (g : WellFormed m s f) (l : �
 
       others : (x : Place) → T (inside x) → firstFrom ≤ pos x → pos x < placeCount
           → (pos x < firstFrom + (16 * a + 0)) ⊎ (firstFrom + (16 * a + 16) ≤ pos x) → has m s l x ≡ false
-      others (head k) i p q r = absurd (let k4 : k < 4 = ltb→lt k 4 i in let y : ⊥ = omega arith in y)
+      others (lead k) i p q r = absurd (let k4 : k < 4 = ltb→lt k 4 i in let y : ⊥ = omega arith in y)
       others (value c e) i p q r =
           absurd
           (let c4 : c < 4 = ltb→lt c 4 (both-left (ltb c 4) (ltb e 6) i) in
@@ -251,7 +252,7 @@ module _ {m : ℕ} {s : Split} {f : Place → ℕ} (g : WellFormed m s f) (l : �
       others (index b k) i p q r =
           not-so (has m s l (index b k)) (λ t.
           let k16 : k < 16 = ltb→lt k 16 (both-right (ltb b 2) (ltb k 16) i) in
-          let eb : b ≡ a = has-array g l b k t in
+          let eb : b ≡ a = has-index-set g l b k t in
           ⊎-elim {C = ⊥} (λ d. omega arith) (λ d. omega arith) r)
 
   -- the block that is left

@@ -14,7 +14,7 @@ use lib.ListN.{getD}
 use Rattle.bits.specs.declared.stream.BitStream.{BitStream}
 use Rattle.bc7_places.specs.declared.places.Fields.{Fields}
 use Rattle.bc7_places.specs.declared.lines.LinePart.{LinePart}
-use Rattle.line.specs.declared.parts.Stored.{Stored}
+use Rattle.line.specs.declared.parts.StoredLine.{StoredLine}
 use Rattle.bc7_places.specs.declared.modes.ModeRow.{ModeRow}
 use Rattle.bc7_format.specs.declared.Split.{Split}
 use Rattle.laws.specs.Digits.{replacedAt, total}
@@ -22,21 +22,21 @@ use Rattle.laws.specs.Tables.{pick}
 use Rattle.laws.proofs.Rows.{take-table}
 use Rattle.laws.proofs.Tests.{at as at-each}
 use Rattle.bcn_format.specs.Block.{bytesOf}
-use Rattle.bc7_format.specs.Lines.{Line, arrayOf, indexPlace, lineBits, pPlace, turned, withLine}
+use Rattle.bc7_format.specs.Lines.{Line, indexSetOf, indexPlace, lineBits, pPlace, turned, withLine}
 use Rattle.bc7_format.specs.Modes.{indexBits, kindOfMode, lines, modeRow, pCount}
 use Rattle.bc7_format.specs.Places.{Place, atPlace, blockOf, index, inside, placeAt, pos, width, widths, valuesFrom, psFrom, firstFrom, placeCount}
 use Rattle.bc7_format.specs.Splits.{anchors}
 use Rattle.bc7_format.specs.WellFormed.{WellFormed}
-use Rattle.bc7_format.proofs.Meaning.{array-lt}
+use Rattle.bc7_format.proofs.Meaning.{index-set-lt}
 use Rattle.bc7_format.proofs.Modes.{good-index-mode, lines-le}
 use Rattle.bc7_format.proofs.Opening.{good-total}
 use Rattle.bc7_format.proofs.Places.{inside-index}
 use Rattle.bc7_format.proofs.Starts.{start, start-le}
 use Rattle.bits.specs.Stream.{held}
 use Rattle.bcn_format.specs.Indexes.{indexWidth, indexWidths}
-use Rattle.bc7_format.specs.Fields.{headEnd}
+use Rattle.bc7_format.specs.Fields.{leadEnd}
 use Rattle.bc7_format.proofs.Fields.{begins}
-use Rattle.bc7_places.specs.Modes.{rowOf}
+use Rattle.bc7_places.specs.Modes.{modeRowOf}
 use Rattle.line_rules.specs.Acceptable.{Acceptable}
 use Rattle.line_rules.specs.Replace.{oriented, put, refusalIn, topSet}
 use Rattle.line_rules.proofs.Accepting.{accepted-is}
@@ -48,7 +48,7 @@ use Rattle.line.proofs.parts.Words.{maskPart, word}
 use Rattle.line.specs.Fields.{LineReady, PairReady, SetReady, endpointsPut, fieldsAt, linePut, psPut, twoPut, valuesPut}
 use Rattle.bc7_places.specs.Places.{fieldsOf}
 use Rattle.line.proofs.fields.Indexes.{set-put, set-ready, stored, stored-lt, stored-split}
-use Rattle.line.proofs.fields.Putting.{after-head, channel-put, indexes-put, p-put, p-put-1, put-whole}
+use Rattle.line.proofs.fields.Putting.{after-lead, channel-put, indexes-put, p-put, p-put-1, put-whole}
 use Rattle.line.proofs.fields.Runs.{Upto, nothing-put}
 use Rattle.bc7_places.proofs.places.Starting.{channel-low, channel-starts, channelAt, p-low, p-starts, set-starts}
 
@@ -56,9 +56,9 @@ pub two-of-1 : (m : ℕ) → m ≡ 1 → pCount m ≢ 0
 unfolding modeRow
 two-of-1 m e = rw e (λ z. omega arith)
 
-pub head-low : (m : ℕ) → m < 8 → headEnd m ≤ 16
-unfolding headEnd modeRow
-head-low m h = leb→le _ 16 (at-each 8 (λ m. leb (headEnd m) 16) tt m h)
+pub lead-low : (m : ℕ) → m < 8 → leadEnd m ≤ 16
+unfolding leadEnd modeRow
+lead-low m h = leb→le _ 16 (at-each 8 (λ m. leb (leadEnd m) 16) tt m h)
 
 -- where the places end
 pub whole-start : {m : ℕ} {s : Split} {f : Place → ℕ} → WellFormed m s f → start m s placeCount ≡ 128
@@ -102,13 +102,13 @@ module _ {m : ℕ} {s : Split} {f : Place → ℕ} (g : WellFormed m s f) (l : �
       go true = given (1 - k) (omega arith)
       go false = given k hk
 
-  stands-fits : (q : ℕ) → q < 16 → withLine m s l o f (indexPlace s l q) < 2 ^ indexWidth (indexBits m (arrayOf s l)) (anchors s) q
+  stands-fits : (q : ℕ) → q < 16 → withLine m s l o f (indexPlace s l q) < 2 ^ indexWidth (indexBits m (indexSetOf s l)) (anchors s) q
   unfolding put indexPlace width
-  stands-fits q h = put-good g l ln acc .fits (index (arrayOf s l) q) (inside-index (array-lt s l (good-index-mode g)) h)
+  stands-fits q h = put-good g l ln acc .fits (index (indexSetOf s l) q) (inside-index (index-set-lt s l (good-index-mode g)) h)
 
   -- the fields, where they start
   abbrev at : Fields
-  at = fieldsOf (rowOf m) (headEnd m) l (arrayOf s l)
+  at = fieldsOf (modeRowOf m) (leadEnd m) l (indexSetOf s l)
 
   abbrev Until : ℕ → ℕ → Type 0
   Until k n = Upto m s l o f k n
@@ -121,7 +121,7 @@ module _ {m : ℕ} {s : Split} {f : Place → ℕ} (g : WellFormed m s f) (l : �
       (rw ew at (o-value 1 c (omega arith) hc))
       (e ∙ rw (eb, ex, ey, channel-starts g l hl l3 c hc)) u
 
-  module _ {st : Stored} (ist : IsStored x st o) where
+  module _ {st : StoredLine} (ist : IsStored x st o) where
     abbrev e : ℕ → ℕ
     e i = getD (st .endpoints) i 0
 
@@ -192,22 +192,22 @@ module _ {m : ℕ} {s : Split} {f : Place → ℕ} (g : WellFormed m s f) (l : �
       n' = psPut (endpointsPut n at x (st .endpoints)) m (at .p) l (x .p) (st .p)
 
       until-first : Until firstFrom n'
-      until-first = after-ps _ (after-values n (after-head g l hl o n fn))
+      until-first = after-ps _ (after-values n (after-lead g l hl o n fn))
 
       as-stood : (q : ℕ) → q < 16 → atPlace m s n' (indexPlace s l q) ≡ f (indexPlace s l q)
       unfolding indexPlace pos
-      as-stood q h = until-first .rest (index (arrayOf s l) q) (inside-index (array-lt s l (good-index-mode g)) h) (omega arith)
+      as-stood q h = until-first .rest (index (indexSetOf s l) q) (inside-index (index-set-lt s l (good-index-mode g)) h) (omega arith)
 
       -- the set ends where the block does, at the latest
-      set-room : start m s (firstFrom + (16 * arrayOf s l + 0)) + total (indexWidths (indexBits m (arrayOf s l)) (anchors s)) ≤ 128
+      set-room : start m s (firstFrom + (16 * indexSetOf s l + 0)) + total (indexWidths (indexBits m (indexSetOf s l)) (anchors s)) ≤ 128
       unfolding indexWidths
       set-room =
-          let h : arrayOf s l < 2 = array-lt s l (good-index-mode g) in
-          rw (← (begins m s (arrayOf s l) h 16 (omega arith)), ← (whole-start g))
-          (start-le m s (firstFrom + (16 * arrayOf s l + 16)) placeCount (omega arith) (omega arith))
+          let h : indexSetOf s l < 2 = index-set-lt s l (good-index-mode g) in
+          rw (← (begins m s (indexSetOf s l) h 16 (omega arith)), ← (whole-start g))
+          (start-le m s (firstFrom + (16 * indexSetOf s l + 16)) placeCount (omega arith) (omega arith))
 
-      module _ {mask : ℕ} (em : mask ≡ word (x .index) (maskPart x)) (q : BitStream) (hq : held q ≡ n) (aq : q .at ≡ headEnd m) {row : ModeRow}
-          (er : row ≡ rowOf m) where
+      module _ {mask : ℕ} (em : mask ≡ word (x .index) (maskPart x)) (q : BitStream) (hq : held q ≡ n) (aq : q .at ≡ leadEnd m) {row : ModeRow}
+          (er : row ≡ modeRowOf m) where
         fields-are : fieldsAt q row l x ≡ at
         fields-are = rw (er, aq, is .set)
 
@@ -233,7 +233,7 @@ module _ {m : ℕ} {s : Split} {f : Place → ℕ} (g : WellFormed m s f) (l : �
         pub line-ready : LineReady q m row l x mask st
         line-ready = record {
           mode-row = record { mode = m; low = g .mode; is = er };
-          start = rw aq (head-low m (g .mode));
+          start = rw aq (lead-low m (g .mode));
           line = l3;
           red =
               rw fields-are

@@ -9,7 +9,7 @@ use Rattle.bc7_format.specs.declared.Split.{Split}
 use Rattle.bc7_places.specs.declared.lines.LinePart.{LinePart}
 use Rattle.bc7_places.specs.declared.modes.ModeRow.{ModeRow}
 use Rattle.laws.specs.Tables.{pick}
-use Rattle.bc7_format.specs.Lines.{anchorOf, arrayOf, indexPlace, lineBits, pPlace, valuePlace}
+use Rattle.bc7_format.specs.Lines.{anchorOf, indexSetOf, indexPlace, lineBits, pPlace, valuePlace}
 use Rattle.bc7_format.specs.Modes.{kindOfMode, lines, pCount}
 use Rattle.bc7_format.specs.Places.{Place}
 use Rattle.bc7_format.specs.WellFormed.{WellFormed}
@@ -19,7 +19,7 @@ use Rattle.line_rules.specs.Acceptable.{OwnWidths}
 use Rattle.line_rules.specs.Replace.{ownWidth}
 use Rattle.line_rules.proofs.OwnWidths.{own-widths}
 use Rattle.bc7_places.specs.Splits.{anchorsOf}
-use Rattle.bc7_places.specs.Modes.{rowOf}
+use Rattle.bc7_places.specs.Modes.{modeRowOf}
 use Rattle.bc7_places.proofs.modes.Bounds.{small}
 use Rattle.bc7_places.specs.Lines.{ownPixel, partOf}
 use Rattle.bc7_places.proofs.lines.Parts.{anchored, bits-is, index-widths, sets, value-widths}
@@ -30,7 +30,7 @@ pub record IsPart (m : ℕ) (s : Split) (l : ℕ) (x : LinePart) : Type 0 where
   pub p : (k : ℕ) → k < 2 → ownWidth m s l (pPlace m l k) ≡ x .p
   pub index : (q : ℕ) → q < 16 → ownWidth m s l (indexPlace s l q) ≡ pick (ownPixel (x .pixels) q) (x .index) 0
   pub bits : x .index ≡ lineBits m s l
-  pub set : x .set ≡ arrayOf s l
+  pub set : x .set ≡ indexSetOf s l
   pub anchor : x .anchor ≡ anchorOf s l
   pub anchors : x .anchors ≡ anchorsOf s
   pub map : x .pixels .subsets .bits ≤ 2
@@ -49,9 +49,9 @@ module _ {m : ℕ} {s : Split} {f : Place → ℕ} (g : WellFormed m s f) (l : �
   ws : OwnWidths m s l
   ws = own-widths g l hl
 
-  pub is-part : {row : ModeRow} {x : LinePart} → row ≡ rowOf m → x ≡ partOf row s l → IsPart m s l x
+  pub is-part : {row : ModeRow} {x : LinePart} → row ≡ modeRowOf m → x ≡ partOf row s l → IsPart m s l x
   is-part {row} {x} er ex =
-      let sm = small {row = rowOf m} (record { mode = m; low = g .mode; is = refl }) in
+      let sm = small {row = modeRowOf m} (record { mode = m; low = g .mode; is = refl }) in
       rw (ex, er) (record {
         value = λ k c hk hc. ws .value k c hk hc ∙ value-widths g l hl c;
         p = ws .p;

@@ -9,7 +9,7 @@ use lib.Dec.{eqb}
 use lib.ListN.{getD}
 use lib.Pow.{field as low-bits, le-ones, ones-sub-lt, pow-pos, shr-shr}
 use Rattle.bc7_places.specs.declared.lines.LinePart.{LinePart}
-use Rattle.line.specs.declared.parts.Stored.{Stored}
+use Rattle.line.specs.declared.parts.StoredLine.{StoredLine}
 use Rattle.line_rules.specs.declared.Replacement.{Replacement}
 use Rattle.bc7_format.specs.declared.Split.{Split}
 use Rattle.laws.specs.Tables.{pick}
@@ -23,7 +23,7 @@ use Rattle.line.proofs.parts.Parts.{IsPart}
 use Rattle.line.proofs.parts.Words.{Small, maskPart, word, word-part, word-plus, word-same}
 
 -- the stored fields are those of the line o, and the word has its indexes at the line's pixels
-pub record IsStored (x : LinePart) (st : Stored) (o : Line) : Type 0 where
+pub record IsStored (x : LinePart) (st : StoredLine) (o : Line) : Type 0 where
   pub value : (k c : ℕ) → k < 2 → c < 4 → getD (st .endpoints) (4 * k + c) 0 ≡ o .value k c
   pub p : (k : ℕ) → k < 2 → getD (st .p) k 0 ≡ o .p k
   pub indexes : st .indexes ≡ word (x .index) (λ q. pick (ownPixel (x .pixels) q) (o .index q) 0)
@@ -117,7 +117,7 @@ module _ {m : ℕ} {s : Split} {l : ℕ} {x : LinePart} (is : IsPart m s l x) (g
         p (suc zero) hk = refl
         p (suc (suc k)) hk = absurd (let y : ⊥ = omega arith in y)
 
-    pub is-stored : {st : Stored} → st ≡ storedAs x g (word w v) (word w (maskPart x)) → IsStored x st (oriented m s l (lineGiven g))
+    pub is-stored : {st : StoredLine} → st ≡ storedAs x g (word w v) (word w (maskPart x)) → IsStored x st (oriented m s l (lineGiven g))
     unfolding storedAs oriented
     is-stored e = rw e (go (eqb (field (word w v) (a * w + (w - 1)) 1) 0) refl)
       where

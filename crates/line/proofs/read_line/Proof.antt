@@ -12,7 +12,7 @@ use Rattle.bcn_format.specs.Block.{eights}
 use Rattle.bc7_format.specs.Modes.{modeOf, lines}
 use Rattle.bc7_format.proofs.Subsets.{sixteen-bytes}
 use Rattle.bc7_format.proofs.Modes.{mode-le-8}
-use Rattle.bc7_places.specs.Modes.{rowOf}
+use Rattle.bc7_places.specs.Modes.{modeRowOf}
 use Rattle.line.proofs.Opening.{read-0, read-1, read-2, ready-part, ready-read}
 use Rattle.line.proofs.read_line.Statement.{statement}
 use Rattle.line.proofs.read_line.Tie as tie
@@ -40,11 +40,11 @@ low c = let n = rw (mode-is c) at (c .if1 .left) in omega (arith, n, mode-le-8 (
 abbrev unreserved : tie.Else2 → tie.Else1
 unreserved c = c .before .before .before
 
-row-is : (c : tie.Else2) → c .before .before .mode-row .result ≡ rowOf (modeOf (call (unreserved c) .args .block))
-row-is c = c .before .before .mode-row .ensures ∙ ap rowOf (mode-is (unreserved c))
+mode-row-is : (c : tie.Else2) → c .before .before .mode-row .result ≡ modeRowOf (modeOf (call (unreserved c) .args .block))
+mode-row-is c = c .before .before .mode-row .ensures ∙ ap modeRowOf (mode-is (unreserved c))
 
 counted : (c : tie.Else2) → call (unreserved c) .args .line < lines (modeOf (call (unreserved c) .args .block))
-counted c = rw (row-is c) at (c .if2 .left)
+counted c = rw (mode-row-is c) at (c .if2 .left)
 
 mode-of-requires : tie.Need-mode-of-requires
 mode-of-requires c κs = search needs
@@ -64,20 +64,25 @@ unread-requires-2 c κs = search needs
 returns-2 : tie.Need-returns-2
 returns-2 c =
     let d = c .before .before .before .before in
-    let k = rw (c .before .before .before .mode-row .ensures ∙ ap rowOf (mode-is d)) at (c .before .if2 .taken) in
+    let k = rw (c .before .before .before .mode-row .ensures ∙ ap modeRowOf (mode-is d)) at (c .before .if2 .taken) in
     c .unread2 .ensures ∙ read-2 _ _ (low d) k
 
 open-line-requires : tie.Need-open-line-requires
 open-line-requires c κs = (
-  record { mode-is = mode-is (unreserved c); low = rw (mode-is (unreserved c)) (low (unreserved c)); row-is = c .before .before .mode-row .ensures },
+  record {
+    mode-is = mode-is (unreserved c);
+    low = rw (mode-is (unreserved c))
+        (low (unreserved c));
+    mode-row-is = c .before .before .mode-row .ensures;
+  },
   rw (mode-is (unreserved c)) (counted c),
 )
 
-line-at-requires : tie.Need-line-at-requires
-line-at-requires c κs =
+line-held-requires : tie.Need-line-held-requires
+line-held-requires c κs =
     let o = c .before in
     let d = unreserved (o .before) in
-    ready-read _ (sixteen (call d)) (low d) _ (counted (o .before)) (o .open-line .ensures) (row-is (o .before))
+    ready-read _ (sixteen (call d)) (low d) _ (counted (o .before)) (o .open-line .ensures) (mode-row-is (o .before))
 
 widths-of-requires : tie.Need-widths-of-requires
 widths-of-requires c κs =
@@ -89,8 +94,8 @@ returns-3 : tie.Need-returns-3
 returns-3 c =
     let o = c .before .before .before in
     let d = unreserved (o .before) in
-    read-0 _ (sixteen (call d)) (low d) _ (counted (o .before)) (o .open-line .ensures) (row-is (o .before))
-    (rw (mode-is d) at (c .before .line-at .ensures)) (c .widths-of .ensures)
+    read-0 _ (sixteen (call d)) (low d) _ (counted (o .before)) (o .open-line .ensures) (mode-row-is (o .before))
+    (rw (mode-is d) at (c .before .line-held .ensures)) (c .widths-of .ensures)
 
 pub read-line-spec : {M : Type 1} → statement M
 read-line-spec =
@@ -103,6 +108,6 @@ read-line-spec =
     unread-requires-2
     returns-2
     open-line-requires
-    line-at-requires
+    line-held-requires
     widths-of-requires
     returns-3)

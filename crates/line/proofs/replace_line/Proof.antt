@@ -18,7 +18,7 @@ use Rattle.bc7_format.specs.Modes.{modeOf, lines}
 use Rattle.bc7_format.specs.Splits.{splitOf}
 use Rattle.bc7_format.proofs.Subsets.{sixteen-bytes}
 use Rattle.bc7_format.proofs.Modes.{mode-le-8}
-use Rattle.bc7_places.specs.Modes.{rowOf}
+use Rattle.bc7_places.specs.Modes.{modeRowOf}
 use Rattle.line_rules.specs.Replace.{replacedAs}
 use Rattle.line.specs.Parts.{partsFit}
 use Rattle.line.proofs.parts.Parts.{IsPart}
@@ -52,11 +52,11 @@ low c = let n = rw (mode-is c) at (c .if1 .left) in omega (arith, n, mode-le-8 (
 abbrev unreserved : tie.Else2 → tie.Else1
 unreserved c = c .before .before .before
 
-row-is : (c : tie.Else2) → c .before .before .mode-row .result ≡ rowOf (modeOf (call (unreserved c) .args .block))
-row-is c = c .before .before .mode-row .ensures ∙ ap rowOf (mode-is (unreserved c))
+mode-row-is : (c : tie.Else2) → c .before .before .mode-row .result ≡ modeRowOf (modeOf (call (unreserved c) .args .block))
+mode-row-is c = c .before .before .mode-row .ensures ∙ ap modeRowOf (mode-is (unreserved c))
 
 counted : (c : tie.Else2) → call (unreserved c) .args .line < lines (modeOf (call (unreserved c) .args .block))
-counted c = rw (row-is c) at (c .if2 .left)
+counted c = rw (mode-row-is c) at (c .if2 .left)
 
 line-is : (c : tie.After-open-line)
     → IsPart (modeOf (call (unreserved (c .before)) .args .block)) (splitOf (call (unreserved (c .before)) .args .block))
@@ -113,12 +113,17 @@ refused-requires-2 c κs = search needs
 returns-2 : tie.Need-returns-2
 returns-2 c =
     let d = c .before .before .before .before in
-    let k = rw (c .before .before .before .mode-row .ensures ∙ ap rowOf (mode-is d)) at (c .before .if2 .taken) in
+    let k = rw (c .before .before .before .mode-row .ensures ∙ ap modeRowOf (mode-is d)) at (c .before .if2 .taken) in
     c .refused2 .ensures ∙ way-2 _ (sixteen (call d)) _ _ (long (call d)) (low d) k
 
 open-line-requires : tie.Need-open-line-requires
 open-line-requires c κs = (
-  record { mode-is = mode-is (unreserved c); low = rw (mode-is (unreserved c)) (low (unreserved c)); row-is = c .before .before .mode-row .ensures },
+  record {
+    mode-is = mode-is (unreserved c);
+    low = rw (mode-is (unreserved c))
+        (low (unreserved c));
+    mode-row-is = c .before .before .mode-row .ensures;
+  },
   rw (mode-is (unreserved c)) (counted c),
 )
 
@@ -201,7 +206,7 @@ put-line-requires c κs =
     rw (mode-is d)
     (ready _ (sixteen (call d)) _ _ (long (call d)) (low d) (counted (o .before)) (o .open-line .ensures) (fitting (fit k))
     (masking k .before .before .word-of .ensures) (masking k .mask-of .ensures) (alone k)
-    (same (c .before)) (c .oriented .ensures) (row-is (o .before)))
+    (same (c .before)) (c .oriented .ensures) (mode-row-is (o .before)))
 
 bytes-of-requires : tie.Need-bytes-of-requires
 bytes-of-requires c κs = search needs
@@ -215,7 +220,8 @@ returns-6 c =
     ap (replacedAs 0) (c .bytes-of .ensures)
     ∙ way-0 _ (sixteen (call d)) _ _ (long (call d)) (low d) (counted (o .before)) (o .open-line .ensures) (fitting (fit k))
     (masking k .before .before .word-of .ensures) (masking k .mask-of .ensures) (alone k)
-    (same (c .before .before .before)) (c .before .before .oriented .ensures) (row-is (o .before)) r (halves (c .before) .0) (halves (c .before) .1)
+    (same (c .before .before .before)) (c .before .before .oriented .ensures) (mode-row-is (o .before)) r (halves (c .before) .0)
+    (halves (c .before) .1)
     (rw (mode-is d) at (c .before .put-line .ensures))
 
 pub replace-line-spec : {M : Type 1} → statement M

@@ -1,4 +1,4 @@
--- `listing::behind_head` meets its contract.
+-- `behind_head` meets its contract.
 -- Assumes nothing.
 use mathlib.Core.Path.{_∙_, sym}
 use borrow.Author.Tests.{eq-eqb, ne-eqb}

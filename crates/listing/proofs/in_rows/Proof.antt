@@ -1,7 +1,7 @@
--- `listing::in_rows` meets its contract.
+-- `in_rows` meets its contract.
 -- Assumes nothing.
 use Rattle.listing_rules.specs.Machine.{inRows}
-use Rattle.listing_rules.proofs.Turns.{some-rows}
+use Rattle.listing_rules.proofs.Rounds.{some-rows}
 use borrow.Author.Needs.{needs}
 use Rattle.listing.proofs.in_rows.Statement.{statement}
 use Rattle.listing.proofs.in_rows.Tie as tie

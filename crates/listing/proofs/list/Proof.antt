@@ -1,4 +1,4 @@
--- `listing::list` meets its contract.
+-- `list` meets its contract.
 -- Assumes nothing.
 use native.Mathlib.Omega.{arith}
 use mathlib.Core.Bool.{true, false}

@@ -1,4 +1,4 @@
--- `listing::list_at_head` meets its contract.
+-- `list_at_head` meets its contract.
 -- Assumes nothing.
 use native.Mathlib.Omega.{arith}
 use Rattle.laws.proofs.Padding.{written-none}

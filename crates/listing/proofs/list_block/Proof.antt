@@ -1,6 +1,6 @@
--- `listing::list_block` meets its contract.
+-- `list_block` meets its contract.
 -- Assumes nothing.
-use Rattle.listing_rules.specs.Listing.{blockText}
+use Rattle.listing_rules.specs.Listing.{blockListed}
 use borrow.Author.Needs.{needs}
 use Rattle.listing.proofs.list_block.Statement.{statement}
 use Rattle.listing.proofs.list_block.Tie as tie
@@ -14,18 +14,18 @@ array-copy-out-first c = search needs
 mode-of-requires : tie.Need-mode-of-requires
 mode-of-requires c κs = search needs
 
-block-line-requires : tie.Need-block-line-requires
-block-line-requires c κs = search needs
+block-text-requires : tie.Need-block-text-requires
+block-text-requires c κs = search needs
 
 same-length : tie.Need-same-length
 same-length c = search needs
 
 returns : tie.Need-returns
-unfolding blockText
+unfolding blockListed
 returns c =
     let told = c .before .before in
     let mode = told .before .before in
-    (rw (mode .mode-of .ensures, mode .before .before .decode-bc7-block .ensures) at (told .block-line .ensures .0), told .block-line .ensures .1)
+    (rw (mode .mode-of .ensures, mode .before .before .decode-bc7-block .ensures) at (told .block-text .ensures .0), told .block-text .ensures .1)
 
 pub list-block-spec : {M : Type 1} → statement M
 list-block-spec =
@@ -34,6 +34,6 @@ list-block-spec =
     decode-bc7-block-requires
     array-copy-out-first
     mode-of-requires
-    block-line-requires
+    block-text-requires
     same-length
     returns)

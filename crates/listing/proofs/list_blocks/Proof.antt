@@ -1,4 +1,4 @@
--- `listing::list_blocks` meets its contract.
+-- `list_blocks` meets its contract.
 -- Assumes nothing.
 use native.Mathlib.Omega.{arith}
 use mathlib.Core.Path.{_≡_}
@@ -6,18 +6,18 @@ use Prim.Native.Nat.{_+_, _-_, _*_, _/_, _≤_}
 use lib.ListN.{length}
 use Rattle.laws.proofs.Padding.{written-long}
 use Rattle.listing_rules.specs.Listing.{listed}
-use Rattle.listing.proofs.Lines.{Lines, lines-more, lines-none}
+use Rattle.listing.proofs.Texts.{Texts, texts-more, texts-none}
 use Rattle.listing.proofs.list_blocks.Statement.{statement}
 use Rattle.listing.proofs.list_blocks.Tie as tie
 
 abbrev Inv-loop : tie.InvT-loop
-Inv-loop blocks from at out₀ count next₀ k₀ out next k = (k ≤ count) × (next ≤ at + 40 * k) × Lines out₀ at from blocks k out next
+Inv-loop blocks from at out₀ count next₀ k₀ out next k = (k ≤ count) × (next ≤ at + 40 * k) × Texts out₀ at from blocks k out next
 
 abbrev μ-loop : tie.MeasureT-loop
 μ-loop blocks from at out₀ count next₀ k₀ out next k = count - k
 
 loop-holds : tie.Need-loop-holds Inv-loop μ-loop
-loop-holds c = (omega arith, omega arith, lines-none _ _ _ _)
+loop-holds c = (omega arith, omega arith, texts-none _ _ _ _)
 
 mul-load : tie.Need-mul-load Inv-loop μ-loop
 mul-load c = omega arith
@@ -46,7 +46,7 @@ loop-again c =
     let l = b .before .before .before .before in (
       omega arith,
       omega (arith, b .list-block .ensures .1),
-      lines-more _ _ _ _ (l .loop .k) (l .loop .inv .2)
+      texts-more _ _ _ _ (l .loop .k) (l .loop .inv .2)
           (rw (b .before .before .load .ensures) at (b .list-block .ensures .0)),
     )
 

@@ -1,4 +1,4 @@
--- `listing::list_head` meets its contract.
+-- `list_head` meets its contract.
 -- Assumes nothing.
 use native.Mathlib.Omega.{arith}
 use borrow.Author.Tests.{eq-eqb, ne-eqb}
@@ -7,33 +7,33 @@ use borrow.Author.Needs.{needs}
 use Rattle.listing.proofs.list_head.Statement.{statement}
 use Rattle.listing.proofs.list_head.Tie as tie
 
-refused-line-requires : tie.Need-refused-line-requires
-refused-line-requires c κs = search needs
+refused-text-requires : tie.Need-refused-text-requires
+refused-text-requires c κs = search needs
 
 same-length : tie.Need-same-length
 same-length c = search needs
 
 returns : tie.Need-returns
 unfolding headText
-returns c = let told = c .before .before in (rw (ne-eqb _ 0 (told .before .before .if1 .taken)) (told .refused-line .ensures .0), omega arith)
+returns c = let told = c .before .before in (rw (ne-eqb _ 0 (told .before .before .if1 .taken)) (told .refused-text .ensures .0), omega arith)
 
-sheet-line-requires : tie.Need-sheet-line-requires
-sheet-line-requires c κs = search needs
+sheet-text-requires : tie.Need-sheet-text-requires
+sheet-text-requires c κs = search needs
 
 same-length-2 : tie.Need-same-length-2
 same-length-2 c = search needs
 
 returns-2 : tie.Need-returns-2
 unfolding headText
-returns-2 c = let told = c .before .before in (rw (eq-eqb _ 0 (told .before .before .if1 .left)) (told .sheet-line .ensures .0), omega arith)
+returns-2 c = let told = c .before .before in (rw (eq-eqb _ 0 (told .before .before .if1 .left)) (told .sheet-text .ensures .0), omega arith)
 
 pub list-head-spec : {M : Type 1} → statement M
 list-head-spec =
     tie.close
     (tie.spec
-    refused-line-requires
+    refused-text-requires
     same-length
     returns
-    sheet-line-requires
+    sheet-text-requires
     same-length-2
     returns-2)

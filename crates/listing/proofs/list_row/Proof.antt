@@ -1,4 +1,4 @@
--- `listing::list_row` meets its contract.
+-- `list_row` meets its contract.
 -- Assumes nothing.
 use native.Mathlib.Omega.{arith}
 use Rattle.laws.proofs.Padding.{written-then}

@@ -1,10 +1,10 @@
--- `listing::list_sheet` meets its contract. The measure is the turns that the machine still takes.
+-- `list_sheet` meets its contract. The measure is the rounds that the machine still takes.
 -- Assumes nothing.
 
 use native.Mathlib.Omega.{arith}
 use lib.ListN.{length}
-use Rattle.listing_rules.specs.Machine.{NextEnd, turnsOf, wantedOf}
-use Rattle.listing.proofs.Whole.{Fed, fed-asks, fed-start, fed-turn, fed-whole}
+use Rattle.listing_rules.specs.Machine.{NextEnd, roundsOf, wantedOf}
+use Rattle.listing.proofs.Whole.{Fed, fed-asks, fed-start, fed-round, fed-whole}
 use Rattle.listing.proofs.list_sheet.Statement.{statement}
 use Rattle.listing.proofs.list_sheet.Tie as tie
 
@@ -12,7 +12,7 @@ abbrev Inv-loop : tie.InvT-loop
 Inv-loop sheet out₀ machine₀ at₀ said₀ out machine at said = Fed sheet out₀ out machine at said
 
 abbrev μ-loop : tie.MeasureT-loop
-μ-loop sheet out₀ machine₀ at₀ said₀ out machine at said = turnsOf machine
+μ-loop sheet out₀ machine₀ at₀ said₀ out machine at said = roundsOf machine
 
 -- what is cut out of the sheet
 ends : (c : tie.After-end-of Inv-loop μ-loop)
@@ -68,7 +68,7 @@ loop-less c = omega (
 )
 
 loop-again : tie.Need-loop-again Inv-loop μ-loop
-loop-again c = fed-turn (c .before .before .before .before .before .before .before .before .before .before .before .loop .inv)
+loop-again c = fed-round (c .before .before .before .before .before .before .before .before .before .before .before .loop .inv)
     (ends (c .before .before .before .before .before .before .before)) (c .before .before .before .before .list .ensures .0)
     (c .before .before .before .before .list .ensures .1) (c .next .ensures .0) (c .next .ensures .1 .0)
 

@@ -1,9 +1,9 @@
--- `listing::next` meets its contract.
+-- `next` meets its contract.
 -- Assumes nothing.
 use mathlib.Core.Path.{_∙_, ap, sym, subst}
 use Rattle.listing_rules.specs.declared.Phase.{Phase}
 use Rattle.listing_rules.specs.Machine.{ReadyIn, nextIn}
-use Rattle.listing_rules.proofs.Turns.{nexts}
+use Rattle.listing_rules.proofs.Rounds.{nexts}
 use borrow.Author.Needs.{needs}
 use Rattle.listing.proofs.next.Statement.{statement}
 use Rattle.listing.proofs.next.Tie as tie

@@ -1,4 +1,4 @@
--- `listing::next_at_head` meets its contract.
+-- `next_at_head` meets its contract.
 -- Assumes nothing.
 use mathlib.Core.Path.{_∙_, sym}
 use borrow.Author.Needs.{needs}
@@ -15,7 +15,9 @@ behind-head-requires : tie.Need-behind-head-requires
 behind-head-requires c κs = c .before .before .before .take-next .ensures .1 (sym (c .before .before .has-ended .ensures) ∙ c .before .if1 .taken)
 
 returns : tie.Need-returns
-returns c = rw (← c .before .before .before .before .take-next .ensures .0, ← c .before .before .before .has-ended .ensures, c .before .before .if1 .taken) (c .behind-head .ensures)
+returns c =
+    rw (← c .before .before .before .before .take-next .ensures .0, ← c .before .before .before .has-ended .ensures, c .before .before .if1 .taken)
+    (c .behind-head .ensures)
 
 at-head-requires : tie.Need-at-head-requires
 at-head-requires c κs = search needs

@@ -1,4 +1,4 @@
--- `listing::next_in_rows` meets its contract.
+-- `next_in_rows` meets its contract.
 -- Assumes nothing.
 use mathlib.Core.Path.{_∙_, sym}
 use borrow.Author.Tests.{eq-eqb, ne-eqb}

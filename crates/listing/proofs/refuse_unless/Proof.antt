@@ -1,4 +1,4 @@
--- `listing::refuse_unless` meets its contract.
+-- `refuse_unless` meets its contract.
 -- Assumes nothing.
 use native.Mathlib.Omega.{arith}
 use Rattle.laws.proofs.Padding.{written-none}
@@ -9,18 +9,18 @@ use Rattle.listing.proofs.refuse_unless.Tie as tie
 returns : tie.Need-returns
 returns c = (rw (c .if1 .taken) written-none, rw (c .if1 .taken) (omega arith))
 
-refused-line-requires : tie.Need-refused-line-requires
-refused-line-requires c κs = search needs
+refused-text-requires : tie.Need-refused-text-requires
+refused-text-requires c κs = search needs
 
 same-length : tie.Need-same-length
 same-length c = search needs
 
 returns-2 : tie.Need-returns-2
 returns-2 c = (
-  rw (c .before .before .before .before .if1 .left) (c .before .before .refused-line .ensures .0),
+  rw (c .before .before .before .before .if1 .left) (c .before .before .refused-text .ensures .0),
   rw
       (c .before .before .before .before .if1 .left) (omega arith),
 )
 
 pub refuse-unless-spec : {M : Type 1} → statement M
-refuse-unless-spec = tie.close (tie.spec returns refused-line-requires same-length returns-2)
+refuse-unless-spec = tie.close (tie.spec returns refused-text-requires same-length returns-2)

@@ -1,8 +1,8 @@
--- `listing::start` meets its contract.
+-- `start` meets its contract.
 -- Assumes nothing.
 use mathlib.Core.Path.{_∙_, ap, sym, subst}
 use Rattle.listing_rules.specs.Machine.{Ready, atHead}
-use Rattle.listing_rules.proofs.Turns.{ready-start}
+use Rattle.listing_rules.proofs.Rounds.{ready-start}
 use borrow.Author.Needs.{needs}
 use Rattle.listing.proofs.start.Statement.{statement}
 use Rattle.listing.proofs.start.Tie as tie

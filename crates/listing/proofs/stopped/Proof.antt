@@ -1,4 +1,4 @@
--- `listing::stopped` meets its contract.
+-- `stopped` meets its contract.
 -- Assumes nothing.
 use Rattle.listing_rules.specs.Machine.{ended}
 use borrow.Author.Needs.{needs}

@@ -1,7 +1,7 @@
--- `listing::take_next` meets its contract.
+-- `take_next` meets its contract.
 -- Assumes nothing.
 use mathlib.Core.Path.{_∙_}
-use Rattle.listing_rules.proofs.Turns.{head-sized, taken-none, taken-one}
+use Rattle.listing_rules.proofs.Rounds.{head-sized, taken-none, taken-one}
 use borrow.Author.Needs.{needs}
 use Rattle.listing.proofs.take_next.Statement.{statement}
 use Rattle.listing.proofs.take_next.Tie as tie

@@ -1,7 +1,7 @@
--- `listing::wanted` meets its contract.
+-- `wanted` meets its contract.
 -- Assumes nothing.
 use mathlib.Core.Path.{refl}
-use Rattle.listing_rules.proofs.Turns.{wants}
+use Rattle.listing_rules.proofs.Rounds.{wants}
 use borrow.Author.Needs.{needs}
 use Rattle.listing.proofs.wanted.Statement.{statement}
 use Rattle.listing.proofs.wanted.Tie as tie

@@ -3,9 +3,9 @@
 use mathlib.Core.Path.{_≡_, refl}
 use mathlib.Core.List.{List, [], _∷_, _++_}
 use Prim.Native.Nat.{ℕ}
-use Rattle.listing_rules.specs.Text.{ascii, blockLine, channels, decimal, digitsIn, newline, opacityMark, sheetLine}
+use Rattle.listing_rules.specs.Text.{ascii, blockText, channels, decimal, digitsIn, newline, opacityMark, sheetText}
 
-pub document-example : _≡_ {A = List (List ℕ)} (sheetLine 5 4 ∷ blockLine 0 5 (255 ∷ 0 ∷ 0 ∷ 0 ∷ []) ∷ blockLine 1 8 (0 ∷ 0 ∷ 0 ∷ 0 ∷ []) ∷ [])
+pub document-example : _≡_ {A = List (List ℕ)} (sheetText 5 4 ∷ blockText 0 5 (255 ∷ 0 ∷ 0 ∷ 0 ∷ []) ∷ blockText 1 8 (0 ∷ 0 ∷ 0 ∷ 0 ∷ []) ∷ [])
     ((ascii "sheet 5 4" ++ (newline ∷ [])) ∷ (ascii "0 5 255 0 0 0 -" ++ (newline ∷ [])) ∷ (ascii "1 8 0 0 0 0 -" ++ (newline ∷ [])) ∷ [])
-unfolding sheetLine blockLine channels opacityMark decimal digitsIn ascii
+unfolding sheetText blockText channels opacityMark decimal digitsIn ascii
 document-example = refl

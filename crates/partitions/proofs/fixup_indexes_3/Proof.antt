@@ -14,8 +14,10 @@ both-fixups-3-requires c κs = search needs
 
 returns : tie.Need-returns
 returns c = λ j. record {
-  «fixup_index_2» = (ap (λ (x : ℕ). x % 2 ^ 4) (c .both-fixups-3 .ensures) ∙ low (map3 (c .before .args .id) .«fixup_index_3») 4 (second-below (c .before .args .id) (search needs))) j;
-  «fixup_index_3» = (ap (λ (x : ℕ). x / 2 ^ 4) (c .both-fixups-3 .ensures) ∙ high (map3 (c .before .args .id) .«fixup_index_3») 4 (second-below (c .before .args .id) (search needs))) j;
+  «fixup_index_2» = (ap (λ (x : ℕ). x % 2 ^ 4) (c .both-fixups-3 .ensures) ∙ low (map3 (c .before .args .id) .«fixup_index_3») 4
+      (second-below (c .before .args .id) (search needs))) j;
+  «fixup_index_3» = (ap (λ (x : ℕ). x / 2 ^ 4) (c .both-fixups-3 .ensures) ∙ high (map3 (c .before .args .id) .«fixup_index_3») 4
+      (second-below (c .before .args .id) (search needs))) j;
 }
 
 pub fixup-indexes-3-spec : {M : Type 1} → statement M

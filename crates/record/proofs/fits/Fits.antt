@@ -22,18 +22,18 @@ use Rattle.laws.proofs.Scan.{scan-same}
 use Rattle.laws.proofs.Tests.{at, both-left, both-right, both-true, no-both, not-so, true-T}
 use Rattle.bc7_format.specs.Modes.{indexBits, secondBits}
 use Rattle.bcn_format.specs.Partitions.{among, or}
-use Rattle.bc7_format.specs.Places.{head, index, pbit, value, width}
+use Rattle.bc7_format.specs.Places.{lead, index, pbit, value, width}
 use Rattle.bc7_format.specs.Splits.{anchors, indexMode, partition, rotation}
 use Rattle.bc7_format.proofs.Modes.{by-subset}
 use Rattle.bc7_format.proofs.Places.{inside-index, inside-pbit, inside-value}
-use Rattle.record_rules.specs.Answers.{TopsClear, Within}
+use Rattle.record_rules.specs.Answers.{TopsZero, Within}
 use Rattle.record_rules.specs.Records.{fits, says}
-use Rattle.record_rules.proofs.Answering.{clear-stored, fits-at, fits-of, stored-clear}
+use Rattle.record_rules.proofs.Answering.{zero-tops-stored, fits-at, fits-of, stored-zero-tops}
 use Rattle.bc7_places.specs.Splits.{ArePixels, anchorsOf, threeOf}
-use Rattle.bc7_places.specs.Modes.{rowOf}
+use Rattle.bc7_places.specs.Modes.{modeRowOf}
 use Rattle.bc7_places.proofs.modes.Bounds.{low-partition}
 use Rattle.bc7_places.proofs.splits.AnchorPixels.{three-are, anchors-low}
-use Rattle.record.specs.Fitting.{Full, splitFits, storedFit, topsClear, valueBits}
+use Rattle.record.specs.Fitting.{Full, splitFits, storedFit, topsZero, valueBits}
 use Rattle.record.proofs.fits.Bytes.{one-width}
 
 -- a pair of endpoints as one word
@@ -74,39 +74,39 @@ abbrev allFit : ℕ → (ℕ → ℕ) → (ℕ → ℕ) → Bool
 allFit n v w = below n (λ k. ltb (v k) (2 ^ w k))
 
 -- ALL OF A RECORD at its full widths
-module _ (r : Record) {row : ModeRow} (hm : r .mode < 8) (er : row ≡ rowOf (r .mode)) where
+module _ (r : Record) {row : ModeRow} (hm : r .mode < 8) (er : row ≡ modeRowOf (r .mode)) where
   -- what fits everywhere fits in each group
   pub split-from : Within r → splitFits (r .split) row ≡ true
   unfolding says width
-  split-from w = rw (er, lt-ltb _ _ (w (head 1) tt), lt-ltb _ _ (w (head 2) tt)) (lt-ltb _ _ (w (head 3) tt))
+  split-from w = rw (er, lt-ltb _ _ (w (lead 1) tt), lt-ltb _ _ (w (lead 2) tt)) (lt-ltb _ _ (w (lead 3) tt))
 
   pub values-from : Within r → allFit 24 (λ i. getD (r .endpoints) i 0) (valueBits row) ≡ true
   unfolding says width
   values-from w =
-      rw er (fits-all 24 (λ i. getD (r .endpoints) i 0) (valueBits (rowOf (r .mode))) (λ i l.
-      subst (λ (j : ℕ). getD (r .endpoints) j 0 < 2 ^ valueBits (rowOf (r .mode)) i) (let z : 4 * (i / 4) + i % 4 ≡ i = omega arith in z)
+      rw er (fits-all 24 (λ i. getD (r .endpoints) i 0) (valueBits (modeRowOf (r .mode))) (λ i l.
+      subst (λ (j : ℕ). getD (r .endpoints) j 0 < 2 ^ valueBits (modeRowOf (r .mode)) i) (let z : 4 * (i / 4) + i % 4 ≡ i = omega arith in z)
       (w (value (i % 4) (i / 4)) (inside-value {c = i % 4} {e = i / 4} (omega arith) (omega arith)))))
 
   pub ps-from : Within r → allFit 6 (λ k. getD (r .p) k 0) (λ k. pick (ltb k (row .p)) 1 0) ≡ true
   unfolding says width
-  ps-from w = rw er (fits-all 6 (λ k. getD (r .p) k 0) (λ k. pick (ltb k (rowOf (r .mode) .p)) 1 0) (λ k l. w (pbit k) (inside-pbit l)))
+  ps-from w = rw er (fits-all 6 (λ k. getD (r .p) k 0) (λ k. pick (ltb k (modeRowOf (r .mode) .p)) 1 0) (λ k l. w (pbit k) (inside-pbit l)))
 
   pub first-from : Within r → allFit 16 (λ q. getD (r .first) q 0) (λ q. row .first) ≡ true
   unfolding says width
   first-from w =
-      rw er (fits-all 16 (λ q. getD (r .first) q 0) (λ q. rowOf (r .mode) .first) (λ q l. w (index 0 q) (inside-index {a = 0} (omega arith) l)))
+      rw er (fits-all 16 (λ q. getD (r .first) q 0) (λ q. modeRowOf (r .mode) .first) (λ q l. w (index 0 q) (inside-index {a = 0} (omega arith) l)))
 
   pub second-from : Within r → allFit 16 (λ q. getD (r .second) q 0) (λ q. row .second) ≡ true
   unfolding says width
   second-from w =
-      rw er (fits-all 16 (λ q. getD (r .second) q 0) (λ q. rowOf (r .mode) .second) (λ q l. w (index 1 q) (inside-index {a = 1} (omega arith) l)))
+      rw er (fits-all 16 (λ q. getD (r .second) q 0) (λ q. modeRowOf (r .mode) .second) (λ q l. w (index 1 q) (inside-index {a = 1} (omega arith) l)))
 
   -- and back
   module _ (s : splitFits (r .split) row ≡ true) (v : allFit 24 (λ i. getD (r .endpoints) i 0) (valueBits row) ≡ true)
       (p : allFit 6 (λ k. getD (r .p) k 0) (λ k. pick (ltb k (row .p)) 1 0) ≡ true)
       (f : allFit 16 (λ q. getD (r .first) q 0) (λ q. row .first) ≡ true) where
-    heads : (partition (r .split) < 2 ^ row .partition) × (rotation (r .split) < 2 ^ row .rotation) × (indexMode (r .split) < 2 ^ row .«index_mode»)
-    heads =
+    leads : (partition (r .split) < 2 ^ row .partition) × (rotation (r .split) < 2 ^ row .rotation) × (indexMode (r .split) < 2 ^ row .«index_mode»)
+    leads =
         let rest = both-true (ltb (partition (r .split)) (2 ^ row .partition))
         (both (ltb (rotation (r .split)) (2 ^ row .rotation)) (ltb (indexMode (r .split)) (2 ^ row .«index_mode»))) s in
         let last = both-true (ltb (rotation (r .split)) (2 ^ row .rotation)) (ltb (indexMode (r .split)) (2 ^ row .«index_mode»)) (rest .1) in
@@ -114,11 +114,11 @@ module _ (r : Record) {row : ModeRow} (hm : r .mode < 8) (er : row ≡ rowOf (r 
 
     within : allFit 16 (λ q. getD (r .second) q 0) (λ q. row .second) ≡ true → Within r
     unfolding says width
-    within g (head zero) h = pow-lt {i = r .mode} {j = suc (r .mode)} (omega arith)
-    within g (head (suc zero)) h = rw er at (heads .0)
-    within g (head (suc (suc zero))) h = rw er at (heads .1)
-    within g (head (suc (suc (suc zero)))) h = rw er at (heads .2)
-    within g (head (suc (suc (suc (suc k))))) h = absurd (let l = ltb→lt (suc (suc (suc (suc k)))) 4 h in let z : ⊥ = omega arith in z)
+    within g (lead zero) h = pow-lt {i = r .mode} {j = suc (r .mode)} (omega arith)
+    within g (lead (suc zero)) h = rw er at (leads .0)
+    within g (lead (suc (suc zero))) h = rw er at (leads .1)
+    within g (lead (suc (suc (suc zero)))) h = rw er at (leads .2)
+    within g (lead (suc (suc (suc (suc k))))) h = absurd (let l = ltb→lt (suc (suc (suc (suc k)))) 4 h in let z : ⊥ = omega arith in z)
     within g (value c e) h =
         let hc : c < 4 = ltb→lt c 4 (both-left (ltb c 4) (ltb e 6) h) in
         let he : e < 6 = ltb→lt e 6 (both-right (ltb c 4) (ltb e 6) h) in
@@ -171,7 +171,7 @@ one-of-three P q a b c t pa pb pc = first (eqb q a) refl t
 module _ {r : Record} {row : ModeRow} (full : Full r row) where
   pub part-64 : partition (r .split) < 64
   unfolding says width
-  part-64 = low-partition (r .mode) _ (full .low) (full .within (head 1) tt)
+  part-64 = low-partition (r .mode) _ (full .low) (full .within (lead 1) tt)
 
   module _ {a : Anchors} (ea : a ≡ anchorsOf (r .split)) where
     pub pixels : ArePixels a
@@ -185,17 +185,17 @@ module _ {r : Record} {row : ModeRow} (full : Full r row) where
       abbrev w : ℕ
       w = indexBits (r .mode) k - 1
 
-      tops-from : TopsClear r → topsClear vs a w ≡ true
+      tops-from : TopsZero r → topsZero vs a w ≡ true
       tops-from c =
-          let clear : (q : ℕ) → q < 16 → among q (threeOf a) ≡ true → ltb (getD vs q 0) (2 ^ w) ≡ true =
+          let tops-are-zero : (q : ℕ) → q < 16 → among q (threeOf a) ≡ true → ltb (getD vs q 0) (2 ^ w) ≡ true =
           λ q h t. lt-ltb _ _ (rw (ev q h) at (c k q (inside-index hk h) (true-T _ (sym (are q) ∙ t)))) in
           rw (
-            clear (a .a) (pixels .first) (rw (eq-eqb (a .a) (a .a) refl)),
-            clear (a .b) (pixels .second) (rw (eq-eqb (a .b) (a .b) refl, or-true)),
+            tops-are-zero (a .a) (pixels .first) (rw (eq-eqb (a .a) (a .a) refl)),
+            tops-are-zero (a .b) (pixels .second) (rw (eq-eqb (a .b) (a .b) refl, or-true)),
           )
-          (clear (a .c) (pixels .third) (rw (eq-eqb (a .c) (a .c) refl, or-true, or-true)))
+          (tops-are-zero (a .c) (pixels .third) (rw (eq-eqb (a .c) (a .c) refl, or-true, or-true)))
 
-      from-tops : topsClear vs a w ≡ true → (q : ℕ) → q < 16 → T (among q (anchors (r .split))) → says r (index k q) < 2 ^ w
+      from-tops : topsZero vs a w ≡ true → (q : ℕ) → q < 16 → T (among q (anchors (r .split))) → says r (index k q) < 2 ^ w
       from-tops t q h i =
           let rest = both-true (ltb (getD vs (a .a) 0) (2 ^ w)) (both (ltb (getD vs (a .b) 0) (2 ^ w)) (ltb (getD vs (a .c) 0) (2 ^ w))) t in
           let last = both-true (ltb (getD vs (a .b) 0) (2 ^ w)) (ltb (getD vs (a .c) 0) (2 ^ w)) (rest .1) in
@@ -204,49 +204,49 @@ module _ {r : Record} {row : ModeRow} (full : Full r row) where
           (ltb-true _ _ (last .0)) (ltb-true _ _ (last .1)))
 
     -- both sets
-    abbrev firstClear : Bool
-    firstClear = topsClear (r .first) a (row .first - 1)
+    abbrev firstZero : Bool
+    firstZero = topsZero (r .first) a (row .first - 1)
 
-    abbrev secondClear : Bool
-    secondClear = topsClear (r .second) a (row .second - 1)
+    abbrev secondZero : Bool
+    secondZero = topsZero (r .second) a (row .second - 1)
 
-    first-from-clear : TopsClear r → firstClear ≡ true
+    first-from-zero : TopsZero r → firstZero ≡ true
     unfolding says
-    first-from-clear c = rw (full .is) (tops-from 0 (omega arith) (r .first) (λ q h. refl) c)
+    first-from-zero c = rw (full .is) (tops-from 0 (omega arith) (r .first) (λ q h. refl) c)
 
-    second-from-clear : TopsClear r → secondClear ≡ true
+    second-from-zero : TopsZero r → secondZero ≡ true
     unfolding says
-    second-from-clear c = rw (full .is) (tops-from 1 (omega arith) (r .second) (λ q h. refl) c)
+    second-from-zero c = rw (full .is) (tops-from 1 (omega arith) (r .second) (λ q h. refl) c)
 
-    clear : firstClear ≡ true → ((q : ℕ) → q < 16 → T (among q (anchors (r .split))) → says r (index 1 q) < 2 ^ (secondBits (r .mode) - 1))
-        → TopsClear r
+    tops-are-zero : firstZero ≡ true → ((q : ℕ) → q < 16 → T (among q (anchors (r .split))) → says r (index 1 q) < 2 ^ (secondBits (r .mode) - 1))
+        → TopsZero r
     unfolding says
-    clear f g zero q i t =
+    tops-are-zero f g zero q i t =
         from-tops 0 (omega arith) (r .first) (λ q h. refl) (rw (full .is) at f) q (ltb→lt q 16 (both-right (ltb 0 2) (ltb q 16) i)) t
-    clear f g (suc zero) q i t = g q (ltb→lt q 16 (both-right (ltb 1 2) (ltb q 16) i)) t
-    clear f g (suc (suc k)) q i t =
+    tops-are-zero f g (suc zero) q i t = g q (ltb→lt q 16 (both-right (ltb 1 2) (ltb q 16) i)) t
+    tops-are-zero f g (suc (suc k)) q i t =
         absurd (let l = ltb→lt (suc (suc k)) 2 (both-left (ltb (suc (suc k)) 2) (ltb q 16) i) in let z : ⊥ = omega arith in z)
 
-    stored-of : TopsClear r → storedFit r ≡ true
-    stored-of c = fits-of (r .mode) (anchors (r .split)) (says r) (clear-stored r (full .within) c)
+    stored-of : TopsZero r → storedFit r ≡ true
+    stored-of c = fits-of (r .mode) (anchors (r .split)) (says r) (zero-tops-stored r (full .within) c)
 
-    tops-of : storedFit r ≡ true → TopsClear r
-    tops-of e = stored-clear r (fits-at (r .mode) (anchors (r .split)) (says r) e)
+    tops-of : storedFit r ≡ true → TopsZero r
+    tops-of e = stored-zero-tops r (fits-at (r .mode) (anchors (r .split)) (says r) e)
 
     -- what the code answers, group by group
-    pub first-not : firstClear ≡ false → false ≡ storedFit r
-    first-not e = sym (not-so _ (λ t. no-both (first-from-clear (tops-of t)) e))
+    pub first-not : firstZero ≡ false → false ≡ storedFit r
+    first-not e = sym (not-so _ (λ t. no-both (first-from-zero (tops-of t)) e))
 
-    pub first-only : firstClear ≡ true → (row .kind ≡ 3 → ⊥) → true ≡ storedFit r
+    pub first-only : firstZero ≡ true → (row .kind ≡ 3 → ⊥) → true ≡ storedFit r
     unfolding width
     first-only e k =
         let none : secondBits (r .mode) ≡ 0 = by-subset (r .mode) (full .low) (λ z. k (ap (λ (x : ModeRow). x .kind) (full .is) ∙ z)) .second in
-        sym (stored-of (clear e (λ q h t. rw none (rw none at (full .within (index 1 q) (inside-index {a = 1} (omega arith) h))))))
+        sym (stored-of (tops-are-zero e (λ q h t. rw none (rw none at (full .within (index 1 q) (inside-index {a = 1} (omega arith) h))))))
 
-    pub second-decides : firstClear ≡ true → secondClear ≡ storedFit r
+    pub second-decides : firstZero ≡ true → secondZero ≡ storedFit r
     unfolding says
-    second-decides e = go secondClear refl
+    second-decides e = go secondZero refl
       where
-        go : (b : Bool) → secondClear ≡ b → b ≡ storedFit r
-        go true g = sym (stored-of (clear e (from-tops 1 (omega arith) (r .second) (λ q h. refl) (rw (full .is) at g))))
-        go false g = sym (not-so _ (λ t. no-both (second-from-clear (tops-of t)) g))
+        go : (b : Bool) → secondZero ≡ b → b ≡ storedFit r
+        go true g = sym (stored-of (tops-are-zero e (from-tops 1 (omega arith) (r .second) (λ q h. refl) (rw (full .is) at g))))
+        go false g = sym (not-so _ (λ t. no-both (second-from-zero (tops-of t)) g))

@@ -26,7 +26,8 @@ use Rattle.laws.specs.Tables.{pick, table, tableFrom}
 use Rattle.laws.proofs.Cases.{lt-or, pick-less}
 use Rattle.laws.proofs.Joining.{table-same}
 use Rattle.bcn_format.specs.Block.{eights, field, number}
-use Rattle.bc7_format.specs.Modes.{modeOf, alphaBits, channelBits, colourBits, endpointCount, firstBits, indexBits, kindOfMode, modeRow, pCount, secondBits}
+use Rattle.bc7_format.specs.Modes.{modeOf, alphaBits, channelBits, colourBits, endpointCount, firstBits, indexBits, kindOfMode, modeRow, pCount}
+use Rattle.bc7_format.specs.Modes.{secondBits}
 use Rattle.bcn_format.specs.Partitions.{among}
 use Rattle.bc7_format.specs.Places.{Place, atPlace, index, inside, opened, pbit, pos, value, width, firstFrom, secondFrom}
 use Rattle.bc7_format.specs.Splits.{anchors, kindOf, partition, splitAt, splitOf}
@@ -39,14 +40,14 @@ use Rattle.indexes.specs.Reading.{newIndexes}
 use Rattle.indexes.proofs.Remove.{size-kind}
 use Rattle.bits.specs.Stream.{skipped}
 use Rattle.bits.proofs.On.{On, field-lt, next-is, on-skipped}
-use Rattle.bc7_format.specs.Fields.{headEnd, valueStart}
+use Rattle.bc7_format.specs.Fields.{leadEnd, valueStart}
 use Rattle.bc7_format.proofs.Fields.{begins, bit-at, first-start, index-at, value-at, valuesEnd}
 use Rattle.record_rules.specs.Records.{made, recordOf}
-use Rattle.bc7_places.specs.Modes.{OfMode, rowOf}
+use Rattle.bc7_places.specs.Modes.{OfMode, modeRowOf}
 use Rattle.bc7_places.specs.Splits.{anchorsOf, splitRead}
 use Rattle.bc7_places.proofs.modes.Bounds.{second-bits, small}
 use Rattle.record.specs.Reading.{channelOf, channelsAt, endpointsOf, endpointsRead, pRead, secondRead}
-use Rattle.bc7_places.proofs.splits.Heads.{split-is, split-on}
+use Rattle.bc7_places.proofs.splits.Leads.{split-is, split-on}
 use Rattle.bc7_places.proofs.splits.AnchorPixels.{anchors-kind, anchors-rise}
 
 -- a part of a field is a field
@@ -70,13 +71,13 @@ part-past n a t i h =
 
 -- the last group of each mode ends within the block
 pub record Room (m : ℕ) : Type 0 where
-  pub values : headEnd m ≤ 128
+  pub values : leadEnd m ≤ 128
   pub p : valuesEnd m ≤ 128
   pub first : valuesEnd m + pCount m ≤ 128
   pub second : valuesEnd m + pCount m + (16 * firstBits m - anchorCount (kindOfMode m)) ≤ 128
 
 pub in-block : (m : ℕ) → m < 8 → Room m
-unfolding headEnd modeRow kindOfMode endpointCount
+unfolding leadEnd modeRow kindOfMode endpointCount
 in-block zero h = omega arith
 in-block (suc zero) h = omega arith
 in-block (suc (suc zero)) h = omega arith
@@ -96,8 +97,8 @@ module _ (m : ℕ) (s : Split) (n : ℕ) (hm : m < 8) where
   nothing x h e = at-field m s n x h ∙ ap (λ (w : ℕ). n / 2 ^ start m s (pos x) % 2 ^ w) e ∙ mod-one (n / 2 ^ start m s (pos x))
 
   -- the values
-  module _ {row : ModeRow} {t : BitStream} (er : row ≡ rowOf m) (o : On n (headEnd m) t) where
-    channel-word : (c : ℕ) → channelsAt row t c ≡ field n (headEnd m + c * (endpointCount m * colourBits m)) (endpointCount m * channelBits m c)
+  module _ {row : ModeRow} {t : BitStream} (er : row ≡ modeRowOf m) (o : On n (leadEnd m) t) where
+    channel-word : (c : ℕ) → channelsAt row t c ≡ field n (leadEnd m + c * (endpointCount m * colourBits m)) (endpointCount m * channelBits m c)
     channel-word c = rw er (next-is (on-skipped o (c * (endpointCount m * colourBits m))) (endpointCount m * channelBits m c))
 
     one-of : (c : ℕ) → c < 4 → channelOf (channelsAt row t 0) (channelsAt row t 1) (channelsAt row t 2) (channelsAt row t 3) c ≡ channelsAt row t c
@@ -114,8 +115,8 @@ module _ (m : ℕ) (s : Split) (n : ℕ) (hm : m < 8) where
         let b : ℕ = channelBits m c in
         let room : e * b + b ≤ k * b = subst (λ (x : ℕ). x ≤ k * b) (let z : (e + 1) * b ≡ e * b + b = omega arith in z)
         (mul-le-mul-right b (rw (add-one e) he)) in
-        let place : headEnd m + c * (k * colourBits m) + e * b ≡ headEnd m + k * (colourBits m * c) + b * e =
-        ap₂ (λ (x y : ℕ). headEnd m + x + y) (mul-comm c (k * colourBits m) ∙ mul-assoc k (colourBits m) c) (mul-comm e b) in
+        let place : leadEnd m + c * (k * colourBits m) + e * b ≡ leadEnd m + k * (colourBits m * c) + b * e =
+        ap₂ (λ (x y : ℕ). leadEnd m + x + y) (mul-comm c (k * colourBits m) ∙ mul-assoc k (colourBits m) c) (mul-comm e b) in
         ap (λ (x : ℕ). part x b e) (channel-word c) ∙ part-field n _ (k * b) b e room
         ∙ ap (λ (x : ℕ). field n x b) place ∙ sym (value-at m s n hm c e hc he)
 
@@ -139,14 +140,14 @@ module _ (m : ℕ) (s : Split) (n : ℕ) (hm : m < 8) where
     values-on =
         let k : ℕ = endpointCount m in
         let x : ℕ = 3 * (k * colourBits m) + k * alphaBits m in
-        let e : headEnd m + x ≡ valuesEnd m =
-        ap (λ (y : ℕ). headEnd m + (y + k * alphaBits m))
+        let e : leadEnd m + x ≡ valuesEnd m =
+        ap (λ (y : ℕ). leadEnd m + (y + k * alphaBits m))
         (sym (mul-assoc 3 k (colourBits m)) ∙ ap (λ (y : ℕ). y * colourBits m) (mul-comm 3 k) ∙ mul-assoc k 3 (colourBits m))
-        ∙ ap (λ (y : ℕ). headEnd m + y) (sym (mul-add k (3 * colourBits m) (alphaBits m))) in
+        ∙ ap (λ (y : ℕ). leadEnd m + y) (sym (mul-add k (3 * colourBits m) (alphaBits m))) in
         rw er (subst (λ (a : ℕ). On n a (skipped t x)) e (on-skipped o x))
 
   -- the p bits
-  module _ {row : ModeRow} {t : BitStream} (er : row ≡ rowOf m) (o : On n (valuesEnd m) t) where
+  module _ {row : ModeRow} {t : BitStream} (er : row ≡ modeRowOf m) (o : On n (valuesEnd m) t) where
     pub ps-stand : pRead row t .p ≡ table 6 (λ k. at (pbit k))
     unfolding pRead width
     ps-stand = rw er (table-same 0 6 _ _ (λ k l. ap (λ (x : ℕ). part x 1 k) (next-is o (pCount m)) ∙ stands k l))
@@ -181,7 +182,7 @@ module _ (m : ℕ) (s : Split) (n : ℕ) (hm : m < 8) where
       (λ q l. sym (nothing (index 1 q) (inside-index {a = 1} (omega arith) l) (rw e (le-zero (pick-less (among q (anchors s)) 0)))))
 
 -- A BLOCK READ, of mode m, whose row is `row`
-module _ (bs : List ℕ) (sixteen : Fit eights bs) {m : ℕ} (em : m ≡ modeOf bs) (hm : m < 8) {row : ModeRow} (er : row ≡ rowOf m) where
+module _ (bs : List ℕ) (sixteen : Fit eights bs) {m : ℕ} (em : m ≡ modeOf bs) (hm : m < 8) {row : ModeRow} (er : row ≡ modeRowOf m) where
   abbrev n : ℕ
   n = number bs
 
@@ -257,16 +258,16 @@ module _ (bs : List ℕ) (sixteen : Fit eights bs) {m : ℕ} (em : m ≡ modeOf 
     pub the-split : h .split ≡ splitAt m n
     the-split = split-is m er o eh
 
-    head-on : On n (headEnd m) (h .stream)
-    unfolding headEnd
-    head-on = subst (λ (a : ℕ). On n a (h .stream)) (rw er (omega arith)) (split-on row o eh)
+    lead-on : On n (leadEnd m) (h .stream)
+    unfolding leadEnd
+    lead-on = subst (λ (a : ℕ). On n a (h .stream)) (rw er (omega arith)) (split-on row o eh)
 
     pub values-room : h .stream .at ≤ 128
-    values-room = rw (head-on .stands) (in-block m hm .values)
+    values-room = rw (lead-on .stands) (in-block m hm .values)
 
     module _ {v : ReadEndpoints} (ev : v ≡ endpointsRead row (h .stream)) where
       values-behind : On n (valuesEnd m) (v .stream)
-      values-behind = rw ev (values-on m (h .split) n hm er head-on)
+      values-behind = rw ev (values-on m (h .split) n hm er lead-on)
 
       pub p-room : v .stream .at ≤ 128
       p-room = rw (values-behind .stands) (in-block m hm .p)
@@ -289,7 +290,7 @@ module _ (bs : List ℕ) (sixteen : Fit eights bs) {m : ℕ} (em : m ≡ modeOf 
         unfolding recordOf made opened
         record-read {a} ea {set} eset {first} {second} ef eg =
             let s : Split = h .split in
-            let e1 : v .endpoints ≡ table 24 (λ i. atPlace m s n (value (i % 4) (i / 4))) = rw ev (values-stand m s n hm er head-on) in
+            let e1 : v .endpoints ≡ table 24 (λ i. atPlace m s n (value (i % 4) (i / 4))) = rw ev (values-stand m s n hm er lead-on) in
             let e2 : p .p ≡ table 6 (λ k. atPlace m s n (pbit k)) = rw ep (ps-stand m s n hm er values-behind) in
             let e3 : first ≡ table 16 (λ q. atPlace m s n (index 0 q)) = ef ∙ rw eset (first-stands the-split ea p-behind) in
             let e4 : second ≡ table 16 (λ q. atPlace m s n (index 1 q)) = eg ∙ second-stands the-split ea (second-on the-split ea p-behind eset) in

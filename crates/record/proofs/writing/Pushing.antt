@@ -14,7 +14,7 @@ use Rattle.record_rules.specs.declared.Record.{Record}
 use Rattle.bc7_places.specs.declared.splits.Anchors.{Anchors}
 use Rattle.bc7_places.specs.declared.modes.ModeRow.{ModeRow}
 use Rattle.bits.specs.declared.writer.BitWriter.{BitWriter}
-use Rattle.laws.specs.Digits.{Fit, join, row as evenly, total}
+use Rattle.laws.specs.Digits.{Fit, join, evenly, total}
 use Rattle.laws.specs.Tables.{pick, table}
 use Rattle.laws.proofs.Cases.{pick-less, pick-lt}
 use Rattle.laws.proofs.Digits.{join-lt}
@@ -24,7 +24,8 @@ use Rattle.laws.proofs.RowParts.{rows-join, rows-total, tail-join, tail-total}
 use Rattle.laws.proofs.Rows.{fit-table, total-same}
 use Rattle.bc7_format.specs.Modes.{channelBits, endpointCount, indexBits, pCount, partitionBits, secondBits}
 use Rattle.bcn_format.specs.Partitions.{among}
-use Rattle.bc7_format.specs.Places.{blockOf, head, index, listOf, pbit, placeAt, pos, value, width, widths, valuesFrom, psFrom, firstFrom, secondFrom, placeCount}
+use Rattle.bc7_format.specs.Places.{blockOf, lead, index, listOf, pbit, placeAt, pos, value, width, widths, valuesFrom, psFrom, firstFrom, secondFrom}
+use Rattle.bc7_format.specs.Places.{placeCount}
 use Rattle.bcn_format.specs.Block.{bytesOf}
 use Rattle.bc7_format.specs.Splits.{anchors, indexMode, kindOf, partition, rotation}
 use Rattle.bc7_format.proofs.Modes.{by-subset}
@@ -32,7 +33,7 @@ use Rattle.bc7_format.proofs.Places.{inside-index, inside-pbit, inside-placeAt,
 use Rattle.bcn_format.specs.Indexes.{Rising, anchorCount, anchorsOfKind, indexWidths}
 use Rattle.indexes.proofs.Remove.{size-kind}
 use Rattle.bits.specs.Writer.{pushed, writerOf, written}
-use Rattle.bits.proofs.Puts.{row-asks, row-more, row-none, row-written, written-of}
+use Rattle.bits.proofs.Puts.{pushes-ask, pushes-more, pushes-none, pushes-written, written-of}
 use Rattle.laws.proofs.Words.{one-shl}
 use Rattle.record_rules.specs.Records.{says}
 use Rattle.bc7_places.specs.Modes.{OfMode}
@@ -47,7 +48,7 @@ module _ {r : Record} {row : ModeRow} (p : Packable r row) where
 
   part-fits : partition (r .split) < 2 ^ partitionBits (r .mode)
   unfolding says width
-  part-fits = p .fits (head 1) tt
+  part-fits = p .fits (lead 1) tt
 
   pub part-64 : partition (r .split) < 64
   part-64 = low-partition (r .mode) _ (p .low) part-fits
@@ -93,17 +94,17 @@ module _ {r : Record} {row : ModeRow} (p : Packable r row) where
   module _ (i : ℕ) (h : i < placeCount) {b : BitWriter} (eb : b ≡ upto r i) {v w : ℕ} (ev : v ≡ said r i) (ew : w ≡ wide r i) where
     pub place-asks : (v < 2 ^ w) × (b .at + w ≤ 128) × (written b < 2 ^ b .at)
     unfolding upto
-    place-asks = rw (ev, ew) (row-asks (wide r) (said r) placeCount each i h eb (le-of-eq all-128))
+    place-asks = rw (ev, ew) (pushes-ask (wide r) (said r) placeCount each i h eb (le-of-eq all-128))
 
     pub place-next : {c : BitWriter} → c ≡ pushed b v w → c ≡ upto r (i + 1)
     unfolding upto
-    place-next ec = row-more (wide r) (said r) placeCount each i h eb (rw (ev, ew) at ec)
+    place-next ec = pushes-more (wide r) (said r) placeCount each i h eb (rw (ev, ew) at ec)
 
   pub begun : {b : BitWriter} → b ≡ writerOf 0 0 → b ≡ upto r 0
   unfolding upto
-  begun e = e ∙ row-none (wide r) (said r)
+  begun e = e ∙ pushes-none (wide r) (said r)
 
-  -- the head
+  -- the lead
   pub marker-said : (1 * 2 ^ r .mode) % 2 ^ 64 ≡ said r 0
   unfolding says placeAt
   marker-said = one-shl (r .mode) (omega (arith, p .low))
@@ -112,14 +113,14 @@ module _ {r : Record} {row : ModeRow} (p : Packable r row) where
   unfolding width placeAt
   marker-wide = add-one (r .mode)
 
-  pub head-wide : (row .partition ≡ wide r 1) × (row .rotation ≡ wide r 2) × (row .«index_mode» ≡ wide r 3)
+  pub lead-wide : (row .partition ≡ wide r 1) × (row .rotation ≡ wide r 2) × (row .«index_mode» ≡ wide r 3)
   unfolding width placeAt
-  head-wide = rw (p .is) (refl, refl, refl)
+  lead-wide = rw (p .is) (refl, refl, refl)
 
-  pub head-said : {x y z : ℕ} → x ≡ partition (r .split) → y ≡ rotation (r .split) → z ≡ indexMode (r .split)
+  pub lead-said : {x y z : ℕ} → x ≡ partition (r .split) → y ≡ rotation (r .split) → z ≡ indexMode (r .split)
       → (x ≡ said r 1) × (y ≡ said r 2) × (z ≡ said r 3)
   unfolding says placeAt
-  head-said a b c = (a, b, c)
+  lead-said a b c = (a, b, c)
 
   -- six places, of which the mode has the first `count`: the values of a channel, or the p bits
   module _ (i : ℕ) (room : i + 6 ≤ placeCount) (count w : ℕ) (v : ℕ → ℕ) (six : count ≤ 6)
@@ -314,4 +315,4 @@ module _ {r : Record} {row : ModeRow} (p : Packable r row) where
   -- the whole
   pub all-written : {b : BitWriter} → b ≡ upto r placeCount → bytesOf (written b) ≡ blockOf (r .mode) (r .split) (says r)
   unfolding upto blockOf widths listOf
-  all-written e = ap bytesOf (row-written (wide r) (said r) placeCount e)
+  all-written e = ap bytesOf (pushes-written (wide r) (said r) placeCount e)

@@ -7,7 +7,7 @@ use native.Mathlib.Nat.{lt-of-lt-of-le}
 use native.Mathlib.Omega.{arith}
 use lib.ListN.{getD}
 use lib.Pow.{pow-mono}
-use Rattle.laws.specs.Digits.{Fit, join, row, split}
+use Rattle.laws.specs.Digits.{Fit, join, evenly, split}
 use Rattle.laws.proofs.Cases.{pick-less}
 use Rattle.laws.proofs.Downwards.{Down, Step, down-all, down-next, down-none}
 use Rattle.laws.proofs.Digits.{join-lt, split-join}
@@ -37,7 +37,7 @@ module _ (w : ℕ) (vs : List ℕ) (f : Fit (indexWidths w []) vs) where
   upper-next hw = down-next w 16 (λ k. getD vs k 0) index-fits (omega arith)
 
   pub upper-all : (x : ℕ) → Upper w vs 0 x → x ≡ join (indexWidths w []) vs
-  unfolding indexWidths row
+  unfolding indexWidths evenly
   upper-all x e =
       down-all w 16 (λ k. getD vs k 0) index-fits x e
       ∙ ap (join (indexWidths w [])) (table-is 16 _ vs (fit-length f ∙ length-table 16 (indexWidth w [])) (λ i l. refl))

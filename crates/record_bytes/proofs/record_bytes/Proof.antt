@@ -1,4 +1,4 @@
--- `record_bytes`: four bytes of the head, then the arrays one behind the other.
+-- `record_bytes`: four bytes of the lead, then the arrays one behind the other.
 -- Assumes nothing.
 use mathlib.Core.Path.{_≡_, refl, sym}
 use Prim.Native.Nat.{ℕ, _+_, _≤_}
@@ -7,7 +7,7 @@ use lib.ListN.{length, replicate}
 use borrow.Author.Needs.{needs}
 use Rattle.laws.proofs.Filled.{Filled, filled-all}
 use Rattle.record_bytes.specs.Wire.{recordByte, recordBytes}
-use Rattle.record_bytes.proofs.Laying.{first-at, head-laid, laid, p-bit-at, second-at, value-at}
+use Rattle.record_bytes.proofs.Laying.{first-at, lead-laid, laid, p-bit-at, second-at, value-at}
 use Rattle.record_bytes.proofs.record_bytes.Statement.{statement}
 use Rattle.record_bytes.proofs.record_bytes.Tie as tie
 use Rattle.bc7_format.specs.Places.{valuesFrom, psFrom, firstFrom, secondFrom, placeCount}
@@ -62,7 +62,7 @@ filled-values c =
     let set = c .before .before .before .before in
     let r = from-1 c .args .from in
     laid valuesFrom 24 (r .endpoints) (endpoints-long (from-1 c)) (c .lay .ensures)
-    (head-laid r _ _ _ (replicate placeCount 0) refl (set .before .before .kind-of .ensures) (set .before .split-byte .ensures)
+    (lead-laid r _ _ _ (replicate placeCount 0) refl (set .before .before .kind-of .ensures) (set .before .split-byte .ensures)
     (set .index-mode-of .ensures))
     (omega arith) (value-at r)
 

@@ -1,4 +1,4 @@
--- `sheet::decode_row` meets its contract.
+-- `decode_row` meets its contract.
 -- Assumes nothing.
 use mathlib.Core.Path.{_∙_, ap, sym}
 use Prim.Native.Nat.{ℕ, _*_}

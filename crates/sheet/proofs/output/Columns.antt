@@ -1,4 +1,4 @@
--- The lines of a block laid into their column.
+-- The scanlines of a block laid into their column.
 -- Assumes nothing.
 use mathlib.Core.Path.{_≡_, _∙_, ap, ap₂, sym, subst}
 use mathlib.Core.Logic.{⊎-elim}
@@ -13,15 +13,17 @@ use Rattle.laws.specs.Tables.{over, table}
 use Rattle.laws.proofs.Cases.{lt-or}
 use Rattle.laws.proofs.Over.{part-over}
 use Rattle.laws.proofs.Part.{Part, part-all}
-use Rattle.sheet.specs.Columns.{columnByte, lineByte, withColumn}
+use Rattle.sheet.specs.Columns.{columnByte, scanlineByte, withColumn}
 
--- line y's part of column c is inside the output
-pub fits : (w c : ℕ) → 4 * c < w → {lines y : ℕ} → y < lines → {n : ℕ} → n ≡ min 4 (w - 4 * c) → y * (4 * w) + 16 * c + 4 * n ≤ lines * (4 * w)
-fits w c inside {lines} {y} below {n} n-is = omega (arith, digits-lt {q = y} {m = lines} {r = 16 * c + 4 * n - 1} {c = 4 * w} below (omega arith))
+-- scanline y's part of column c is inside the output
+pub fits : (w c : ℕ) → 4 * c < w → {scanlines y : ℕ} → y < scanlines → {n : ℕ} → n ≡ min 4 (w - 4 * c)
+    → y * (4 * w) + 16 * c + 4 * n ≤ scanlines * (4 * w)
+fits w c inside {scanlines} {y} below {n} n-is =
+    omega (arith, digits-lt {q = y} {m = scanlines} {r = 16 * c + 4 * n - 1} {c = 4 * w} below (omega arith))
 
--- byte k stands in line k / (4 · w) and in column k % (4 · w) / 16
+-- byte k stands in scanline k / (4 · w) and in column k % (4 · w) / 16
 module _ (w c : ℕ) (px : List (List ℕ)) (out₀ : List ℕ) where
-  pub byte-in : (k : ℕ) → k % (4 * w) / 16 ≡ c → columnByte w px c out₀ k ≡ lineByte px (k / (4 * w)) (k % (4 * w) % 16)
+  pub byte-in : (k : ℕ) → k % (4 * w) / 16 ≡ c → columnByte w px c out₀ k ≡ scanlineByte px (k / (4 * w)) (k % (4 * w) % 16)
   unfolding columnByte
   byte-in k e = rw (eq-eqb (k % (4 * w) / 16) c e)
 
@@ -29,21 +31,21 @@ module _ (w c : ℕ) (px : List (List ℕ)) (out₀ : List ℕ) where
   unfolding columnByte
   byte-out k e = rw (ne-eqb (k % (4 * w) / 16) c e)
 
-  -- the first y lines of the column
-  abbrev pub Lines : ℕ → ℕ → List ℕ → Type 0
-  Lines lines y out = Part (lines * (4 * w)) 0 (columnByte w px c out₀) (λ k. k % (4 * w) / 16 ≡ c → k / (4 * w) < y) out
+  -- the first y scanlines of the column
+  abbrev pub Scanlines : ℕ → ℕ → List ℕ → Type 0
+  Scanlines scanlines y out = Part (scanlines * (4 * w)) 0 (columnByte w px c out₀) (λ k. k % (4 * w) / 16 ≡ c → k / (4 * w) < y) out
 
-  pub lines-none : (lines : ℕ) → length out₀ ≡ lines * (4 * w) → Lines lines 0 out₀
-  lines-none lines e = record { long = e; done = λ k l p. sym (byte-out k (λ q. not-suc-le-zero (p q))) }
+  pub scanlines-none : (scanlines : ℕ) → length out₀ ≡ scanlines * (4 * w) → Scanlines scanlines 0 out₀
+  scanlines-none scanlines e = record { long = e; done = λ k l p. sym (byte-out k (λ q. not-suc-le-zero (p q))) }
 
-  module _ (inside : 4 * c < w) (lines y : ℕ) (below : y < lines) (n : ℕ) (n-is : n ≡ min 4 (w - 4 * c)) where
-    at-byte : (j : ℕ) → j < 4 * n → lineByte px y j ≡ columnByte w px c out₀ (y * (4 * w) + 16 * c + j)
+  module _ (inside : 4 * c < w) (scanlines y : ℕ) (below : y < scanlines) (n : ℕ) (n-is : n ≡ min 4 (w - 4 * c)) where
+    at-byte : (j : ℕ) → j < 4 * n → scanlineByte px y j ≡ columnByte w px c out₀ (y * (4 * w) + 16 * c + j)
     at-byte j h =
         let l : 16 * c + j < 4 * w = omega arith in
         let e = ap (λ (m : ℕ). m % (4 * w)) (add-assoc (y * (4 * w)) (16 * c) j) ∙ digits-mod y l in
         let d = ap (λ (m : ℕ). m / (4 * w)) (add-assoc (y * (4 * w)) (16 * c) j) ∙ digits-div y l in
-        sym (byte-in (y * (4 * w) + 16 * c + j) (ap (λ (m : ℕ). m / 16) e ∙ omega arith) ∙ ap₂ (λ (a b : ℕ). lineByte px a (b % 16)) d e
-        ∙ ap (lineByte px y) (omega arith))
+        sym (byte-in (y * (4 * w) + 16 * c + j) (ap (λ (m : ℕ). m / 16) e ∙ omega arith) ∙ ap₂ (λ (a b : ℕ). scanlineByte px a (b % 16)) d e
+        ∙ ap (scanlineByte px y) (omega arith))
 
     earlier : (k : ℕ) → (k % (4 * w) / 16 ≡ c → k / (4 * w) < y + 1) → ((y * (4 * w) + 16 * c ≤ k) × (k < y * (4 * w) + 16 * c + 4 * n) → ⊥)
         → k % (4 * w) / 16 ≡ c → k / (4 * w) < y
@@ -55,15 +57,16 @@ module _ (w c : ℕ) (px : List (List ℕ)) (out₀ : List ℕ) where
             let l : k % (4 * w) < 4 * w = mod-lt k (omega arith) in
             (omega (arith, d, e, l), omega (arith, d, e, l))
 
-    pub lines-more : {out next : List ℕ} → Lines lines y out → next ≡ over out (y * (4 * w) + 16 * c) (4 * n) (lineByte px y)
-        → Lines lines (y + 1) next
-    lines-more h e =
-        subst (Lines lines (y + 1)) (sym e)
-        (part-over (y * (4 * w) + 16 * c) (4 * n) (lineByte px y) h (fits w c inside below n-is) at-byte (λ k l q ne. earlier k q ne))
+    pub scanlines-more : {out next : List ℕ} → Scanlines scanlines y out → next ≡ over out (y * (4 * w) + 16 * c) (4 * n) (scanlineByte px y)
+        → Scanlines scanlines (y + 1) next
+    scanlines-more h e =
+        subst (Scanlines scanlines (y + 1)) (sym e)
+        (part-over (y * (4 * w) + 16 * c) (4 * n) (scanlineByte px y) h (fits w c inside below n-is) at-byte (λ k l q ne. earlier k q ne))
 
-  pub lines-all : {lines y : ℕ} {out : List ℕ} → 4 * c < w → length out₀ ≡ lines * (4 * w) → lines ≤ y → Lines lines y out → out
+  pub scanlines-all : {scanlines y : ℕ} {out : List ℕ} → 4 * c < w → length out₀ ≡ scanlines * (4 * w) → scanlines ≤ y → Scanlines scanlines y out
+      → out
       ≡ withColumn w px c out₀
   unfolding withColumn
-  lines-all {lines} {y} inside e l h =
-      part-all h (λ k lk q. omega (arith, div-lt-iff-lt-mul {k = 4 * w} {x = k} {y = lines} (omega arith) .1 lk))
+  scanlines-all {scanlines} {y} inside e l h =
+      part-all h (λ k lk q. omega (arith, div-lt-iff-lt-mul {k = 4 * w} {x = k} {y = scanlines} (omega arith) .1 lk))
       ∙ ap (λ (m : ℕ). table m (columnByte w px c out₀)) (sym e)

@@ -1,4 +1,4 @@
--- `sheet::replace_in_sheet` meets its contract.
+-- `replace_in_sheet` meets its contract.
 -- Assumes nothing.
 use borrow.Author.Needs.{needs}
 use Rattle.sheet.proofs.blocks.Finding.{has-room}

@@ -28,7 +28,8 @@ returns-2 c = nexts _ _ (c .refused-with .ensures ∙ next-refuses _ _ (c .befor
     (c .before .before .before .before .before .before .if1 .left) (c .before .before .before .read-number .ensures) (c .before .if2 .taken))
 
 cast-take-number : tie.Need-cast-take-number
-cast-take-number c = omega (arith, near _ _ (c .before .before .before .read-number .ensures), c .before .before .before .before .before .before .before .before .before .pre)
+cast-take-number c =
+    omega (arith, near _ _ (c .before .before .before .read-number .ensures), c .before .before .before .before .before .before .before .before .before .pre)
 
 take-number-requires : tie.Need-take-number-requires
 take-number-requires c κs = search needs

@@ -1,4 +1,4 @@
--- `head::size_refusal` meets its contract.
+-- `size_refusal` meets its contract.
 -- Assumes nothing.
 use mathlib.Core.Path.{sym}
 use native.Mathlib.Omega.{arith}

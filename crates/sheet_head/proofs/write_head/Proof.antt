@@ -1,4 +1,4 @@
--- `head::write_head` meets its contract.
+-- `write_head` meets its contract.
 -- Assumes nothing.
 use mathlib.Core.Path.{_∙_, sym}
 use native.Mathlib.Omega.{arith}
@@ -32,8 +32,18 @@ write-number-requires-2 c κs =
 write-number-requires-3 : tie.Need-write-number-requires-3
 write-number-requires-3 c κs =
     let n = c .before .before in
-    let s = sized _ _ (sym (n .before .before .size-refusal .ensures) ∙ n .before .if1 .left) in
-    (omega (arith, same-count (c .write-number2 .ensures), few 3 (n .before .before .before .args .width), same-count (c .before .write-number .ensures), same-count (n .no-bytes2 .ensures), one-byte), omega (arith, s .within-high))
+    let s = sized _ _ (sym (n .before .before .size-refusal .ensures) ∙ n .before .if1 .left) in (
+      omega (
+        arith,
+        same-count (c .write-number2 .ensures),
+        few 3 (n .before .before .before .args .width),
+        same-count
+            (c .before .write-number .ensures),
+        same-count (n .no-bytes2 .ensures),
+        one-byte,
+      ),
+      omega (arith, s .within-high),
+    )
 
 returns-2 : tie.Need-returns-2
 returns-2 c =

@@ -1,4 +1,4 @@
--- `head::write_number` meets its contract.
+-- `write_number` meets its contract.
 -- Assumes nothing.
 use mathlib.Core.Path.{_∙_}
 use native.Mathlib.Omega.{arith}

@@ -1,4 +1,4 @@
--- `sheetlist::list_with` is safe and ends: the measure is the turns that the machine still takes.
+-- `sheetlist::list_with` is safe and ends: the measure is the rounds that the machine still takes.
 -- Assumes nothing.
 use borrow.Author.Needs.{needs}
 use mathlib.Core.Path.{_≡_}
@@ -6,7 +6,7 @@ use native.Mathlib.Omega.{arith}
 use lib.ListN.{length, length-drop, length-take}
 use Rattle.laws.proofs.Padding.{written-long}
 use Rattle.listing_rules.proofs.Room.{spare-most}
-use Rattle.listing_rules.specs.Machine.{Ready, turnsOf}
+use Rattle.listing_rules.specs.Machine.{Ready, roundsOf}
 use Rattle.sheetlist.proofs.list_with.Statement.{statement}
 use Rattle.sheetlist.proofs.list_with.Tie as tie
 
@@ -14,7 +14,7 @@ abbrev Inv-loop : tie.InvT-loop
 Inv-loop buffer₀ text₀ machine₀ buffer text machine = Ready machine × (length buffer ≡ length buffer₀) × (length text ≡ length text₀)
 
 abbrev μ-loop : tie.MeasureT-loop
-μ-loop buffer₀ text₀ machine₀ buffer text machine = turnsOf machine
+μ-loop buffer₀ text₀ machine₀ buffer text machine = roundsOf machine
 
 start-requires : tie.Need-start-requires Inv-loop μ-loop
 start-requires c κs = search needs
@@ -94,7 +94,8 @@ next-requires c κs = search needs
 
 loop-less : tie.Need-loop-less Inv-loop μ-loop
 loop-less c =
-    let begun = c .before .before .before .before .before .before .before .before .before .before .before .before .before .before .before .before .before .before in
+    let begun =
+    c .before .before .before .before .before .before .before .before .before .before .before .before .before .before .before .before .before .before in
     omega (arith, c .next .ensures .1 .1, begun .before .wanted .ensures .1 .1, begun .if1 .taken)
 
 loop-again : tie.Need-loop-again Inv-loop μ-loop

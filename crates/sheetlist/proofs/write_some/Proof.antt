@@ -1,4 +1,4 @@
--- `sheetlist::write_some` meets its contract.
+-- `write_some` meets its contract.
 -- Assumes nothing.
 use borrow.Author.Needs.{needs}
 use Prim.Native.Nat.{_≤_}

@@ -1,4 +1,4 @@
--- `anchor` meets its contract.
+-- `lines::anchor` meets its contract.
 -- Assumes nothing.
 use borrow.Author.Needs.{needs}
 use borrow.Author.Tests.{eq-eqb, ne-eqb}

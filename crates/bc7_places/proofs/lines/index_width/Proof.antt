@@ -1,4 +1,4 @@
--- `index_width` meets its contract.
+-- `lines::index_width` meets its contract.
 -- Assumes nothing.
 use borrow.Author.Tests.{eq-eqb, ne-eqb}
 use Rattle.bc7_places.proofs.lines.index_width.Statement.{statement}

@@ -1,4 +1,4 @@
--- `line_part` meets its contract.
+-- `lines::line_part` meets its contract.
 -- Assumes nothing.
 use borrow.Author.Needs.{needs}
 use Rattle.bc7_places.proofs.splits.AnchorPixels.{anchors-low}
@@ -6,8 +6,8 @@ use Rattle.bc7_places.proofs.splits.SubsetMaps.{map-bits}
 use Rattle.bc7_places.proofs.lines.line_part.Statement.{statement}
 use Rattle.bc7_places.proofs.lines.line_part.Tie as tie
 
-set-of-requires : tie.Need-set-of-requires
-set-of-requires c κs = search needs
+index-set-in-requires : tie.Need-index-set-in-requires
+index-set-in-requires c κs = search needs
 
 pixels-of-requires : tie.Need-pixels-of-requires
 pixels-of-requires c κs = search needs
@@ -44,14 +44,14 @@ returns c =
       c .before .before .before .before .width-in .ensures,
       c .before .before .before .before .before .anchors-of .ensures,
       c .before .before .before .before .before .before .pixels-of .ensures,
-      c .before .before .before .before .before .before .before .set-of .ensures,
+      c .before .before .before .before .before .before .before .index-set-in .ensures,
     )
 
 pub line-part-spec : {M : Type 1} → statement M
 line-part-spec =
     tie.close
     (tie.spec
-    set-of-requires
+    index-set-in-requires
     pixels-of-requires
     anchors-of-requires
     width-in-requires

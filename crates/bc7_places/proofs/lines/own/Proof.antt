@@ -1,4 +1,4 @@
--- `own` meets its contract.
+-- `lines::own` meets its contract.
 -- Assumes nothing.
 use borrow.Author.Needs.{needs}
 use Rattle.bc7_places.specs.Lines.{ownPixel}

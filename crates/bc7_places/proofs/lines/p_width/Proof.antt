@@ -1,4 +1,4 @@
--- `p_width` meets its contract.
+-- `lines::p_width` meets its contract.
 -- Assumes nothing.
 use borrow.Author.Tests.{eq-eqb, ne-eqb}
 use Rattle.bc7_places.proofs.lines.p_width.Statement.{statement}

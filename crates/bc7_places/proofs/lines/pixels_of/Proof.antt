@@ -1,4 +1,4 @@
--- `pixels_of` meets its contract.
+-- `lines::pixels_of` meets its contract.
 -- Assumes nothing.
 use mathlib.Core.Path.{sym, _∙_}
 use borrow.Author.Needs.{needs}

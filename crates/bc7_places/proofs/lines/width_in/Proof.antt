@@ -1,4 +1,4 @@
--- `width_in` meets its contract.
+-- `lines::width_in` meets its contract.
 -- Assumes nothing.
 use borrow.Author.Tests.{eq-eqb, ne-eqb}
 use Rattle.bc7_places.proofs.lines.width_in.Statement.{statement}

@@ -1,4 +1,4 @@
--- `mode_of` meets its contract.
+-- `modes::mode_of` meets its contract.
 -- Assumes nothing.
 use native.Mathlib.Nat.{lt-of-le-of-lt}
 use borrow.Author.Needs.{needs}

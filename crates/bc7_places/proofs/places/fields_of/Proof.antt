@@ -1,4 +1,4 @@
--- `fields_of` meets its contract.
+-- `places::fields_of` meets its contract.
 -- Assumes nothing.
 use native.Mathlib.Omega.{arith}
 use borrow.Author.Needs.{needs}

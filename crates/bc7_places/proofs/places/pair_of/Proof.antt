@@ -1,4 +1,4 @@
--- `pair_of` meets its contract.
+-- `places::pair_of` meets its contract.
 -- Assumes nothing.
 use borrow.Author.Needs.{needs}
 use borrow.Author.Tests.{eq-eqb, ne-eqb}

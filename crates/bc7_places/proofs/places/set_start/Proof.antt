@@ -1,4 +1,4 @@
--- `set_start` meets its contract.
+-- `places::set_start` meets its contract.
 -- Assumes nothing.
 use native.Mathlib.Omega.{arith}
 use borrow.Author.Tests.{eq-eqb, ne-eqb}

@@ -1,4 +1,4 @@
--- `anchors_of` meets its contract.
+-- `splits::anchors_of` meets its contract.
 -- Assumes nothing.
 use mathlib.Core.Path.{ap, _≡_, subst, sym, _∙_}
 use Prim.Native.Nat.{_<_}

@@ -1,9 +1,9 @@
--- `read_split` meets its contract.
+-- `splits::read_split` meets its contract.
 -- Assumes nothing.
 use native.Mathlib.Omega.{arith}
 use Rattle.bits.proofs.On.{field-below}
 use Rattle.bc7_places.proofs.modes.Bounds.{small}
-use Rattle.bc7_places.proofs.splits.Heads.{split-taken}
+use Rattle.bc7_places.proofs.splits.Leads.{split-taken}
 use borrow.Author.Needs.{needs}
 use Rattle.bc7_places.proofs.splits.read_split.Statement.{statement}
 use Rattle.bc7_places.proofs.splits.read_split.Tie as tie

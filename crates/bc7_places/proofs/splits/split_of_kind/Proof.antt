@@ -1,4 +1,4 @@
--- `split_of_kind` meets its contract.
+-- `splits::split_of_kind` meets its contract.
 -- Assumes nothing.
 use mathlib.Core.Logic.{_≢_}
 use mathlib.Core.Path.{_≡_, refl}

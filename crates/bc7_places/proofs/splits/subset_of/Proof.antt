@@ -1,4 +1,4 @@
--- `subset_of` meets its contract.
+-- `splits::subset_of` meets its contract.
 -- Assumes nothing.
 use native.Mathlib.Omega.{arith}
 use borrow.Author.Needs.{needs}

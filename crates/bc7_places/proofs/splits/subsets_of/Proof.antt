@@ -1,4 +1,4 @@
--- `subsets_of` meets its contract.
+-- `splits::subsets_of` meets its contract.
 -- Assumes nothing.
 use mathlib.Core.Path.{ap, sym}
 use borrow.Author.Needs.{needs}

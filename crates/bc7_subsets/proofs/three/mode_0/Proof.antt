@@ -9,7 +9,7 @@ use Rattle.bc7_format.specs.Modes.{endpointCount, kindOfMode, modeRow}
 use Rattle.bc7_format.specs.Splits.{splitAt}
 use Rattle.bits.specs.Stream.{held}
 use Rattle.bits.proofs.On.{On, got-64, got-8, got-first, got-second, on-2, on-64, on-8}
-use Rattle.bc7_format.specs.Fields.{headEnd, pStart, valueStart}
+use Rattle.bc7_format.specs.Fields.{leadEnd, pStart, valueStart}
 use Rattle.bcn_format.specs.Painting.{solid}
 use Rattle.drawing.specs.Words.{withP}
 use Rattle.bc7_format.proofs.Ends.{opaque-p-shown, two-ps}
@@ -21,8 +21,8 @@ use Rattle.bc7_subsets.proofs.three.mode_0.Tie as tie
 extract-partition-set-id-requires : tie.Need-extract-partition-set-id-requires
 extract-partition-set-id-requires c κs = search needs
 
-set-3-3-requires : tie.Need-set-3-3-requires
-set-3-3-requires c κs = search needs
+partition-word-3-3-requires : tie.Need-partition-word-3-3-requires
+partition-word-3-3-requires c κs = search needs
 
 consume-2-requires : tie.Need-consume-2-requires
 consume-2-requires c κs = search needs
@@ -62,7 +62,7 @@ indexes-3-requires c κs =
     let last = c .before .before .before in
     let set = last .before .before .before .before .before .before .before .before in
     let id = set .before .extract-partition-set-id .ensures in
-    let fixes = fixes-3 {w = 3} (omega (arith, id .small)) (omega arith) (omega arith) (set .set-3-3 .ensures) in (
+    let fixes = fixes-3 {w = 3} (omega (arith, id .small)) (omega arith) (omega arith) (set .partition-word-3-3 .ensures) in (
       omega arith,
       omega arith,
       fixes .above,
@@ -78,10 +78,10 @@ paint-3-3-requires : tie.Need-paint-3-3-requires
 paint-3-3-requires c κs = search needs
 
 returns : tie.Need-returns
-unfolding splitAt kindOfMode modeRow endpointCount field valueStart pStart headEnd
+unfolding splitAt kindOfMode modeRow endpointCount field valueStart pStart leadEnd
 returns c =
-    let colors = c .before .before .before in
-    let at-p3 = colors .before .before .before in
+    let colours = c .before .before .before in
+    let at-p3 = colours .before .before .before in
     let at-p = at-p3 .before in
     let at-b3 = at-p .before in
     let at-b = at-b3 .before in
@@ -112,19 +112,19 @@ returns c =
     let p3 = at-p3 .take4 .ensures .same in
     let on-x = on-64 on-p3 2 p3 in
     three-keys 0 n 3 (omega arith) refl (omega arith) (omega arith) (omega (arith, id .small)) on-x (ap Three (sym (got-8 start 4 (id .same))))
-    (set .set-3-3 .ensures) (c .before .before .indexes-3 .ensures) (c .before .keys-3 .ensures)
-    (three-palette 0 n 3 (λ x. solid (withP 4 x)) _ _ (colors .before .before .opaque-p .ensures)
+    (set .partition-word-3-3 .ensures) (c .before .before .indexes-3 .ensures) (c .before .keys-3 .ensures)
+    (three-palette 0 n 3 (λ x. solid (withP 4 x)) _ _ (colours .before .before .opaque-p .ensures)
     (opaque-p-shown 0 n {l = 0} refl
     (record { red = got-first on-r 8 r; green = got-first on-g 8 g; blue = got-first on-b 8 b })
     refl (two-ps 0 n 0 refl (got-first on-p 2 p)) refl)
     (opaque-p-shown 0 n {l = 1} refl
     (record { red = got-second on-r 8 r; green = got-second on-g 8 g; blue = got-second on-b 8 b })
     refl (two-ps 0 n 1 refl (got-second on-p 2 p)) refl)
-    _ _ (colors .before .opaque-p2 .ensures)
+    _ _ (colours .before .opaque-p2 .ensures)
     (opaque-p-shown 0 n {l = 2} refl
     (record { red = got-64 on-r3 8 r3; green = got-64 on-g3 8 g3; blue = got-64 on-b3 8 b3 })
     refl (two-ps 0 n 2 refl (got-64 on-p3 2 p3)) refl)
-    (colors .palette-3-3 .ensures))
+    (colours .palette-3-3 .ensures))
     (c .paint-3-3 .ensures)
 
 pub mode-0-spec : {M : Type 1} → statement M
@@ -132,7 +132,7 @@ mode-0-spec =
     tie.close
     (tie.spec
     extract-partition-set-id-requires
-    set-3-3-requires
+    partition-word-3-3-requires
     consume-2-requires
     take-requires
     consume-2-requires-2

@@ -9,7 +9,7 @@ use Rattle.bc7_format.specs.Modes.{endpointCount, kindOfMode, modeRow}
 use Rattle.bc7_format.specs.Splits.{splitAt}
 use Rattle.bits.specs.Stream.{held}
 use Rattle.bits.proofs.On.{On, got-64, got-8, got-first, got-second, on-2, on-64, on-8}
-use Rattle.bc7_format.specs.Fields.{headEnd, pStart, valueStart}
+use Rattle.bc7_format.specs.Fields.{leadEnd, pStart, valueStart}
 use Rattle.bcn_format.specs.Painting.{solid}
 use Rattle.drawing.specs.Words.{plain}
 use Rattle.bc7_format.proofs.Ends.{opaque-shown}
@@ -21,8 +21,8 @@ use Rattle.bc7_subsets.proofs.three.mode_2.Tie as tie
 extract-partition-set-id-requires : tie.Need-extract-partition-set-id-requires
 extract-partition-set-id-requires c κs = search needs
 
-set-3-2-requires : tie.Need-set-3-2-requires
-set-3-2-requires c κs = search needs
+partition-word-3-2-requires : tie.Need-partition-word-3-2-requires
+partition-word-3-2-requires c κs = search needs
 
 consume-2-requires : tie.Need-consume-2-requires
 consume-2-requires c κs = search needs
@@ -56,7 +56,7 @@ indexes-3-requires c κs =
     let last = c .before .before .before in
     let set = last .before .before .before .before .before .before in
     let id = set .before .extract-partition-set-id .ensures in
-    let fixes = fixes-3 {w = 2} (omega (arith, id .small)) (omega arith) (omega arith) (set .set-3-2 .ensures) in (
+    let fixes = fixes-3 {w = 2} (omega (arith, id .small)) (omega arith) (omega arith) (set .partition-word-3-2 .ensures) in (
       omega arith,
       omega arith,
       fixes .above,
@@ -72,10 +72,10 @@ paint-4-requires : tie.Need-paint-4-requires
 paint-4-requires c κs = search needs
 
 returns : tie.Need-returns
-unfolding splitAt kindOfMode modeRow endpointCount field valueStart pStart headEnd
+unfolding splitAt kindOfMode modeRow endpointCount field valueStart pStart leadEnd
 returns c =
-    let colors = c .before .before .before in
-    let at-b3 = colors .before .before .before in
+    let colours = c .before .before .before in
+    let at-b3 = colours .before .before .before in
     let at-b = at-b3 .before in
     let at-g3 = at-b .before in
     let at-g = at-g3 .before in
@@ -100,19 +100,19 @@ returns c =
     let b3 = at-b3 .take3 .ensures .same in
     let on-x = on-64 on-b3 10 b3 in
     three-keys 2 n 2 (omega arith) refl (omega arith) (omega arith) (omega (arith, id .small)) on-x (ap Three (sym (got-8 start 6 (id .same))))
-    (set .set-3-2 .ensures) (c .before .before .indexes-3 .ensures) (c .before .keys-2 .ensures)
-    (three-palette 2 n 2 (λ x. solid (plain 5 x)) _ _ (colors .before .before .opaque .ensures)
+    (set .partition-word-3-2 .ensures) (c .before .before .indexes-3 .ensures) (c .before .keys-2 .ensures)
+    (three-palette 2 n 2 (λ x. solid (plain 5 x)) _ _ (colours .before .before .opaque .ensures)
     (opaque-shown 2 n {l = 0} {a = 0} {p = 0} refl
     (record { red = got-first on-r 10 r; green = got-first on-g 10 g; blue = got-first on-b 10 b })
     refl refl)
     (opaque-shown 2 n {l = 1} {a = 0} {p = 0} refl
     (record { red = got-second on-r 10 r; green = got-second on-g 10 g; blue = got-second on-b 10 b })
     refl refl)
-    _ _ (colors .before .opaque2 .ensures)
+    _ _ (colours .before .opaque2 .ensures)
     (opaque-shown 2 n {l = 2} {a = 0} {p = 0} refl
     (record { red = got-64 on-r3 10 r3; green = got-64 on-g3 10 g3; blue = got-64 on-b3 10 b3 })
     refl refl)
-    (colors .palette-3-2 .ensures))
+    (colours .palette-3-2 .ensures))
     (c .paint-4 .ensures)
 
 pub mode-2-spec : {M : Type 1} → statement M
@@ -120,7 +120,7 @@ mode-2-spec =
     tie.close
     (tie.spec
     extract-partition-set-id-requires
-    set-3-2-requires
+    partition-word-3-2-requires
     consume-2-requires
     take-requires
     consume-2-requires-2

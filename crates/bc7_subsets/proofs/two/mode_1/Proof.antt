@@ -10,7 +10,7 @@ use Rattle.bc7_format.specs.Modes.{endpointCount, kindOfMode, modeRow}
 use Rattle.bc7_format.specs.Splits.{splitAt}
 use Rattle.bits.specs.Stream.{held}
 use Rattle.bits.proofs.On.{On, got-8, got-first, got-second, on-2, on-8}
-use Rattle.bc7_format.specs.Fields.{headEnd, pStart, valueStart}
+use Rattle.bc7_format.specs.Fields.{leadEnd, pStart, valueStart}
 use Rattle.bcn_format.specs.Painting.{solid}
 use Rattle.drawing.specs.Words.{withP}
 use Rattle.bc7_format.proofs.Ends.{one-p, opaque-p-shown}
@@ -22,8 +22,8 @@ use Rattle.bc7_subsets.proofs.two.mode_1.Tie as tie
 extract-partition-set-id-requires : tie.Need-extract-partition-set-id-requires
 extract-partition-set-id-requires c κs = search needs
 
-set-2-3-requires : tie.Need-set-2-3-requires
-set-2-3-requires c κs = search needs
+partition-word-2-3-requires : tie.Need-partition-word-2-3-requires
+partition-word-2-3-requires c κs = search needs
 
 consume-2-requires : tie.Need-consume-2-requires
 consume-2-requires c κs = search needs
@@ -54,7 +54,7 @@ indexes-2-requires c κs =
     let p = c .before .before .before .before in
     let set = p .before .before .before .before in
     let id = set .before .extract-partition-set-id .ensures in
-    let fixes = fixes-2 {w = 3} (omega (arith, id .small)) (omega arith) (omega arith) (set .set-2-3 .ensures) in
+    let fixes = fixes-2 {w = 3} (omega (arith, id .small)) (omega arith) (omega arith) (set .partition-word-2-3 .ensures) in
     (omega arith, omega arith, fixes .above, fixes .last, omega (arith, p, p .before .before))
 
 keys-3-requires : tie.Need-keys-3-requires
@@ -64,10 +64,10 @@ paint-2-3-requires : tie.Need-paint-2-3-requires
 paint-2-3-requires c κs = search needs
 
 returns : tie.Need-returns
-unfolding splitAt kindOfMode modeRow endpointCount field valueStart pStart headEnd
+unfolding splitAt kindOfMode modeRow endpointCount field valueStart pStart leadEnd
 returns c =
-    let colors = c .before .before .before in
-    let at-p = colors .before .before .before .before in
+    let colours = c .before .before .before in
+    let at-p = colours .before .before .before .before in
     let at-b = at-p .before in
     let at-g = at-b .before in
     let at-r = at-g .before in
@@ -86,15 +86,15 @@ returns c =
     let p = at-p .consume-24 .ensures .same in
     let on-x = on-2 on-p 1 p in
     two-keys 1 n 3 (omega arith) refl (omega arith) (omega arith) (omega (arith, id .small)) on-x (ap Two (sym (got-8 start 6 (id .same))))
-    (set .set-2-3 .ensures) (c .before .before .indexes-2 .ensures) (c .before .keys-3 .ensures)
-    (two-palette 1 n 3 (λ x. solid (withP 6 x)) _ _ (colors .before .opaque-p .ensures)
+    (set .partition-word-2-3 .ensures) (c .before .before .indexes-2 .ensures) (c .before .keys-3 .ensures)
+    (two-palette 1 n 3 (λ x. solid (withP 6 x)) _ _ (colours .before .opaque-p .ensures)
     (opaque-p-shown 1 n {l = 0} refl
     (record { red = got-first on-r 12 r; green = got-first on-g 12 g; blue = got-first on-b 12 b })
     refl (one-p 1 n 0 refl (ap (λ (v : ℕ). 3 * v) (got-first on-p 1 p))) refl)
     (opaque-p-shown 1 n {l = 1} refl
     (record { red = got-second on-r 12 r; green = got-second on-g 12 g; blue = got-second on-b 12 b })
     refl (one-p 1 n 1 refl (ap (λ (v : ℕ). 3 * v) (got-second on-p 1 p))) refl)
-    (colors .palette-2-3 .ensures))
+    (colours .palette-2-3 .ensures))
     (c .paint-2-3 .ensures)
 
 pub mode-1-spec : {M : Type 1} → statement M
@@ -102,7 +102,7 @@ mode-1-spec =
     tie.close
     (tie.spec
     extract-partition-set-id-requires
-    set-2-3-requires
+    partition-word-2-3-requires
     consume-2-requires
     consume-2-requires-2
     consume-2-requires-3

@@ -9,7 +9,7 @@ use Rattle.bc7_format.specs.Modes.{endpointCount, kindOfMode, modeRow}
 use Rattle.bc7_format.specs.Splits.{splitAt}
 use Rattle.bits.specs.Stream.{held}
 use Rattle.bits.proofs.On.{On, got-8, got-first, got-second, on-2, on-8}
-use Rattle.bc7_format.specs.Fields.{headEnd, pStart, valueStart}
+use Rattle.bc7_format.specs.Fields.{leadEnd, pStart, valueStart}
 use Rattle.bcn_format.specs.Painting.{solid}
 use Rattle.drawing.specs.Words.{withP}
 use Rattle.bc7_format.proofs.Ends.{opaque-p-shown, two-ps}
@@ -21,8 +21,8 @@ use Rattle.bc7_subsets.proofs.two.mode_3.Tie as tie
 extract-partition-set-id-requires : tie.Need-extract-partition-set-id-requires
 extract-partition-set-id-requires c κs = search needs
 
-set-2-2-requires : tie.Need-set-2-2-requires
-set-2-2-requires c κs = search needs
+partition-word-2-2-requires : tie.Need-partition-word-2-2-requires
+partition-word-2-2-requires c κs = search needs
 
 consume-2-requires : tie.Need-consume-2-requires
 consume-2-requires c κs = search needs
@@ -47,7 +47,7 @@ indexes-2-requires c κs =
     let p = c .before .before in
     let set = p .before .before .before .before in
     let id = set .before .extract-partition-set-id .ensures in
-    let fixes = fixes-2 {w = 2} (omega (arith, id .small)) (omega arith) (omega arith) (set .set-2-2 .ensures) in
+    let fixes = fixes-2 {w = 2} (omega (arith, id .small)) (omega arith) (omega arith) (set .partition-word-2-2 .ensures) in
     (omega arith, omega arith, fixes .above, fixes .last, omega (arith, p, p .before .before))
 
 keys-2-requires : tie.Need-keys-2-requires
@@ -57,10 +57,10 @@ paint-2-2-requires : tie.Need-paint-2-2-requires
 paint-2-2-requires c κs = search needs
 
 returns : tie.Need-returns
-unfolding splitAt kindOfMode modeRow endpointCount field valueStart pStart headEnd
+unfolding splitAt kindOfMode modeRow endpointCount field valueStart pStart leadEnd
 returns c =
-    let colors = c .before .before .before in
-    let at-p = colors .before .before in
+    let colours = c .before .before .before in
+    let at-p = colours .before .before in
     let at-b = at-p .before in
     let at-g = at-b .before in
     let at-r = at-g .before in
@@ -79,15 +79,15 @@ returns c =
     let p = at-p .consume-24 .ensures .same in
     let on-x = on-2 on-p 2 p in
     two-keys 3 n 2 (omega arith) refl (omega arith) (omega arith) (omega (arith, id .small)) on-x (ap Two (sym (got-8 start 6 (id .same))))
-    (set .set-2-2 .ensures) (c .before .before .indexes-2 .ensures) (c .before .keys-2 .ensures)
-    (two-palette 3 n 2 (λ x. solid (withP 7 x)) _ _ (colors .before .opaque-p .ensures)
+    (set .partition-word-2-2 .ensures) (c .before .before .indexes-2 .ensures) (c .before .keys-2 .ensures)
+    (two-palette 3 n 2 (λ x. solid (withP 7 x)) _ _ (colours .before .opaque-p .ensures)
     (opaque-p-shown 3 n {l = 0} refl
     (record { red = got-first on-r 14 r; green = got-first on-g 14 g; blue = got-first on-b 14 b })
     refl (two-ps 3 n 0 refl (got-first on-p 2 p)) refl)
     (opaque-p-shown 3 n {l = 1} refl
     (record { red = got-second on-r 14 r; green = got-second on-g 14 g; blue = got-second on-b 14 b })
     refl (two-ps 3 n 1 refl (got-second on-p 2 p)) refl)
-    (colors .palette-2-2 .ensures))
+    (colours .palette-2-2 .ensures))
     (c .paint-2-2 .ensures)
 
 pub mode-3-spec : {M : Type 1} → statement M
@@ -95,7 +95,7 @@ mode-3-spec =
     tie.close
     (tie.spec
     extract-partition-set-id-requires
-    set-2-2-requires
+    partition-word-2-2-requires
     consume-2-requires
     consume-2-requires-2
     consume-2-requires-3

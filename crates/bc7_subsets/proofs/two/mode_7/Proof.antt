@@ -9,9 +9,9 @@ use Rattle.bc7_format.specs.Modes.{endpointCount, kindOfMode, modeRow}
 use Rattle.bc7_format.specs.Splits.{splitAt}
 use Rattle.bits.specs.Stream.{held}
 use Rattle.bits.proofs.On.{On, got-8, got-first, got-second, on-2, on-8}
-use Rattle.bc7_format.specs.Fields.{headEnd, pStart, valueStart}
+use Rattle.bc7_format.specs.Fields.{leadEnd, pStart, valueStart}
 use Rattle.drawing.specs.Words.{withP}
-use Rattle.bc7_format.proofs.Ends.{clear-p-shown, two-ps}
+use Rattle.bc7_format.proofs.Ends.{translucent-p-shown, two-ps}
 use Rattle.bc7_subsets.proofs.Palettes.{two-palette}
 use Rattle.bc7_subsets.proofs.Laws.{fixes-2, two-keys}
 use Rattle.bc7_subsets.proofs.two.mode_7.Statement.{statement}
@@ -20,8 +20,8 @@ use Rattle.bc7_subsets.proofs.two.mode_7.Tie as tie
 extract-partition-set-id-requires : tie.Need-extract-partition-set-id-requires
 extract-partition-set-id-requires c κs = search needs
 
-set-2-2-requires : tie.Need-set-2-2-requires
-set-2-2-requires c κs = search needs
+partition-word-2-2-requires : tie.Need-partition-word-2-2-requires
+partition-word-2-2-requires c κs = search needs
 
 consume-2-requires : tie.Need-consume-2-requires
 consume-2-requires c κs = search needs
@@ -38,8 +38,8 @@ consume-2-requires-4 c κs = search needs
 consume-2-requires-5 : tie.Need-consume-2-requires-5
 consume-2-requires-5 c κs = search needs
 
-clear-p-requires : tie.Need-clear-p-requires
-clear-p-requires c κs = search needs
+translucent-p-requires : tie.Need-translucent-p-requires
+translucent-p-requires c κs = search needs
 
 palette-2-2-requires : tie.Need-palette-2-2-requires
 palette-2-2-requires c κs = search needs
@@ -49,7 +49,7 @@ indexes-2-requires c κs =
     let p = c .before .before in
     let set = p .before .before .before .before .before in
     let id = set .before .extract-partition-set-id .ensures in
-    let fixes = fixes-2 {w = 2} (omega (arith, id .small)) (omega arith) (omega arith) (set .set-2-2 .ensures) in
+    let fixes = fixes-2 {w = 2} (omega (arith, id .small)) (omega arith) (omega arith) (set .partition-word-2-2 .ensures) in
     (omega arith, omega arith, fixes .above, fixes .last, omega (arith, p, p .before .before))
 
 keys-2-requires : tie.Need-keys-2-requires
@@ -59,10 +59,10 @@ paint-2-2-requires : tie.Need-paint-2-2-requires
 paint-2-2-requires c κs = search needs
 
 returns : tie.Need-returns
-unfolding splitAt kindOfMode modeRow endpointCount field valueStart pStart headEnd
+unfolding splitAt kindOfMode modeRow endpointCount field valueStart pStart leadEnd
 returns c =
-    let colors = c .before .before .before in
-    let at-p = colors .before .before in
+    let colours = c .before .before .before in
+    let at-p = colours .before .before in
     let at-a = at-p .before in
     let at-b = at-a .before in
     let at-g = at-b .before in
@@ -84,15 +84,15 @@ returns c =
     let p = at-p .consume-25 .ensures .same in
     let on-x = on-2 on-p 2 p in
     two-keys 7 n 2 (omega arith) refl (omega arith) (omega arith) (omega (arith, id .small)) on-x (ap Two (sym (got-8 start 6 (id .same))))
-    (set .set-2-2 .ensures) (c .before .before .indexes-2 .ensures) (c .before .keys-2 .ensures)
-    (two-palette 7 n 2 (withP 5) _ _ (colors .before .clear-p .ensures)
-    (clear-p-shown 7 n {l = 0} refl
+    (set .partition-word-2-2 .ensures) (c .before .before .indexes-2 .ensures) (c .before .keys-2 .ensures)
+    (two-palette 7 n 2 (withP 5) _ _ (colours .before .translucent-p .ensures)
+    (translucent-p-shown 7 n {l = 0} refl
     (record { red = got-first on-r 10 r; green = got-first on-g 10 g; blue = got-first on-b 10 b })
     refl (two-ps 7 n 0 refl (got-first on-p 2 p)) refl (got-first on-a 10 a))
-    (clear-p-shown 7 n {l = 1} refl
+    (translucent-p-shown 7 n {l = 1} refl
     (record { red = got-second on-r 10 r; green = got-second on-g 10 g; blue = got-second on-b 10 b })
     refl (two-ps 7 n 1 refl (got-second on-p 2 p)) refl (got-second on-a 10 a))
-    (colors .palette-2-2 .ensures))
+    (colours .palette-2-2 .ensures))
     (c .paint-2-2 .ensures)
 
 pub mode-7-spec : {M : Type 1} → statement M
@@ -100,13 +100,13 @@ mode-7-spec =
     tie.close
     (tie.spec
     extract-partition-set-id-requires
-    set-2-2-requires
+    partition-word-2-2-requires
     consume-2-requires
     consume-2-requires-2
     consume-2-requires-3
     consume-2-requires-4
     consume-2-requires-5
-    clear-p-requires
+    translucent-p-requires
     palette-2-2-requires
     indexes-2-requires
     keys-2-requires

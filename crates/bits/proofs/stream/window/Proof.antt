@@ -1,4 +1,4 @@
--- `window` meets its contract.
+-- `stream::window` meets its contract.
 -- Assumes nothing.
 use borrow.Author.Needs.{needs}
 use Rattle.laws.proofs.Words.{window-high, window-low, window-none}

@@ -1,4 +1,4 @@
--- `word` meets its contract.
+-- `stream::word` meets its contract.
 -- Assumes nothing.
 use Rattle.bits.proofs.Bytes.{or-eight}
 use Rattle.bits.proofs.stream.word.Statement.{statement}

@@ -5,7 +5,7 @@ use Prim.Native.Nat.{ℕ, _+_, _*_, _^_}
 use native.Mathlib.Nat.{div-one}
 use borrow.Author.Needs.{needs}
 use lib.Bits.{bitAnd}
-use Rattle.laws.specs.Digits.{row}
+use Rattle.laws.specs.Digits.{evenly}
 use Rattle.laws.specs.Tables.{table, tableFrom}
 use Rattle.drawing.proofs.keys.KeyWords.{evens, keys-word}
 use Rattle.drawing.proofs.keys.keys_2.Statement.{statement}
@@ -18,7 +18,7 @@ above-requires-2 : tie.Need-above-requires-2
 above-requires-2 c κs = search needs
 
 returns : tie.Need-returns
-unfolding row table tableFrom
+unfolding evenly table tableFrom
 returns c =
     let s = c .before .before in
     let word = keys-word 2 (s .args .shift) (s .args .x) (s .args .map) in

@@ -38,8 +38,8 @@ two-shades-requires c κs =
     let w = two-weights (s .args .x) (at .before .loop .i) (at .loop-test .taken) (odd .before .weights-of .ensures) (c .weights-at .ensures) in
     (w .low-256, w .high-256, s .pre)
 
-low-color-requires : tie.Need-low-color-requires Inv-loop μ-loop
-low-color-requires c κs = search needs
+low-colour-requires : tie.Need-low-colour-requires Inv-loop μ-loop
+low-colour-requires c κs = search needs
 
 mul-output : tie.Need-mul-output Inv-loop μ-loop
 mul-output c = omega arith
@@ -50,8 +50,8 @@ mul-output-2 c = omega arith
 array-set-from-output : tie.Need-array-set-from-output Inv-loop μ-loop
 array-set-from-output c = omega arith
 
-high-color-requires : tie.Need-high-color-requires Inv-loop μ-loop
-high-color-requires c κs = search needs
+high-colour-requires : tie.Need-high-colour-requires Inv-loop μ-loop
+high-colour-requires c κs = search needs
 
 mul-output-3 : tie.Need-mul-output-3 Inv-loop μ-loop
 mul-output-3 c = omega arith
@@ -76,8 +76,8 @@ two-shades-requires-2 c κs =
     let w = two-weights (s .args .x / 2 ^ 4) (at .before .loop .i) (at .loop-test .taken) (odd .weights-of2 .ensures) (c .weights-at2 .ensures) in
     (w .low-256, w .high-256, s .pre)
 
-low-color-requires-2 : tie.Need-low-color-requires-2 Inv-loop μ-loop
-low-color-requires-2 c κs = search needs
+low-colour-requires-2 : tie.Need-low-colour-requires-2 Inv-loop μ-loop
+low-colour-requires-2 c κs = search needs
 
 mul-output-5 : tie.Need-mul-output-5 Inv-loop μ-loop
 mul-output-5 c = omega arith
@@ -91,8 +91,8 @@ mul-output-6 c = omega arith
 array-set-from-output-3 : tie.Need-array-set-from-output-3 Inv-loop μ-loop
 array-set-from-output-3 c = omega arith
 
-high-color-requires-2 : tie.Need-high-color-requires-2 Inv-loop μ-loop
-high-color-requires-2 c κs = search needs
+high-colour-requires-2 : tie.Need-high-colour-requires-2 Inv-loop μ-loop
+high-colour-requires-2 c κs = search needs
 
 mul-output-7 : tie.Need-mul-output-7 Inv-loop μ-loop
 mul-output-7 c = omega arith
@@ -124,20 +124,20 @@ loop-again c =
     let n = s .args .x in
     let w = two-weights n i (at .loop-test .taken) (odd .before .weights-of .ensures) (x .before .weights-at .ensures) in
     let v = two-weights (n / 2 ^ 4) i (at .loop-test .taken) (odd .weights-of2 .ensures) (y .before .weights-at2 .ensures) in
-    let color = between 4 (endpoint e 0 0) (endpoint e 0 1) in
+    let colour = between 4 (endpoint e 0 0) (endpoint e 0 1) in
     let ninth : 2 * i + 8 + 1 ≡ 2 * i + 1 + 8 = omega arith in
     let end : 2 * (i + 1) ≡ 2 * i + 1 + 1 = omega arith in
     let even =
     column (2 * i) (2 * i + 8) (omega arith) refl (at .before .loop .inv)
     (low-is 4 (part n 4 (2 * i)) (omega arith) (omega arith) (index-16 n (2 * i)) (w .low) e 0 0 _ (x .two-shades .ensures)
-    (y .before .before .before .low-color .ensures))
+    (y .before .before .before .low-colour .ensures))
     (high-is 4 (part n 4 (2 * i + 8)) (omega arith) (omega arith) (index-16 n (2 * i + 8)) (w .high) e 0 0 _ (x .two-shades .ensures)
-    (y .before .before .high-color .ensures)) in
+    (y .before .before .high-colour .ensures)) in
     rw end (column (2 * i + 1) (2 * i + 9) (omega arith) (omega arith) even
     (low-is 4 (part (n / 2 ^ 4) 4 (2 * i)) (omega arith) (omega arith) (index-16 (n / 2 ^ 4) (2 * i)) (v .low) e 0 0 _ (y .two-shades2 .ensures)
-    (c .before .low-color2 .ensures) ∙ ap color (next-index n (2 * i)))
+    (c .before .low-colour2 .ensures) ∙ ap colour (next-index n (2 * i)))
     (high-is 4 (part (n / 2 ^ 4) 4 (2 * i + 8)) (omega arith) (omega arith) (index-16 (n / 2 ^ 4) (2 * i + 8)) (v .high) e 0 0 _
-    (y .two-shades2 .ensures) (c .high-color2 .ensures) ∙ ap color (next-index n (2 * i + 8) ∙ ap (part n 4) ninth)))
+    (y .two-shades2 .ensures) (c .high-colour2 .ensures) ∙ ap colour (next-index n (2 * i + 8) ∙ ap (part n 4) ninth)))
 
 returns : tie.Need-returns Inv-loop μ-loop
 returns c = all-columns (c .before .loop .inv) (omega arith)
@@ -153,23 +153,23 @@ mix-16-spec =
     loop-holds
     weights-at-requires
     two-shades-requires
-    low-color-requires
+    low-colour-requires
     mul-output
     mul-output-2
     array-set-from-output
-    high-color-requires
+    high-colour-requires
     mul-output-3
     add-output
     mul-output-4
     array-set-from-output-2
     weights-at-requires-2
     two-shades-requires-2
-    low-color-requires-2
+    low-colour-requires-2
     mul-output-5
     add-output-2
     mul-output-6
     array-set-from-output-3
-    high-color-requires-2
+    high-colour-requires-2
     mul-output-7
     add-output-3
     mul-output-8

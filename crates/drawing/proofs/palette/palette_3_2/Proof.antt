@@ -4,7 +4,7 @@ use mathlib.Core.Path.{refl}
 use Prim.Native.Nat.{_-_}
 use native.Mathlib.Omega.{arith}
 use borrow.Author.Needs.{needs}
-use Rattle.drawing.specs.Colors.{endpoints}
+use Rattle.drawing.specs.Colours.{endpoints}
 use Rattle.drawing.proofs.palette.Keyed.{four-laid, high-is, Laid, laid-all, laid-none, low-is}
 use Rattle.drawing.proofs.palette.Weights.{weight-256}
 use Rattle.drawing.proofs.palette.palette_3_2.Statement.{statement}
@@ -22,8 +22,8 @@ loop-holds c = laid-none 4 2 4 _ refl
 get-weight-2-requires : tie.Need-get-weight-2-requires Inv-loop μ-loop
 get-weight-2-requires c κs = omega arith
 
-mixed-colors-requires : tie.Need-mixed-colors-requires Inv-loop μ-loop
-mixed-colors-requires c κs = (
+mixed-colours-requires : tie.Need-mixed-colours-requires Inv-loop μ-loop
+mixed-colours-requires c κs = (
   weight-256 2 (c .before .before .loop .k) (omega arith) (omega arith) (omega arith) (c .get-weight-2 .ensures),
   c .before .before .before .pre .0,
 )
@@ -31,13 +31,13 @@ mixed-colors-requires c κs = (
 get-weight-2-requires-2 : tie.Need-get-weight-2-requires-2 Inv-loop μ-loop
 get-weight-2-requires-2 c κs = omega arith
 
-mixed-colors-requires-2 : tie.Need-mixed-colors-requires-2 Inv-loop μ-loop
-mixed-colors-requires-2 c κs =
+mixed-colours-requires-2 : tie.Need-mixed-colours-requires-2 Inv-loop μ-loop
+mixed-colours-requires-2 c κs =
     let at = c .before .before .before in
     (weight-256 2 (at .before .loop .k) (omega arith) (omega arith) (omega arith) (c .get-weight-22 .ensures), at .before .before .pre .1)
 
-low-color-requires : tie.Need-low-color-requires Inv-loop μ-loop
-low-color-requires c κs = search needs
+low-colour-requires : tie.Need-low-colour-requires Inv-loop μ-loop
+low-colour-requires c κs = search needs
 
 mul-q : tie.Need-mul-q Inv-loop μ-loop
 mul-q c = omega arith
@@ -48,8 +48,8 @@ mul-q-2 c = omega arith
 array-set-from-q : tie.Need-array-set-from-q Inv-loop μ-loop
 array-set-from-q c = omega arith
 
-high-color-requires : tie.Need-high-color-requires Inv-loop μ-loop
-high-color-requires c κs = search needs
+high-colour-requires : tie.Need-high-colour-requires Inv-loop μ-loop
+high-colour-requires c κs = search needs
 
 mul-q-3 : tie.Need-mul-q-3 Inv-loop μ-loop
 mul-q-3 c = omega arith
@@ -63,8 +63,8 @@ mul-q-4 c = omega arith
 array-set-from-q-2 : tie.Need-array-set-from-q-2 Inv-loop μ-loop
 array-set-from-q-2 c = omega arith
 
-low-color-requires-2 : tie.Need-low-color-requires-2 Inv-loop μ-loop
-low-color-requires-2 c κs = search needs
+low-colour-requires-2 : tie.Need-low-colour-requires-2 Inv-loop μ-loop
+low-colour-requires-2 c κs = search needs
 
 mul-q-5 : tie.Need-mul-q-5 Inv-loop μ-loop
 mul-q-5 c = omega arith
@@ -78,8 +78,8 @@ mul-q-6 c = omega arith
 array-set-from-q-3 : tie.Need-array-set-from-q-3 Inv-loop μ-loop
 array-set-from-q-3 c = omega arith
 
-high-color-requires-2 : tie.Need-high-color-requires-2 Inv-loop μ-loop
-high-color-requires-2 c κs = search needs
+high-colour-requires-2 : tie.Need-high-colour-requires-2 Inv-loop μ-loop
+high-colour-requires-2 c κs = search needs
 
 mul-q-7 : tie.Need-mul-q-7 Inv-loop μ-loop
 mul-q-7 c = omega arith
@@ -112,10 +112,10 @@ loop-again c =
     let first = x .before .get-weight-2 .ensures in
     let second = y .before .get-weight-22 .ensures in
     four-laid 4 2 (endpoints e f) (at .loop-test .taken) (at .before .loop .inv)
-    (low-is 2 k (omega arith) (omega arith) (omega arith) first e 0 1 _ (x .mixed-colors .ensures) (c .before .before .before .low-color .ensures))
-    (high-is 2 k (omega arith) (omega arith) (omega arith) first e 1 0 _ (x .mixed-colors .ensures) (c .before .before .high-color .ensures))
-    (low-is 2 k (omega arith) (omega arith) (omega arith) second f 0 1 _ (y .mixed-colors2 .ensures) (c .before .low-color2 .ensures))
-    (high-is 2 k (omega arith) (omega arith) (omega arith) second f 1 0 _ (y .mixed-colors2 .ensures) (c .high-color2 .ensures))
+    (low-is 2 k (omega arith) (omega arith) (omega arith) first e 0 1 _ (x .mixed-colours .ensures) (c .before .before .before .low-colour .ensures))
+    (high-is 2 k (omega arith) (omega arith) (omega arith) first e 1 0 _ (x .mixed-colours .ensures) (c .before .before .high-colour .ensures))
+    (low-is 2 k (omega arith) (omega arith) (omega arith) second f 0 1 _ (y .mixed-colours2 .ensures) (c .before .low-colour2 .ensures))
+    (high-is 2 k (omega arith) (omega arith) (omega arith) second f 1 0 _ (y .mixed-colours2 .ensures) (c .high-colour2 .ensures))
 
 returns : tie.Need-returns Inv-loop μ-loop
 returns c = laid-all 4 2 4 _ (c .before .loop .inv) (omega arith)
@@ -128,24 +128,24 @@ palette-3-2-spec =
     μ-loop
     loop-holds
     get-weight-2-requires
-    mixed-colors-requires
+    mixed-colours-requires
     get-weight-2-requires-2
-    mixed-colors-requires-2
-    low-color-requires
+    mixed-colours-requires-2
+    low-colour-requires
     mul-q
     mul-q-2
     array-set-from-q
-    high-color-requires
+    high-colour-requires
     mul-q-3
     add-q
     mul-q-4
     array-set-from-q-2
-    low-color-requires-2
+    low-colour-requires-2
     mul-q-5
     add-q-2
     mul-q-6
     array-set-from-q-3
-    high-color-requires-2
+    high-colour-requires-2
     mul-q-7
     add-q-3
     mul-q-8

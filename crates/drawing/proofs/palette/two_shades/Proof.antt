@@ -11,15 +11,15 @@ mixed-2-requires c κs = search needs
 mixed-2-requires-2 : tie.Need-mixed-2-requires-2
 mixed-2-requires-2 c κs = search needs
 
-two-colors-requires : tie.Need-two-colors-requires
-two-colors-requires c κs = search needs
+two-colours-requires : tie.Need-two-colours-requires
+two-colours-requires c κs = search needs
 
 returns : tie.Need-returns
 returns c =
     let s = c .before .before .before in
     shades-2 (s .args .weights) (s .args .e) (s .pre .0) (s .pre .1) (search needs) (search needs) (search needs) (search needs) (s .pre .2)
-    (c .before .before .mixed-2 .ensures) (c .before .mixed-22 .ensures) (c .two-colors .ensures)
+    (c .before .before .mixed-2 .ensures) (c .before .mixed-22 .ensures) (c .two-colours .ensures)
 
 pub two-shades-spec : {M : Type 1} → statement M
 two-shades-spec =
-    tie.close (tie.spec mixed-2-requires mixed-2-requires-2 two-colors-requires returns)
+    tie.close (tie.spec mixed-2-requires mixed-2-requires-2 two-colours-requires returns)

@@ -4,7 +4,7 @@ use Prim.Native.Nat.{_*_, _/_, _^_}
 use native.Mathlib.Omega.{arith}
 use borrow.Author.Needs.{needs}
 use lib.Bits.{and-le-r}
-use Rattle.drawing.proofs.palette.Weighing.{taken}
+use Rattle.drawing.proofs.palette.Weighing.{weights-taken}
 use Rattle.drawing.proofs.palette.weights_at.Statement.{statement}
 use Rattle.drawing.proofs.palette.weights_at.Tie as tie
 
@@ -24,7 +24,7 @@ mul-result-2 : tie.Need-mul-result-2
 mul-result-2 c = omega (arith, and-le-r (c .args .weights / 2 ^ (8 * c .args .i)) 0x00FF_0000_00FF)
 
 returns : tie.Need-returns
-returns c = taken (c .args .weights) (c .args .i)
+returns c = weights-taken (c .args .weights) (c .args .i)
 
 pub weights-at-spec : {M : Type 1} → statement M
 weights-at-spec =

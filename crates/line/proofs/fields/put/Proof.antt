@@ -1,4 +1,4 @@
--- `put` meets its contract.
+-- `fields::put` meets its contract.
 -- Assumes nothing.
 use mathlib.Core.Path.{_≡_}
 use Prim.Native.Nat.{_+_, _*_, _/_, _%_, _^_}
@@ -50,7 +50,8 @@ shr-exchanged-2 c = search needs
 exchanged-requires-2 : tie.Need-exchanged-requires-2
 exchanged-requires-2 c κs =
     let s = c .before .before .before .before in
-    rw (read-at (s .args .s) (s .args .at) (s .args .count) (c .before .before .before .standing-at .ensures) (c .before .before .take .ensures .same))
+    rw (read-at (s .args .s) (s .args .at) (s .args .count) (c .before .before .before .standing-at .ensures)
+    (c .before .before .take .ensures .same))
     (in-low (s .args .s .low) (s .args .s .high) (s .args .at) (s .args .count) (s .args .value) (search needs) (search needs) (s .pre .fits)
     (omega arith) (s .pre .room) .high)
 

@@ -1,4 +1,4 @@
--- `put_indexes` meets its contract.
+-- `fields::put_indexes` meets its contract.
 -- Assumes nothing.
 use mathlib.Core.Path.{_≡_, ap, ap₂, _∙_}
 use mathlib.Core.List.{[]}

@@ -1,4 +1,4 @@
--- `put_line` meets its contract.
+-- `fields::put_line` meets its contract.
 -- Assumes nothing.
 use mathlib.Core.Path.{_≡_, _∙_}
 use borrow.Author.Needs.{needs}

@@ -1,4 +1,4 @@
--- `at_own` meets its contract.
+-- `parts::at_own` meets its contract.
 -- Assumes nothing.
 use mathlib.Core.Path.{sym, _∙_}
 use borrow.Author.Needs.{needs}

@@ -1,4 +1,4 @@
--- `endpoints_fit` meets its contract.
+-- `parts::endpoints_fit` meets its contract.
 -- Assumes nothing.
 use mathlib.Core.Path.{_∙_}
 use Prim.Native.Nat.{ℕ, _%_}

@@ -1,4 +1,4 @@
--- `mask_of` meets its contract: the word of its parts, as `word_of` makes one.
+-- `parts::mask_of` meets its contract: the word of its parts, as `word_of` makes one.
 -- Assumes nothing.
 use mathlib.Core.Path.{_≡_, sym, ap, _∙_}
 use Prim.Native.Nat.{ℕ, _-_, _^_, _≤_}

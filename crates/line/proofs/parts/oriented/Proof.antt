@@ -1,4 +1,4 @@
--- `oriented` meets its contract.
+-- `parts::oriented` meets its contract.
 -- Assumes nothing.
 use mathlib.Core.Path.{_≡_, sym, _∙_}
 use borrow.Author.Tests.{eq-eqb, ne-eqb}

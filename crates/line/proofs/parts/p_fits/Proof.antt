@@ -1,4 +1,4 @@
--- `p_fits` meets its contract.
+-- `parts::p_fits` meets its contract.
 -- Assumes nothing.
 use mathlib.Core.Path.{sym}
 use Prim.Native.Nat.{ℕ}

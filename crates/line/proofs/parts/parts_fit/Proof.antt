@@ -1,4 +1,4 @@
--- `parts_fit` meets its contract.
+-- `parts::parts_fit` meets its contract.
 -- Assumes nothing.
 use borrow.Author.Needs.{needs}
 use borrow.Author.Tests.{not-false, not-true}

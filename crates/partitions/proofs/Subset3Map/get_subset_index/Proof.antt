@@ -19,7 +19,8 @@ shr-result : tie.Need-shr-result
 shr-result c = search needs
 
 cast-result-2 : tie.Need-cast-result-2
-cast-result-2 c = record { fits = lt-of-lt-of-le (mask-lt (c .before .args .self .«subset_indexes» / 2 ^ (2 * c .before .args .pixel-index)) 2) (lit≤ tt) }
+cast-result-2 c =
+    record { fits = lt-of-lt-of-le (mask-lt (c .before .args .self .«subset_indexes» / 2 ^ (2 * c .before .args .pixel-index)) 2) (lit≤ tt) }
 
 returns : tie.Need-returns
 unfolding field

@@ -1,4 +1,4 @@
--- `endpoints_fit` meets its contract.
+-- `fits::endpoints_fit` meets its contract.
 -- Assumes nothing.
 use mathlib.Core.Path.{_≡_, refl, _∙_, ap, sym}
 use mathlib.Core.Bool.{Bool}

@@ -1,4 +1,4 @@
--- `endpoints_fit_at` meets its contract.
+-- `fits::endpoints_fit_at` meets its contract.
 -- Assumes nothing.
 use Prim.Native.Nat.{ℕ, _^_, _<_}
 use mir.Syntax.{w8}

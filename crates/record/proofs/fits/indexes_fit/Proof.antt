@@ -1,4 +1,4 @@
--- `indexes_fit` meets its contract.
+-- `fits::indexes_fit` meets its contract.
 -- Assumes nothing.
 use mathlib.Core.Path.{_≡_, sym, _∙_}
 use Prim.Native.Nat.{ℕ, _^_, _<_}

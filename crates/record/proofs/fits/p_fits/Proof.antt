@@ -1,4 +1,4 @@
--- `p_fits` meets its contract.
+-- `fits::p_fits` meets its contract.
 -- Assumes nothing.
 use mathlib.Core.Path.{_≡_, refl, _∙_, ap, sym, subst}
 use mathlib.Core.Bool.{Bool, true}

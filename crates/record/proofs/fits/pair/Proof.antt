@@ -1,4 +1,4 @@
--- `pair` meets its contract.
+-- `fits::pair` meets its contract.
 -- Assumes nothing.
 use mathlib.Core.Path.{_∙_}
 use native.Mathlib.Nat.{add-zero}

@@ -1,4 +1,4 @@
--- `pair_fits` meets its contract.
+-- `fits::pair_fits` meets its contract.
 -- Assumes nothing.
 use Prim.Native.Nat.{_*_, _%_, _^_, _≤_}
 use native.Mathlib.Omega.{arith}

@@ -1,4 +1,4 @@
--- `record_fits` meets its contract.
+-- `fits::record_fits` meets its contract.
 -- Assumes nothing.
 use mathlib.Core.Path.{_∙_, sym}
 use native.Mathlib.Omega.{arith}

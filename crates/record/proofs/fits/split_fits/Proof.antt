@@ -1,4 +1,4 @@
--- `split_fits` meets its contract.
+-- `fits::split_fits` meets its contract.
 -- Assumes nothing.
 use mathlib.Core.Path.{_≡_, refl, _∙_, sym}
 use native.Mathlib.Omega.{arith}

@@ -1,4 +1,4 @@
--- `value_fits` meets its contract.
+-- `fits::value_fits` meets its contract.
 -- Assumes nothing.
 use mathlib.Core.Path.{_∙_, sym}
 use Rattle.record_rules.proofs.Widths.{fit, unfit}

@@ -1,4 +1,4 @@
--- `endpoints_of` meets its contract.
+-- `reading::endpoints_of` meets its contract.
 -- Assumes nothing.
 use Prim.Native.Nat.{_-_, _≤_}
 use native.Mathlib.Omega.{arith}

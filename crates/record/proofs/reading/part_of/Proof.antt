@@ -1,4 +1,4 @@
--- `part_of` meets its contract.
+-- `reading::part_of` meets its contract.
 -- Assumes nothing.
 use Prim.Native.Nat.{_*_, _<_}
 use native.Mathlib.Nat.{lt-of-lt-of-le, mod-lt}

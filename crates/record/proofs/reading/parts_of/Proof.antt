@@ -1,4 +1,4 @@
--- `parts_of` meets its contract.
+-- `reading::parts_of` meets its contract.
 -- Assumes nothing.
 use mathlib.Core.Path.{_≡_, refl, ap, sym, _∙_}
 use Prim.Native.Nat.{ℕ, _+_, _-_, _*_, _/_, _^_, _≤_}

@@ -1,4 +1,4 @@
--- `read_endpoints` meets its contract.
+-- `reading::read_endpoints` meets its contract.
 -- Assumes nothing.
 use native.Mathlib.Omega.{arith}
 use Rattle.bc7_places.proofs.modes.Bounds.{small}
@@ -61,7 +61,8 @@ endpoints-of-requires c κs = c .before .before .before .before .before .before 
 returns : tie.Need-returns
 returns c =
     endpoints-read _ _ (c .before .before .before .before .before .before .before .before .before .before .before .take .ensures .same)
-    (c .before .before .before .before .before .before .before .before .take2 .ensures .same) (c .before .before .before .before .before .take3 .ensures .same)
+    (c .before .before .before .before .before .before .before .before .take2 .ensures .same)
+    (c .before .before .before .before .before .take3 .ensures .same)
     (c .before .before .take4 .ensures .same) (c .endpoints-of .ensures)
 
 pub read-endpoints-spec : {M : Type 1} → statement M

@@ -1,4 +1,4 @@
--- `read_indexes` meets its contract.
+-- `reading::read_indexes` meets its contract.
 -- Assumes nothing.
 use mathlib.Core.Path.{_∙_}
 use native.Mathlib.Omega.{arith}

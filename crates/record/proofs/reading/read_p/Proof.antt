@@ -1,4 +1,4 @@
--- `read_p` meets its contract.
+-- `reading::read_p` meets its contract.
 -- Assumes nothing.
 use native.Mathlib.Omega.{arith}
 use Rattle.bc7_places.proofs.modes.Bounds.{small}

@@ -1,4 +1,4 @@
--- `read_record` meets its contract.
+-- `reading::read_record` meets its contract.
 -- Assumes nothing.
 use mathlib.Core.Path.{_≡_}
 use Prim.Native.Nat.{ℕ, _+_}
@@ -13,7 +13,7 @@ use Rattle.bc7_format.proofs.Subsets.{sixteen-bytes}
 use Rattle.bits.proofs.On.{On}
 use Rattle.bc7_places.specs.Modes.{OfMode}
 use Rattle.bc7_places.proofs.modes.Bounds.{small}
-use Rattle.bc7_places.proofs.splits.Heads.{marker-on}
+use Rattle.bc7_places.proofs.splits.Leads.{marker-on}
 use Rattle.record.proofs.reading.Standing.{first-room, p-room, partition-64, record-read, rise, second-room, the-split, values-room}
 use borrow.Author.Needs.{needs}
 use Rattle.record.proofs.reading.read_record.Statement.{statement}

@@ -1,4 +1,4 @@
--- `read_second` meets its contract.
+-- `reading::read_second` meets its contract.
 -- Assumes nothing.
 use mathlib.Core.Path.{_∙_}
 use borrow.Author.Tests.{eq-eqb, ne-eqb}

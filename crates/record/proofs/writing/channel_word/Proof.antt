@@ -1,4 +1,4 @@
--- `channel_word` meets its contract.
+-- `writing::channel_word` meets its contract.
 -- Assumes nothing.
 use mathlib.Core.Path.{_≡_}
 use Prim.Native.Nat.{_+_, _*_, _≤_}

@@ -1,4 +1,4 @@
--- `p_word` meets its contract.
+-- `writing::p_word` meets its contract.
 -- Assumes nothing.
 use mathlib.Core.Path.{_≡_}
 use Prim.Native.Nat.{_≤_}

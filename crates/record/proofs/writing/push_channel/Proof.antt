@@ -1,4 +1,4 @@
--- `push_channel` meets its contract.
+-- `writing::push_channel` meets its contract.
 -- Assumes nothing.
 use native.Mathlib.Omega.{arith}
 use Rattle.bc7_places.proofs.modes.Bounds.{small}

@@ -1,4 +1,4 @@
--- `push_endpoints` meets its contract.
+-- `writing::push_endpoints` meets its contract.
 -- Assumes nothing.
 use mathlib.Core.Path.{ap}
 use native.Mathlib.Omega.{arith}

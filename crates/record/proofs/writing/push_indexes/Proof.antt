@@ -1,4 +1,4 @@
--- `push_indexes` meets its contract.
+-- `writing::push_indexes` meets its contract.
 -- Assumes nothing.
 use mathlib.Core.Path.{_≡_, refl, _∙_, ap}
 use Prim.Native.Nat.{_<_}

@@ -1,4 +1,4 @@
--- `push_p` meets its contract.
+-- `writing::push_p` meets its contract.
 -- Assumes nothing.
 use native.Mathlib.Omega.{arith}
 use Rattle.bc7_places.proofs.modes.Bounds.{small}

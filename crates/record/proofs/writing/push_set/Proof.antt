@@ -1,4 +1,4 @@
--- `push_set` meets its contract.
+-- `writing::push_set` meets its contract.
 -- Assumes nothing.
 use mathlib.Core.Path.{_≡_, _∙_}
 use native.Mathlib.Omega.{arith}

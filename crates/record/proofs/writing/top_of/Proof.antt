@@ -1,4 +1,4 @@
--- `top_of` meets its contract.
+-- `writing::top_of` meets its contract.
 -- Assumes nothing.
 use mathlib.Core.Path.{refl}
 use Prim.Native.Nat.{_+_, _-_, _*_, _<_}

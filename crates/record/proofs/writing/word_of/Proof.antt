@@ -1,4 +1,4 @@
--- `word_of` meets its contract.
+-- `writing::word_of` meets its contract.
 -- Assumes nothing.
 use mathlib.Core.Path.{_≡_}
 use Prim.Native.Nat.{_≤_}

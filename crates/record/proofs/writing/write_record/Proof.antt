@@ -1,4 +1,4 @@
--- `write_record` meets its contract.
+-- `writing::write_record` meets its contract.
 -- Assumes nothing.
 use mathlib.Core.Path.{_∙_}
 use Rattle.record.proofs.writing.Pushing.{all-written}
@@ -6,11 +6,11 @@ use borrow.Author.Needs.{needs}
 use Rattle.record.proofs.writing.write_record.Statement.{statement}
 use Rattle.record.proofs.writing.write_record.Tie as tie
 
-push-head-requires : tie.Need-push-head-requires
-push-head-requires c κs = c .pre .packs
+push-lead-requires : tie.Need-push-lead-requires
+push-lead-requires c κs = c .pre .packs
 
 push-endpoints-requires : tie.Need-push-endpoints-requires
-push-endpoints-requires c κs = record { packs = c .before .pre .packs; before = c .push-head .ensures }
+push-endpoints-requires c κs = record { packs = c .before .pre .packs; before = c .push-lead .ensures }
 
 push-p-requires : tie.Need-push-p-requires
 push-p-requires c κs = record { packs = c .before .before .pre .packs; before = c .push-endpoints .ensures }
@@ -33,7 +33,7 @@ pub write-record-spec : {M : Type 1} → statement M
 write-record-spec =
     tie.close
     (tie.spec
-    push-head-requires
+    push-lead-requires
     push-endpoints-requires
     push-p-requires
     push-indexes-requires

@@ -1,4 +1,4 @@
--- `sheet_blocks::load` meets its contract.
+-- `blocks::load` meets its contract.
 -- Assumes nothing.
 use mathlib.Core.Path.{refl, _∙_}
 use Prim.Native.Nat.{_+_, _-_, _≤_}

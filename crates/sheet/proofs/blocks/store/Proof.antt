@@ -1,4 +1,4 @@
--- `sheet_blocks::store` meets its contract.
+-- `blocks::store` meets its contract.
 -- Assumes nothing.
 use mathlib.Core.Path.{_≡_, _∙_, ap, sym}
 use Prim.Native.Nat.{_-_, _≤_}

@@ -10,8 +10,8 @@ use Rattle.sheet.proofs.output.put_block.Tie as tie
 shown-in-requires : tie.Need-shown-in-requires
 shown-in-requires c κs = search needs
 
-put-lines-requires : tie.Need-put-lines-requires
-put-lines-requires c κs = search needs
+put-scanlines-requires : tie.Need-put-scanlines-requires
+put-scanlines-requires c κs = search needs
 
 same-length : tie.Need-same-length
 same-length c = search needs
@@ -19,8 +19,8 @@ same-length c = search needs
 returns : tie.Need-returns
 returns c = search needs
 
-put-lines-requires-2 : tie.Need-put-lines-requires-2
-put-lines-requires-2 c κs = search needs
+put-scanlines-requires-2 : tie.Need-put-scanlines-requires-2
+put-scanlines-requires-2 c κs = search needs
 
 same-length-2 : tie.Need-same-length-2
 same-length-2 c = search needs
@@ -28,10 +28,10 @@ same-length-2 c = search needs
 returns-2 : tie.Need-returns-2
 returns-2 c = search needs
 
-put-lines-requires-3 : tie.Need-put-lines-requires-3
-put-lines-requires-3 c κs =
+put-scanlines-requires-3 : tie.Need-put-scanlines-requires-3
+put-scanlines-requires-3 c κs =
     let s = c .before .before .before .before .before in
-    let four : s .args .lines ≡ 4 = omega arith in (
+    let four : s .args .scanlines ≡ 4 = omega arith in (
       omega arith,
       omega arith,
       omega arith,
@@ -51,12 +51,12 @@ put-block-spec =
     tie.close
     (tie.spec
     shown-in-requires
-    put-lines-requires
+    put-scanlines-requires
     same-length
     returns
-    put-lines-requires-2
+    put-scanlines-requires-2
     same-length-2
     returns-2
-    put-lines-requires-3
+    put-scanlines-requires-3
     same-length-3
     returns-3)

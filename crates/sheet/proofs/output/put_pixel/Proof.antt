@@ -1,4 +1,4 @@
--- `sheet_lines::put_pixel` meets its contract.
+-- `output::put_pixel` meets its contract.
 -- Assumes nothing.
 use native.Mathlib.Omega.{arith}
 use lib.ListN.{length-set}

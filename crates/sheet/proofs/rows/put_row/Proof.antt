@@ -1,4 +1,4 @@
--- `sheet_rows::put_row` meets its contract.
+-- `rows::put_row` meets its contract.
 -- Assumes nothing.
 use mathlib.Core.Path.{_∙_, ap, sym}
 use Prim.Native.Nat.{_-_, _≤_}
@@ -10,10 +10,10 @@ use Rattle.sheet.proofs.rows.put_row.Statement.{statement}
 use Rattle.sheet.proofs.rows.put_row.Tie as tie
 
 abbrev Inv-loop : tie.InvT-loop
-Inv-loop w lines blocks out₀ columns c₀ out c = (c ≤ columns) × Columns w lines blocks c out
+Inv-loop w scanlines blocks out₀ columns c₀ out c = (c ≤ columns) × Columns w scanlines blocks c out
 
 abbrev μ-loop : tie.MeasureT-loop
-μ-loop w lines blocks out₀ columns c₀ out c = columns - c
+μ-loop w scanlines blocks out₀ columns c₀ out c = columns - c
 
 loop-holds : tie.Need-loop-holds Inv-loop μ-loop
 loop-holds c = (omega arith, columns-none _ _ _ (c .before .before .pre .4))

@@ -32,10 +32,12 @@ wide-requires-2 : tie.Need-wide-requires-2
 wide-requires-2 c κs = search needs
 
 add-take-number : tie.Need-add-take-number
-add-take-number c = omega (arith, not-far (c .before .before .before .before .before .before .before .before .pre .0), c .before .before .before .before .before .before .before .before .pre .0 .few, c .before .wide2 .ensures)
+add-take-number c =
+    omega (arith, not-far (c .before .before .before .before .before .before .before .before .pre .0), c .before .before .before .before .before .before .before .before .pre .0 .few, c .before .wide2 .ensures)
 
 add-take-number-2 : tie.Need-add-take-number-2
-add-take-number-2 c = omega (arith, not-far (c .before .before .before .before .before .before .before .before .pre .0), c .before .before .before .before .before .before .before .before .pre .0 .few, c .before .wide2 .ensures)
+add-take-number-2 c =
+    omega (arith, not-far (c .before .before .before .before .before .before .before .before .pre .0), c .before .before .before .before .before .before .before .before .pre .0 .few, c .before .wide2 .ensures)
 
 take-number-requires : tie.Need-take-number-requires
 take-number-requires c κs = search needs

@@ -1,4 +1,4 @@
--- `BitStream::consume_2` meets its contract.
+-- `stream::BitStream::consume_2` meets its contract.
 -- Assumes nothing.
 use borrow.Author.Needs.{needs}
 use Rattle.bits.proofs.On.{taken-2}

@@ -1,4 +1,4 @@
--- `BitStream::consume_bit` meets its contract.
+-- `stream::BitStream::consume_bit` meets its contract.
 -- Assumes nothing.
 use mathlib.Core.Path.{refl}
 use native.Mathlib.Omega.{arith}

@@ -1,4 +1,4 @@
--- `BitStream::consume_bits` meets its contract.
+-- `stream::BitStream::consume_bits` meets its contract.
 -- Assumes nothing.
 use borrow.Author.Needs.{needs}
 use Rattle.bits.proofs.On.{field-below, taken-8}

@@ -1,4 +1,4 @@
--- `BitStream::consume_bits_64` meets its contract.
+-- `stream::BitStream::consume_bits_64` meets its contract.
 -- Assumes nothing.
 use native.Mathlib.Omega.{arith}
 use mathlib.Core.Path.{_≡_}

@@ -1,4 +1,4 @@
--- `BitStream::low_u8` meets its contract.
+-- `stream::BitStream::low_u8` meets its contract.
 -- Assumes nothing.
 use native.Mathlib.Omega.{arith}
 use borrow.Author.Needs.{needs}

@@ -1,4 +1,4 @@
--- `BitStream::new` meets its contract.
+-- `stream::BitStream::new` meets its contract.
 -- Assumes nothing.
 use mathlib.Core.Path.{ap₂, _∙_}
 use Prim.Native.Nat.{ℕ, _+_, _*_, _^_}

@@ -1,4 +1,4 @@
--- `BitStream::take` meets its contract.
+-- `stream::BitStream::take` meets its contract.
 -- Assumes nothing.
 use lib.Pow.{pow-pos}
 use borrow.Author.Needs.{needs}

@@ -1,4 +1,4 @@
--- `BitWriter::finish` meets its contract.
+-- `writer::BitWriter::finish` meets its contract.
 -- Assumes nothing.
 use mathlib.Core.Path.{refl, sym, _∙_}
 use Prim.Native.Nat.{_*_, _-_, _≤_}

@@ -1,4 +1,4 @@
--- `BitWriter::push` meets its contract.
+-- `writer::BitWriter::push` meets its contract.
 -- Assumes nothing.
 use native.Mathlib.Omega.{arith}
 use borrow.Author.Needs.{needs}

@@ -1,0 +1,77 @@
+-- The split of a block is one read.
+-- Assumes nothing.
+use mathlib.Core.Path.{_≡_, refl, ap, ap₂, _∙_}
+use Prim.Native.Nat.{ℕ, zero, suc, _+_, _/_, _%_, _^_, _<_}
+use native.Mathlib.Nat.{add-assoc, add-zero, zero-add}
+use native.Mathlib.Numerals.{add-one}
+use native.Mathlib.Omega.{arith}
+use lib.Pow.{field as part-of, mod-mod-pow, shr-shr}
+use Rattle.bc7_places.specs.declared.splits.ReadSplit.{ReadSplit}
+use Rattle.bc7_places.specs.declared.modes.ModeRow.{ModeRow}
+use Rattle.bits.specs.declared.stream.BitStream.{BitStream}
+use Rattle.bits.specs.declared.stream.Bits64.{Bits64}
+use Rattle.bc7_format.specs.declared.Split.{Split}
+use Rattle.bc7_format.specs.declared.Split.the-variants.{Vector}
+use Rattle.bcn_format.specs.Block.{field}
+use Rattle.bc7_format.specs.Modes.{indexModeBits, kindOfMode, modeRow, partitionBits, rotationBits}
+use Rattle.bc7_format.specs.Splits.{ofKind, partition, splitAt}
+use Rattle.bits.specs.Stream.{consumed64, held, skipped}
+use Rattle.bits.proofs.On.{On, next-is, on-skipped}
+use Rattle.bc7_places.specs.Modes.{OfMode, modeRowOf}
+use Rattle.bc7_places.specs.Splits.{splitRead}
+
+-- two bits of rotation, and the index mode above them
+vector : (n a i : ℕ) → Vector (field n a (i + 2) % 4) (field n a (i + 2) / 2 ^ 2) ≡ Vector (field n (a + 0) 2) (field n (a + (0 + 2)) i)
+unfolding field
+vector n a i =
+    rw (add-zero a)
+    (ap₂ Vector (mod-mod-pow (n / 2 ^ a) i 2)
+    (part-of (n / 2 ^ a) i 2 ∙ ap (λ (x : ℕ). x % 2 ^ i) (shr-shr n a 2)))
+
+-- in each mode, what the kind takes of one read is what stands at the split's places
+one-read : (m n a : ℕ) → m < 8
+    → ofKind (kindOfMode m) (field n a (partitionBits m + rotationBits m + indexModeBits m))
+    (field n a (partitionBits m + rotationBits m + indexModeBits m) % 4)
+    (field n a (partitionBits m + rotationBits m + indexModeBits m) / 2 ^ 2)
+    ≡ ofKind (kindOfMode m) (field n a (partitionBits m)) (field n (a + partitionBits m) (rotationBits m))
+    (field n (a + (partitionBits m + rotationBits m)) (indexModeBits m))
+unfolding modeRow kindOfMode
+one-read zero n a h = refl
+one-read (suc zero) n a h = refl
+one-read (suc (suc zero)) n a h = refl
+one-read (suc (suc (suc zero))) n a h = refl
+one-read (suc (suc (suc (suc zero)))) n a h = vector n a 1
+one-read (suc (suc (suc (suc (suc zero))))) n a h = vector n a 0
+one-read (suc (suc (suc (suc (suc (suc zero)))))) n a h = refl
+one-read (suc (suc (suc (suc (suc (suc (suc zero))))))) n a h = refl
+one-read (suc (suc (suc (suc (suc (suc (suc (suc m)))))))) n a h = absurd (let z : ⊥ = omega arith in z)
+
+pub split-taken : (row : ModeRow) (s : BitStream) {x : Bits64} {t : Split} → OfMode row
+    → x ≡ consumed64 s (row .partition + row .rotation + row .«index_mode»)
+    → t ≡ ofKind (row .kind) (x .value) (x .value % 4) (x .value / 2 ^ 2) → record { split = t; stream = x .stream } ≡ splitRead row s
+unfolding held
+split-taken row s {t = t} o ex et =
+    let e : t ≡ splitRead row s .split = rw (et, ex, o .is) (one-read (o .mode) _ _ (o .low)) in
+    ap₂ (λ (t : Split) (x : BitStream). record { split = t; stream = x }) e (ap (λ (x : Bits64). x .stream) ex)
+
+-- behind the marker
+pub marker-on : (m : ℕ) {n : ℕ} {b s : BitStream} → held b ≡ n → b .at ≡ 0 → s ≡ skipped b (m + 1) → On n (m + 1) s
+marker-on m h z e = rw e (rw (zero-add (m + 1)) at (on-skipped (record { of = h; stands = z }) (m + 1)))
+
+-- there it is the block's
+split-parts : (m n : ℕ)
+    → ofKind (kindOfMode m) (field n (m + 1) (partitionBits m)) (field n (m + 1 + partitionBits m) (rotationBits m))
+    (field n (m + 1 + (partitionBits m + rotationBits m)) (indexModeBits m)) ≡ splitAt m n
+unfolding splitAt field
+split-parts m n = rw (← (add-assoc (m + 1) (partitionBits m) (rotationBits m))) (simp (shr-shr, add-one))
+
+pub split-is : (m : ℕ) {n : ℕ} {row : ModeRow} {s : BitStream} {r : ReadSplit} → row ≡ modeRowOf m → On n (m + 1) s → r ≡ splitRead row s
+    → r .split ≡ splitAt m n
+split-is m e o er =
+    let p : ℕ = partitionBits m in
+    let q : ℕ = p + rotationBits m in
+    rw (er, e, next-is o p, next-is (on-skipped o p) (rotationBits m), next-is (on-skipped o q) (indexModeBits m)) (split-parts m _)
+
+pub split-on : (row : ModeRow) {a n : ℕ} {s : BitStream} {r : ReadSplit} → On n a s → r ≡ splitRead row s
+    → On n (a + (row .partition + row .rotation + row .«index_mode»)) (r .stream)
+split-on row o er = rw er (on-skipped o (row .partition + row .rotation + row .«index_mode»))

@@ -1,0 +1,23 @@
+-- One endpoint of four lanes.
+-- Assumes nothing.
+use native.Mathlib.Omega.{arith}
+use Rattle.drawing.proofs.colour.Words.{end-of, ends-within, parts-small}
+use Rattle.drawing.proofs.colour.end_of.Statement.{statement}
+use Rattle.drawing.proofs.colour.end_of.Tie as tie
+
+mul-parts : tie.Need-mul-parts
+mul-parts c = omega (arith, ends-within (c .args .bits) (c .args .k) (c .args .x) (c .pre .2) (c .pre .1))
+
+parts-requires : tie.Need-parts-requires
+parts-requires c κs = ends-within (c .args .bits) (c .args .k) (c .args .x) (c .pre .2) (c .pre .1)
+
+promote-requires : tie.Need-promote-requires
+promote-requires c κs = let s = c .before in (s .pre .0, s .pre .1, parts-small (s .args .x) _ (s .args .bits) (omega arith) (c .parts .ensures))
+
+returns : tie.Need-returns
+returns c =
+    let s =
+    c .before .before in end-of (s .args .bits) (s .args .k) (s .args .x) (s .pre .2) (s .pre .1) (c .before .parts .ensures) (c .promote .ensures)
+
+pub end-of-spec : {M : Type 1} → statement M
+end-of-spec = tie.close (tie.spec mul-parts parts-requires promote-requires returns)

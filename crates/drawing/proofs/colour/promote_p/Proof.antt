@@ -1,0 +1,42 @@
+-- The same with a p bit below each value.
+-- Assumes nothing.
+use mathlib.Core.Path.{_∙_}
+use Prim.Native.Nat.{_≤_}
+use native.Mathlib.Omega.{arith}
+use borrow.Author.Needs.{needs}
+use Rattle.drawing.proofs.colour.Words.{lanes-le, promoted-p, with-p-small}
+use Rattle.drawing.proofs.colour.promote_p.Statement.{statement}
+use Rattle.drawing.proofs.colour.promote_p.Tie as tie
+
+-- both words leave room
+value-le : (s : tie.Start) → s .args .x ≤ 0x00FF_00FF_00FF_00FF
+value-le s = lanes-le (s .args .bits) (omega arith) (search needs) (s .pre .2)
+
+p-le : (s : tie.Start) → s .args .p ≤ 0x00FF_00FF_00FF_00FF
+p-le s = lanes-le 1 (omega arith) (search needs) (s .pre .3)
+
+mul-promote : tie.Need-mul-promote
+mul-promote c = omega (arith, value-le c, p-le c)
+
+add-promote : tie.Need-add-promote
+add-promote c = omega (arith, value-le c, p-le c)
+
+add-promote-2 : tie.Need-add-promote-2
+add-promote-2 c = search needs
+
+promote-requires : tie.Need-promote-requires
+promote-requires c κs = (
+  omega arith,
+  omega arith,
+  with-p-small (c .args .bits) (c .args .x) (c .args .p) (c .pre .1) (search needs) (search needs) (c .pre .2)
+      (c .pre .3),
+)
+
+returns : tie.Need-returns
+returns c =
+    let s = c .before in
+    c .promote .ensures ∙ promoted-p (s .args .bits) (s .args .x) (s .args .p) (s .pre .1) (search needs) (search needs) (s .pre .2) (s .pre .3)
+
+pub promote-p-spec : {M : Type 1} → statement M
+promote-p-spec =
+    tie.close (tie.spec mul-promote add-promote add-promote-2 promote-requires returns)

@@ -1,0 +1,301 @@
+-- The machine stays ready and comes to its end, and what it still has to say of an input, round by round.
+-- Assumes nothing.
+use mathlib.Core.Path.{_≡_, refl, _∙_, ap, sym, subst}
+use mathlib.Core.Bool.{Bool, true, false}
+use mathlib.Core.List.{List, [], _∷_, _++_, append-nil}
+use Prim.Native.Nat.{ℕ, zero, suc, _+_, _-_, _*_, _≤_}
+use native.Mathlib.Nat.{not-suc-le-zero}
+use native.Mathlib.Omega.{arith}
+use lib.Dec.{eqb, leb}
+use lib.ListN.{length, getD, take, drop}
+use lib.Seq.{length-take-le, take-all}
+use borrow.Author.Tests.{eq-eqb, eqb-false, eqb-true, leb-false, leb-true, ne-eqb}
+use Rattle.sheet_head.specs.Geometry.{across}
+use Rattle.sheet_head.specs.declared.reader.HeadReader.{HeadReader}
+use Rattle.listing_rules.specs.declared.Machine.{Machine}
+use Rattle.listing_rules.specs.declared.Phase.{Phase}
+use Rattle.listing_rules.specs.declared.Phase.the-variants.{Head, Row, End, Listed, Refused}
+use Rattle.sheet_head.specs.declared.Head.{Head as SheetHead}
+use Rattle.laws.specs.Tables.{pick}
+use Rattle.laws.proofs.Cases.{pick-either}
+use Rattle.sheet_head.specs.Heads.{Sized, headOf, readHead}
+use Rattle.sheet_head.specs.Reader.{Going, Reading, atForm, byteTaken, hasEnded, readBy, refusedWith}
+use Rattle.sheet_head.proofs.Bytewise.{Stepped, going-start, not-far, read-byte, read-cut, read-ended, stepped, stepped-refused}
+use Rattle.sheet_head.proofs.Theorems.{fold-leaves-the-blocks, read-head-is-the-fold}
+use Rattle.listing_rules.specs.Text.{refusedText, sheetText}
+use Rattle.listing_rules.specs.Listing.{listed, listing, rowsListing, unlessExact}
+use Rattle.listing_rules.specs.Machine.{Ready, ReadyIn, Run, atHead, atStart, begun, ended, headText, inRows, nextAtHead, nextIn, nextInRows}
+use Rattle.listing_rules.specs.Machine.{nextOf, over, rowsPhase, takenOf, textAtHead, textIn, textOf, round, roundsIn, roundsOf, wantedIn}
+use Rattle.listing_rules.specs.Machine.{wantedOf}
+use Rattle.listing_rules.proofs.Rows.{listing-by-rows, listing-refused}
+
+-- what comes of the head's next byte
+module _ (r : HeadReader) (came : List ℕ) where
+  pub taken-none : length came ≡ 0 → refusedWith 7 ≡ takenOf r came
+  taken-none = go came
+    where
+      go : (came : List ℕ) → length came ≡ 0 → refusedWith 7 ≡ takenOf r came
+      go [] e = refl
+      go (b ∷ bs) e = absurd (let q : ⊥ = omega arith in q)
+
+  pub taken-one : (length came ≡ 0 → ⊥) → byteTaken r (getD came 0 0) ≡ takenOf r came
+  taken-one = go came
+    where
+      go : (came : List ℕ) → (length came ≡ 0 → ⊥) → byteTaken r (getD came 0 0) ≡ takenOf r came
+      go [] n = absurd (n refl)
+      go (b ∷ bs) n = refl
+
+  pub taken-stepped : Going r → Stepped r (takenOf r came)
+  taken-stepped g = go came
+    where
+      go : (came : List ℕ) → Stepped r (takenOf r came)
+      go [] = stepped-refused r 7 (λ q. omega arith)
+      go (b ∷ bs) = stepped g b
+
+pub head-sized : {r x : HeadReader} (came : List ℕ) → Going r → x ≡ takenOf r came
+    → (x ≡ takenOf r came) × (hasEnded x ≡ true → x .head .refusal ≡ 0 → Sized (x .head .width) (x .head .height))
+head-sized {r} {x} came g e = (e, subst (Stepped r) (sym e) (taken-stepped r came g) .sized-head)
+
+-- before rows: at one of them, or at the end of the input
+pub some-rows : (k : ℕ) → (k ≡ 0 → ⊥) → rowsPhase k ≡ Row
+some-rows zero n = absurd (n refl)
+some-rows (suc k) n = refl
+
+ready-rows : (c k from : ℕ) → c ≤ 1024 → 1 ≤ c → from + 1024 * k ≤ 1048576 → Ready (inRows c k from)
+unfolding inRows
+ready-rows c zero from w s n = tt
+ready-rows c (suc k) from w s n = record { within = w; some = s; more = omega arith; numbers = n }
+
+rounds-rows : (c k from n : ℕ) → k + 1 ≤ n → roundsOf (inRows c k from) ≤ n
+unfolding inRows
+rounds-rows c zero from n h = omega arith
+rounds-rows c (suc k) from n h = omega arith
+
+-- at the end
+ready-ended : (exact : Bool) → Ready (ended exact)
+unfolding ended
+ready-ended true = tt
+ready-ended false = tt
+
+rounds-ended : (exact : Bool) → roundsOf (ended exact) ≡ 0
+unfolding ended
+rounds-ended true = refl
+rounds-ended false = refl
+
+-- what holds before rows that a head declares, and at the end, holds behind the head
+behind-head : (P : Machine → Type 0) (h : SheetHead) → (h .refusal ≡ 0 → Sized (h .width) (h .height))
+    → ((w h : ℕ) → Sized w h → P (inRows (across w) (across h) 0)) → P (ended false) → P (begun h)
+unfolding begun
+behind-head P h sized rows end = go (eqb (h .refusal) 0) refl
+  where
+    go : (t : Bool) → eqb (h .refusal) 0 ≡ t → P (pick t (inRows (across (h .width)) (across (h .height)) 0) (ended false))
+    go true e = rows _ _ (sized (eqb-true _ 0 e))
+    go false e = end
+
+-- and what holds there and at the head with a byte more holds after each byte of the head
+after-byte : (P : Machine → Type 0) (r : HeadReader) → Going r → ((h : SheetHead) → (h .refusal ≡ 0 → Sized (h .width) (h .height)) → P (begun h))
+    → ((x : HeadReader) → Stepped r x → hasEnded x ≡ false → P (atHead x)) → (came : List ℕ) → P (nextAtHead (takenOf r came))
+after-byte P r g behind more came = go (takenOf r came) (taken-stepped r came g) (hasEnded (takenOf r came)) refl
+  where
+    go : (x : HeadReader) → Stepped r x → (t : Bool) → hasEnded x ≡ t → P (pick t (begun (x .head)) (atHead x))
+    go x s true e = behind (x .head) (s .sized-head e)
+    go x s false e = more x s e
+
+-- the next state is ready
+ready-next : (p : Phase) (m : Machine) (came : List ℕ) → ReadyIn p m → Ready (nextIn p m came)
+ready-next Head m came h =
+    after-byte Ready (m .reader) h
+    (λ q z. behind-head Ready q z
+    (λ w h s. ready-rows (across w) (across h) 0 (omega (arith, s .within-wide)) (omega (arith, s .wide)) (omega (arith, s .within-high)))
+    (ready-ended false)) (λ x s e. s .going e) came
+ready-next Row m came h = pick-either Ready (eqb (length came) _)
+    (ready-rows _ _ _ (h .within) (h .some) (omega (arith, h .within, h .more, h .numbers))) (ready-ended false)
+ready-next End m came h = ready-ended (eqb (length came) 0)
+ready-next Listed m came h = ready-ended true
+ready-next Refused m came h = ready-ended false
+
+-- and has fewer rounds to go
+rounds-next : (p : Phase) (m : Machine) (came : List ℕ) → ReadyIn p m → roundsOf (nextIn p m came) ≤ roundsIn p m - 1
+rounds-next Head m came h =
+    after-byte (λ n. roundsOf n ≤ roundsIn Head m - 1) (m .reader) h
+    (λ q z. behind-head (λ n. roundsOf n ≤ roundsIn Head m - 1) q z (λ w h s. rounds-rows _ _ _ _ (omega (arith, s .within-high)))
+    (omega (arith, rounds-ended false)))
+    (λ x s e. omega (arith, s .on e, not-far h, h .few)) came
+rounds-next Row m came h = pick-either (λ n. roundsOf n ≤ roundsIn Row m - 1) (eqb (length came) _) (rounds-rows _ _ _ _ (omega (arith, h .more)))
+    (omega (arith, rounds-ended false))
+rounds-next End m came h = omega (arith, rounds-ended (eqb (length came) 0))
+rounds-next Listed m came h = omega (arith, rounds-ended true)
+rounds-next Refused m came h = omega (arith, rounds-ended false)
+
+pub nexts : (m : Machine) (came : List ℕ) → Ready m → {n : Machine} → n ≡ nextOf m came
+    → (n ≡ nextOf m came) × (Ready n × (roundsOf n ≤ roundsOf m - 1))
+nexts m came h e = (
+  e,
+  (
+    subst Ready (sym e) (ready-next (m .phase) m came h),
+    subst (λ (n : Machine). roundsOf n ≤ roundsOf m - 1) (sym e)
+        (rounds-next (m .phase) m came h),
+  ),
+)
+
+-- it never wants more than the buffer holds, and at the end nothing
+wanted-in : (p : Phase) (m : Machine) → ReadyIn p m → (wantedIn p (m .columns) ≤ 16384) × (wantedIn p (m .columns) ≤ 16384 * roundsIn p m)
+wanted-in Head m h = (omega arith, omega arith)
+wanted-in Row m h = (omega (arith, h .within), omega (arith, h .within))
+wanted-in End m h = (omega arith, omega arith)
+wanted-in Listed m h = (omega arith, omega arith)
+wanted-in Refused m h = (omega arith, omega arith)
+
+wanted-within : (m : Machine) → Ready m → (wantedOf m ≤ 16384) × (wantedOf m ≤ 16384 * roundsOf m)
+wanted-within m h = wanted-in (m .phase) m h
+
+pub wants : (m : Machine) → Ready m → {p : Phase} {n : ℕ} → m .phase ≡ p → n ≡ wantedIn p (m .columns)
+    → (n ≡ wantedOf m) × ((n ≤ 16384) × (n ≤ 16384 * roundsOf m))
+wants m h {p} {n} at e =
+    let q : n ≡ wantedOf m = e ∙ sym (ap (λ (p : Phase). wantedIn p (m .columns)) at) in
+    (q, (omega (arith, q, wanted-within m h .0), omega (arith, q, wanted-within m h .1)))
+
+-- what is still said of an input: from a head on, and from a byte of the head on
+behind : SheetHead → List ℕ → List ℕ
+behind h s = pick (eqb (h .refusal) 0) (rowsListing (across (h .width)) 0 (across (h .height)) s) []
+
+fromHead : Reading → List ℕ
+fromHead t = headText (t .head) ++ behind (t .head) (t .rest)
+
+restIn : Phase → Machine → List ℕ → List ℕ
+restIn Head m s = fromHead (readBy (m .reader) s)
+restIn Row m s = rowsListing (m .columns) (m .from) (m .rows) s
+restIn End m s = rowsListing (m .columns) (m .from) 0 s
+restIn Listed m s = []
+restIn Refused m s = []
+
+pub restOf : Machine → List ℕ → List ℕ
+restOf m s = restIn (m .phase) m s
+
+rest-rows : (c k from : ℕ) (s : List ℕ) → restOf (inRows c k from) s ≡ rowsListing c from k s
+unfolding inRows restOf restIn
+rest-rows c zero from s = refl
+rest-rows c (suc k) from s = refl
+
+rest-ended : (exact : Bool) (s : List ℕ) → restOf (ended exact) s ≡ []
+unfolding ended restOf restIn
+rest-ended true s = refl
+rest-ended false s = refl
+
+rest-begun : (h : SheetHead) (s : List ℕ) → restOf (begun h) s ≡ behind h s
+unfolding begun behind
+rest-begun h s = go (eqb (h .refusal) 0)
+  where
+    go : (t : Bool) → restOf (pick t (inRows (across (h .width)) (across (h .height)) 0) (ended false)) s
+        ≡ pick t (rowsListing (across (h .width)) 0 (across (h .height)) s) []
+    go true = rest-rows _ _ 0 s
+    go false = rest-ended false s
+
+-- a byte of the head, or none
+head-step : (r : HeadReader) → hasEnded r ≡ false → (s : List ℕ)
+    → fromHead (readBy r s) ≡ textAtHead (takenOf r (take 1 s)) ++ restOf (nextAtHead (takenOf r (take 1 s))) (drop 1 s)
+unfolding fromHead restOf restIn
+head-step r un [] = ap fromHead (read-cut r un) ∙ ap (λ (t : List ℕ). headText (headOf 7 0 0 0) ++ t) (sym (rest-begun (headOf 7 0 0 0) []))
+head-step r un (b ∷ bs) = ap fromHead (read-byte r un b bs) ∙ go (byteTaken r b) (hasEnded (byteTaken r b)) refl
+  where
+    go : (x : HeadReader) (t : Bool) → hasEnded x ≡ t → fromHead (readBy x bs)
+        ≡ pick t (headText (x .head)) [] ++ restOf (pick t (begun (x .head)) (atHead x)) bs
+    go x true e = ap fromHead (read-ended x e bs) ∙ ap (λ (t : List ℕ). headText (x .head) ++ t) (sym (rest-begun (x .head) bs))
+    go x false e = refl
+
+-- of what was wanted all came exactly when the input has so much
+all-came : (n : ℕ) (s : List ℕ) → eqb (length (take n s)) n ≡ leb n (length s)
+all-came n s = go (leb n (length s)) refl
+  where
+    go : (t : Bool) → leb n (length s) ≡ t → eqb (length (take n s)) n ≡ t
+    go true e = eq-eqb _ n (length-take-le n s (leb-true n (length s) e))
+    go false e = ne-eqb _ n (λ q. omega (arith, leb-false n (length s) e, ap length (take-all n s (omega (arith, leb-false n (length s) e)))))
+
+row-step : (c k from : ℕ) (s : List ℕ) → 1 ≤ k
+    → rowsListing c from k s
+    ≡ (listed from (take (16 * c) s) ++ unlessExact (eqb (length (take (16 * c) s)) (16 * c))) ++ restOf
+    (nextInRows c k from (length (take (16 * c) s))) (drop (16 * c) s)
+unfolding rowsListing
+row-step c zero from s h = absurd (not-suc-le-zero h)
+row-step c (suc k) from s h = rw (all-came (16 * c) s) (go (leb (16 * c) (length s)))
+  where
+    less : suc k - 1 ≡ k
+    less = omega arith
+
+    go : (t : Bool)
+        → listed from (take (16 * c) s) ++ pick t (rowsListing c (from + c) k (drop (16 * c) s)) (refusedText 10)
+        ≡ (listed from (take (16 * c) s) ++ unlessExact t) ++ restOf (pick t (inRows c (suc k - 1) (from + c)) (ended false)) (drop (16 * c) s)
+    go true = rw (append-nil, less) (ap (λ (t : List ℕ). listed from (take (16 * c) s) ++ t) (sym (rest-rows c k (from + c) (drop (16 * c) s))))
+    go false = rw (rest-ended, append-nil)
+
+-- a byte came exactly when the input has one
+none-came : (s : List ℕ) → eqb (length (take 1 s)) 0 ≡ eqb (length s) 0
+none-came [] = refl
+none-came (b ∷ bs) = ne-eqb (suc (length (take 0 bs))) 0 (λ q. omega (arith, q)) ∙ sym (ne-eqb (suc (length bs)) 0 (λ q. omega (arith, q)))
+
+end-step : (c from : ℕ) (s : List ℕ)
+    → rowsListing c from 0 s ≡ unlessExact (eqb (length (take 1 s)) 0) ++ restOf (ended (eqb (length (take 1 s)) 0)) (drop 1 s)
+unfolding rowsListing
+end-step c from s = rw (rest-ended, append-nil, none-came s)
+
+-- what is still said is what is said of the next bytes, and what is still said behind them
+step-in : (p : Phase) (m : Machine) (s : List ℕ) → ReadyIn p m
+    → let n = wantedIn p (m .columns) in restIn p m s ≡ textIn p m (take n s) ++ restOf (nextIn p m (take n s)) (drop n s)
+unfolding restIn
+step-in Head m s h = head-step (m .reader) (h .unended) s
+step-in Row m s h = row-step (m .columns) (m .rows) (m .from) s (h .more)
+step-in End m s h = end-step (m .columns) (m .from) s
+step-in Listed m s h = sym (rest-ended true s)
+step-in Refused m s h = sym (rest-ended false s)
+
+pub step : (m : Machine) (s : List ℕ) → Ready m
+    → restOf m s ≡ textOf m (take (wantedOf m) s) ++ restOf (nextOf m (take (wantedOf m) s)) (drop (wantedOf m) s)
+unfolding restOf
+step m s h = step-in (m .phase) m s h
+
+-- where nothing is wanted nothing is left to say; that is so at the end alone
+done-in : (p : Phase) (m : Machine) (s : List ℕ) → ReadyIn p m → wantedIn p (m .columns) ≡ 0 → restIn p m s ≡ []
+unfolding restIn
+done-in Head m s h e = absurd (let q : ⊥ = omega (arith, e) in q)
+done-in Row m s h e = absurd (let q : ⊥ = omega (arith, e, h .some) in q)
+done-in End m s h e = absurd (let q : ⊥ = omega (arith, e) in q)
+done-in Listed m s h e = refl
+done-in Refused m s h e = refl
+
+pub done : (m : Machine) (s : List ℕ) → Ready m → wantedOf m ≡ 0 → restOf m s ≡ []
+unfolding restOf
+done m s h e = done-in (m .phase) m s h e
+
+-- a run from a state that is ready, in as many rounds as it has to go
+pub runs : (k : ℕ) (m : Machine) (s : List ℕ) → roundsOf m ≤ k → Ready m → Run m s (restOf m s)
+runs zero m s l h = let e : wantedOf m ≡ 0 = omega (arith, wanted-within m h .1, l) in subst (λ (t : List ℕ). Run m s t) (sym (done m s h e)) (over e)
+runs (suc k) m s l h = go (wantedOf m) refl
+    (λ e. runs k (nextOf m came) (drop (wantedOf m) s) (omega (arith, rounds-next (m .phase) m came h, l)) (ready-next (m .phase) m came h))
+  where
+    came : List ℕ
+    came = take (wantedOf m) s
+
+    go : (n : ℕ) → wantedOf m ≡ n
+        → ((wantedOf m ≡ 0 → ⊥) → Run (nextOf m came) (drop (wantedOf m) s) (restOf (nextOf m came) (drop (wantedOf m) s))) → Run m s (restOf m s)
+    go zero e r = subst (λ (t : List ℕ). Run m s t) (sym (done m s h e)) (over e)
+    go (suc n) e r =
+        let some : wantedOf m ≡ 0 → ⊥ = λ z. omega (arith, e, z) in subst (λ (t : List ℕ). Run m s t) (sym (step m s h)) (round some (r some))
+
+pub ready-start : Ready atStart
+ready-start = going-start
+
+-- from the start that is the listing
+pub rest-start : (s : List ℕ) → restOf atStart s ≡ listing s
+unfolding restOf restIn fromHead headText behind
+rest-start s =
+    ap (λ (h : SheetHead). headText h ++ behind h (readBy atForm s .rest)) (read-head-is-the-fold s) ∙ go (eqb (readHead s .refusal) 0) refl
+  where
+    go : (t : Bool) → eqb (readHead s .refusal) 0 ≡ t
+        → pick t (sheetText (readHead s .width) (readHead s .height)) (refusedText (readHead s .refusal))
+        ++ pick t (rowsListing (across (readHead s .width)) 0 (across (readHead s .height)) (readBy atForm s .rest)) [] ≡ listing s
+    go true e =
+        let z = eqb-true _ 0 e in
+        ap (λ (bs : List ℕ). sheetText (readHead s .width)
+        (readHead s .height) ++ rowsListing (across (readHead s .width)) 0 (across (readHead s .height)) bs)
+        (fold-leaves-the-blocks s z) ∙ sym (listing-by-rows s z)
+    go false e = append-nil _ ∙ sym (listing-refused s (eqb-false _ 0 e))
