@@ -10,7 +10,7 @@ use Rattle.laws.specs.Padding.{padded}
 use Rattle.laws.specs.Refusals.{first}
 use Rattle.sheet_head.specs.Heads.{formIn, headBytes, headRefusal, heightIn, readHead, sizeRefusal, widthIn, writeHead}
 use Rattle.sheet_head.specs.declared.reader.Stage.the-variants.{Width}
-use Rattle.sheet_head.specs.Geometry.{across, blocksOf, outLength, placeOf, rowLength, shown, wholeLength}
+use Rattle.sheet_head.specs.Geometry.{across, blocksOf, outLength, placeOf, rowLength, sideShown, wholeLength}
 use Rattle.sheet_head.specs.Reader.{Reading, atForm, byteTaken, formTaken, groupTaken, heightTaken, lastTaken, readBy}
 use Rattle.sheet_head.specs.Numbers.{groups, numberBytes, raised, readGroups, readNumber}
 
@@ -59,9 +59,9 @@ pub record Heads : Type 0 where
       (0x01 ∷ 0x80 ∷ 0x80 ∷ 0x80 ∷ []) ∷ (0x01 ∷ 0x05 ∷ []) ∷ (0x01 ∷ 0x05 ∷ 0x00 ∷ []) ∷ [])
       ≡ reading (head 5 6 3) (0x60 ∷ []) ∷ reading (head 4096 257 5) [] ∷ reading (noHead 8) (0x05 ∷ []) ∷ reading (noHead 7) (0x60 ∷ []) ∷
       reading (noHead 7) [] ∷ reading (noHead 7) [] ∷ reading (noHead 9) [] ∷ []
-  -- columns and rows of blocks, shown lines, and of a sheet of 5 by 9 pixels the blocks, the place of block 3, and its length
+  -- columns and rows of blocks, shown scanlines, and of a sheet of 5 by 9 pixels the blocks, the place of block 3, and its length
   pub rounded-up : map across (1 ∷ 4 ∷ 5 ∷ 4095 ∷ 4096 ∷ []) ≡ 1 ∷ 1 ∷ 2 ∷ 1024 ∷ 1024 ∷ []
-  pub lines-shown : map (shown 9) (0 ∷ 1 ∷ 2 ∷ []) ≡ 4 ∷ 4 ∷ 1 ∷ []
+  pub scanlines-shown : map (sideShown 9) (0 ∷ 1 ∷ 2 ∷ []) ≡ 4 ∷ 4 ∷ 1 ∷ []
   pub blocks-placed : blocksOf (head 5 9 3) ∷ placeOf (head 5 9 3) 3 ∷ wholeLength (head 5 9 3) ∷ rowLength 5 ∷ outLength 5 3 ∷ []
       ≡ 6 ∷ 51 ∷ 99 ∷ 32 ∷ 60 ∷ []
 
@@ -76,6 +76,6 @@ heads-hold = record {
   a-state = refl;
   heads-by-bytes = refl;
   rounded-up = refl;
-  lines-shown = refl;
+  scanlines-shown = refl;
   blocks-placed = refl;
 }
