@@ -1,0 +1,4 @@
+pub mod Least
+pub mod Finding
+pub mod Correcting
+pub mod Theorems
