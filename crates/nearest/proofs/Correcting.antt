@@ -4,18 +4,15 @@ use mathlib.Core.Path.{_≡_, refl, sym, ap, _∙_}
 use mathlib.Core.Logic.{_≢_}
 use mathlib.Core.Bool.{Bool, true, false}
 use mathlib.Core.List.{List}
-use Prim.Native.Nat.{ℕ, _+_, _-_, _*_, _/_, _%_, _^_, _≤_, _<_}
-use native.Mathlib.Omega.{arith}
+use Prim.Native.Nat.{ℕ, _+_, _*_, _^_, _<_}
 use borrow.Author.Tests.{eq-eqb, eqb-true, eqb-false}
 use lib.Dec.{eqb, lit<}
-use lib.ListN.{getD, length, set}
+use lib.ListN.{getD, length}
 use lib.Seq.{getD-set-other, getD-set-same}
-use Rattle.line_rules.specs.declared.LineRead.{LineRead}
-use Rattle.line_rules.specs.declared.Replaced.{Replaced}
 use Rattle.line_rules.specs.declared.Replacement.{Replacement}
 use Rattle.bc7_format.specs.declared.Split.{Split}
 use Rattle.laws.specs.Digits.{Fit}
-use Rattle.laws.specs.Tables.{pick, table}
+use Rattle.laws.specs.Tables.{pick}
 use Rattle.laws.proofs.Part.{length-table}
 use Rattle.laws.proofs.Refusals.{accepted-when as met-when}
 use Rattle.bcn_format.specs.Block.{eights}
@@ -25,15 +22,14 @@ use Rattle.bc7_format.specs.Places.{opened}
 use Rattle.bc7_format.specs.Lines.{Line, draws, indexPlace, lineBits, lineOf, meant, pixel, rotated}
 use Rattle.bc7_format.specs.WellFormed.{WellFormed}
 use Rattle.bc7_format.proofs.Meaning.{good-rotation, means-ext, rotated-lt}
-use Rattle.bc7_format.proofs.Opening.{opened-good}
-use Rattle.bc7_format.proofs.Reserved.{open-mode}
-use Rattle.line_rules.specs.Acceptable.{Acceptable, OwnWidths, Within}
+use Rattle.line_rules.specs.Acceptable.{Acceptable}
 use Rattle.line_rules.specs.Read.{givenAs, lineRead, readRefusal}
-use Rattle.line_rules.specs.Replace.{after, callOf, lineGiven, ownWidth, refusal, replaced}
-use Rattle.line_rules.proofs.Reading.{Agree, given-line, read-answers, read-drawn, read-is, replaced-by-read}
+use Rattle.line_rules.specs.Replace.{after, callOf, lineGiven, ownWidth, refusal}
+use Rattle.line_rules.proofs.Reading.{given-line, read-answers, read-drawn}
 use Rattle.line_rules.proofs.Theorems.{accepted-draws, accepted-when, the-widths}
 use Rattle.nearest.specs.Nearest.{InLine, correction, drawnWith, indexCount, nearestRefusal, withIndex}
 use Rattle.nearest.proofs.Finding.{nearest-answers}
+use Rattle.nearest.proofs.Standing.{stands-as, stands-fits, well-formed}
 
 module _ (bs : List ℕ) (sixteen : Fit eights bs) (l q : ℕ) (ok : nearestRefusal bs l q ≡ 0) where
   abbrev m : ℕ
@@ -51,25 +47,21 @@ module _ (bs : List ℕ) (sixteen : Fit eights bs) (l q : ℕ) (ok : nearestRefu
   line-there : l < lines m
   line-there = met-when (nearest-answers bs sixteen l q) .0 ok .1 .0
 
-  in-line : InLine s l q
+  pub in-line : InLine s l q
   in-line = met-when (nearest-answers bs sixteen l q) .0 ok .1 .1 .0
 
   -- so the line can be read
-  readable : readRefusal bs l ≡ 0
+  pub readable : readRefusal bs l ≡ 0
   readable = met-when (read-answers bs sixteen l) .1 (first-byte, (line-there, tt))
 
   read-line-is : lineRead bs l .line ≡ givenAs stored
-  read-line-is = ap (λ (r : LineRead). r .line) (read-is bs l readable)
+  read-line-is = stands-as bs sixteen l readable
 
-  -- and put in again
   read-fits : Acceptable m s l (lineGiven (givenAs stored))
-  unfolding replaced
-  read-fits =
-      rw read-line-is
-      at (accepted-when bs sixteen (callOf l (lineRead bs l .line)) .0 (ap (λ (r : Replaced). r .refusal) (replaced-by-read bs sixteen l readable)) .1)
+  read-fits = stands-fits bs sixteen l readable
 
   good : WellFormed m s (opened bs)
-  good = opened-good bs sixteen (open-mode bs sixteen first-byte)
+  good = well-formed bs sixteen l readable
 
   -- the width of the index at the pixel is the line's
   own-width : ownWidth m s l (indexPlace s l q) ≡ lineBits m s l
@@ -114,7 +106,8 @@ module _ (bs : List ℕ) (sixteen : Fit eights bs) (l q : ℕ) (ok : nearestRefu
         p = λ k hk. rw (given-p k hk, ← (given-line stored .p k hk)) (read-fits .within .p k hk);
         index = index-fits;
       };
-      same-p = λ e. given-p 0 (lit< tt) ∙ sym (given-line stored .p 0 (lit< tt)) ∙ read-fits .same-p e ∙ given-line stored .p 1 (lit< tt) ∙ sym (given-p 1 (lit< tt));
+      same-p = λ e. given-p 0 (lit< tt) ∙ sym (given-line stored .p 0 (lit< tt)) ∙ read-fits .same-p e
+          ∙ given-line stored .p 1 (lit< tt) ∙ sym (given-p 1 (lit< tt));
     }
       where
         index-fits : (k : ℕ) → k < 16 → given .index k < 2 ^ ownWidth m s l (indexPlace s l k)
@@ -149,7 +142,8 @@ module _ (bs : List ℕ) (sixteen : Fit eights bs) (l q : ℕ) (ok : nearestRefu
   unfolding drawnWith withIndex meant
   stored-draws c hc d =
       means-ext m s l (withIndex (stored .index q) stored) (lineGiven (lineRead bs l .line)) q (rotated (rotation s) c)
-      (λ k hk. sym (ap (λ (r : Replacement). lineGiven r .value k (rotated (rotation s) c)) read-line-is ∙ given-line stored .value k _ hk (rotated-lt (rotation s) c (good-rotation good) hc)))
+      (λ k hk. sym (ap (λ (r : Replacement). lineGiven r .value k (rotated (rotation s) c)) read-line-is
+      ∙ given-line stored .value k _ hk (rotated-lt (rotation s) c (good-rotation good) hc)))
       (λ n k hk. sym (ap (λ (r : Replacement). lineGiven r .p k) read-line-is ∙ given-line stored .p k hk))
       (sym (ap (λ (r : Replacement). lineGiven r .index q) read-line-is ∙ given-line stored .index q (in-line .pixel)))
       ∙ read-drawn bs sixteen l readable q c (in-line .pixel) hc d

@@ -1,32 +1,32 @@
 -- Which calls are refused.
 -- Assumes nothing.
 use mathlib.Core.Path.{_≡_, refl, sym, ap, _∙_}
-use mathlib.Core.Logic.{_≢_}
 use mathlib.Core.Bool.{Bool, true, false, not}
-use mathlib.Core.List.{List, [], _∷_}
-use Prim.Native.Nat.{ℕ, _+_, _≤_, _^_, _<_}
+use mathlib.Core.List.{List}
+use Prim.Native.Nat.{ℕ, _<_}
 use native.Mathlib.Omega.{arith}
 use borrow.Author.Tests.{eq-eqb, eqb-true, lt-ltb, ltb-false, ltb-true}
 use lib.Dec.{eqb, ltb}
-use lib.Pow.{pow-pos}
 use Rattle.bc7_format.specs.declared.Split.{Split}
 use Rattle.laws.specs.Digits.{Fit}
 use Rattle.laws.specs.Refusals.{refuse}
-use Rattle.laws.specs.Tables.{both, pick}
-use Rattle.laws.proofs.Refusals.{Answers, Decided, answers, by-not, by-not-ltb, none, rule, rules}
-use Rattle.laws.proofs.Tests.{both-true, no-both}
+use Rattle.laws.specs.Tables.{pick}
+use Rattle.laws.proofs.Refusals.{Answers, Decided, answers, by-not, none, rule, rules}
+use Rattle.laws.proofs.Tests.{both-true}
 use Rattle.bcn_format.specs.Block.{eights}
-use Rattle.bc7_format.specs.Modes.{modeOf, lines}
 use Rattle.bc7_format.specs.Splits.{isVector, splitOf, subset}
-use Rattle.line_rules.proofs.Accepting.{open-is}
+use Rattle.line_rules.proofs.Reading.{read-answers}
 use Rattle.nearest.specs.Nearest.{Hit, InLine, distance, exactRefusal, exactRules, inLine, indexCount, nearestRefusal, nearestRules, zeroAt}
-use Rattle.nearest.proofs.Least.{Zero, zero-at}
+use Rattle.nearest.proofs.Least.{zero-at}
 
 -- the test of a pixel says what its words say
 in-line-is : (s : Split) (l q : ℕ) → inLine s l q ≡ true → InLine s l q
 unfolding inLine
 in-line-is s l q e =
-    let (a, b) = both-true (ltb q 16) _ e in record { pixel = ltb-true q 16 a; own = λ f. eqb-true (subset s q) l (sym (ap (λ (v : Bool). pick v true (eqb (subset s q) l)) f) ∙ b) }
+    let (a, b) = both-true (ltb q 16) _ e in
+    let own : isVector s ≡ false → subset s q ≡ l =
+    λ f. eqb-true (subset s q) l (sym (ap (λ (v : Bool). pick v true (eqb (subset s q) l)) f) ∙ b) in
+    record { pixel = ltb-true q 16 a; own = own }
 
 in-line-so : (s : Split) (l q : ℕ) → InLine s l q → inLine s l q ≡ true
 unfolding inLine
@@ -42,7 +42,7 @@ by-in-line s l q = by-not tt (inLine s l q) (in-line-is s l q) (in-line-so s l q
 pub nearest-answers : (bs : List ℕ) → Fit eights bs → (l q : ℕ) → Answers (nearestRefusal bs l q) (nearestRules bs l q)
 unfolding nearestRefusal
 nearest-answers bs sixteen l q =
-    answers (rule (open-is bs sixteen) λ o. rule (by-not-ltb tt l (lines (modeOf bs))) λ h. rule (by-in-line (splitOf bs) l q) λ i. none)
+    answers (rules (read-answers bs sixteen l) λ m. rule (by-in-line (splitOf bs) l q) λ i. none)
 
 -- a zero below the count
 hit-is : (bs : List ℕ) (l q : ℕ) (wanted : List ℕ) → zeroAt (indexCount bs l) (distance bs l q wanted) < indexCount bs l → Hit bs l q wanted

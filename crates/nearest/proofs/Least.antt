@@ -1,15 +1,18 @@
 -- The lowest place of the least, and of zero.
 -- Assumes nothing.
-use mathlib.Core.Path.{_≡_, refl, sym, ap, _∙_, subst}
+use mathlib.Core.Path.{_≡_, refl, sym, subst}
 use mathlib.Core.Logic.{_≢_}
 use mathlib.Core.Bool.{Bool, true, false}
-use Prim.Native.Nat.{ℕ, zero, suc, _+_, _≤_, _<_}
+use Prim.Native.Nat.{ℕ, zero, suc, _≤_, _<_}
 use native.Mathlib.Omega.{arith}
 use native.Mathlib.Nat.{le-refl, lt-of-lt-of-le}
-use borrow.Author.Tests.{eq-eqb, eqb-true, eqb-false, lt-ltb, ltb-true, ltb-false, ne-eqb}
+use borrow.Author.Tests.{eqb-true, eqb-false, ltb-true, ltb-false}
 use lib.Dec.{eqb, ltb}
 use Rattle.laws.specs.Tables.{pick}
 use Rattle.nearest.specs.Nearest.{leastAt, zeroAt}
+
+none-below : {k : ℕ} → k < 0 → ⊥
+none-below h = omega arith
 
 -- i is the lowest of the numbers below n at which d is least
 pub record Least (n : ℕ) (d : ℕ → ℕ) (i : ℕ) : Type 0 where
@@ -27,24 +30,29 @@ by-last P n last rest k h = go (eqb k n) refl
 
 -- of one number it is 0
 pub least-one : (d : ℕ → ℕ) → Least 1 d 0
-least-one d = record { below = omega arith; least = by-last (λ k. d 0 ≤ d k) 0 (le-refl (d 0)) (λ k h. absurd (let z : ⊥ = omega arith in z)); lowest = λ k h. absurd (let z : ⊥ = omega arith in z) }
+least-one d = record {
+  below = omega arith;
+  least = by-last (λ k. d 0 ≤ d k) 0 (le-refl (d 0)) (λ k h. absurd (none-below h));
+  lowest = λ k h. absurd (none-below h);
+}
 
--- of one number more it is that where d is less there
-pub least-next : (n : ℕ) (d : ℕ → ℕ) (i : ℕ) → Least n d i → Least (suc n) d (pick (ltb (d n) (d i)) n i)
+-- of one number more it is that where d is less there, and else the same as before
+pub least-less : (n : ℕ) (d : ℕ → ℕ) (i : ℕ) → Least n d i → d n < d i → Least (suc n) d n
+least-less n d i h less = record {
+  below = omega arith;
+  least = by-last (λ k. d n ≤ d k) n (le-refl (d n)) (λ k hk. let z : d n ≤ d k = omega (arith, less, h .least k hk) in z);
+  lowest = λ k hk. lt-of-lt-of-le less (h .least k hk);
+}
+
+pub least-kept : (n : ℕ) (d : ℕ → ℕ) (i : ℕ) → Least n d i → d i ≤ d n → Least (suc n) d i
+least-kept n d i h more = record { below = omega (arith, h .below); least = by-last (λ k. d i ≤ d k) n more (h .least); lowest = h .lowest }
+
+least-next : (n : ℕ) (d : ℕ → ℕ) (i : ℕ) → Least n d i → Least (suc n) d (pick (ltb (d n) (d i)) n i)
 least-next n d i h = go (ltb (d n) (d i)) refl
   where
     go : (b : Bool) → ltb (d n) (d i) ≡ b → Least (suc n) d (pick b n i)
-    go true e =
-        let less : d n < d i = ltb-true (d n) (d i) e in record {
-          below = omega arith;
-          least = by-last (λ k. d n ≤ d k) n (le-refl (d n)) (λ k hk. let z : d n ≤ d k = omega (arith, less, h .least k hk) in z);
-          lowest = λ k hk. lt-of-lt-of-le less (h .least k hk);
-        }
-    go false e = record {
-      below = omega (arith, h .below);
-      least = by-last (λ k. d i ≤ d k) n (ltb-false (d n) (d i) e) (h .least);
-      lowest = h .lowest;
-    }
+    go true e = least-less n d i h (ltb-true (d n) (d i) e)
+    go false e = least-kept n d i h (ltb-false (d n) (d i) e)
 
 pub least-at : (n : ℕ) (d : ℕ → ℕ) → 0 < n → Least n d (leastAt n d)
 unfolding leastAt
@@ -73,11 +81,12 @@ pub record Zero (n : ℕ) (d : ℕ → ℕ) (i : ℕ) : Type 0 where
 
 pub zero-at : (n : ℕ) (d : ℕ → ℕ) → Zero n d (zeroAt n d)
 unfolding zeroAt
-zero-at zero d = record { within = omega arith; zero-there = λ h. absurd (let z : ⊥ = omega arith in z); none-before = λ k h. absurd (let z : ⊥ = omega arith in z) }
+zero-at zero d = record { within = omega arith; zero-there = λ h. absurd (none-below h); none-before = λ k h. absurd (none-below h) }
 zero-at (suc n) d = go (eqb (d 0) 0) refl (zero-at n (λ i. d (suc i)))
   where
-    go : (b : Bool) → eqb (d 0) 0 ≡ b → Zero n (λ i. d (suc i)) (zeroAt n (λ i. d (suc i))) → Zero (suc n) d (pick b 0 (suc (zeroAt n (λ i. d (suc i)))))
-    go true e rest = record { within = omega arith; zero-there = λ h. eqb-true (d 0) 0 e; none-before = λ k h. absurd (let z : ⊥ = omega arith in z) }
+    go : (b : Bool) → eqb (d 0) 0 ≡ b → Zero n (λ i. d (suc i)) (zeroAt n (λ i. d (suc i)))
+        → Zero (suc n) d (pick b 0 (suc (zeroAt n (λ i. d (suc i)))))
+    go true e rest = record { within = omega arith; zero-there = λ h. eqb-true (d 0) 0 e; none-before = λ k h. absurd (none-below h) }
     go false e rest = record {
       within = omega (arith, rest .within);
       zero-there = λ h. rest .zero-there (omega arith);

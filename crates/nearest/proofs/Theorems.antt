@@ -4,11 +4,11 @@ use mathlib.Core.Path.{_≡_, refl, sym, ap, ap₂, _∙_}
 use mathlib.Core.Logic.{_↔_}
 use mathlib.Core.Bool.{Bool, true, false}
 use mathlib.Core.List.{List}
-use Prim.Native.Nat.{ℕ, zero, suc, _+_, _-_, _*_, _^_, _≤_, _<_}
+use Prim.Native.Nat.{ℕ, zero, suc, _+_, _-_, _*_, _≤_, _<_}
 use native.Mathlib.Nat.{mul-suc}
 use native.Mathlib.Omega.{arith}
 use borrow.Author.Tests.{eq-eqb}
-use lib.Dec.{eqb, lit<}
+use lib.Dec.{lit<}
 use lib.ListN.{getD}
 use lib.Pow.{pow-pos}
 use Rattle.nearest.specs.declared.Found.{Found}
@@ -25,15 +25,17 @@ use Rattle.line_rules.specs.Replace.{after, callOf, refusal}
 use Rattle.nearest.specs.Nearest.{FindsExact, FindsNearest, Hit, channelDistance, correction, distance, drawnWith, exactIndex, exactRefusal, exactRules, indexCount, leastAt, nearestIndex, nearestRefusal, nearestRules, squared, zeroAt}
 use Rattle.nearest.proofs.Correcting.{correction-accepted, correction-draws, stored-below, stored-draws}
 use Rattle.nearest.proofs.Finding.{exact-answers, nearest-answers}
-use Rattle.nearest.proofs.Least.{Least, least-at, zero-at, zero-is-least}
+use Rattle.nearest.proofs.Least.{Least, least-at, zero-is-least}
 
 -- each refusal number is given exactly when its rule is the first that fails
-pub nearest-refused-when : (bs : List ℕ) → Fit eights bs → (l q : ℕ) (wanted : List ℕ) (n : ℕ) → (nearestIndex bs l q wanted .refusal ≡ n) ↔ Given (nearestRules bs l q) n
+pub nearest-refused-when : (bs : List ℕ) → Fit eights bs → (l q : ℕ) (wanted : List ℕ) (n : ℕ)
+    → (nearestIndex bs l q wanted .refusal ≡ n) ↔ Given (nearestRules bs l q) n
 unfolding nearestIndex
 nearest-refused-when bs h l q wanted = exactly (nearest-answers bs h l q)
 
 -- 14 where no index has distance 0
-pub exact-refused-when : (bs : List ℕ) → Fit eights bs → (l q : ℕ) (wanted : List ℕ) (n : ℕ) → (exactIndex bs l q wanted .refusal ≡ n) ↔ Given (exactRules bs l q wanted) n
+pub exact-refused-when : (bs : List ℕ) → Fit eights bs → (l q : ℕ) (wanted : List ℕ) (n : ℕ)
+    → (exactIndex bs l q wanted .refusal ≡ n) ↔ Given (exactRules bs l q wanted) n
 unfolding exactIndex
 exact-refused-when bs h l q wanted = exactly (exact-answers bs h l q wanted)
 
@@ -98,7 +100,8 @@ module _ (bs : List ℕ) (l q : ℕ) (wanted : List ℕ) where
 -- colour whose distance was measured
 pub record Draws (bs : List ℕ) (l q i : ℕ) : Type 0 where
   pub accepted : refusal bs (callOf l (correction bs l q i)) ≡ 0
-  pub shown : (c : ℕ) → c < 4 → draws (modeOf bs) (splitOf bs) l q c ≡ true → pixel (after bs (callOf l (correction bs l q i))) q c ≡ drawnWith bs l q i c
+  pub shown : (c : ℕ) → c < 4 → draws (modeOf bs) (splitOf bs) l q c ≡ true
+      → pixel (after bs (callOf l (correction bs l q i))) q c ≡ drawnWith bs l q i c
 
 pub measured-is-drawn : (bs : List ℕ) → Fit eights bs → (l q : ℕ) → nearestRefusal bs l q ≡ 0 → (i : ℕ) → i < indexCount bs l → Draws bs l q i
 measured-is-drawn bs h l q ok i b = record { accepted = correction-accepted bs h l q ok i b; shown = correction-draws bs h l q ok i b }
@@ -138,9 +141,10 @@ pub hit-is-shown : (bs : List ℕ) → Fit eights bs → (l q : ℕ) (wanted : L
 unfolding channelDistance nearestIndex
 hit-is-shown bs h l q wanted ok c hc dr =
     let (below, zero-there, before) = exact-hits bs l q wanted ok h in
-    let e : channelDistance bs l q wanted (exactIndex bs l q wanted .index) c ≡ 0 = channel bs l q wanted (exactIndex bs l q wanted .index) zero-there c hc in
-    measured-is-drawn bs h l q (exact-is-nearest bs l q wanted ok h .0) (exactIndex bs l q wanted .index) below .shown c hc dr
-    ∙ squared-0 _ _ (sym (ap (λ (b : Bool). pick b (squared (drawnWith bs l q (exactIndex bs l q wanted .index) c) (getD wanted c 0)) 0) dr) ∙ e)
+    let i = exactIndex bs l q wanted .index in
+    let e : channelDistance bs l q wanted i c ≡ 0 = channel bs l q wanted i zero-there c hc in
+    measured-is-drawn bs h l q (exact-is-nearest bs l q wanted ok h .0) i below .shown c hc dr
+    ∙ squared-0 _ _ (sym (ap (λ (b : Bool). pick b (squared (drawnWith bs l q i c) (getD wanted c 0)) 0) dr) ∙ e)
 
 -- a colour that the line shows at the pixel is hit
 pub shown-is-hit : (bs : List ℕ) → Fit eights bs → (l q : ℕ) (wanted : List ℕ) → nearestIndex bs l q wanted .refusal ≡ 0
@@ -169,8 +173,10 @@ shown-is-hit bs h l q wanted ok same =
     }
 
 -- DEMAND 1: any two answers that the promises of the calls admit coincide
-pub determined-nearest : (bs : List ℕ) (l q : ℕ) (wanted : List ℕ) (a b : Found) → FindsNearest bs l q wanted a → FindsNearest bs l q wanted b → a ≡ b
+pub determined-nearest : (bs : List ℕ) (l q : ℕ) (wanted : List ℕ) (a b : Found)
+    → FindsNearest bs l q wanted a → FindsNearest bs l q wanted b → a ≡ b
 determined-nearest bs l q wanted a b ea eb = ea ∙ sym eb
 
-pub determined-exact : (bs : List ℕ) (l q : ℕ) (wanted : List ℕ) (a b : Found) → FindsExact bs l q wanted a → FindsExact bs l q wanted b → a ≡ b
+pub determined-exact : (bs : List ℕ) (l q : ℕ) (wanted : List ℕ) (a b : Found)
+    → FindsExact bs l q wanted a → FindsExact bs l q wanted b → a ≡ b
 determined-exact bs l q wanted a b ea eb = ea ∙ sym eb

@@ -1,7 +1,6 @@
 -- Which index of a line is nearest to a wanted colour at a pixel, and which hits it.
 -- Assumes nothing.
 use mathlib.Core.Path.{_≡_}
-use mathlib.Core.Logic.{_≢_}
 use mathlib.Core.Bool.{Bool, true, false, not}
 use mathlib.Core.List.{List, [], _∷_, _++_}
 use Prim.Native.Nat.{ℕ, zero, suc, _+_, _-_, _*_, _^_, _<_}
@@ -12,11 +11,11 @@ use Rattle.line_rules.specs.declared.Replacement.{Replacement}
 use Rattle.bc7_format.specs.declared.Split.{Split}
 use Rattle.laws.specs.Refusals.{Rule, first, refuse, unless}
 use Rattle.laws.specs.Tables.{both, pick}
-use Rattle.bc7_format.specs.Modes.{modeOf, lines}
+use Rattle.bc7_format.specs.Modes.{modeOf}
 use Rattle.bc7_format.specs.Splits.{isVector, splitOf, subset}
 use Rattle.bc7_format.specs.Places.{opened}
 use Rattle.bc7_format.specs.Lines.{Line, draws, lineBits, lineOf, meant}
-use Rattle.line_rules.specs.Read.{lineRead}
+use Rattle.line_rules.specs.Read.{lineRead, readRefusal, readRules}
 
 -- a line with the index i at every pixel
 unfoldable pub withIndex : ℕ → Line → Line
@@ -58,10 +57,10 @@ zeroAt (suc n) d = pick (eqb (d 0) 0) 0 (suc (zeroAt n (λ i. d (suc i))))
 unfoldable pub inLine : Split → ℕ → ℕ → Bool
 inLine s l q = both (ltb q 16) (pick (isVector s) true (eqb (subset s q) l))
 
--- the refusals of the nearest index, and of the one that hits (0: accepted)
+-- the refusals of the nearest index, and of the one that hits (0: accepted): those of reading the line, 1 and 2, then 13, then 14
 unfoldable pub nearestRefusal : List ℕ → ℕ → ℕ → ℕ
 nearestRefusal bs l q =
-    first (refuse 1 (eqb (modeOf bs) 8) ∷ refuse 2 (not (ltb l (lines (modeOf bs)))) ∷ refuse 13 (not (inLine (splitOf bs) l q)) ∷ [])
+    first (readRefusal bs l ∷ refuse 13 (not (inLine (splitOf bs) l q)) ∷ [])
 
 unfoldable pub exactRefusal : List ℕ → ℕ → ℕ → List ℕ → ℕ
 exactRefusal bs l q wanted =
@@ -95,7 +94,7 @@ pub record Hit (bs : List ℕ) (l q : ℕ) (wanted : List ℕ) : Type 0 where
   pub hits : distance bs l q wanted index ≡ 0
 
 abbrev pub nearestRules : List ℕ → ℕ → ℕ → List Rule
-nearestRules bs l q = unless 1 (getD bs 0 0 ≢ 0) ∷ unless 2 (l < lines (modeOf bs)) ∷ unless 13 (InLine (splitOf bs) l q) ∷ []
+nearestRules bs l q = readRules bs l ++ (unless 13 (InLine (splitOf bs) l q) ∷ [])
 
 abbrev pub exactRules : List ℕ → ℕ → ℕ → List ℕ → List Rule
 exactRules bs l q wanted = nearestRules bs l q ++ (unless 14 (Hit bs l q wanted) ∷ [])
