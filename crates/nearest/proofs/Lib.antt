@@ -8,3 +8,4 @@ pub mod Measuring
 pub mod Trying
 pub mod Answering
 pub mod Theorems
+pub mod Attested
