@@ -4,7 +4,7 @@ use mathlib.Core.Path.{_≡_, refl, sym, ap, _∙_}
 use mathlib.Core.Logic.{_≢_}
 use mathlib.Core.Bool.{Bool, true, false}
 use mathlib.Core.List.{List}
-use Prim.Native.Nat.{ℕ, _+_, _*_, _^_, _<_}
+use Prim.Native.Nat.{ℕ, _^_, _<_}
 use borrow.Author.Tests.{eq-eqb, eqb-true, eqb-false}
 use lib.Dec.{eqb, lit<}
 use lib.ListN.{getD, length}
@@ -13,10 +13,11 @@ use Rattle.line_rules.specs.declared.Replacement.{Replacement}
 use Rattle.bc7_format.specs.declared.Split.{Split}
 use Rattle.laws.specs.Digits.{Fit}
 use Rattle.laws.specs.Tables.{pick}
+use Rattle.laws.proofs.First.{first-zero}
 use Rattle.laws.proofs.Part.{length-table}
 use Rattle.laws.proofs.Refusals.{accepted-when as met-when}
 use Rattle.bcn_format.specs.Block.{eights}
-use Rattle.bc7_format.specs.Modes.{modeOf, lines}
+use Rattle.bc7_format.specs.Modes.{modeOf}
 use Rattle.bc7_format.specs.Splits.{isVector, rotation, splitOf, subset}
 use Rattle.bc7_format.specs.Places.{opened}
 use Rattle.bc7_format.specs.Lines.{Line, draws, indexPlace, lineBits, lineOf, meant, pixel, rotated}
@@ -25,11 +26,11 @@ use Rattle.bc7_format.proofs.Meaning.{good-rotation, means-ext, rotated-lt}
 use Rattle.line_rules.specs.Acceptable.{Acceptable}
 use Rattle.line_rules.specs.Read.{givenAs, lineRead, readRefusal}
 use Rattle.line_rules.specs.Replace.{after, callOf, lineGiven, ownWidth, refusal}
-use Rattle.line_rules.proofs.Reading.{given-line, read-answers, read-drawn}
+use Rattle.line_rules.proofs.Reading.{given-line, read-drawn}
 use Rattle.line_rules.proofs.Theorems.{accepted-draws, accepted-when, the-widths}
 use Rattle.nearest.specs.Nearest.{InLine, correction, drawnWith, indexCount, nearestRefusal, withIndex}
 use Rattle.nearest.proofs.Finding.{nearest-answers}
-use Rattle.nearest.proofs.Standing.{stands-as, stands-fits, well-formed}
+use Rattle.nearest.proofs.Standing.{first-byte, line-there, p-is, stands-as, stands-fits, value-is, well-formed}
 
 module _ (bs : List ℕ) (sixteen : Fit eights bs) (l q : ℕ) (ok : nearestRefusal bs l q ≡ 0) where
   abbrev m : ℕ
@@ -41,18 +42,13 @@ module _ (bs : List ℕ) (sixteen : Fit eights bs) (l q : ℕ) (ok : nearestRefu
   abbrev stored : Line
   stored = lineOf m s l (opened bs)
 
-  first-byte : getD bs 0 0 ≢ 0
-  first-byte = met-when (nearest-answers bs sixteen l q) .0 ok .0
-
-  line-there : l < lines m
-  line-there = met-when (nearest-answers bs sixteen l q) .0 ok .1 .0
+  -- the line can be read, and has the pixel
+  pub readable : readRefusal bs l ≡ 0
+  unfolding nearestRefusal
+  readable = first-zero (readRefusal bs l) _ ok .0
 
   pub in-line : InLine s l q
   in-line = met-when (nearest-answers bs sixteen l q) .0 ok .1 .1 .0
-
-  -- so the line can be read
-  pub readable : readRefusal bs l ≡ 0
-  readable = met-when (read-answers bs sixteen l) .1 (first-byte, (line-there, tt))
 
   read-line-is : lineRead bs l .line ≡ givenAs stored
   read-line-is = stands-as bs sixteen l readable
@@ -65,7 +61,9 @@ module _ (bs : List ℕ) (sixteen : Fit eights bs) (l q : ℕ) (ok : nearestRefu
 
   -- the width of the index at the pixel is the line's
   own-width : ownWidth m s l (indexPlace s l q) ≡ lineBits m s l
-  own-width = the-widths bs sixteen first-byte l line-there .index q (in-line .pixel) ∙ go (isVector s) refl
+  own-width =
+      the-widths bs sixteen (first-byte bs sixteen l readable) l (line-there bs sixteen l readable) .index q (in-line .pixel)
+      ∙ go (isVector s) refl
     where
       go : (b : Bool) → isVector s ≡ b → pick b (lineBits m s l) (pick (eqb (subset s q) l) (lineBits m s l) 0) ≡ lineBits m s l
       go true e = refl
@@ -78,11 +76,11 @@ module _ (bs : List ℕ) (sixteen : Fit eights bs) (l q : ℕ) (ok : nearestRefu
     -- what is given: the stored endpoints and p bits, index i at the pixel, and the stored indexes elsewhere
     given-value : (k c : ℕ) → k < 2 → c < 4 → given .value k c ≡ stored .value k c
     unfolding correction lineGiven
-    given-value k c hk hc = ap (λ (r : Replacement). getD (r .endpoints) (4 * k + c) 0) read-line-is ∙ given-line stored .value k c hk hc
+    given-value = value-is bs sixteen l readable
 
     given-p : (k : ℕ) → k < 2 → given .p k ≡ stored .p k
     unfolding correction lineGiven
-    given-p k hk = ap (λ (r : Replacement). getD (r .p) k 0) read-line-is ∙ given-line stored .p k hk
+    given-p = p-is bs sixteen l readable
 
     read-long : length (lineRead bs l .line .indexes) ≡ 16
     unfolding givenAs
@@ -100,7 +98,7 @@ module _ (bs : List ℕ) (sixteen : Fit eights bs) (l q : ℕ) (ok : nearestRefu
     given-acceptable : Acceptable m s l given
     unfolding indexCount
     given-acceptable = record {
-      line = line-there;
+      line = line-there bs sixteen l readable;
       within = record {
         value = λ k c hk hc. rw (given-value k c hk hc, ← (given-line stored .value k c hk hc)) (read-fits .within .value k c hk hc);
         p = λ k hk. rw (given-p k hk, ← (given-line stored .p k hk)) (read-fits .within .p k hk);
@@ -119,7 +117,7 @@ module _ (bs : List ℕ) (sixteen : Fit eights bs) (l q : ℕ) (ok : nearestRefu
 
     -- THE CORRECTION IS ACCEPTED, turned or not
     pub correction-accepted : refusal bs (callOf l (correction bs l q i)) ≡ 0
-    correction-accepted = accepted-when bs sixteen (callOf l (correction bs l q i)) .1 (first-byte, given-acceptable)
+    correction-accepted = accepted-when bs sixteen (callOf l (correction bs l q i)) .1 (first-byte bs sixteen l readable, given-acceptable)
 
     -- and the pixel shows what was measured
     pub correction-draws : (c : ℕ) → c < 4 → draws m s l q c ≡ true
@@ -139,11 +137,10 @@ module _ (bs : List ℕ) (sixteen : Fit eights bs) (l q : ℕ) (ok : nearestRefu
   stored-below = rw (← own-width, ← (given-line stored .index q (in-line .pixel))) (read-fits .within .index q (in-line .pixel))
 
   pub stored-draws : (c : ℕ) → c < 4 → draws m s l q c ≡ true → drawnWith bs l q stored-index c ≡ pixel bs q c
-  unfolding drawnWith withIndex meant
+  unfolding drawnWith withIndex meant lineGiven
   stored-draws c hc d =
       means-ext m s l (withIndex (stored .index q) stored) (lineGiven (lineRead bs l .line)) q (rotated (rotation s) c)
-      (λ k hk. sym (ap (λ (r : Replacement). lineGiven r .value k (rotated (rotation s) c)) read-line-is
-      ∙ given-line stored .value k _ hk (rotated-lt (rotation s) c (good-rotation good) hc)))
-      (λ n k hk. sym (ap (λ (r : Replacement). lineGiven r .p k) read-line-is ∙ given-line stored .p k hk))
+      (λ k hk. sym (value-is bs sixteen l readable k _ hk (rotated-lt (rotation s) c (good-rotation good) hc)))
+      (λ n k hk. sym (p-is bs sixteen l readable k hk))
       (sym (ap (λ (r : Replacement). lineGiven r .index q) read-line-is ∙ given-line stored .index q (in-line .pixel)))
       ∙ read-drawn bs sixteen l readable q c (in-line .pixel) hc d

@@ -55,10 +55,10 @@ module _ (bs : List ℕ) (sixteen : Fit eights bs) (l : ℕ) (readable : readRef
   abbrev stored : Line
   stored = lineOf m s l (opened bs)
 
-  first-byte : getD bs 0 0 ≢ 0
+  pub first-byte : getD bs 0 0 ≢ 0
   first-byte = met-when (read-answers bs sixteen l) .0 readable .0
 
-  line-there : l < lines m
+  pub line-there : l < lines m
   line-there = met-when (read-answers bs sixteen l) .0 readable .1 .0
 
   pub well-formed : WellFormed m s (opened bs)

@@ -39,6 +39,22 @@ pub exact-refused-when : (bs : List ℕ) → Fit eights bs → (l q : ℕ) (want
 unfolding exactIndex
 exact-refused-when bs h l q wanted = exactly (exact-answers bs h l q wanted)
 
+-- so it is accepted exactly where the nearest index is and some index has distance 0
+pub exact-when : (bs : List ℕ) → Fit eights bs → (l q : ℕ) (wanted : List ℕ)
+    → (exactIndex bs l q wanted .refusal ≡ 0) ↔ ((nearestIndex bs l q wanted .refusal ≡ 0) × Hit bs l q wanted)
+unfolding exactIndex nearestIndex
+exact-when bs h l q wanted = (there, back)
+  where
+    there : exactRefusal bs l q wanted ≡ 0 → (nearestRefusal bs l q ≡ 0) × Hit bs l q wanted
+    there ok =
+        let m = accepted-when (exact-answers bs h l q wanted) .0 ok in
+        (accepted-when (nearest-answers bs h l q) .1 (m .0, (m .1 .0, (m .1 .1 .0, tt))), m .1 .1 .1 .0)
+
+    back : (nearestRefusal bs l q ≡ 0) × Hit bs l q wanted → exactRefusal bs l q wanted ≡ 0
+    back (ok, hit) =
+        let m = accepted-when (nearest-answers bs h l q) .0 ok in
+        accepted-when (exact-answers bs h l q wanted) .1 (m .0, (m .1 .0, (m .1 .1 .0, (hit, tt))))
+
 module _ (bs : List ℕ) (l q : ℕ) (wanted : List ℕ) where
   abbrev d : ℕ → ℕ
   d = distance bs l q wanted
@@ -75,10 +91,7 @@ module _ (bs : List ℕ) (l q : ℕ) (wanted : List ℕ) where
     exact-is = ap (λ (b : Bool). pick b (zeroAt (indexCount bs l) d) 0) (eq-eqb (exactRefusal bs l q wanted) 0 ok)
 
     accepted : (nearestIndex bs l q wanted .refusal ≡ 0) × Hit bs l q wanted
-    unfolding exactIndex nearestIndex
-    accepted =
-        let m = accepted-when (exact-answers bs sixteen l q wanted) .0 ok in
-        (accepted-when (nearest-answers bs sixteen l q) .1 (m .0, (m .1 .0, (m .1 .1 .0, tt))), m .1 .1 .1 .0)
+    accepted = exact-when bs sixteen l q wanted .0 ok
 
     pub exact-is-nearest : (nearestIndex bs l q wanted .refusal ≡ 0) × (exact ≡ near)
     exact-is-nearest =
@@ -151,9 +164,7 @@ pub shown-is-hit : (bs : List ℕ) → Fit eights bs → (l q : ℕ) (wanted : L
     → ((c : ℕ) → c < 4 → draws (modeOf bs) (splitOf bs) l q c ≡ true → getD wanted c 0 ≡ pixel bs q c)
     → exactIndex bs l q wanted .refusal ≡ 0
 unfolding nearestIndex exactIndex distance channelDistance
-shown-is-hit bs h l q wanted ok same =
-    let m = accepted-when (nearest-answers bs h l q) .0 ok in
-    accepted-when (exact-answers bs h l q wanted) .1 (m .0, (m .1 .0, (m .1 .1 .0, (hit, tt))))
+shown-is-hit bs h l q wanted ok same = exact-when bs h l q wanted .1 (ok, hit)
   where
     i : ℕ
     i = lineOf (modeOf bs) (splitOf bs) l (opened bs) .index q
