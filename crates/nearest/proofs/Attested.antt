@@ -111,10 +111,10 @@ claims =
     refuses rotated5 1 4294967295 13 ∷
     []
 
-pub nearest-found : map (λ c. nearestIndex (c .block) (c .line) (c .pixel) (c .wanted)) claims ≡ map (λ c. c .nearest) claims
+pub nearest-as-claimed : map (λ c. nearestIndex (c .block) (c .line) (c .pixel) (c .wanted)) claims ≡ map (λ c. c .nearest) claims
 unfolding first table tableFrom digits marks strings2 strings3 subset2 subset3 anchors2 anchors3 modeRow kindOfMode endpointCount placeAt pos width widths trailing number modeOf splitAt splitOf atPlace opened has valuePlace pPlace arrayOf indexPlace own lineOf lineBits means meant rotated lineAt draws eight promoted drawn weightOf weights readRefusal nearestIndex nearestRefusal inLine indexCount leastAt distance channelDistance drawnWith withIndex squared
-nearest-found = refl
+nearest-as-claimed = refl
 
-pub exact-found : map (λ c. exactIndex (c .block) (c .line) (c .pixel) (c .wanted)) claims ≡ map (λ c. c .exact) claims
+pub exact-as-claimed : map (λ c. exactIndex (c .block) (c .line) (c .pixel) (c .wanted)) claims ≡ map (λ c. c .exact) claims
 unfolding first table tableFrom digits marks strings2 strings3 subset2 subset3 anchors2 anchors3 modeRow kindOfMode endpointCount placeAt pos width widths trailing number modeOf splitAt splitOf atPlace opened has valuePlace pPlace arrayOf indexPlace own lineOf lineBits means meant rotated lineAt draws eight promoted drawn weightOf weights readRefusal exactIndex exactRefusal nearestRefusal inLine indexCount zeroAt distance channelDistance drawnWith withIndex squared
-exact-found = refl
+exact-as-claimed = refl
