@@ -44,7 +44,7 @@ pub record IsRow (mode : ℕ) (row : ModeRow) : Type 0 where
 pub record OfBlock (bs : List ℕ) (mode : ℕ) (row : ModeRow) : Type 0 where
   pub mode-is : mode ≡ modeOf bs
   pub low : mode < 8
-  pub row-is : row ≡ modeRowOf mode
+  pub mode-row-is : row ≡ modeRowOf mode
 
 -- the row of a mode, and a stream that stands within its block
 pub record RowAt (row : ModeRow) (s : BitStream) : Type 0 where

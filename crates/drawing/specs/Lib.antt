@@ -1,4 +1,4 @@
--- The definitions that the contracts cite, beside those of `format`.
+-- The definitions that the contracts cite, beside those of `bcn_format`.
 pub mod Words
 pub mod Keys
 pub mod Colours

@@ -16,9 +16,8 @@ pub fn load(s: &[u8], at: usize) -> [u8; 16]
     ensures { λ r. ⌜ r ≡ blockAt (now (s .entry)) at ⌝ }
 {
     let mut block = [0u8; 16];
-    for i in 0..16usize {
-        block[i] = s[at + i];
-    }
+    let end = at + 16;
+    bytes::copy(&s[at..end], &mut block);
     block
 }
 

@@ -24,7 +24,7 @@ read-record-requires c κs =
     record {
       mode-is = c .before .before .mode-of .ensures;
       low = mode-low _ (c .before .before .mode-of .ensures) (c .before .if1 .left);
-      row-is = c .mode-row .ensures;
+      mode-row-is = c .mode-row .ensures;
     }
 
 returns-2 : tie.Need-returns-2

@@ -1,22 +1,23 @@
--- A block's bytes, read and stored one by one.
+-- A block's bytes, copied and stored.
 -- Assumes nothing.
-use mathlib.Core.Path.{_≡_, _∙_, ap, sym}
-use mathlib.Core.List.{List}
-use Prim.Native.Nat.{ℕ, _+_, _<_, _≤_}
+use mathlib.Core.Path.{_≡_, ap}
+use mathlib.Core.List.{List, _++_, append-nil}
+use Prim.Native.Nat.{ℕ, _+_, _-_, _≤_}
 use native.Mathlib.Omega.{arith}
-use lib.ListN.{length, getD, drop, length-take, length-drop}
-use lib.Seq.{getD-take, getD-drop, ext-getD}
-use Rattle.laws.specs.Tables.{over, table}
-use Rattle.laws.proofs.Part.{getD-table, length-table}
+use lib.ListN.{length, getD, take, drop, drop-of-length-le, length-drop}
+use lib.Seq.{length-take-le, take-all}
+use Rattle.laws.specs.Tables.{over}
 use Rattle.sheet_rules.specs.Rows.{blockAt}
 use Rattle.sheet_rules.specs.Sheets.{putBlock}
 
-pub block-table : (s : List ℕ) (at : ℕ) → at + 16 ≤ length s → table 16 (λ j. getD s (at + j) 0) ≡ blockAt s at
+-- sixteen bytes from a place on, copied over as many
+pub loaded : (s zeros : List ℕ) (at : ℕ) → at + 16 ≤ length s → length zeros ≡ 16
+    → let part = take (at + 16 - at) (drop at s) in take (length part) part ++ drop (length part) zeros ≡ blockAt s at
 unfolding blockAt
-block-table s at h =
-    ext-getD 0 _ _ (length-table 16 _ ∙ sym (simp (length-take, length-drop) (omega arith)))
-    (λ i l. let l' : i < 16 = omega (arith, length-table 16 (λ j. getD s (at + j) 0)) in
-    getD-table 16 _ 0 i l' ∙ sym (getD-take 16 (drop at s) i 0 l' ∙ getD-drop at s i 0))
+loaded s zeros at h z =
+    let e : at + 16 - at ≡ 16 = omega arith in
+    let long : length (take 16 (drop at s)) ≡ 16 = length-take-le 16 (drop at s) (omega (arith, length-drop at s)) in
+    rw (e, long, drop-of-length-le zeros {i = 16} (omega arith), take-all 16 (take 16 (drop at s)) (omega arith)) (append-nil (take 16 (drop at s)))
 
 pub stored : (s : List ℕ) (at : ℕ) (block : List ℕ) {i : ℕ} → i ≡ 16 → over s at i (λ j. getD block j 0) ≡ putBlock s at block
 unfolding putBlock

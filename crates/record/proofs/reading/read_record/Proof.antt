@@ -29,7 +29,7 @@ sixteen : (s : tie.Start) → Fit eights (s .args .block)
 sixteen s = sixteen-bytes _ (size s) (λ i l. byte s i .fits)
 
 of-mode : (s : tie.Start) → OfMode (s .args .row)
-of-mode s = record { mode = _; low = s .pre .low; is = s .pre .row-is }
+of-mode s = record { mode = _; low = s .pre .low; is = s .pre .mode-row-is }
 
 behind : (c : tie.After-skip) → On (number (c .before .before .args .block)) (c .before .before .args .mode + 1) (c .skip .result)
 behind c = marker-on _ (c .before .new .ensures .of) (c .before .new .ensures .stands) (c .skip .ensures)
@@ -38,7 +38,7 @@ split-of : (c : tie.After-read-split)
     → c .read-split .result .split ≡ splitAt (c .before .before .before .args .mode) (number (c .before .before .before .args .block))
 split-of c =
     let s = c .before .before .before in
-    the-split _ (sixteen s) (s .pre .mode-is) (s .pre .low) (s .pre .row-is) (behind (c .before)) (c .read-split .ensures)
+    the-split _ (sixteen s) (s .pre .mode-is) (s .pre .low) (s .pre .mode-row-is) (behind (c .before)) (c .read-split .ensures)
 
 new-requires : tie.Need-new-requires
 new-requires c κs = search needs
@@ -61,7 +61,7 @@ read-endpoints-requires c κs =
     let s = c .before .before .before in
     record {
       of-mode = of-mode s;
-      within = values-room _ (sixteen s) (s .pre .mode-is) (s .pre .low) (s .pre .row-is) (behind (c .before)) (c .read-split .ensures);
+      within = values-room _ (sixteen s) (s .pre .mode-is) (s .pre .low) (s .pre .mode-row-is) (behind (c .before)) (c .read-split .ensures);
     }
 
 read-p-requires : tie.Need-read-p-requires
@@ -69,14 +69,14 @@ read-p-requires c κs =
     let s = c .before .before .before .before .before in
     record {
       of-mode = of-mode s;
-      within = p-room _ (sixteen s) (s .pre .mode-is) (s .pre .low) (s .pre .row-is) (behind (c .before .before .before))
+      within = p-room _ (sixteen s) (s .pre .mode-is) (s .pre .low) (s .pre .mode-row-is) (behind (c .before .before .before))
           (c .before .before .read-split .ensures) (c .before .read-endpoints .ensures);
     }
 
 anchors-of-requires : tie.Need-anchors-of-requires
 anchors-of-requires c κs =
     let s = c .before .before .before .before .before .before .before in
-    partition-64 _ (sixteen s) (s .pre .mode-is) (s .pre .low) (s .pre .row-is) (split-of (c .before .before .before .before))
+    partition-64 _ (sixteen s) (s .pre .mode-is) (s .pre .low) (s .pre .mode-row-is) (split-of (c .before .before .before .before))
 
 read-indexes-requires : tie.Need-read-indexes-requires
 read-indexes-requires c κs =
@@ -86,9 +86,9 @@ read-indexes-requires c κs =
       least = omega (arith, b .least);
       most = b .most;
       rising =
-          rise _ (sixteen s) (s .pre .mode-is) (s .pre .low) (s .pre .row-is) (split-of (c .before .before .before .before .before))
+          rise _ (sixteen s) (s .pre .mode-is) (s .pre .low) (s .pre .mode-row-is) (split-of (c .before .before .before .before .before))
           (c .anchors-of .ensures);
-      within = first-room _ (sixteen s) (s .pre .mode-is) (s .pre .low) (s .pre .row-is) (behind (c .before .before .before .before .before .before))
+      within = first-room _ (sixteen s) (s .pre .mode-is) (s .pre .low) (s .pre .mode-row-is) (behind (c .before .before .before .before .before .before))
           (c .before .before .before .before .before .read-split .ensures) (c .before .before .before .before .read-endpoints .ensures)
           (c .before .before .read-p .ensures);
     }
@@ -102,10 +102,10 @@ read-second-requires c κs =
     record {
       of-mode = of-mode s;
       rising =
-          rise _ (sixteen s) (s .pre .mode-is) (s .pre .low) (s .pre .row-is)
+          rise _ (sixteen s) (s .pre .mode-is) (s .pre .low) (s .pre .mode-row-is)
           (split-of (c .before .before .before .before .before .before .before .before))
           (c .before .before .before .anchors-of .ensures);
-      within = second-room _ (sixteen s) (s .pre .mode-is) (s .pre .low) (s .pre .row-is)
+      within = second-room _ (sixteen s) (s .pre .mode-is) (s .pre .low) (s .pre .mode-row-is)
           (behind (c .before .before .before .before .before .before .before .before .before))
           (c .before .before .before .before .before .before .before .before .read-split .ensures)
           (c .before .before .before .before .before .before .before .read-endpoints .ensures)
@@ -115,7 +115,7 @@ read-second-requires c κs =
 returns : tie.Need-returns
 returns c =
     let s = c .before .before .before .before .before .before .before .before .before .before .before .before in
-    record-read _ (sixteen s) (s .pre .mode-is) (s .pre .low) (s .pre .row-is)
+    record-read _ (sixteen s) (s .pre .mode-is) (s .pre .low) (s .pre .mode-row-is)
     (behind (c .before .before .before .before .before .before .before .before .before .before))
     (c .before .before .before .before .before .before .before .before .before .read-split .ensures)
     (c .before .before .before .before .before .before .before .before .read-endpoints .ensures)

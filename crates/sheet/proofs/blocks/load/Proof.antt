@@ -1,56 +1,40 @@
 -- `blocks::load` meets its contract.
 -- Assumes nothing.
-use mathlib.Core.Path.{refl, _∙_}
-use Prim.Native.Nat.{_+_, _-_, _≤_}
-use native.Mathlib.Omega.{arith}
-use lib.ListN.{getD}
+use mathlib.Core.Path.{refl}
+use Rattle.sheet.proofs.blocks.Blocks.{loaded}
 use borrow.Author.Needs.{needs}
-use Rattle.laws.proofs.Filled.{Filled, filled-all, filled-next, filled-none}
-use Rattle.sheet.proofs.blocks.Blocks.{block-table}
 use Rattle.sheet.proofs.blocks.load.Statement.{statement}
 use Rattle.sheet.proofs.blocks.load.Tie as tie
 
-abbrev Inv-loop : tie.InvT-loop
-Inv-loop s at block₀ i₀ block i = (i ≤ 16) × Filled 16 0 (λ j. getD s (at + j) 0) i block
+add-end : tie.Need-add-end
+add-end c = search needs
 
-abbrev μ-loop : tie.MeasureT-loop
-μ-loop s at block₀ i₀ block i = 16 - i
+sub-copy : tie.Need-sub-copy
+sub-copy c = search needs
 
-loop-holds : tie.Need-loop-holds Inv-loop μ-loop
-loop-holds c = (search needs, filled-none refl)
+part-copy-start : tie.Need-part-copy-start
+part-copy-start c = search needs
 
-add-block : tie.Need-add-block Inv-loop μ-loop
-add-block c = omega arith
+part-copy-end : tie.Need-part-copy-end
+part-copy-end c = search needs
 
-shared-slice-read-block : tie.Need-shared-slice-read-block Inv-loop μ-loop
-shared-slice-read-block c = omega arith
+slice-aggregate-copy : tie.Need-slice-aggregate-copy
+slice-aggregate-copy c = search needs
 
-array-write-block : tie.Need-array-write-block Inv-loop μ-loop
-array-write-block c = omega arith
+copy-requires : tie.Need-copy-requires
+copy-requires c κs = search needs
 
-add-i : tie.Need-add-i Inv-loop μ-loop
-add-i c = omega arith
-
-loop-less : tie.Need-loop-less Inv-loop μ-loop
-loop-less c = omega arith
-
-loop-again : tie.Need-loop-again Inv-loop μ-loop
-loop-again c = (omega arith, filled-next (c .before .before .loop .i) _ (c .before .before .loop .inv .1) (omega arith) refl)
-
-returns : tie.Need-returns Inv-loop μ-loop
-returns c = filled-all (c .before .loop .inv .1) (omega arith) ∙ block-table _ _ (omega arith)
+returns : tie.Need-returns
+returns c = let s = c .before .before .before .before .before in rw (c .before .copy .ensures .1) (loaded (s .args .s .now) _ (s .args .at) (s .pre) refl)
 
 pub load-spec : {M : Type 1} → statement M
 load-spec =
     tie.close
     (tie.spec
-    Inv-loop
-    μ-loop
-    loop-holds
-    add-block
-    shared-slice-read-block
-    array-write-block
-    add-i
-    loop-less
-    loop-again
+    add-end
+    sub-copy
+    part-copy-start
+    part-copy-end
+    slice-aggregate-copy
+    copy-requires
     returns)
