@@ -11,12 +11,14 @@ use Rattle.bcn_format.specs.Block.{number, trailing}
 use Rattle.bcn_format.specs.Drawing.{drawn, promoted, weightOf, weights}
 use Rattle.bcn_format.specs.Partitions.{anchors2, anchors3, digits, marks, strings2, strings3, subset2, subset3}
 use Rattle.bc7_format.specs.Modes.{modeOf, endpointCount, kindOfMode, modeRow}
-use Rattle.bc7_format.specs.Lines.{indexSetOf, draws, eight, has, indexPlace, lineAt, lineBits, lineOf, meansShown, meansStored, own, pPlace, rotated, valuePlace}
+use Rattle.bc7_format.specs.Lines.{draws, eight, has, indexPlace, indexSetOf, lineAt, lineBits, lineOf, meansShown, meansStored, own, pPlace, rotated}
+use Rattle.bc7_format.specs.Lines.{valuePlace}
 use Rattle.bc7_format.specs.Places.{atPlace, opened, placeAt, pos, width, widths}
 use Rattle.bc7_format.specs.Splits.{splitAt, splitOf}
 use Rattle.bc7_format.proofs.Examples.{block7}
 use Rattle.line_rules.specs.Read.{readRefusal}
-use Rattle.nearest.specs.Nearest.{channelDistance, distance, drawnWith, exactIndex, exactRefusal, inLine, indexCount, leastAt, nearestIndex, nearestRefusal, squared, withIndex, zeroAt}
+use Rattle.nearest.specs.Nearest.{channelDistance, distance, drawnWith, exactIndex, exactRefusal, inLine, indexCount, leastAt, nearestIndex}
+use Rattle.nearest.specs.Nearest.{nearestRefusal, squared, withIndex, zeroAt}
 
 -- a call, and what the nearest index and the one that hits are
 pub record Claim : Type 0 where
@@ -112,9 +114,15 @@ claims =
     []
 
 pub nearest-as-claimed : map (λ c. nearestIndex (c .block) (c .line) (c .pixel) (c .wanted)) claims ≡ map (λ c. c .nearest) claims
-unfolding first table tableFrom digits marks strings2 strings3 subset2 subset3 anchors2 anchors3 modeRow kindOfMode endpointCount placeAt pos width widths trailing number modeOf splitAt splitOf atPlace opened has valuePlace pPlace indexSetOf indexPlace own lineOf lineBits meansStored meansShown rotated lineAt draws eight promoted drawn weightOf weights readRefusal nearestIndex nearestRefusal inLine indexCount leastAt distance channelDistance drawnWith withIndex squared
+unfolding first table tableFrom digits marks strings2 strings3 subset2 subset3 anchors2 anchors3 modeRow kindOfMode endpointCount
+    placeAt pos width widths trailing number modeOf splitAt splitOf atPlace opened has valuePlace pPlace indexSetOf indexPlace own lineOf
+    lineBits meansStored meansShown rotated lineAt draws eight promoted drawn weightOf weights readRefusal
+    nearestIndex nearestRefusal inLine indexCount leastAt distance channelDistance drawnWith withIndex squared
 nearest-as-claimed = refl
 
 pub exact-as-claimed : map (λ c. exactIndex (c .block) (c .line) (c .pixel) (c .wanted)) claims ≡ map (λ c. c .exact) claims
-unfolding first table tableFrom digits marks strings2 strings3 subset2 subset3 anchors2 anchors3 modeRow kindOfMode endpointCount placeAt pos width widths trailing number modeOf splitAt splitOf atPlace opened has valuePlace pPlace indexSetOf indexPlace own lineOf lineBits meansStored meansShown rotated lineAt draws eight promoted drawn weightOf weights readRefusal exactIndex exactRefusal nearestRefusal inLine indexCount zeroAt distance channelDistance drawnWith withIndex squared
+unfolding first table tableFrom digits marks strings2 strings3 subset2 subset3 anchors2 anchors3 modeRow kindOfMode endpointCount
+    placeAt pos width widths trailing number modeOf splitAt splitOf atPlace opened has valuePlace pPlace indexSetOf indexPlace own lineOf
+    lineBits meansStored meansShown rotated lineAt draws eight promoted drawn weightOf weights readRefusal
+    exactIndex exactRefusal nearestRefusal inLine indexCount zeroAt distance channelDistance drawnWith withIndex squared
 exact-as-claimed = refl

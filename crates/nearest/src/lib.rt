@@ -9,13 +9,13 @@ ghost use Rattle.bc7_format.specs.Modes.{modeOf};
 ghost use Rattle.bc7_format.specs.Splits.{rotation as rotationIn, splitOf};
 ghost use Rattle.nearest.specs.Nearest.{FindsExact, FindsNearest, squared as squaredDifference};
 ghost use Rattle.nearest.specs.Trying.{Byte, IsChannel, Readable, Searched, SearchedIn, Tries, Tryable, channelFar, distanceAt, triedAs};
+use bc7_places::modes::mode_of;
 use bc7_places::modes::mode_row;
+use bc7_places::splits::read_split;
 use bc7_places::splits::rotation_of;
 use bits::stream::BitStream;
 use line::read_line;
 use line_rules::Replacement;
-use record::reading::mode_of;
-use record::reading::read_split;
 
 // An index of the line's full width. A refusal has 0.
 pub struct Found {

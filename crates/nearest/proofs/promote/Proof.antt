@@ -5,7 +5,7 @@ use Prim.Native.Nat.{_-_, _*_, _%_, _^_, _<_}
 use native.Mathlib.Omega.{arith}
 use borrow.Author.Needs.{needs}
 use Rattle.bcn_format.specs.Drawing.{promoted}
-use Rattle.drawing.proofs.color.Words.{promoted-lt}
+use Rattle.drawing.proofs.colour.Words.{promoted-lt}
 use Rattle.nearest.proofs.Numbers.{shifted}
 use Rattle.nearest.proofs.promote.Statement.{statement}
 use Rattle.nearest.proofs.promote.Tie as tie

@@ -4,7 +4,7 @@ use mathlib.Core.Path.{ap, _∙_}
 use Prim.Native.Nat.{_<_}
 use borrow.Author.Needs.{needs}
 use Rattle.bc7_format.specs.Splits.{rotation}
-use Rattle.bc7_places.specs.Rows.{OfMode}
+use Rattle.bc7_places.specs.Modes.{OfMode}
 use Rattle.line.proofs.Opening.{stands-low, the-split}
 use Rattle.nearest.proofs.rotation_in.Statement.{statement}
 use Rattle.nearest.proofs.rotation_in.Tie as tie
@@ -33,7 +33,7 @@ read-split-requires c κs =
     let low : o .mode-of .result < 8 = rw (o .mode-of .ensures) (o .before .pre) in
     let row = c .before .before .mode-row in
     let of-mode : OfMode (row .result) = record { mode = o .mode-of .result; low = low; is = row .ensures } in
-    (of-mode, stands-low low (c .before .new .ensures .1) (c .skip .ensures))
+    record { of-mode = of-mode; within = stands-low low (c .before .new .ensures .stands) (c .skip .ensures) }
 
 rotation-of-requires : tie.Need-rotation-of-requires
 rotation-of-requires c κs = search needs
@@ -43,7 +43,7 @@ returns c =
     let k = c .before .before .before .before in
     let n = c .before .before .before in
     c .rotation-of .ensures
-    ∙ ap rotation (the-split _ (k .before .mode-of .ensures) (k .mode-row .ensures) (n .new .ensures .0) (n .new .ensures .1)
+    ∙ ap rotation (the-split _ (k .before .mode-of .ensures) (k .mode-row .ensures) (n .new .ensures .of) (n .new .ensures .stands)
     (c .before .before .skip .ensures) (c .before .read-split .ensures))
 
 pub rotation-in-spec : {M : Type 1} → statement M
