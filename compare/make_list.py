@@ -233,25 +233,29 @@ def reading_lines(dice, shared):
 # ---------------------------------------------------------------------------------------------------------------------
 def wanted_colours(dice):
     """(block, line, pixel, wanted). Block C at its anchor, hit, missed and halfway. Limits and each pair of refusals that
-    can meet. Then every mode and split with every line, at its anchor and at another pixel, for what an index draws and
-    for some other colour; and every rotation with a wanted value in one channel alone."""
+    can meet. Then every mode and split: a line at its anchor or another pixel, for what an index draws there; a pixel that
+    isn't the line's, or another colour. At last every rotation with a wanted value in one channel alone."""
     calls = [(document_01.C, 0, 0, (red, 0, 0, 0)) for red in (135, 130, 127, 119, 254, 255, 0)]
     reserved = bytes(16), bytes(1) + b"\xff" * 15
-    for number in (0, 1, 2, 3, *LARGE):
-        for pixel in (0, 15, 16, 17, *LARGE[-2:]):
+    for number in (0, 1, 2, 3, 256, LARGE[-1]):
+        for pixel in (0, 15, 16, 256, LARGE[-1]):
             blocks = reserved[number % 2], document_01.C, document_01.D
             calls += [(block, number, pixel, (0, 0, 0, 0)) for block in blocks]
-    for mode, split in all_splits():
+    for turn, (mode, split) in enumerate(all_splits()):
         block = block_of(mode, split, bits_of_style(dice, dice.one_of(("random", "sparse", "dense"))))
-        record = model.take_apart(block)
-        for number, line in enumerate(model.lines(mode, split)):
-            for pixel in (line.anchor, dice.one_of(line.pixels)):
-                wanted = list(dice.bytes(4))
-                for channel, value in model.drawn_with(record, line, pixel, dice.below(1 << line.index_width)).items():
-                    wanted[channel] = value
-                calls.append((block, number, pixel, wanted))
-        calls.append((block, number, next((q for q in range(16) if q not in line.pixels), 16), dice.bytes(4)))
-        calls.append((block, *some_wanted(dice, block)))
+        lines = model.lines(mode, split)
+        number = turn % len(lines)
+        line = lines[number]
+        pixel = dice.one_of((line.anchor, dice.one_of(line.pixels)))
+        wanted = list(dice.bytes(4))
+        drawn = model.drawn_with(model.take_apart(block), line, pixel, dice.below(1 << line.index_width))
+        for channel, value in drawn.items():
+            wanted[channel] = value
+        calls.append((block, number, pixel, wanted))
+        if turn % 8 == 0:
+            calls.append((block, number, next((q for q in range(16) if q not in line.pixels), 16), wanted))
+        elif turn % 8 == 4:
+            calls.append((block, *some_wanted(dice, block)))
     for mode in (4, 5):
         for split in model.splits(mode):
             block = block_of(mode, split, bits_of_style(dice, "random"))
