@@ -109,6 +109,8 @@ mod writing {
         fn rinchovek_bc7_pack(record: &Record, block: &mut Block) -> u32;
         fn rinchovek_bc7_read_line(block: &Block, line: u32, replacement: &mut Line, widths: &mut Line) -> u32;
         fn rinchovek_bc7_replace_line(block: &mut Block, line: u32, replacement: &Line) -> u32;
+        fn rinchovek_bc7_nearest_index(block: &Block, line: u32, pixel: u32, wanted: &[u8; 4], index: &mut u32) -> u32;
+        fn rinchovek_bc7_exact_index(block: &Block, line: u32, pixel: u32, wanted: &[u8; 4], index: &mut u32) -> u32;
         fn rinchovek_sheet_replace_line(sheet: *mut u8, length: usize, block: u32, line: u32, replacement: &Line) -> u32;
     }
 
@@ -143,6 +145,22 @@ mod writing {
         });
         nanoseconds("rinchovek_bc7_read_line", SMALL, || {
             every(&mut |i| unsafe { rinchovek_bc7_read_line(&blocks[i], 0, &mut lines[i], &mut widths) })
+        });
+        // pixel 0 is in line 0 of every mode; what it shows is hit
+        let mut index = 0;
+        nanoseconds("rinchovek_bc7_nearest_index", SMALL, || {
+            every(&mut |i| unsafe { rinchovek_bc7_nearest_index(&blocks[i], 0, 0, &[9, 99, 199, 255], &mut index) })
+        });
+        let shown: Vec<[u8; 4]> = blocks
+            .iter()
+            .map(|block| {
+                let mut pixels = [[0; 4]; 16];
+                unsafe { rinchovek_bc7_decode_block(block, &mut pixels) };
+                pixels[0]
+            })
+            .collect();
+        nanoseconds("rinchovek_bc7_exact_index", SMALL, || {
+            every(&mut |i| unsafe { rinchovek_bc7_exact_index(&blocks[i], 0, 0, &shown[i], &mut index) })
         });
         let replaced = |lines: &[Line], out: &mut [Block]| {
             every(&mut |i| unsafe { rinchovek_bc7_replace_line(&mut out[i], 0, &lines[i]) })

@@ -53,7 +53,7 @@
 #define RINCHOVEK_HEAD_BYTES 7 /* the most that a head has */
 #define RINCHOVEK_HEAD_NUMBERS 3 /* uint32_t */
 #define RINCHOVEK_LARGEST_SIDE 4096 /* pixels, of a sheet */
-#define RINCHOVEK_STACK_BYTES 2048 /* found: 1,064 and the 128 below the stack pointer, in rinchovek_sheet_replace_line */
+#define RINCHOVEK_STACK_BYTES 2048 /* found: 1,240 and the 128 below the stack pointer, in rinchovek_bc7_nearest_index */
 
 /* A channel in a pixel and in an endpoint. */
 enum rinchovek_channel { RINCHOVEK_RED = 0, RINCHOVEK_GREEN = 1, RINCHOVEK_BLUE = 2, RINCHOVEK_ALPHA = 3 };

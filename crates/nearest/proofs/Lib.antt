@@ -6,6 +6,6 @@ pub mod Standing
 pub mod Correcting
 pub mod Measuring
 pub mod Trying
-pub mod Answering
+pub mod Hitting
 pub mod Theorems
 pub mod Attested

@@ -22,7 +22,8 @@ use Rattle.bc7_format.specs.Splits.{splitOf}
 use Rattle.bc7_format.specs.Lines.{draws, lineBits, lineOf, pixel}
 use Rattle.bc7_format.specs.Places.{opened}
 use Rattle.line_rules.specs.Replace.{after, callOf, refusal}
-use Rattle.nearest.specs.Nearest.{FindsExact, FindsNearest, Hit, channelDistance, correction, distance, drawnWith, exactIndex, exactRefusal}
+use Rattle.nearest.specs.Promises.{FindsExact, FindsNearest}
+use Rattle.nearest.specs.Nearest.{Hit, channelDistance, correction, distance, drawnWith, exactIndex, exactRefusal}
 use Rattle.nearest.specs.Nearest.{exactRules, indexCount, leastAt, nearestIndex, nearestRefusal, nearestRules, squared, zeroAt}
 use Rattle.nearest.proofs.Correcting.{correction-accepted, correction-draws, stored-below, stored-draws}
 use Rattle.nearest.proofs.Finding.{exact-answers, nearest-answers}

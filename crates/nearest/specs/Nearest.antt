@@ -76,13 +76,6 @@ nearestIndex bs l q wanted = found (nearestRefusal bs l q) (leastAt (indexCount 
 unfoldable pub exactIndex : List ℕ → ℕ → ℕ → List ℕ → Found
 exactIndex bs l q wanted = found (exactRefusal bs l q wanted) (zeroAt (indexCount bs l) (distance bs l q wanted))
 
--- WHAT THE CALLS PROMISE of their answer
-abbrev pub FindsNearest : List ℕ → ℕ → ℕ → List ℕ → Found → Type 0
-FindsNearest bs l q wanted r = r ≡ nearestIndex bs l q wanted
-
-abbrev pub FindsExact : List ℕ → ℕ → ℕ → List ℕ → Found → Type 0
-FindsExact bs l q wanted r = r ≡ exactIndex bs l q wanted
-
 -- THE RULES IN WORDS
 pub record InLine (s : Split) (l q : ℕ) : Type 0 where
   pub pixel : q < 16

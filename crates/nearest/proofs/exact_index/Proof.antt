@@ -1,7 +1,7 @@
 -- `exact_index` meets its contract.
 -- Assumes nothing.
 use borrow.Author.Needs.{needs}
-use Rattle.nearest.proofs.Answering.{exact-found, exact-missed, exact-refused}
+use Rattle.nearest.proofs.Hitting.{exact-found, exact-missed, exact-refused}
 use Rattle.nearest.proofs.exact_index.Statement.{statement}
 use Rattle.nearest.proofs.exact_index.Tie as tie
 

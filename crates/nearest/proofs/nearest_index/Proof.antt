@@ -1,7 +1,7 @@
 -- `nearest_index` meets its contract.
 -- Assumes nothing.
 use borrow.Author.Needs.{needs}
-use Rattle.nearest.proofs.Answering.{nearest-found}
+use Rattle.nearest.proofs.Hitting.{nearest-found}
 use Rattle.nearest.proofs.nearest_index.Statement.{statement}
 use Rattle.nearest.proofs.nearest_index.Tie as tie
 
