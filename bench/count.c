@@ -355,7 +355,8 @@ typedef u32 version(void);
 two_buffers rinchovek_bc7_unpack, rinchovek_bc7_pack;
 read_one rinchovek_bc7_read_line;
 replace_one rinchovek_bc7_replace_line;
-find_index rinchovek_bc7_nearest_index, rinchovek_bc7_exact_index;
+/* weak: an older archive hasn't got them */
+__attribute__((weak)) find_index rinchovek_bc7_nearest_index, rinchovek_bc7_exact_index;
 replace_in rinchovek_sheet_replace_line;
 read_head rinchovek_sheet_read_head;
 write_head rinchovek_sheet_write_head;
@@ -375,7 +376,7 @@ static two_buffers *volatile two_buffers_call;
 static read_one *volatile read_call;
 static replace_one *volatile replace_call;
 static replace_in *volatile replace_in_call;
-static find_index *volatile find_call;
+static find_index *volatile nearest_call, *volatile exact_call;
 static read_head *volatile read_head_call;
 static write_head *volatile write_head_call;
 static version *volatile version_call;
@@ -426,8 +427,11 @@ static u32 replace_a_line(u32 i) { return replace_call(sheet_blocks + 16 * i, li
 static u32 replace_in_sheet(u32 i) {
     return replace_in_call(sheet, sizeof sheet, i, line_numbers[i], lines + LINE * i);
 }
-static u32 find_an_index(u32 i) {
-    return find_call(sheet_blocks + 16 * i, line_numbers[i], pixel_numbers[i], wanted + 4 * i, &found_index);
+static u32 find_nearest(u32 i) {
+    return nearest_call(sheet_blocks + 16 * i, line_numbers[i], pixel_numbers[i], wanted + 4 * i, &found_index);
+}
+static u32 find_exact(u32 i) {
+    return exact_call(sheet_blocks + 16 * i, line_numbers[i], pixel_numbers[i], wanted + 4 * i, &found_index);
 }
 
 static u32 head_numbers[3];
@@ -446,6 +450,8 @@ static void point_at_calls(int at_none) {
     write_head_call = at_none ? no_write_head : rinchovek_sheet_write_head;
     read_call = at_none ? no_read : rinchovek_bc7_read_line;
     replace_call = at_none ? no_replace : rinchovek_bc7_replace_line;
+    nearest_call = at_none ? no_find : rinchovek_bc7_nearest_index;
+    exact_call = at_none ? no_find : rinchovek_bc7_exact_index;
     replace_in_call = at_none ? no_replace_in : rinchovek_sheet_replace_line;
 }
 
@@ -468,13 +474,10 @@ static u64 call_cost(one_call *call, u32 refusal) {
     u64 steps_with = steps_of_calls(call);
     memcpy(sheet, kept_sheet, sizeof sheet);
     two_buffers *kept = two_buffers_call;
-    find_index *kept_find = find_call;
     two_buffers_call = no_two_buffers;
-    find_call = no_find;
     point_at_calls(1);
     u64 steps_without = steps_of_calls(call);
     two_buffers_call = kept;
-    find_call = kept_find;
     point_at_calls(0);
     return steps_with - steps_without;
 }
@@ -532,6 +535,15 @@ static void set_in_each(u8 *bytes, u32 size, u32 place, u8 value) {
     for (u32 i = 0; i < COUNTED; i++) bytes[size * i + place] = value;
 }
 
+static void count_finding(void) {
+    say_call("rinchovek_bc7_exact_index", find_exact, 0);
+    miss_colours();
+    say_call("rinchovek_bc7_exact_index, refused with 14", find_exact, 14);
+    say_call("rinchovek_bc7_nearest_index", find_nearest, 0);
+    for (u32 i = 0; i < COUNTED; i++) pixel_numbers[i] = 16;
+    say_call("rinchovek_bc7_nearest_index, refused with 13", find_nearest, 13);
+}
+
 static void count_writing(void) {
     make_sheet(MIXED);
     make_lines();
@@ -555,14 +567,7 @@ static void count_writing(void) {
     say_call("rinchovek_sheet_write_head, 128 to 191 by 4", write_a_head, 0);
     say_call("rinchovek_version", ask_version, 0);
     say_call("rinchovek_bc7_read_line", read_a_line, 0);
-    find_call = rinchovek_bc7_exact_index;
-    say_call("rinchovek_bc7_exact_index", find_an_index, 0);
-    miss_colours();
-    say_call("rinchovek_bc7_exact_index, refused with 14", find_an_index, 14);
-    find_call = rinchovek_bc7_nearest_index;
-    say_call("rinchovek_bc7_nearest_index", find_an_index, 0);
-    for (u32 i = 0; i < COUNTED; i++) pixel_numbers[i] = 16;
-    say_call("rinchovek_bc7_nearest_index, refused with 13", find_an_index, 13);
+    if (rinchovek_bc7_nearest_index) count_finding();
     say_call("rinchovek_bc7_replace_line, kept", replace_a_line, 0);
     say_call("rinchovek_sheet_replace_line, kept", replace_in_sheet, 0);
     turn_lines();
@@ -581,11 +586,11 @@ static void count_writing(void) {
 
     say("\nThe same by mode\nmode                        ");
     for (int mode = 0; mode < 8; mode++) say_right(column_names[mode], 7);
-    one_call *const calls[] = {unpack_one, pack_one, read_a_line, replace_a_line, find_an_index};
+    one_call *const calls[] = {unpack_one, pack_one, read_a_line, replace_a_line, find_nearest};
     two_buffers *const functions[] = {rinchovek_bc7_unpack, rinchovek_bc7_pack, 0, 0, 0};
     const char *const names[] = {"rinchovek_bc7_unpack", "rinchovek_bc7_pack", "rinchovek_bc7_read_line",
                                  "rinchovek_bc7_replace_line", "rinchovek_bc7_nearest_index"};
-    for (int k = 0; k < 5; k++) {
+    for (int k = 0; k < (rinchovek_bc7_nearest_index ? 5 : 4); k++) {
         say("\n");
         say_left(names[k], 28);
         for (int mode = 0; mode < 8; mode++) {
