@@ -10,8 +10,7 @@ use Rattle.laws.specs.Tables.{over, table, tableFrom}
 use Rattle.bcn_format.specs.Block.{bytesOf, number, trailing}
 use Rattle.bc7_format.specs.Modes.{modeOf, endpointCount, kindOfMode, modeRow}
 use Rattle.bcn_format.specs.Drawing.{drawn, promoted, weightOf, weights}
-use Rattle.bc7_format.specs.Lines.{eight, anchorOf, indexSetOf, has, indexPlace, laid, lineAt, lineBits, lineOf, meansStored, own, pPlace, pixel}
-use Rattle.bc7_format.specs.Lines.{pixels, rotated, shown, turned, valuePlace, withLine}
+use Rattle.bc7_format.specs.Lines.{eight, anchorOf, indexSetOf, has, indexPlace, laid, lineAt, lineBits, lineOf, meansStored, own, pPlace, pixel, pixels, rotated, shown, turned, valuePlace, withLine}
 use Rattle.bcn_format.specs.Partitions.{anchors2, anchors3, digits, marks, strings2, strings3, subset2, subset3}
 use Rattle.bc7_format.specs.Places.{atPlace, blockOf, listOf, opened, placeAt, pos, width, widths}
 use Rattle.bc7_format.specs.Splits.{splitAt, splitOf}
@@ -22,14 +21,13 @@ use Rattle.line_rules.specs.Replace.{after, indexFits, lineFits, lineGiven, ori
 use Rattle.line_rules.proofs.Attested.{after7}
 use Rattle.record_bytes.specs.Wire.{bytesRefusal, packedBytes, recordByte, recordBytes, recordOfBytes, replacementBytes, replacementOf, spelt}
 use Rattle.record_bytes.proofs.Attested.{bytes4, bytes7, bytesGiven}
-use Rattle.sheet_head.specs.Geometry.{blocksOf, placeOf}
-use Rattle.sheet_head.specs.Heads.{formIn, headBytes, headRefusal, heightIn, readHead, sizeRefusal, widthIn, writeHead}
-use Rattle.sheet_head.specs.Numbers.{groups, raised, readGroups, readNumber}
+use Rattle.head_rules.specs.Geometry.{blocksOf, placeOf}
+use Rattle.head_rules.specs.Heads.{formIn, headBytes, headRefusal, heightIn, readHead, sizeRefusal, widthIn, writeHead}
+use Rattle.head_rules.specs.Numbers.{groups, raised, readGroups, readNumber}
 use Rattle.sheet_rules.specs.Rows.{blockAt, channel, rowByte, rowBytes, rowOut, rowRefusal}
 use Rattle.sheet_rules.specs.Sheets.{blockIn, findRefusal, putBlock, replacedIn, sheetAfter, sheetRefusal}
 use Rattle.sheet_rules.proofs.Attested.{lower, lowerScanlines, small, smallReplaced}
-use Rattle.rinchovek.specs.Promises.{Decodes, Gives, Packs, ReadsLine, Replaces, Unpacks, Versions, DecodesRow, ReadsHead, ReplacesIn}
-use Rattle.rinchovek.specs.Promises.{WritesHead}
+use Rattle.rinchovek.specs.Promises.{Decodes, Gives, Packs, ReadsLine, Replaces, Unpacks, Versions, DecodesRow, ReadsHead, ReplacesIn, WritesHead}
 
 abbrev zeros : ℕ → List ℕ
 zeros n = replicate n 0

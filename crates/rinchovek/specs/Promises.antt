@@ -8,8 +8,8 @@ use lib.Dec.{eqb}
 use lib.ListN.{length}
 use Rattle.laws.specs.Tables.{pick}
 use Rattle.bc7_format.specs.Lines.{pixels}
-use Rattle.sheet_head.specs.declared.Head.{Head}
-use Rattle.sheet_head.specs.Heads.{readHead, writeHead}
+use Rattle.head_rules.specs.declared.Head.{Head}
+use Rattle.head_rules.specs.Heads.{readHead, writeHead}
 use Rattle.line_rules.specs.declared.LineRead.{LineRead}
 use Rattle.line_rules.specs.Read.{lineRead}
 use Rattle.line_rules.specs.Replace.{replaced}

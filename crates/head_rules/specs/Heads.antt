@@ -6,13 +6,13 @@ use mathlib.Core.Bool.{Bool, not}
 use mathlib.Core.List.{List, [], _∷_, _++_}
 use lib.Dec.{eqb, leb}
 use lib.ListN.{length, replicate}
-use Rattle.sheet_head.specs.declared.Number.{Number}
-use Rattle.sheet_head.specs.declared.Head.{Head}
-use Rattle.sheet_head.specs.declared.HeadBytes.{HeadBytes}
+use Rattle.head_rules.specs.declared.Number.{Number}
+use Rattle.head_rules.specs.declared.Head.{Head}
+use Rattle.head_rules.specs.declared.HeadBytes.{HeadBytes}
 use Rattle.laws.specs.Padding.{padded, stored}
 use Rattle.laws.specs.Refusals.{Rule, first, handed, refuse, unless}
 use Rattle.laws.specs.Tables.{both, pick}
-use Rattle.sheet_head.specs.Numbers.{numberBytes, readNumber}
+use Rattle.head_rules.specs.Numbers.{numberBytes, readNumber}
 
 -- the form of a sheet, and the largest width and height
 abbrev pub form : ℕ

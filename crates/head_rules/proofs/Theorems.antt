@@ -9,21 +9,20 @@ use native.Mathlib.Nat.{div-lt-iff-lt-mul, eq-zero-or-pos, pow-suc, zero-add}
 use native.Mathlib.Omega.{arith}
 use lib.ListN.{length, drop, length-append}
 use lib.Seq.{drop-drop, drop-append-seam, getD-drop}
-use Rattle.sheet_head.specs.declared.Number.{Number}
-use Rattle.sheet_head.specs.declared.Head.{Head}
-use Rattle.sheet_head.specs.declared.HeadBytes.{HeadBytes}
+use Rattle.head_rules.specs.declared.Number.{Number}
+use Rattle.head_rules.specs.declared.Head.{Head}
+use Rattle.head_rules.specs.declared.HeadBytes.{HeadBytes}
 use Rattle.laws.specs.Refusals.{Given}
 use Rattle.laws.proofs.Cases.{lt-or}
 use Rattle.laws.proofs.Refusals.{Answers, accepted-when, alone, exactly}
-use Rattle.sheet_head.specs.Heads.{ReadsHead, Sized, WritesHead, form, formIn, headBytes, headOf, headRefusal, headRules, heightIn, readHead}
-use Rattle.sheet_head.specs.Heads.{sizeRefusal, sizeRules, widthIn, writeHead}
-use Rattle.sheet_head.specs.Numbers.{Bytes, found, groups, noNumber, numberBytes, numbersEnd, raised, readGroups, readNumber}
-use Rattle.sheet_head.specs.Geometry.{across, blocksOf, placeOf, wholeLength}
-use Rattle.sheet_head.specs.Reader.{atForm, readBy}
-use Rattle.sheet_head.proofs.Bytewise.{bytes-behind-head, bytes-read-head}
-use Rattle.sheet_head.proofs.Heading.{accepted, head-rules, refusal-is, size-test}
-use Rattle.sheet_head.proofs.Reading.{every-number, raised-some, read-last, read-more, value-small}
-use Rattle.sheet_head.proofs.Writing.{groups-last, groups-more, nothing, one-byte, written}
+use Rattle.head_rules.specs.Heads.{ReadsHead, Sized, WritesHead, form, formIn, headBytes, headOf, headRefusal, headRules, heightIn, readHead, sizeRefusal, sizeRules, widthIn, writeHead}
+use Rattle.head_rules.specs.Numbers.{Bytes, found, groups, noNumber, numberBytes, numbersEnd, raised, readGroups, readNumber}
+use Rattle.head_rules.specs.Geometry.{across, blocksOf, placeOf, wholeLength}
+use Rattle.head_rules.specs.Reader.{atForm, readBy}
+use Rattle.head_rules.proofs.Bytewise.{bytes-behind-head, bytes-read-head}
+use Rattle.head_rules.proofs.Heading.{accepted, head-rules, refusal-is, size-test}
+use Rattle.head_rules.proofs.Reading.{every-number, raised-some, read-last, read-more, value-small}
+use Rattle.head_rules.proofs.Writing.{groups-last, groups-more, nothing, one-byte, written}
 
 -- what was written is read, with its end
 small : (k n at : ℕ) (rest : List ℕ) → n < 128 → readGroups (suc k) at (groups (suc k) n ++ rest) ≡ found n (at + length (groups (suc k) n))

@@ -9,11 +9,11 @@ use native.Mathlib.Nat.{eq-zero-or-pos}
 use native.Mathlib.Omega.{arith}
 use borrow.Author.Tests.{eq-eqb, le-leb, leb-true, ne-eqb}
 use lib.Dec.{leb}
-use Rattle.sheet_head.specs.declared.Head.{Head}
+use Rattle.head_rules.specs.declared.Head.{Head}
 use Rattle.laws.specs.Tables.{both}
 use Rattle.laws.proofs.Refusals.{Answers, Decided, answers, by-answer, by-not, by-not-eqb, decided-is, decided-not, decided-so, none, rule}
 use Rattle.laws.proofs.Tests.{both-true}
-use Rattle.sheet_head.specs.Heads.{Sized, form, formIn, headOf, headRefusal, headRules, heightIn, limit, readHead, side, sizeRefusal, widthIn}
+use Rattle.head_rules.specs.Heads.{Sized, form, formIn, headOf, headRefusal, headRules, heightIn, limit, readHead, side, sizeRefusal, widthIn}
 
 -- refusal 9
 module _ (w h : ℕ) where

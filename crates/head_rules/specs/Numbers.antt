@@ -5,7 +5,7 @@ use Prim.Native.Nat.{ℕ, zero, suc, _+_, _*_, _/_, _%_, _<_}
 use mathlib.Core.List.{List, [], _∷_}
 use lib.Dec.{eqb, ltb}
 use lib.ListN.{getD, drop}
-use Rattle.sheet_head.specs.declared.Number.{Number}
+use Rattle.head_rules.specs.declared.Number.{Number}
 use Rattle.laws.specs.Tables.{pick}
 
 abbrev pub Bytes : List ℕ → Type 0

@@ -2,7 +2,7 @@
 -- stands, and how many bytes a row of blocks, its pixels and a whole sheet have.
 -- Assumes nothing.
 use Prim.Native.Nat.{ℕ, _+_, _-_, _*_, _/_, min}
-use Rattle.sheet_head.specs.declared.Head.{Head}
+use Rattle.head_rules.specs.declared.Head.{Head}
 
 -- columns of blocks in a width, rows of blocks in a height
 abbrev pub across : ℕ → ℕ

@@ -13,22 +13,21 @@ use lib.Dec.{eqb, ltb}
 use lib.ListN.{length, getD, drop, drop-of-length-le}
 use lib.Seq.{drop-cons}
 use borrow.Author.Tests.{eq-eqb, eqb-false, eqb-true, le-ltb, lt-ltb, ne-eqb}
-use Rattle.sheet_head.specs.declared.Head.{Head}
-use Rattle.sheet_head.specs.declared.Number.{Number}
-use Rattle.sheet_head.specs.declared.reader.HeadReader.{HeadReader}
-use Rattle.sheet_head.specs.declared.reader.Stage.{Stage}
-use Rattle.sheet_head.specs.declared.reader.Stage.the-variants.{Form, Width, Height, Ended}
+use Rattle.head_rules.specs.declared.Head.{Head}
+use Rattle.head_rules.specs.declared.Number.{Number}
+use Rattle.head_rules.specs.declared.HeadReader.{HeadReader}
+use Rattle.head_rules.specs.declared.Stage.{Stage}
+use Rattle.head_rules.specs.declared.Stage.the-variants.{Form, Width, Height, Ended}
 use Rattle.laws.specs.Refusals.{Given, here, then}
 use Rattle.laws.specs.Tables.{pick}
 use Rattle.laws.proofs.Cases.{lt-or, pick-either}
 use Rattle.laws.proofs.Refusals.{accepted-when, exactly}
 use Rattle.laws.proofs.Tests.{no-both}
-use Rattle.sheet_head.specs.Heads.{Sized, form, formIn, headOf, headRules, heightIn, readHead, sizeRefusal, widthIn}
-use Rattle.sheet_head.specs.Numbers.{found, noNumber, raised, readGroups, readNumber}
-use Rattle.sheet_head.specs.Reader.{Going, Reading, atForm, awaiting, before, byteTaken, emptyAbove, endedIn, formTaken, groupTaken, hasEnded}
-use Rattle.sheet_head.specs.Reader.{heightTaken, lastTaken, nextNumber, numberIn, readBy, refusedWith}
-use Rattle.sheet_head.proofs.Heading.{accepted, head-rules, refusal-is, refused, size-0, size-refused, sized}
-use Rattle.sheet_head.proofs.Reading.{cut-off, last-group, more-groups, near, no-group, raised-none, raised-some}
+use Rattle.head_rules.specs.Heads.{Sized, form, formIn, headOf, headRules, heightIn, readHead, sizeRefusal, widthIn}
+use Rattle.head_rules.specs.Numbers.{found, noNumber, raised, readGroups, readNumber}
+use Rattle.head_rules.specs.Reader.{Going, Reading, atForm, awaiting, before, byteTaken, emptyAbove, endedIn, formTaken, groupTaken, hasEnded, heightTaken, lastTaken, nextNumber, numberIn, readBy, refusedWith}
+use Rattle.head_rules.proofs.Heading.{accepted, head-rules, refusal-is, refused, size-0, size-refused, sized}
+use Rattle.head_rules.proofs.Reading.{cut-off, last-group, more-groups, near, no-group, raised-none, raised-some}
 
 -- a reader that has ended, and one that has not
 module _ (r : HeadReader) where

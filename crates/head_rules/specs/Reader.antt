@@ -6,13 +6,13 @@ use mathlib.Core.Path.{_≡_}
 use mathlib.Core.Bool.{Bool, true, false}
 use mathlib.Core.List.{List, [], _∷_}
 use lib.Dec.{eqb, ltb}
-use Rattle.sheet_head.specs.declared.Head.{Head}
-use Rattle.sheet_head.specs.declared.reader.HeadReader.{HeadReader}
-use Rattle.sheet_head.specs.declared.reader.Stage.{Stage}
-use Rattle.sheet_head.specs.declared.reader.Stage.the-variants.{Form, Width, Height, Ended}
+use Rattle.head_rules.specs.declared.Head.{Head}
+use Rattle.head_rules.specs.declared.HeadReader.{HeadReader}
+use Rattle.head_rules.specs.declared.Stage.{Stage}
+use Rattle.head_rules.specs.declared.Stage.the-variants.{Form, Width, Height, Ended}
 use Rattle.laws.specs.Tables.{both, pick}
-use Rattle.sheet_head.specs.Heads.{form, headOf, sizeRefusal}
-use Rattle.sheet_head.specs.Numbers.{readNumber}
+use Rattle.head_rules.specs.Heads.{form, headOf, sizeRefusal}
+use Rattle.head_rules.specs.Numbers.{readNumber}
 
 -- the number of a stage is to come, and no group of it has
 abbrev pub awaiting : Stage → Head → HeadReader

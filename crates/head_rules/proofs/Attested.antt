@@ -3,16 +3,16 @@
 use mathlib.Core.Path.{_≡_, refl}
 use mathlib.Core.List.{List, [], _∷_, map}
 use Prim.Native.Nat.{ℕ}
-use Rattle.sheet_head.specs.declared.Number.{Number}
-use Rattle.sheet_head.specs.declared.Head.{Head}
-use Rattle.sheet_head.specs.declared.HeadBytes.{HeadBytes}
+use Rattle.head_rules.specs.declared.Number.{Number}
+use Rattle.head_rules.specs.declared.Head.{Head}
+use Rattle.head_rules.specs.declared.HeadBytes.{HeadBytes}
 use Rattle.laws.specs.Padding.{padded}
 use Rattle.laws.specs.Refusals.{first}
-use Rattle.sheet_head.specs.Heads.{formIn, headBytes, headRefusal, heightIn, readHead, sizeRefusal, widthIn, writeHead}
-use Rattle.sheet_head.specs.declared.reader.Stage.the-variants.{Width}
-use Rattle.sheet_head.specs.Geometry.{across, blocksOf, outLength, placeOf, rowLength, sideShown, wholeLength}
-use Rattle.sheet_head.specs.Reader.{Reading, atForm, byteTaken, formTaken, groupTaken, heightTaken, lastTaken, readBy}
-use Rattle.sheet_head.specs.Numbers.{groups, numberBytes, raised, readGroups, readNumber}
+use Rattle.head_rules.specs.Heads.{formIn, headBytes, headRefusal, heightIn, readHead, sizeRefusal, widthIn, writeHead}
+use Rattle.head_rules.specs.declared.Stage.the-variants.{Width}
+use Rattle.head_rules.specs.Geometry.{across, blocksOf, outLength, placeOf, rowLength, sideShown, wholeLength}
+use Rattle.head_rules.specs.Reader.{Reading, atForm, byteTaken, formTaken, groupTaken, heightTaken, lastTaken, readBy}
+use Rattle.head_rules.specs.Numbers.{groups, numberBytes, raised, readGroups, readNumber}
 
 -- what was read: the number and the place behind it; or nothing
 abbrev number : ℕ → ℕ → Number

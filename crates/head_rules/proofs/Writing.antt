@@ -7,11 +7,11 @@ use Prim.Native.Nat.{ℕ, zero, suc, _+_, _/_, _%_, _<_, _≤_}
 use native.Mathlib.Omega.{arith}
 use lib.ListN.{length, length-append}
 use borrow.Author.Tests.{lt-ltb, le-ltb, eq-eqb, ne-eqb}
-use Rattle.sheet_head.specs.declared.HeadBytes.{HeadBytes}
+use Rattle.head_rules.specs.declared.HeadBytes.{HeadBytes}
 use Rattle.laws.proofs.Cases.{lt-or}
 use Rattle.laws.proofs.Padding.{stored-append, stored-zeros}
-use Rattle.sheet_head.specs.Heads.{form, headBytes, noBytes, sevenOf, sizeRefusal, withBytes, writeHead}
-use Rattle.sheet_head.specs.Numbers.{groups, numberBytes, numbersEnd}
+use Rattle.head_rules.specs.Heads.{form, headBytes, noBytes, sevenOf, sizeRefusal, withBytes, writeHead}
+use Rattle.head_rules.specs.Numbers.{groups, numberBytes, numbersEnd}
 
 -- the groups of a number
 pub groups-last : (k n : ℕ) → n < 128 → groups (suc k) n ≡ n ∷ []

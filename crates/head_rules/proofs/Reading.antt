@@ -10,9 +10,9 @@ use native.Mathlib.Omega.{arith}
 use lib.ListN.{length, getD, drop, drop-of-length-le}
 use lib.Seq.{drop-cons}
 use borrow.Author.Tests.{lt-ltb, le-ltb, eq-eqb, ne-eqb}
-use Rattle.sheet_head.specs.declared.Number.{Number}
+use Rattle.head_rules.specs.declared.Number.{Number}
 use Rattle.laws.proofs.Cases.{lt-or}
-use Rattle.sheet_head.specs.Numbers.{found, noNumber, raised, readGroups, readNumber}
+use Rattle.head_rules.specs.Numbers.{found, noNumber, raised, readGroups, readNumber}
 
 pub raised-none : (b : ℕ) (r : Number) → r .value ≡ 0 → raised b r ≡ noNumber
 unfolding raised
