@@ -2,8 +2,8 @@
 // mode is found and its function called.
 ghost use mathlib.Core.Path.{_≡_};
 ghost use Rattle.bcn_format.specs.Block.{field, trailing};
-ghost use Rattle.bc7_format.specs.Lines.{pixels};
 ghost use Rattle.bits.specs.Stream.{held};
+ghost use Rattle.bc7.specs.Promises.{DecodesBlock};
 use bc7_subsets::three::mode_subset_3;
 use bc7_subsets::two::mode_subset_2;
 use bc7_unsplit::mode_4;
@@ -13,7 +13,7 @@ use bits::stream::BitStream;
 
 // The sixteen pixels of a block, row by row: red, green, blue, alpha. Any sixteen bytes are a block; a reserved one shows 0 0 0 0.
 pub fn decode_bc7_block(block: [u8; 16]) -> [[u8; 4]; 16]
-    ensures { λ r. ⌜ r ≡ pixels block ⌝ }
+    ensures { λ r. ⌜ DecodesBlock block r ⌝ }
 {
     let stream = BitStream::new(block);
     let mode = extract_mode(stream);

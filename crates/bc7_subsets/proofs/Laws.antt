@@ -33,6 +33,7 @@ use Rattle.partitions.proofs.PartitionWords.{anchor-of2, second-of3, subset-of2
 use Rattle.drawing.specs.declared.keys.Keys.{Keys}
 use Rattle.drawing.specs.Keys.{keyAt, keysOf}
 use Rattle.drawing.proofs.keys.KeyWords.{key-at}
+use Rattle.bc7_format.specs.Places.{firstFrom}
 
 -- a number among two or three that is none of the others is the last
 pub last-of-2 : (m a b : ℕ) → T (among m (a ∷ b ∷ [])) → m ≢ a → m ≡ b
@@ -88,7 +89,7 @@ module _ (m n b : ℕ) (hm : m < 8) (eb : firstBits m ≡ b) (least : 2 ≤ b) (
       → Palette m n b k t p → picture ≡ painted (keyAt b t keys) p → picture ≡ directPixels m n
   by-keys s k t c an es flat subsets room narrow ea et maps ex ek palette drawn =
       let small : (q : ℕ) → q < 16 → part set b q < 2 ^ t = λ q hq. rw (maps .at q hq) (lt-of-lt-of-le (subsets q hq) room) in
-      let first : expanded b an (nextBits stream c) ≡ expanded b an (field n (start m s (34 + (16 * 0 + 0))) c) =
+      let first : expanded b an (nextBits stream c) ≡ expanded b an (field n (start m s (firstFrom + (16 * 0 + 0))) c) =
       ap (expanded b an) (next-is on c ∙ ap (λ (a : ℕ). field n a c) (sym (index-start m s hm))) in
       drawn
       ∙ keyed-law m n b k t s eb es flat subsets palette x _

@@ -31,6 +31,7 @@ use Rattle.drawing.specs.Keys.{keyAt, keysOf}
 use Rattle.drawing.proofs.keys.KeyWords.{key-at}
 use Rattle.bc7_unsplit.specs.Crossing.{Apart, crossed, keptWord}
 use Rattle.bc7_unsplit.proofs.Crossing.{between-fits, sum-bytes, sum-lt}
+use Rattle.bc7_format.specs.Places.{firstFrom}
 
 -- one subset, by the word of its indexes, which are stored without the top bit of pixel 0's
 pub whole-keys : (m n b : ℕ) → m < 8 → firstBits m ≡ b → 0 < b → splitAt m n ≡ Whole → {p : List (List ℕ)} → Palette m n b 1 0 p
@@ -55,7 +56,7 @@ chosen-one-by-one (suc (suc (suc (suc r)))) h p = absurd (let z : ⊥ = omega ar
 -- a vector and its scalar, whose endpoints are given: the picture by the indexes of set a, which start at bit s
 module _ (m n r i : ℕ) (hr : r < 4) (es : splitAt m n ≡ Vector r i) {e0 e1 : List ℕ} (p0 : e0 ≡ four (endByte m n 0))
     (p1 : e1 ≡ four (endByte m n 1)) where
-  pub by-set : (a b s : ℕ) → a < 2 → indexBits m a ≡ b → 2 ≤ b → start m (Vector r i) (34 + (16 * a + 0)) ≡ s → {x : ℕ}
+  pub by-set : (a b s : ℕ) → a < 2 → indexBits m a ≡ b → 2 ≤ b → start m (Vector r i) (firstFrom + (16 * a + 0)) ≡ s → {x : ℕ}
       → x ≡ expanded b (0 ∷ []) (field n s (16 * b - 1))
       → Picture m n r i hr es a (table 16 (λ q. between b e0 e1 (part x b q)))
   unfolding between

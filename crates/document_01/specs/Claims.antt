@@ -3,13 +3,13 @@
 use Prim.Native.Nat.{ℕ}
 use mathlib.Core.List.{List, [], _∷_, _++_}
 use lib.ListN.{replicate}
-use Rattle.sheet_head.specs.declared.Number.{Number}
+use Rattle.head_rules.specs.declared.Number.{Number}
 use Rattle.line_rules.specs.declared.Replacement.{Replacement}
 use Rattle.line_rules.specs.declared.Replaced.{Replaced}
 use Rattle.record_rules.specs.declared.Unpacked.{Unpacked}
 use Rattle.bc7_format.specs.Lines.{pixels}
 use Rattle.record_rules.specs.Records.{takenApart, unpackedAs, zeroRecord}
-use Rattle.sheet_head.specs.Numbers.{found, noNumber, numberBytes, readNumber}
+use Rattle.head_rules.specs.Numbers.{found, noNumber, numberBytes, readNumber}
 use Rattle.line_rules.specs.Replace.{replaced, replacedAs}
 
 -- a question, and what it is answered

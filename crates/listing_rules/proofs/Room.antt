@@ -10,8 +10,8 @@ use lib.ListN.{length}
 use Rattle.listing_rules.specs.declared.Machine.{Machine}
 use Rattle.listing_rules.specs.declared.Phase.{Phase}
 use Rattle.listing_rules.specs.declared.Phase.the-variants.{Head, Row, End, Listed, Refused}
-use Rattle.sheet_head.specs.Geometry.{across}
-use Rattle.sheet_head.specs.declared.Head.{Head as SheetHead}
+use Rattle.head_rules.specs.Geometry.{across}
+use Rattle.head_rules.specs.declared.Head.{Head as SheetHead}
 use Rattle.laws.specs.Padding.{Written}
 use Rattle.laws.specs.Tables.{pick}
 use Rattle.laws.proofs.Cases.{pick-either}

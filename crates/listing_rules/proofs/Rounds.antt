@@ -10,23 +10,21 @@ use lib.Dec.{eqb, leb}
 use lib.ListN.{length, getD, take, drop}
 use lib.Seq.{length-take-le, take-all}
 use borrow.Author.Tests.{eq-eqb, eqb-false, eqb-true, leb-false, leb-true, ne-eqb}
-use Rattle.sheet_head.specs.Geometry.{across}
-use Rattle.sheet_head.specs.declared.reader.HeadReader.{HeadReader}
+use Rattle.head_rules.specs.Geometry.{across}
+use Rattle.head_rules.specs.declared.HeadReader.{HeadReader}
 use Rattle.listing_rules.specs.declared.Machine.{Machine}
 use Rattle.listing_rules.specs.declared.Phase.{Phase}
 use Rattle.listing_rules.specs.declared.Phase.the-variants.{Head, Row, End, Listed, Refused}
-use Rattle.sheet_head.specs.declared.Head.{Head as SheetHead}
+use Rattle.head_rules.specs.declared.Head.{Head as SheetHead}
 use Rattle.laws.specs.Tables.{pick}
 use Rattle.laws.proofs.Cases.{pick-either}
-use Rattle.sheet_head.specs.Heads.{Sized, headOf, readHead}
-use Rattle.sheet_head.specs.Reader.{Going, Reading, atForm, byteTaken, hasEnded, readBy, refusedWith}
-use Rattle.sheet_head.proofs.Bytewise.{Stepped, going-start, not-far, read-byte, read-cut, read-ended, stepped, stepped-refused}
-use Rattle.sheet_head.proofs.Theorems.{fold-leaves-the-blocks, read-head-is-the-fold}
+use Rattle.head_rules.specs.Heads.{Sized, headOf, readHead}
+use Rattle.head_rules.specs.Reader.{Going, Reading, atForm, byteTaken, hasEnded, readBy, refusedWith}
+use Rattle.head_rules.proofs.Bytewise.{Stepped, going-start, not-far, read-byte, read-cut, read-ended, stepped, stepped-refused}
+use Rattle.head_rules.proofs.Theorems.{fold-leaves-the-blocks, read-head-is-the-fold}
 use Rattle.listing_rules.specs.Text.{refusedText, sheetText}
 use Rattle.listing_rules.specs.Listing.{listed, listing, rowsListing, unlessExact}
-use Rattle.listing_rules.specs.Machine.{Ready, ReadyIn, Run, atHead, atStart, begun, ended, headText, inRows, nextAtHead, nextIn, nextInRows}
-use Rattle.listing_rules.specs.Machine.{nextOf, over, rowsPhase, takenOf, textAtHead, textIn, textOf, round, roundsIn, roundsOf, wantedIn}
-use Rattle.listing_rules.specs.Machine.{wantedOf}
+use Rattle.listing_rules.specs.Machine.{Ready, ReadyIn, Run, atHead, atStart, begun, ended, headText, inRows, nextAtHead, nextIn, nextInRows, nextOf, over, rowsPhase, takenOf, textAtHead, textIn, textOf, round, roundsIn, roundsOf, wantedIn, wantedOf}
 use Rattle.listing_rules.proofs.Rows.{listing-by-rows, listing-refused}
 
 -- what comes of the head's next byte

@@ -13,8 +13,8 @@ use lib.Seq.{drop-append-add, drop-append-le, length-take-le, take-add, take-all
 use borrow.Author.Tests.{eq-eqb, eqb-false, eqb-true, le-leb, lt-leb, ne-eqb}
 use Rattle.laws.specs.Tables.{pick}
 use Rattle.laws.proofs.Cases.{lt-or}
-use Rattle.sheet_head.specs.Geometry.{across, blocksOf}
-use Rattle.sheet_head.specs.Heads.{readHead}
+use Rattle.head_rules.specs.Geometry.{across, blocksOf}
+use Rattle.head_rules.specs.Heads.{readHead}
 use Rattle.listing_rules.specs.Text.{refusedText, sheetText}
 use Rattle.sheet_rules.specs.Rows.{blockAt}
 use Rattle.listing_rules.specs.Listing.{blockListed, blocksListing, blocksText, listed, listing, rowsListing}

@@ -8,8 +8,8 @@ use lib.ListN.{length, getD, take, drop}
 use Rattle.laws.specs.Tables.{pick}
 use Rattle.bc7_format.specs.Modes.{modeOf}
 use Rattle.bc7_format.specs.Lines.{pixels}
-use Rattle.sheet_head.specs.Geometry.{blocksOf}
-use Rattle.sheet_head.specs.Heads.{readHead}
+use Rattle.head_rules.specs.Geometry.{blocksOf}
+use Rattle.head_rules.specs.Heads.{readHead}
 use Rattle.listing_rules.specs.Text.{blockText, refusedText, sheetText}
 use Rattle.sheet_rules.specs.Rows.{blockAt}
 

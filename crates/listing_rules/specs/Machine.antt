@@ -9,11 +9,11 @@ use lib.ListN.{length, take, drop}
 use Rattle.listing_rules.specs.declared.Machine.{Machine}
 use Rattle.listing_rules.specs.declared.Phase.{Phase}
 use Rattle.listing_rules.specs.declared.Phase.the-variants.{Head, Row, End, Listed, Refused}
-use Rattle.sheet_head.specs.Geometry.{across}
-use Rattle.sheet_head.specs.declared.Head.{Head as SheetHead}
-use Rattle.sheet_head.specs.declared.reader.HeadReader.{HeadReader}
+use Rattle.head_rules.specs.Geometry.{across}
+use Rattle.head_rules.specs.declared.Head.{Head as SheetHead}
+use Rattle.head_rules.specs.declared.HeadReader.{HeadReader}
 use Rattle.laws.specs.Tables.{pick}
-use Rattle.sheet_head.specs.Reader.{Going, atForm, byteTaken, hasEnded, refusedWith}
+use Rattle.head_rules.specs.Reader.{Going, atForm, byteTaken, hasEnded, refusedWith}
 use Rattle.listing_rules.specs.Text.{refusedText, sheetText}
 use Rattle.listing_rules.specs.Listing.{listed, unlessExact}
 

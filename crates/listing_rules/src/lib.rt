@@ -1,7 +1,7 @@
 // What a listing says of a sheet, and the states of the machine that says it of a sheet that comes in pieces. There is no code
 // here: the crate `listing` has it.
 
-use sheet_head::reader::HeadReader;
+use head_rules::HeadReader;
 
 // What the machine is at: the head, a row of blocks, the end of the input behind the last row; or it has listed the sheet, or
 // refused it, and wants nothing more.

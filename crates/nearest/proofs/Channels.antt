@@ -10,8 +10,9 @@ use lib.ListN.{getD}
 use Rattle.nearest.specs.declared.Channel.{Channel}
 use Rattle.line_rules.specs.declared.Replacement.{Replacement}
 use Rattle.bcn_format.specs.Drawing.{drawn, promoted}
-use Rattle.nearest.specs.Nearest.{squared}
-use Rattle.nearest.specs.Trying.{channelFar, channelIn, endIn, pIn, uncounted, widthIn}
+use Rattle.nearest_rules.specs.Nearest.{squared}
+use Rattle.nearest_rules.specs.Parts.{pIn, widthIn}
+use Rattle.nearest.specs.Trying.{channelFar, channelIn, endIn, uncounted}
 
 -- one that counts, and one that doesn't
 pub far-counts : (x : Channel) (w : ℕ) {v : ℕ} → x .counts ≡ true → v ≡ drawn (x .first) (x .second) w → squared v (x .wanted) ≡ channelFar x w

@@ -9,16 +9,16 @@ use native.Mathlib.Nat.{le-refl}
 use borrow.Author.Tests.{eq-eqb, le-ltb, lt-ltb, ne-eqb}
 use lib.Dec.{ltb}
 use lib.Pow.{pow-pos}
-use Rattle.nearest.specs.declared.Found.{Found}
+use Rattle.nearest_rules.specs.declared.Found.{Found}
 use Rattle.nearest.specs.declared.Tried.{Tried}
 use Rattle.laws.specs.Refusals.{refuse}
 use Rattle.laws.proofs.First.{first-here, first-last, first-skip}
 use Rattle.bc7_format.specs.Modes.{modeOf}
 use Rattle.bc7_format.specs.Splits.{splitOf}
 use Rattle.bc7_format.specs.Lines.{lineBits}
-use Rattle.nearest.specs.Nearest.{distance, exactIndex, exactRefusal, indexCount, leastAt, nearestIndex, nearestRefusal, zeroAt}
+use Rattle.nearest_rules.specs.Nearest.{distance, exactIndex, exactRefusal, indexCount, leastAt, nearestIndex, nearestRefusal, zeroAt}
 use Rattle.nearest.specs.Trying.{Tries}
-use Rattle.nearest.proofs.Least.{Least, least-at, no-zero, zero-is-least}
+use Rattle.nearest_rules.proofs.Least.{Least, least-at, no-zero, zero-is-least}
 
 abbrev answer : ℕ → ℕ → Found
 answer r i = record { refusal = r; index = i }

@@ -1,11 +1,5 @@
-pub mod Least
 pub mod Numbers
 pub mod Channels
-pub mod Finding
-pub mod Standing
-pub mod Correcting
 pub mod Measuring
 pub mod Trying
 pub mod Hitting
-pub mod Theorems
-pub mod Attested

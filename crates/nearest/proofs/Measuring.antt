@@ -25,11 +25,12 @@ use Rattle.bc7_format.specs.Lines.{Line, draws, eight, lineAt, lineBits, lineOf
 use Rattle.bc7_format.specs.WellFormed.{WellFormed}
 use Rattle.bc7_format.proofs.Meaning.{good-rotation, line-bits, rotated-lt}
 use Rattle.line_rules.specs.Read.{lineRead, readRefusal}
-use Rattle.nearest.specs.Nearest.{channelDistance, distance, drawnWith, indexCount, nearestIndex, nearestRefusal, squared, withIndex}
-use Rattle.nearest.specs.Trying.{Readable, SearchedIn, Tries, Tryable, channelFar, distanceAt, endIn, pIn, shownIn, triedAs, widthIn}
+use Rattle.nearest_rules.specs.Nearest.{channelDistance, distance, drawnWith, indexCount, nearestIndex, nearestRefusal, squared, withIndex}
+use Rattle.nearest_rules.specs.Parts.{pIn, widthIn}
+use Rattle.nearest.specs.Trying.{Readable, SearchedIn, Tries, Tryable, channelFar, distanceAt, endIn, shownIn, triedAs}
 use Rattle.nearest.proofs.Channels.{no-width, some-width}
-use Rattle.nearest.proofs.Correcting.{in-line, readable}
-use Rattle.nearest.proofs.Standing.{p-fits, p-is, p-width-is, value-fits, value-is, well-formed, width-is}
+use Rattle.nearest_rules.proofs.Correcting.{in-line, readable}
+use Rattle.nearest_rules.proofs.Standing.{p-fits, p-is, p-width-is, value-fits, value-is, well-formed, width-is}
 
 -- with its p bit a value has four to eight bits
 wide : ℕ → ℕ → Bool

@@ -12,7 +12,7 @@ use Rattle.laws.specs.Tables.{below, pick}
 use Rattle.laws.proofs.Tests.{at}
 use Rattle.bcn_format.specs.Drawing.{weightOf, weights}
 use Rattle.bc7_format.specs.Lines.{rotated}
-use Rattle.nearest.specs.Nearest.{squared}
+use Rattle.nearest_rules.specs.Nearest.{squared}
 
 -- how many indexes of b bits there are, in a word of 32
 pub record Counted (b : ℕ) : Type 0 where

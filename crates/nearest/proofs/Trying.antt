@@ -16,10 +16,10 @@ use Rattle.bc7_format.specs.Splits.{rotation, splitOf}
 use Rattle.bc7_format.specs.Lines.{lineBits}
 use Rattle.line_rules.specs.Read.{lineRead, readRefusal}
 use Rattle.line_rules.proofs.Reading.{refusal-is}
-use Rattle.nearest.specs.Nearest.{nearestIndex, nearestRefusal}
+use Rattle.nearest_rules.specs.Nearest.{nearestIndex, nearestRefusal}
 use Rattle.nearest.specs.Trying.{SearchedIn, Tries, Tryable, triedAs}
 use Rattle.nearest.proofs.Measuring.{search-answers, tryable}
-use Rattle.nearest.proofs.Standing.{ByWidth, by-width, no-pixel, refused-as-read, well-formed}
+use Rattle.nearest_rules.proofs.Standing.{ByWidth, by-width, no-pixel, refused-as-read, well-formed}
 
 -- what is refused has 0
 refused-answers : (bs : List ℕ) (l q : ℕ) (wanted : List ℕ) {n : ℕ} → nearestRefusal bs l q ≡ n → n ≢ 0 → Tries bs l q wanted (triedAs n 0 0)

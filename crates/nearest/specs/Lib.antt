@@ -1,4 +1,2 @@
--- The definitions that the contracts cite.
-pub mod Nearest
-pub mod Promises
+-- The definitions that only the code's own contracts cite.
 pub mod Trying

@@ -14,7 +14,8 @@ use Rattle.line_rules.specs.declared.Replacement.{Replacement}
 use Rattle.laws.specs.Tables.{pick}
 use Rattle.bcn_format.specs.Drawing.{drawn, promoted, weightOf}
 use Rattle.bc7_format.specs.Lines.{rotated}
-use Rattle.nearest.specs.Nearest.{distance, leastAt, nearestIndex, squared}
+use Rattle.nearest_rules.specs.Parts.{pIn, valueIn, widthIn}
+use Rattle.nearest_rules.specs.Nearest.{distance, leastAt, nearestIndex, squared}
 
 pub record Byte (x : Channel) : Type 0 where
   pub first : x .first < 256
@@ -34,16 +35,6 @@ pub record Searched (r g b a : Channel) (bits : ℕ) (x : Nearest) : Type 0 wher
   pub index : x .index ≡ leastAt (2 ^ bits) (distanceAt r g b a bits)
   pub small : x .index < 16
   pub distance : x .distance ≡ distanceAt r g b a bits (x .index)
-
--- of a line that is read: the value of endpoint k in channel d, the p bit k; of the widths that are read with it: of channel d, of a p bit
-abbrev pub valueIn : Replacement → ℕ → ℕ → ℕ
-valueIn g k d = getD (g .endpoints) (4 * k + d) 0
-
-abbrev pub pIn : Replacement → ℕ → ℕ
-pIn g k = getD (g .p) k 0
-
-abbrev pub widthIn : Replacement → ℕ → ℕ
-widthIn ws d = getD (ws .endpoints) d 0
 
 -- endpoint k as eight bits
 unfoldable pub endIn : Replacement → Replacement → ℕ → ℕ → ℕ

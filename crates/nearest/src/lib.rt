@@ -7,8 +7,8 @@ ghost use Rattle.bcn_format.specs.Drawing.{drawn, promoted, weightOf};
 ghost use Rattle.bc7_format.specs.Lines.{rotated as rotatedChannel};
 ghost use Rattle.bc7_format.specs.Modes.{modeOf};
 ghost use Rattle.bc7_format.specs.Splits.{rotation as rotationIn, splitOf};
-ghost use Rattle.nearest.specs.Nearest.{squared as squaredDifference};
-ghost use Rattle.nearest.specs.Promises.{FindsExact, FindsNearest};
+ghost use Rattle.nearest_rules.specs.Nearest.{squared as squaredDifference};
+ghost use Rattle.nearest_rules.specs.Promises.{FindsExact, FindsNearest};
 ghost use Rattle.nearest.specs.Trying.{Byte, IsChannel, Readable, Searched, SearchedIn, Tries, Tryable, channelFar, distanceAt, triedAs};
 use bc7_places::modes::mode_of;
 use bc7_places::modes::mode_row;
@@ -17,12 +17,7 @@ use bc7_places::splits::rotation_of;
 use bits::stream::BitStream;
 use line::read_line;
 use line_rules::Replacement;
-
-// An index of the line's full width. A refusal has 0.
-pub struct Found {
-    pub refusal: u8,
-    pub index: u8,
-}
+use nearest_rules::Found;
 
 // A shown channel of a pixel: what the line's endpoints have there as eight bits, and what is wanted. A channel that the line doesn't
 // draw doesn't count.

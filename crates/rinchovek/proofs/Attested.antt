@@ -20,13 +20,13 @@ use Rattle.record_rules.specs.Records.{fits, made, packRefusal, packed, recordO
 use Rattle.line_rules.specs.Read.{givenAs, lineRead, readRefusal, valueAt, widthsOf}
 use Rattle.line_rules.specs.Replace.{after, indexFits, lineFits, lineGiven, oriented, ownWidth, pFits, put, refusal, refusalIn, replaced, valueFits}
 use Rattle.line_rules.proofs.Attested.{after7}
-use Rattle.nearest.specs.Nearest.{channelDistance, distance, drawnWith, exactIndex, exactRefusal, inLine, indexCount, leastAt, nearestIndex}
-use Rattle.nearest.specs.Nearest.{nearestRefusal, squared, withIndex, zeroAt}
+use Rattle.nearest_rules.specs.Nearest.{channelDistance, distance, drawnWith, exactIndex, exactRefusal, inLine, indexCount, leastAt, nearestIndex}
+use Rattle.nearest_rules.specs.Nearest.{nearestRefusal, squared, withIndex, zeroAt}
 use Rattle.record_bytes.specs.Wire.{bytesRefusal, packedBytes, recordByte, recordBytes, recordOfBytes, replacementBytes, replacementOf, spelt}
 use Rattle.record_bytes.proofs.Attested.{bytes4, bytes7, bytesGiven}
-use Rattle.sheet_head.specs.Geometry.{blocksOf, placeOf}
-use Rattle.sheet_head.specs.Heads.{formIn, headBytes, headRefusal, heightIn, readHead, sizeRefusal, widthIn, writeHead}
-use Rattle.sheet_head.specs.Numbers.{groups, raised, readGroups, readNumber}
+use Rattle.head_rules.specs.Geometry.{blocksOf, placeOf}
+use Rattle.head_rules.specs.Heads.{formIn, headBytes, headRefusal, heightIn, readHead, sizeRefusal, widthIn, writeHead}
+use Rattle.head_rules.specs.Numbers.{groups, raised, readGroups, readNumber}
 use Rattle.sheet_rules.specs.Rows.{blockAt, channel, rowByte, rowBytes, rowOut, rowRefusal}
 use Rattle.sheet_rules.specs.Sheets.{blockIn, findRefusal, putBlock, replacedIn, sheetAfter, sheetRefusal}
 use Rattle.sheet_rules.proofs.Attested.{lower, lowerScanlines, small, smallReplaced}

@@ -5,7 +5,7 @@ use mathlib.Core.List.{List}
 use Prim.Native.Nat.{ℕ}
 use lib.ListN.{length}
 use borrow.Author.Tests.{ne-eqb}
-use Rattle.sheet_head.specs.Geometry.{sideShown}
+use Rattle.head_rules.specs.Geometry.{sideShown}
 use Rattle.sheet_rules.specs.Rows.{rowBytes, rowOut, rowRefusal}
 use Rattle.sheet_rules.proofs.Refusing.{Accepted, drawn, told}
 

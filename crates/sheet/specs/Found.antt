@@ -5,8 +5,8 @@ use mathlib.Core.List.{List}
 use lib.Dec.{eqb}
 use Rattle.sheet.specs.declared.blocks.Found.{Found}
 use Rattle.laws.specs.Tables.{pick}
-use Rattle.sheet_head.specs.Geometry.{placeOf}
-use Rattle.sheet_head.specs.Heads.{readHead}
+use Rattle.head_rules.specs.Geometry.{placeOf}
+use Rattle.head_rules.specs.Heads.{readHead}
 use Rattle.sheet_rules.specs.Sheets.{findRefusal}
 
 abbrev pub foundAt : ℕ → ℕ → Found

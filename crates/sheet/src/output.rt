@@ -4,7 +4,7 @@ ghost use mathlib.Core.Path.{_≡_};
 ghost use Prim.Native.Nat.{_+_, _*_, _≤_, _<_};
 ghost use lib.ListN.{length, getD};
 ghost use Rattle.laws.specs.Tables.{over};
-ghost use Rattle.sheet_head.specs.Geometry.{outLength, sideShown};
+ghost use Rattle.head_rules.specs.Geometry.{outLength, sideShown};
 ghost use Rattle.sheet.specs.Columns.{scanlineByte, withColumn};
 use sheet_head::geometry::shown_in;
 

@@ -3,7 +3,7 @@
 ghost use mathlib.Core.Path.{_≡_};
 ghost use Prim.Native.Nat.{_*_, _≤_, _<_};
 ghost use lib.ListN.{length};
-ghost use Rattle.sheet_head.specs.Geometry.{outLength, rowLength};
+ghost use Rattle.head_rules.specs.Geometry.{outLength, rowLength};
 ghost use Rattle.sheet_rules.specs.Rows.{rowBytes, rowRefusal};
 use crate::blocks::load;
 use crate::output::put_block;

@@ -2,9 +2,9 @@
 // each stands. Nothing else in the code knows these formulas.
 ghost use mathlib.Core.Path.{_≡_};
 ghost use Prim.Native.Nat.{_*_, _≤_, _<_};
-ghost use Rattle.sheet_head.specs.Geometry.{across, blocksOf, outLength, placeOf, rowLength, sideShown, wholeLength};
-ghost use Rattle.sheet_head.specs.Heads.{Sized, limit};
-use crate::Head;
+ghost use Rattle.head_rules.specs.Geometry.{across, blocksOf, outLength, placeOf, rowLength, sideShown, wholeLength};
+ghost use Rattle.head_rules.specs.Heads.{Sized, limit};
+use head_rules::Head;
 
 // Columns of blocks in a width, rows of blocks in a height.
 pub fn blocks_across(side: u32) -> u32

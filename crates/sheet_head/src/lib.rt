@@ -4,14 +4,17 @@ ghost use mathlib.Core.Path.{_≡_};
 ghost use mathlib.Core.List.{[], _∷_};
 ghost use Prim.Native.Nat.{_+_, _≤_, _<_};
 ghost use lib.ListN.{drop};
-ghost use Rattle.sheet_head.specs.Numbers.{found, noNumber, numberBytes, numbersEnd, raised, readGroups, readNumber};
-ghost use Rattle.sheet_head.specs.Heads.{ReadsHead, WritesHead, noBytes, sizeRefusal, withBytes};
-ghost use Rattle.sheet_head.specs.Reader.{nextNumber};
-use crate::reader::HeadReader;
+ghost use Rattle.head_rules.specs.Numbers.{found, noNumber, numberBytes, numbersEnd, raised, readGroups, readNumber};
+ghost use Rattle.head_rules.specs.Heads.{ReadsHead, WritesHead, noBytes, sizeRefusal, withBytes};
+ghost use Rattle.head_rules.specs.Reader.{nextNumber};
 use crate::reader::has_ended;
 use crate::reader::refused_with;
 use crate::reader::start;
 use crate::reader::take_number;
+use head_rules::Head;
+use head_rules::HeadBytes;
+use head_rules::HeadReader;
+use head_rules::Number;
 
 pub mod geometry;
 pub mod reader;
@@ -21,28 +24,6 @@ const FORM: u32 = 1;
 
 // The largest width and height.
 const LIMIT: u32 = 4096;
-
-// A number, and the place behind its last byte; zeros where it is refused.
-pub struct Number {
-    pub refusal: u8,
-    pub value: u32,
-    pub next: usize,
-}
-
-// Width and height in pixels, and the place of the first block; zeros where the head is refused.
-pub struct Head {
-    pub refusal: u8,
-    pub width: u32,
-    pub height: u32,
-    pub start: u32,
-}
-
-// The bytes of a head and their count, with zeros behind; zeros where the head is refused.
-pub struct HeadBytes {
-    pub refusal: u8,
-    pub bytes: [u8; 7],
-    pub count: u8,
-}
 
 fn wide(x: u8) -> u32
     ensures { λ r. ⌜ r ≡ x ⌝ }

@@ -2,31 +2,15 @@
 // what is there whole are read by the same states; another number in a head is another stage.
 ghost use mathlib.Core.Path.{_≡_};
 ghost use Prim.Native.Nat.{_*_, _^_, _<_, _≤_};
-ghost use Rattle.sheet_head.specs.Heads.{headOf};
-ghost use Rattle.sheet_head.specs.Numbers.{numbersEnd};
-ghost use Rattle.sheet_head.specs.Reader.{Going, atForm, awaiting, byteTaken, emptyAbove, formTaken, groupTaken, hasEnded, heightTaken};
-ghost use Rattle.sheet_head.specs.Reader.{lastTaken, numberIn, refusedWith};
+ghost use Rattle.head_rules.specs.Heads.{headOf};
+ghost use Rattle.head_rules.specs.Numbers.{numbersEnd};
+ghost use Rattle.head_rules.specs.Reader.{Going, atForm, awaiting, byteTaken, emptyAbove, formTaken, groupTaken, hasEnded, heightTaken, lastTaken, numberIn, refusedWith};
 use crate::FORM;
-use crate::Head;
 use crate::size_refusal;
 use crate::wide;
-
-// Which number of the head is to come; or the head has ended, accepted or refused.
-pub enum Stage {
-    Form,
-    Width,
-    Height,
-    Ended,
-}
-
-// The stage; how many groups of its number have come, and what they spell; and what is known of the head, whose `start` is the
-// place behind the last number that came whole.
-pub struct HeadReader {
-    pub stage: Stage,
-    pub low: u32,
-    pub groups: u8,
-    pub head: Head,
-}
+use head_rules::Head;
+use head_rules::HeadReader;
+use head_rules::Stage;
 
 // Before a number.
 fn at_stage(stage: Stage, head: Head) -> HeadReader

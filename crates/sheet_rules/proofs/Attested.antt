@@ -10,13 +10,12 @@ use Rattle.laws.specs.Tables.{over, table, tableFrom}
 use Rattle.bcn_format.specs.Block.{bytesOf, number, trailing}
 use Rattle.bc7_format.specs.Modes.{modeOf, endpointCount, kindOfMode, modeRow}
 use Rattle.bcn_format.specs.Drawing.{drawn, promoted, weightOf, weights}
-use Rattle.bc7_format.specs.Lines.{eight, anchorOf, indexSetOf, has, indexPlace, laid, lineAt, lineBits, lineOf, meansStored, own, pPlace, pixel}
-use Rattle.bc7_format.specs.Lines.{pixels, rotated, shown, turned, valuePlace, withLine}
+use Rattle.bc7_format.specs.Lines.{eight, anchorOf, indexSetOf, has, indexPlace, laid, lineAt, lineBits, lineOf, meansStored, own, pPlace, pixel, pixels, rotated, shown, turned, valuePlace, withLine}
 use Rattle.bc7_format.specs.Places.{atPlace, blockOf, listOf, opened, placeAt, pos, width, widths}
 use Rattle.bc7_format.specs.Splits.{splitAt, splitOf}
-use Rattle.sheet_head.specs.Geometry.{across, blocksOf, placeOf, sideShown}
-use Rattle.sheet_head.specs.Heads.{formIn, headRefusal, heightIn, readHead, sizeRefusal, widthIn}
-use Rattle.sheet_head.specs.Numbers.{raised, readGroups, readNumber}
+use Rattle.head_rules.specs.Geometry.{across, blocksOf, placeOf, sideShown}
+use Rattle.head_rules.specs.Heads.{formIn, headRefusal, heightIn, readHead, sizeRefusal, widthIn}
+use Rattle.head_rules.specs.Numbers.{raised, readGroups, readNumber}
 use Rattle.line_rules.specs.Replace.{after, indexFits, lineFits, lineGiven, oriented, ownWidth, pFits, put, refusal, refusalIn, replaced, valueFits}
 use Rattle.sheet_rules.specs.Pictures.{picture, pictureByte}
 use Rattle.sheet_rules.specs.Rows.{blockAt, channel, rowByte, rowBytes, rowOut, rowRefusal}

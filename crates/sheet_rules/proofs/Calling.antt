@@ -21,10 +21,10 @@ use Rattle.laws.proofs.calls.Parts.{Parts, part-run}
 use Rattle.laws.proofs.calls.Trading.{run-good}
 use Rattle.bcn_format.specs.Block.{eights}
 use Rattle.bc7_format.proofs.Subsets.{sixteen-bytes}
-use Rattle.sheet_head.specs.Geometry.{blocksOf, placeOf}
-use Rattle.sheet_head.specs.Heads.{readHead}
-use Rattle.sheet_head.specs.Numbers.{Bytes}
-use Rattle.sheet_head.proofs.Theorems.{head-answers}
+use Rattle.head_rules.specs.Geometry.{blocksOf, placeOf}
+use Rattle.head_rules.specs.Heads.{readHead}
+use Rattle.head_rules.specs.Numbers.{Bytes}
+use Rattle.head_rules.proofs.Theorems.{head-answers}
 use Rattle.line_rules.specs.Calls.{afterAll}
 use Rattle.line_rules.specs.Replace.{after, callOf, refusal, replaced}
 use Rattle.line_rules.proofs.Accepting.{on-block}
@@ -35,8 +35,7 @@ use Rattle.sheet_rules.specs.Rows.{blockAt}
 use Rattle.sheet_rules.specs.Sheets.{blockIn, putBlock, replacedIn, sheetRefusal, sheetRules}
 use Rattle.sheet_rules.proofs.Finding.{finding-in-words, room}
 use Rattle.sheet_rules.proofs.Replacing.{accepted-is, refused-is, replacing}
-use Rattle.sheet_rules.proofs.Storing.{block-get, block-long, head-kept, other-block, places-apart, put-inside, put-long, put-outside}
-use Rattle.sheet_rules.proofs.Storing.{put-same, same-block}
+use Rattle.sheet_rules.proofs.Storing.{block-get, block-long, head-kept, other-block, places-apart, put-inside, put-long, put-outside, put-same, same-block}
 
 -- the bytes of a block
 eight-at-most : (i : ℕ) → getD eights i 0 ≤ 8

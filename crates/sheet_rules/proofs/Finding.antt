@@ -6,9 +6,9 @@ use Prim.Native.Nat.{ℕ, _+_, _*_, _<_, _≤_}
 use native.Mathlib.Omega.{arith}
 use lib.ListN.{length}
 use Rattle.laws.proofs.Refusals.{Answers, answers, by-answer, by-leb, by-not-eqb, none, rule, rules}
-use Rattle.sheet_head.specs.Geometry.{blocksOf, placeOf}
-use Rattle.sheet_head.specs.Heads.{formIn, headRules, heightIn, readHead, widthIn}
-use Rattle.sheet_head.proofs.Theorems.{head-answers}
+use Rattle.head_rules.specs.Geometry.{blocksOf, placeOf}
+use Rattle.head_rules.specs.Heads.{formIn, headRules, heightIn, readHead, widthIn}
+use Rattle.head_rules.proofs.Theorems.{head-answers}
 use Rattle.sheet_rules.specs.Sheets.{behindHead, findRefusal, findRules}
 
 pub finding : (s : List ℕ) (b : ℕ) → Answers (findRefusal s b) (findRules (readHead s) s b)

@@ -12,8 +12,8 @@ use Rattle.laws.specs.Tables.{table, tableFrom}
 use Rattle.laws.proofs.Joining.{table-append, table-same}
 use Rattle.laws.proofs.Part.{getD-table, length-table}
 use Rattle.bc7_format.specs.Lines.{pixel, pixels}
-use Rattle.sheet_head.specs.Geometry.{across, placeOf, sideShown}
-use Rattle.sheet_head.specs.Heads.{Sized, readHead}
+use Rattle.head_rules.specs.Geometry.{across, placeOf, sideShown}
+use Rattle.head_rules.specs.Heads.{Sized, readHead}
 use Rattle.laws.proofs.Refusals.{accepted-when}
 use Rattle.sheet_rules.specs.Pictures.{blockShowing, decodedRows, picture, pictureByte, pixelIn, rowOf}
 use Rattle.sheet_rules.specs.Rows.{blockAt, channel, rowByte, rowBytes, rowOut, rowRefusal}

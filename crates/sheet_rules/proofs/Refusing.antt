@@ -6,9 +6,9 @@ use Prim.Native.Nat.{ℕ, _*_, _<_}
 use borrow.Author.Tests.{ne-eqb}
 use lib.ListN.{length}
 use Rattle.laws.proofs.Refusals.{Answers, answer-0, answers, by-leb, by-not-eqb, none, rule}
-use Rattle.sheet_head.specs.Geometry.{across, sideShown}
-use Rattle.sheet_head.specs.Heads.{Sized}
-use Rattle.sheet_head.proofs.Heading.{size-test}
+use Rattle.head_rules.specs.Geometry.{across, sideShown}
+use Rattle.head_rules.specs.Heads.{Sized}
+use Rattle.head_rules.proofs.Heading.{size-test}
 use Rattle.sheet_rules.specs.Rows.{rowBytes, rowOut, rowRefusal, rowRules}
 
 module _ (w h row given room : ℕ) where

@@ -7,8 +7,8 @@ use borrow.Author.Tests.{eq-eqb, ne-eqb}
 use Rattle.line_rules.specs.declared.Replacement.{Replacement}
 use Rattle.laws.specs.Refusals.{handed}
 use Rattle.laws.proofs.Refusals.{Answers, answers, by-answer, none, rule, rules}
-use Rattle.sheet_head.specs.Geometry.{placeOf}
-use Rattle.sheet_head.specs.Heads.{readHead}
+use Rattle.head_rules.specs.Geometry.{placeOf}
+use Rattle.head_rules.specs.Heads.{readHead}
 use Rattle.sheet_rules.specs.Sheets.{findRefusal, findRules, putBlock, replacedIn, sheetAfter, sheetRefusal}
 use Rattle.sheet_rules.proofs.Finding.{finding}
 

@@ -7,13 +7,13 @@ use Prim.Native.Nat.{ℕ, _+_, _-_, _*_, _<_, _≤_}
 use native.Mathlib.Omega.{arith}
 use lib.ListN.{length, getD, take, drop, length-take, length-drop, take-append-drop}
 use lib.Seq.{getD-take, getD-drop, ext-getD, take-at}
-use Rattle.sheet_head.specs.Geometry.{placeOf}
-use Rattle.sheet_head.specs.declared.Head.{Head}
+use Rattle.head_rules.specs.Geometry.{placeOf}
+use Rattle.head_rules.specs.declared.Head.{Head}
 use Rattle.laws.proofs.Cases.{lt-or}
 use Rattle.laws.proofs.Over.{length-over, over-in, over-out, take-over}
-use Rattle.sheet_head.specs.Heads.{Sized, headBytes, headOf, readHead}
-use Rattle.sheet_head.specs.Numbers.{Bytes}
-use Rattle.sheet_head.proofs.Theorems.{head-one-form, head-read-back}
+use Rattle.head_rules.specs.Heads.{Sized, headBytes, headOf, readHead}
+use Rattle.head_rules.specs.Numbers.{Bytes}
+use Rattle.head_rules.proofs.Theorems.{head-one-form, head-read-back}
 use Rattle.sheet_rules.specs.Rows.{blockAt}
 use Rattle.sheet_rules.specs.Sheets.{putBlock}
 

@@ -20,9 +20,9 @@ use Rattle.laws.proofs.calls.Trading.{Trade, inside, woven, woven-told}
 use Rattle.bc7_format.specs.Modes.{modeOf, lines}
 use Rattle.bc7_format.specs.Lines.{draws, meansShown, pixel}
 use Rattle.bc7_format.specs.Splits.{splitOf}
-use Rattle.sheet_head.specs.Geometry.{blocksOf, placeOf}
-use Rattle.sheet_head.specs.Heads.{readHead}
-use Rattle.sheet_head.specs.Numbers.{Bytes}
+use Rattle.head_rules.specs.Geometry.{blocksOf, placeOf}
+use Rattle.head_rules.specs.Heads.{readHead}
+use Rattle.head_rules.specs.Numbers.{Bytes}
 use Rattle.line_rules.specs.Calls.{afterAll, last, seen}
 use Rattle.line_rules.specs.Replace.{after, refusal}
 use Rattle.line_rules.proofs.Draws.{drawn-by-one}
@@ -30,8 +30,7 @@ use Rattle.line_rules.proofs.Theorems.{accepted-draws, last-call-is-seen, other
 use Rattle.sheet_rules.specs.Calls.{SheetCall, WholeSheet, callsOn, onBlock, refusalOn, sheetWith, sheetWithAll}
 use Rattle.sheet_rules.specs.Rows.{DecodesRow, rowRefusal, rowRules}
 use Rattle.sheet_rules.specs.Sheets.{ReplacesInSheet, blockIn, sheetRules}
-use Rattle.sheet_rules.proofs.Calling.{Same, all-block, all-kept, answered-as-block, beyond, in-words, none-changes, parts, same-here, same-on}
-use Rattle.sheet_rules.proofs.Calling.{sixteen, unchanged, whole-or, with-kept, with-named, with-other}
+use Rattle.sheet_rules.proofs.Calling.{Same, all-block, all-kept, answered-as-block, beyond, in-words, none-changes, parts, same-here, same-on, sixteen, unchanged, whole-or, with-kept, with-named, with-other}
 use Rattle.sheet_rules.proofs.Refusing.{row-rules, undrawn}
 use Rattle.sheet_rules.proofs.Replacing.{accepted-is}
 use Rattle.sheet_rules.proofs.Storing.{put-long, put-outside}

@@ -6,9 +6,9 @@ use mathlib.Core.List.{List}
 use lib.ListN.{length}
 use Rattle.line_rules.specs.declared.Replacement.{Replacement}
 use Rattle.laws.specs.Calls as calls
-use Rattle.sheet_head.specs.Geometry.{wholeLength}
-use Rattle.sheet_head.specs.Heads.{readHead}
-use Rattle.sheet_head.specs.Numbers.{Bytes}
+use Rattle.head_rules.specs.Geometry.{wholeLength}
+use Rattle.head_rules.specs.Heads.{readHead}
+use Rattle.head_rules.specs.Numbers.{Bytes}
 use Rattle.line_rules.specs.Replace.{Call, callOf}
 use Rattle.sheet_rules.specs.Sheets.{sheetAfter, sheetRefusal}
 

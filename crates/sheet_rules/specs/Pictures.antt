@@ -5,7 +5,7 @@ use mathlib.Core.List.{List, [], _++_}
 use lib.ListN.{take, drop}
 use Rattle.laws.specs.Tables.{table}
 use Rattle.bc7_format.specs.Lines.{pixels}
-use Rattle.sheet_head.specs.Geometry.{across}
+use Rattle.head_rules.specs.Geometry.{across}
 use Rattle.sheet_rules.specs.Rows.{blockAt, channel, rowOut}
 
 -- the block that shows pixel x, y, and the number of the pixel in it; `all` is the bytes of all blocks

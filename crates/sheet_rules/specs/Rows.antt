@@ -9,8 +9,8 @@ use lib.ListN.{length, getD, take, drop}
 use Rattle.laws.specs.Refusals.{Rule, first, refuse, unless}
 use Rattle.laws.specs.Tables.{pick, table}
 use Rattle.bc7_format.specs.Lines.{pixels}
-use Rattle.sheet_head.specs.Geometry.{across, outLength, rowLength, sideShown}
-use Rattle.sheet_head.specs.Heads.{Sized, sizeRefusal}
+use Rattle.head_rules.specs.Geometry.{across, outLength, rowLength, sideShown}
+use Rattle.head_rules.specs.Heads.{Sized, sizeRefusal}
 
 -- the block at a place of a list of bytes
 unfoldable pub blockAt : List ℕ → ℕ → List ℕ

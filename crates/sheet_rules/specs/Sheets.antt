@@ -8,11 +8,11 @@ use lib.Dec.{eqb, leb}
 use lib.ListN.{length, getD}
 use Rattle.line_rules.specs.declared.Replacement.{Replacement}
 use Rattle.line_rules.specs.declared.Replaced.{Replaced}
-use Rattle.sheet_head.specs.Geometry.{blocksOf, placeOf, wholeLength}
-use Rattle.sheet_head.specs.declared.Head.{Head}
+use Rattle.head_rules.specs.Geometry.{blocksOf, placeOf, wholeLength}
+use Rattle.head_rules.specs.declared.Head.{Head}
 use Rattle.laws.specs.Refusals.{Rule, first, handed, refuse, unless}
 use Rattle.laws.specs.Tables.{over, pick}
-use Rattle.sheet_head.specs.Heads.{formIn, headRules, heightIn, readHead, widthIn}
+use Rattle.head_rules.specs.Heads.{formIn, headRules, heightIn, readHead, widthIn}
 use Rattle.line_rules.specs.Acceptable.{callRules}
 use Rattle.line_rules.specs.Replace.{callOf, replaced}
 use Rattle.sheet_rules.specs.Rows.{blockAt}

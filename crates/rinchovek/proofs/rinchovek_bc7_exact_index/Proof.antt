@@ -3,7 +3,7 @@
 use mathlib.Core.Path.{sym, ap, _∙_}
 use borrow.Author.Tests.{eq-eqb, ne-eqb}
 use borrow.Author.Needs.{needs}
-use Rattle.nearest.specs.declared.Found.{Found}
+use Rattle.nearest_rules.specs.declared.Found.{Found}
 use Rattle.rinchovek.proofs.rinchovek_bc7_exact_index.Statement.{statement}
 use Rattle.rinchovek.proofs.rinchovek_bc7_exact_index.Tie as tie
 

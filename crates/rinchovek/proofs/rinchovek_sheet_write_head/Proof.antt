@@ -2,7 +2,7 @@
 -- Assumes nothing.
 use mathlib.Core.Path.{sym, ap, _∙_}
 use borrow.Author.Tests.{eq-eqb, ne-eqb}
-use Rattle.sheet_head.specs.declared.HeadBytes.{HeadBytes}
+use Rattle.head_rules.specs.declared.HeadBytes.{HeadBytes}
 use borrow.Author.Needs.{needs}
 use Rattle.rinchovek.proofs.rinchovek_sheet_write_head.Statement.{statement}
 use Rattle.rinchovek.proofs.rinchovek_sheet_write_head.Tie as tie

@@ -9,12 +9,12 @@ use native.Mathlib.Omega.{arith}
 use lib.ListN.{length}
 use borrow.Author.Tests.{eq-eqb, ne-eqb}
 use Rattle.sheet.specs.declared.blocks.Found.{Found}
-use Rattle.sheet_head.specs.Geometry.{placeOf}
-use Rattle.sheet_head.specs.declared.Head.{Head}
+use Rattle.head_rules.specs.Geometry.{placeOf}
+use Rattle.head_rules.specs.declared.Head.{Head}
 use Rattle.laws.specs.Refusals.{Given}
 use Rattle.laws.proofs.Refusals.{Met, accepted-when, exactly}
-use Rattle.sheet_head.specs.Heads.{Sized, readHead}
-use Rattle.sheet_head.proofs.Theorems.{head-sized}
+use Rattle.head_rules.specs.Heads.{Sized, readHead}
+use Rattle.head_rules.proofs.Theorems.{head-sized}
 use Rattle.sheet_rules.specs.Sheets.{findRefusal, findRules}
 use Rattle.sheet_rules.proofs.Finding.{finding, inside, room}
 use Rattle.sheet.specs.Found.{findBlock, foundAt}

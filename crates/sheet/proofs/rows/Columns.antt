@@ -10,7 +10,7 @@ use lib.ListN.{length}
 use Rattle.laws.specs.Tables.{table}
 use Rattle.laws.proofs.Part.{Part, part-all, part-none, part-table}
 use Rattle.bc7_format.specs.Lines.{pixels}
-use Rattle.sheet_head.specs.Geometry.{across}
+use Rattle.head_rules.specs.Geometry.{across}
 use Rattle.sheet_rules.specs.Rows.{blockAt, channel, rowByte, rowBytes}
 use Rattle.sheet.specs.Columns.{columnByte, scanlineByte, withColumn}
 use Rattle.sheet.proofs.output.Columns.{byte-in, byte-out}

@@ -2,8 +2,8 @@
 -- Assumes nothing.
 use mathlib.Core.Path.{_∙_}
 use native.Mathlib.Omega.{arith}
-use Rattle.sheet_head.proofs.Reading.{near}
-use Rattle.sheet_head.proofs.Bytewise.{next-refuses, next-takes, nexts, no-next}
+use Rattle.head_rules.proofs.Reading.{near}
+use Rattle.head_rules.proofs.Bytewise.{next-refuses, next-takes, nexts, no-next}
 use borrow.Author.Needs.{needs}
 use Rattle.sheet_head.proofs.next_number.Statement.{statement}
 use Rattle.sheet_head.proofs.next_number.Tie as tie

@@ -3,7 +3,7 @@
 use borrow.Author.Needs.{needs}
 use mathlib.Core.Path.{refl, _∙_}
 use native.Mathlib.Omega.{arith}
-use Rattle.sheet_head.proofs.Reading.{cut-off, last-group, no-group}
+use Rattle.head_rules.proofs.Reading.{cut-off, last-group, no-group}
 use Rattle.sheet_head.proofs.one_group.Statement.{statement}
 use Rattle.sheet_head.proofs.one_group.Tie as tie
 

@@ -2,7 +2,7 @@
 -- Assumes nothing.
 use borrow.Author.Needs.{needs}
 use mathlib.Core.Path.{sym, _∙_}
-use Rattle.sheet_head.proofs.Reading.{raised-none, raised-some}
+use Rattle.head_rules.proofs.Reading.{raised-none, raised-some}
 use Rattle.sheet_head.proofs.raise.Statement.{statement}
 use Rattle.sheet_head.proofs.raise.Tie as tie
 

@@ -2,9 +2,9 @@
 -- Assumes nothing.
 use mathlib.Core.Path.{_∙_, ap}
 use native.Mathlib.Omega.{arith}
-use Rattle.sheet_head.specs.declared.reader.HeadReader.{HeadReader}
-use Rattle.sheet_head.specs.Reader.{nextNumber}
-use Rattle.sheet_head.proofs.Bytewise.{three-numbers}
+use Rattle.head_rules.specs.declared.HeadReader.{HeadReader}
+use Rattle.head_rules.specs.Reader.{nextNumber}
+use Rattle.head_rules.proofs.Bytewise.{three-numbers}
 use borrow.Author.Needs.{needs}
 use Rattle.sheet_head.proofs.read_head.Statement.{statement}
 use Rattle.sheet_head.proofs.read_head.Tie as tie

@@ -3,8 +3,8 @@
 use borrow.Author.Needs.{needs}
 use mathlib.Core.Path.{refl, _∙_}
 use native.Mathlib.Omega.{arith}
-use Rattle.sheet_head.specs.Numbers.{readNumber}
-use Rattle.sheet_head.proofs.Reading.{above-small, cut-off, last-group, more-groups}
+use Rattle.head_rules.specs.Numbers.{readNumber}
+use Rattle.head_rules.proofs.Reading.{above-small, cut-off, last-group, more-groups}
 use Rattle.sheet_head.proofs.read_number.Statement.{statement}
 use Rattle.sheet_head.proofs.read_number.Tie as tie
 

@@ -2,7 +2,7 @@
 -- Assumes nothing.
 use mathlib.Core.Path.{sym}
 use native.Mathlib.Omega.{arith}
-use Rattle.sheet_head.proofs.Heading.{size-0, size-9}
+use Rattle.head_rules.proofs.Heading.{size-0, size-9}
 use Rattle.sheet_head.proofs.size_refusal.Statement.{statement}
 use Rattle.sheet_head.proofs.size_refusal.Tie as tie
 

@@ -3,7 +3,7 @@
 use borrow.Author.Needs.{needs}
 use mathlib.Core.Path.{refl, _∙_}
 use native.Mathlib.Omega.{arith}
-use Rattle.sheet_head.proofs.Reading.{above-small, cut-off, last-group, more-groups}
+use Rattle.head_rules.proofs.Reading.{above-small, cut-off, last-group, more-groups}
 use Rattle.sheet_head.proofs.two_groups.Statement.{statement}
 use Rattle.sheet_head.proofs.two_groups.Tie as tie
 

@@ -3,8 +3,8 @@
 use mathlib.Core.Path.{_∙_, sym}
 use native.Mathlib.Omega.{arith}
 use borrow.Author.Needs.{needs}
-use Rattle.sheet_head.proofs.Heading.{sized}
-use Rattle.sheet_head.proofs.Writing.{few, nothing, one-byte, same-count, written}
+use Rattle.head_rules.proofs.Heading.{sized}
+use Rattle.head_rules.proofs.Writing.{few, nothing, one-byte, same-count, written}
 use Rattle.sheet_head.proofs.write_head.Statement.{statement}
 use Rattle.sheet_head.proofs.write_head.Tie as tie
 

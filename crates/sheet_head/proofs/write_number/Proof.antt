@@ -3,7 +3,7 @@
 use mathlib.Core.Path.{_∙_}
 use native.Mathlib.Omega.{arith}
 use borrow.Author.Needs.{needs}
-use Rattle.sheet_head.proofs.Writing.{one-group, three-groups, two-groups}
+use Rattle.head_rules.proofs.Writing.{one-group, three-groups, two-groups}
 use Rattle.sheet_head.proofs.write_number.Statement.{statement}
 use Rattle.sheet_head.proofs.write_number.Tie as tie
 

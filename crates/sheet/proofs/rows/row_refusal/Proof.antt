@@ -4,9 +4,9 @@ use mathlib.Core.Path.{_∙_, ap, sym}
 use native.Mathlib.Omega.{arith}
 use Rattle.laws.specs.Refusals.{here, then}
 use Rattle.laws.proofs.Refusals.{accepted-when, exactly}
-use Rattle.sheet_head.specs.Geometry.{outLength}
-use Rattle.sheet_head.specs.Heads.{Sized}
-use Rattle.sheet_head.proofs.Heading.{size-refused, sized}
+use Rattle.head_rules.specs.Geometry.{outLength}
+use Rattle.head_rules.specs.Heads.{Sized}
+use Rattle.head_rules.proofs.Heading.{size-refused, sized}
 use Rattle.sheet_rules.proofs.Refusing.{row-rules}
 use borrow.Author.Needs.{needs}
 use Rattle.sheet.proofs.rows.row_refusal.Statement.{statement}

@@ -3,8 +3,8 @@
 use mathlib.Core.Path.{ap₂}
 use Prim.Native.Nat.{ℕ, _*_}
 use native.Mathlib.Omega.{arith}
-use Rattle.sheet_head.specs.Geometry.{blocksOf}
-use Rattle.sheet_head.proofs.Blocks.{few-blocks}
+use Rattle.head_rules.specs.Geometry.{blocksOf}
+use Rattle.head_rules.proofs.Blocks.{few-blocks}
 use borrow.Author.Needs.{needs}
 use Rattle.sheet_head.proofs.geometry.blocks_of.Statement.{statement}
 use Rattle.sheet_head.proofs.geometry.blocks_of.Tie as tie

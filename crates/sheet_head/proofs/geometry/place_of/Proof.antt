@@ -1,7 +1,7 @@
 -- `geometry::place_of` meets its contract.
 -- Assumes nothing.
 use mathlib.Core.Path.{refl}
-use Rattle.sheet_head.specs.Geometry.{placeOf}
+use Rattle.head_rules.specs.Geometry.{placeOf}
 use borrow.Author.Needs.{needs}
 use Rattle.sheet_head.proofs.geometry.place_of.Statement.{statement}
 use Rattle.sheet_head.proofs.geometry.place_of.Tie as tie

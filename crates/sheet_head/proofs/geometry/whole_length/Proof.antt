@@ -1,7 +1,7 @@
 -- `geometry::whole_length` meets its contract.
 -- Assumes nothing.
 use mathlib.Core.Path.{_∙_, ap}
-use Rattle.sheet_head.specs.Geometry.{placeOf}
+use Rattle.head_rules.specs.Geometry.{placeOf}
 use borrow.Author.Needs.{needs}
 use Rattle.sheet_head.proofs.geometry.whole_length.Statement.{statement}
 use Rattle.sheet_head.proofs.geometry.whole_length.Tie as tie

@@ -1,8 +1,8 @@
 -- `reader::start` meets its contract.
 -- Assumes nothing.
 use mathlib.Core.Path.{_∙_, ap}
-use Rattle.sheet_head.specs.Reader.{awaiting}
-use Rattle.sheet_head.specs.declared.reader.Stage.the-variants.{Form}
+use Rattle.head_rules.specs.Reader.{awaiting}
+use Rattle.head_rules.specs.declared.Stage.the-variants.{Form}
 use borrow.Author.Needs.{needs}
 use Rattle.sheet_head.proofs.reader.start.Statement.{statement}
 use Rattle.sheet_head.proofs.reader.start.Tie as tie

@@ -2,8 +2,8 @@
 -- Assumes nothing.
 use mathlib.Core.Path.{_∙_, ap, sym}
 use borrow.Author.Tests.{eq-eqb, ne-eqb}
-use Rattle.sheet_head.specs.Reader.{formTaken, awaiting}
-use Rattle.sheet_head.specs.declared.reader.Stage.the-variants.{Width}
+use Rattle.head_rules.specs.Reader.{formTaken, awaiting}
+use Rattle.head_rules.specs.declared.Stage.the-variants.{Width}
 use borrow.Author.Needs.{needs}
 use Rattle.sheet_head.proofs.reader.take_form.Statement.{statement}
 use Rattle.sheet_head.proofs.reader.take_form.Tie as tie

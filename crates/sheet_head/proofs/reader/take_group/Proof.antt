@@ -3,8 +3,8 @@
 use mathlib.Core.Path.{_∙_, sym}
 use native.Mathlib.Omega.{arith}
 use borrow.Author.Tests.{eq-eqb, ne-eqb}
-use Rattle.sheet_head.specs.Reader.{groupTaken}
-use Rattle.sheet_head.proofs.Bytewise.{low-small}
+use Rattle.head_rules.specs.Reader.{groupTaken}
+use Rattle.head_rules.proofs.Bytewise.{low-small}
 use borrow.Author.Needs.{needs}
 use Rattle.sheet_head.proofs.reader.take_group.Statement.{statement}
 use Rattle.sheet_head.proofs.reader.take_group.Tie as tie

@@ -2,8 +2,8 @@
 -- Assumes nothing.
 use mathlib.Core.Path.{_∙_, ap, sym}
 use borrow.Author.Tests.{eq-eqb, ne-eqb}
-use Rattle.sheet_head.specs.Reader.{heightTaken, awaiting}
-use Rattle.sheet_head.specs.declared.reader.Stage.the-variants.{Ended}
+use Rattle.head_rules.specs.Reader.{heightTaken, awaiting}
+use Rattle.head_rules.specs.declared.Stage.the-variants.{Ended}
 use borrow.Author.Needs.{needs}
 use Rattle.sheet_head.proofs.reader.take_height.Statement.{statement}
 use Rattle.sheet_head.proofs.reader.take_height.Tie as tie

@@ -3,8 +3,8 @@
 use Prim.Native.Nat.{ℕ, _+_, _*_, _^_}
 use mathlib.Core.Path.{_∙_, ap, ap₂, sym}
 use native.Mathlib.Omega.{arith}
-use Rattle.sheet_head.specs.Reader.{lastTaken, numberIn}
-use Rattle.sheet_head.proofs.Bytewise.{low-small, not-far}
+use Rattle.head_rules.specs.Reader.{lastTaken, numberIn}
+use Rattle.head_rules.proofs.Bytewise.{low-small, not-far}
 use borrow.Author.Needs.{needs}
 use Rattle.sheet_head.proofs.reader.take_last.Statement.{statement}
 use Rattle.sheet_head.proofs.reader.take_last.Tie as tie

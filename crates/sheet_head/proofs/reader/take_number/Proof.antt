@@ -1,9 +1,9 @@
 -- `reader::take_number` meets its contract.
 -- Assumes nothing.
 use mathlib.Core.Path.{_∙_, ap, sym}
-use Rattle.sheet_head.specs.declared.reader.Stage.{Stage}
-use Rattle.sheet_head.specs.Reader.{numberIn, awaiting}
-use Rattle.sheet_head.specs.declared.reader.Stage.the-variants.{Height}
+use Rattle.head_rules.specs.declared.Stage.{Stage}
+use Rattle.head_rules.specs.Reader.{numberIn, awaiting}
+use Rattle.head_rules.specs.declared.Stage.the-variants.{Height}
 use borrow.Author.Needs.{needs}
 use Rattle.sheet_head.proofs.reader.take_number.Statement.{statement}
 use Rattle.sheet_head.proofs.reader.take_number.Tie as tie

@@ -1,0 +1,2 @@
+-- What the decoder promises.
+pub mod Promises

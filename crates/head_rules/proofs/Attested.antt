@@ -1,0 +1,81 @@
+-- WHAT HOLDS THE DEFINITIONS OF A HEAD: numbers and heads with their bytes, written out, at both ends of what is accepted.
+-- Assumes nothing.
+use mathlib.Core.Path.{_≡_, refl}
+use mathlib.Core.List.{List, [], _∷_, map}
+use Prim.Native.Nat.{ℕ}
+use Rattle.head_rules.specs.declared.Number.{Number}
+use Rattle.head_rules.specs.declared.Head.{Head}
+use Rattle.head_rules.specs.declared.HeadBytes.{HeadBytes}
+use Rattle.laws.specs.Padding.{padded}
+use Rattle.laws.specs.Refusals.{first}
+use Rattle.head_rules.specs.Heads.{formIn, headBytes, headRefusal, heightIn, readHead, sizeRefusal, widthIn, writeHead}
+use Rattle.head_rules.specs.declared.Stage.the-variants.{Width}
+use Rattle.head_rules.specs.Geometry.{across, blocksOf, outLength, placeOf, rowLength, sideShown, wholeLength}
+use Rattle.head_rules.specs.Reader.{Reading, atForm, byteTaken, formTaken, groupTaken, heightTaken, lastTaken, readBy}
+use Rattle.head_rules.specs.Numbers.{groups, numberBytes, raised, readGroups, readNumber}
+
+-- what was read: the number and the place behind it; or nothing
+abbrev number : ℕ → ℕ → Number
+number n next = record { refusal = 0; value = n; next = next }
+
+abbrev none : Number
+none = record { refusal = 7; value = 0; next = 0 }
+
+-- a head that was read, and one that was not
+abbrev head : ℕ → ℕ → ℕ → Head
+head w h start = record { refusal = 0; width = w; height = h; start = start }
+
+abbrev noHead : ℕ → Head
+noHead r = record { refusal = r; width = 0; height = 0; start = 0 }
+
+-- what was read byte by byte, and the bytes behind it
+abbrev reading : Head → List ℕ → Reading
+reading h rest = record { head = h; rest = rest }
+
+-- a head that was written
+abbrev written : ℕ → List ℕ → ℕ → HeadBytes
+written r bs n = record { refusal = r; bytes = bs; count = n }
+
+pub record Heads : Type 0 where
+  pub numbers-written : map numberBytes (0 ∷ 127 ∷ 128 ∷ 16383 ∷ 16384 ∷ 2097151 ∷ [])
+      ≡ (0x00 ∷ []) ∷ (0x7F ∷ []) ∷ (0x80 ∷ 0x01 ∷ []) ∷ (0xFF ∷ 0x7F ∷ []) ∷ (0x80 ∷ 0x80 ∷ 0x01 ∷ []) ∷ (0xFF ∷ 0xFF ∷ 0x7F ∷ []) ∷ []
+  pub numbers-read : map (λ (s : List ℕ). readNumber s 1)
+      ((9 ∷ 0x00 ∷ []) ∷ (9 ∷ 0x80 ∷ 0x01 ∷ []) ∷ (9 ∷ 0xFF ∷ 0xFF ∷ 0x7F ∷ 9 ∷ []) ∷
+      (9 ∷ []) ∷ (9 ∷ 0x80 ∷ []) ∷ (9 ∷ 0x81 ∷ 0x00 ∷ []) ∷ (9 ∷ 0x80 ∷ 0x80 ∷ 0x80 ∷ 0x01 ∷ []) ∷ [])
+      ≡ number 0 2 ∷ number 128 3 ∷ number 2097151 4 ∷ none ∷ none ∷ none ∷ none ∷ []
+  pub heads-read : map readHead
+      ((0x01 ∷ 0x05 ∷ 0x06 ∷ 0x60 ∷ []) ∷ (0x01 ∷ 0x01 ∷ 0x01 ∷ []) ∷ (0x01 ∷ 0x80 ∷ 0x20 ∷ 0x80 ∷ 0x20 ∷ []) ∷
+      (0x80 ∷ []) ∷ (0x02 ∷ 0x80 ∷ []) ∷ (0x01 ∷ 0x00 ∷ 0x80 ∷ []) ∷
+      (0x01 ∷ 0x00 ∷ 0x01 ∷ []) ∷ (0x01 ∷ 0x81 ∷ 0x20 ∷ 0x01 ∷ []) ∷ (0x01 ∷ 0x01 ∷ 0x81 ∷ 0x20 ∷ []) ∷ [])
+      ≡ head 5 6 3 ∷ head 1 1 3 ∷ head 4096 4096 5 ∷ noHead 7 ∷ noHead 8 ∷ noHead 7 ∷ noHead 9 ∷ noHead 9 ∷ noHead 9 ∷ []
+  pub heads-written : writeHead 5 6 ∷ writeHead 4096 4096 ∷ writeHead 0 1 ∷ writeHead 4097 1 ∷ writeHead 1 4097 ∷ []
+      ≡ written 0 (0x01 ∷ 0x05 ∷ 0x06 ∷ 0 ∷ 0 ∷ 0 ∷ 0 ∷ []) 3 ∷ written 0 (0x01 ∷ 0x80 ∷ 0x20 ∷ 0x80 ∷ 0x20 ∷ 0 ∷ 0 ∷ []) 5 ∷
+      written 9 (0 ∷ 0 ∷ 0 ∷ 0 ∷ 0 ∷ 0 ∷ 0 ∷ []) 0 ∷ written 9 (0 ∷ 0 ∷ 0 ∷ 0 ∷ 0 ∷ 0 ∷ 0 ∷ []) 0 ∷ written 9 (0 ∷ 0 ∷ 0 ∷ 0 ∷ 0 ∷ 0 ∷ 0 ∷ []) 0 ∷
+      []
+  -- behind 01 and 85: the width is to come, 5 is its low group, and the form ended at 1
+  pub a-state : byteTaken (byteTaken atForm 0x01) 0x85 ≡ record { stage = Width; low = 5; groups = 1; head = head 0 0 1 }
+  pub heads-by-bytes : map (readBy atForm)
+      ((0x01 ∷ 0x05 ∷ 0x06 ∷ 0x60 ∷ []) ∷ (0x01 ∷ 0x80 ∷ 0x20 ∷ 0x81 ∷ 0x02 ∷ []) ∷ (0x02 ∷ 0x05 ∷ []) ∷ (0x01 ∷ 0x81 ∷ 0x00 ∷ 0x60 ∷ []) ∷
+      (0x01 ∷ 0x80 ∷ 0x80 ∷ 0x80 ∷ []) ∷ (0x01 ∷ 0x05 ∷ []) ∷ (0x01 ∷ 0x05 ∷ 0x00 ∷ []) ∷ [])
+      ≡ reading (head 5 6 3) (0x60 ∷ []) ∷ reading (head 4096 257 5) [] ∷ reading (noHead 8) (0x05 ∷ []) ∷ reading (noHead 7) (0x60 ∷ []) ∷
+      reading (noHead 7) [] ∷ reading (noHead 7) [] ∷ reading (noHead 9) [] ∷ []
+  -- columns and rows of blocks, shown scanlines, and of a sheet of 5 by 9 pixels the blocks, the place of block 3, and its length
+  pub rounded-up : map across (1 ∷ 4 ∷ 5 ∷ 4095 ∷ 4096 ∷ []) ≡ 1 ∷ 1 ∷ 2 ∷ 1024 ∷ 1024 ∷ []
+  pub scanlines-shown : map (sideShown 9) (0 ∷ 1 ∷ 2 ∷ []) ≡ 4 ∷ 4 ∷ 1 ∷ []
+  pub blocks-placed : blocksOf (head 5 9 3) ∷ placeOf (head 5 9 3) 3 ∷ wholeLength (head 5 9 3) ∷ rowLength 5 ∷ outLength 5 3 ∷ []
+      ≡ 6 ∷ 51 ∷ 99 ∷ 32 ∷ 60 ∷ []
+
+pub heads-hold : Heads
+unfolding groups readGroups readNumber raised readHead headRefusal formIn widthIn heightIn first sizeRefusal writeHead headBytes padded formTaken
+    heightTaken lastTaken groupTaken readBy blocksOf placeOf
+heads-hold = record {
+  numbers-written = refl;
+  numbers-read = refl;
+  heads-read = refl;
+  heads-written = refl;
+  a-state = refl;
+  heads-by-bytes = refl;
+  rounded-up = refl;
+  scanlines-shown = refl;
+  blocks-placed = refl;
+}

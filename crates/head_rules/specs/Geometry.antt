@@ -1,0 +1,32 @@
+-- THE GEOMETRY OF A SHEET: columns and rows of blocks, what is shown of a block at an edge, how many blocks there are and where each
+-- stands, and how many bytes a row of blocks, its pixels and a whole sheet have.
+-- Assumes nothing.
+use Prim.Native.Nat.{ℕ, _+_, _-_, _*_, _/_, min}
+use Rattle.head_rules.specs.declared.Head.{Head}
+
+-- columns of blocks in a width, rows of blocks in a height
+abbrev pub across : ℕ → ℕ
+across n = (n + 3) / 4
+
+-- how many scanlines of a height the row of blocks n shows, and how many columns of a width the column of blocks n
+abbrev pub sideShown : ℕ → ℕ → ℕ
+sideShown side n = min 4 (side - 4 * n)
+
+-- the bytes of a row of blocks, and of so many scanlines of pixels
+abbrev pub rowLength : ℕ → ℕ
+rowLength w = 16 * across w
+
+abbrev pub outLength : ℕ → ℕ → ℕ
+outLength w scanlines = scanlines * (4 * w)
+
+-- how many blocks a sheet has
+unfoldable pub blocksOf : Head → ℕ
+blocksOf h = across (h .height) * across (h .width)
+
+-- where block b stands: THE place of a block in a sheet
+unfoldable pub placeOf : Head → ℕ → ℕ
+placeOf h b = h .start + 16 * b
+
+-- the bytes of a whole sheet
+abbrev pub wholeLength : Head → ℕ
+wholeLength h = h .start + 16 * blocksOf h
