@@ -27,7 +27,7 @@ use Rattle.head_rules.specs.Numbers.{groups, raised, readGroups, readNumber}
 use Rattle.sheet_rules.specs.Rows.{blockAt, channel, rowByte, rowBytes, rowOut, rowRefusal}
 use Rattle.sheet_rules.specs.Sheets.{blockIn, findRefusal, putBlock, replacedIn, sheetAfter, sheetRefusal}
 use Rattle.sheet_rules.proofs.Attested.{lower, lowerScanlines, small, smallReplaced}
-use Rattle.rinchovek.specs.Promises.{Decodes, Gives, Packs, ReadsLine, Replaces, Unpacks, Versions, DecodesRow, ReadsHead, ReplacesIn, WritesHead}
+use Rattle.rinchovek_rules.specs.Promises.{Decodes, Gives, Packs, ReadsLine, Replaces, Unpacks, Versions, DecodesRow, ReadsHead, ReplacesIn, WritesHead}
 
 abbrev zeros : ℕ → List ℕ
 zeros n = replicate n 0
