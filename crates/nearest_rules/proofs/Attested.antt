@@ -11,12 +11,14 @@ use Rattle.bcn_format.specs.Block.{number, trailing}
 use Rattle.bcn_format.specs.Drawing.{drawn, promoted, weightOf, weights}
 use Rattle.bcn_format.specs.Partitions.{anchors2, anchors3, digits, marks, strings2, strings3, subset2, subset3}
 use Rattle.bc7_format.specs.Modes.{modeOf, endpointCount, kindOfMode, modeRow}
-use Rattle.bc7_format.specs.Lines.{draws, eight, has, indexPlace, indexSetOf, lineAt, lineBits, lineOf, meansShown, meansStored, own, pPlace, rotated, valuePlace}
+use Rattle.bc7_format.specs.Lines.{draws, eight, has, indexPlace, indexSetOf, lineAt, lineBits, lineOf, meansShown, meansStored, own, pPlace, rotated}
+use Rattle.bc7_format.specs.Lines.{valuePlace}
 use Rattle.bc7_format.specs.Places.{atPlace, opened, placeAt, pos, width, widths}
 use Rattle.bc7_format.specs.Splits.{splitAt, splitOf}
 use Rattle.bc7_format.proofs.Examples.{block7}
 use Rattle.line_rules.specs.Read.{readRefusal}
-use Rattle.nearest_rules.specs.Nearest.{channelDistance, distance, drawnWith, exactIndex, exactRefusal, inLine, indexCount, leastAt, nearestIndex, nearestRefusal, squared, withIndex, zeroAt}
+use Rattle.nearest_rules.specs.Nearest.{channelDistance, distance, drawnWith, exactIndex, exactRefusal, inLine, indexCount, leastAt}
+use Rattle.nearest_rules.specs.Nearest.{nearestIndex, nearestRefusal, squared, withIndex, zeroAt}
 
 -- a call, and what the nearest index and the one that hits are
 pub record Claim : Type 0 where

@@ -16,7 +16,8 @@ use Rattle.laws.proofs.Tests.{both-true}
 use Rattle.bcn_format.specs.Block.{eights}
 use Rattle.bc7_format.specs.Splits.{isVector, splitOf, subset}
 use Rattle.line_rules.proofs.Reading.{read-answers}
-use Rattle.nearest_rules.specs.Nearest.{Hit, InLine, distance, exactRefusal, exactRules, inLine, indexCount, nearestRefusal, nearestRules, zeroAt}
+use Rattle.nearest_rules.specs.Nearest.{Hit, InLine, distance, exactRefusal, exactRules, inLine, indexCount, nearestRefusal, nearestRules}
+use Rattle.nearest_rules.specs.Nearest.{zeroAt}
 use Rattle.nearest_rules.proofs.Least.{zero-at}
 
 -- the test of a pixel says what its words say

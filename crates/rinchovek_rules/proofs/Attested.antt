@@ -10,7 +10,8 @@ use Rattle.laws.specs.Tables.{over, table, tableFrom}
 use Rattle.bcn_format.specs.Block.{bytesOf, number, trailing}
 use Rattle.bc7_format.specs.Modes.{modeOf, endpointCount, kindOfMode, modeRow}
 use Rattle.bcn_format.specs.Drawing.{drawn, promoted, weightOf, weights}
-use Rattle.bc7_format.specs.Lines.{anchorOf, draws, eight, indexSetOf, has, indexPlace, laid, lineAt, lineBits, lineOf, meansShown, meansStored, own, pPlace, pixel, pixels, rotated, shown, turned, valuePlace, withLine}
+use Rattle.bc7_format.specs.Lines.{anchorOf, draws, eight, indexSetOf, has, indexPlace, laid, lineAt, lineBits, lineOf, meansShown, meansStored, own}
+use Rattle.bc7_format.specs.Lines.{pPlace, pixel, pixels, rotated, shown, turned, valuePlace, withLine}
 use Rattle.bcn_format.specs.Partitions.{anchors2, anchors3, digits, marks, strings2, strings3, subset2, subset3}
 use Rattle.bc7_format.specs.Places.{atPlace, blockOf, listOf, opened, placeAt, pos, width, widths}
 use Rattle.bc7_format.specs.Splits.{splitAt, splitOf}
@@ -19,7 +20,8 @@ use Rattle.record_rules.specs.Records.{fits, made, packRefusal, packed, recordO
 use Rattle.line_rules.specs.Read.{givenAs, lineRead, readRefusal, valueAt, widthsOf}
 use Rattle.line_rules.specs.Replace.{after, indexFits, lineFits, lineGiven, oriented, ownWidth, pFits, put, refusal, refusalIn, replaced, valueFits}
 use Rattle.line_rules.proofs.Attested.{after7}
-use Rattle.nearest_rules.specs.Nearest.{channelDistance, distance, drawnWith, exactIndex, exactRefusal, inLine, indexCount, leastAt, nearestIndex, nearestRefusal, squared, withIndex, zeroAt}
+use Rattle.nearest_rules.specs.Nearest.{channelDistance, distance, drawnWith, exactIndex, exactRefusal, inLine, indexCount, leastAt, nearestIndex}
+use Rattle.nearest_rules.specs.Nearest.{nearestRefusal, squared, withIndex, zeroAt}
 use Rattle.record_bytes.specs.Wire.{bytesRefusal, packedBytes, recordByte, recordBytes, recordOfBytes, replacementBytes, replacementOf, spelt}
 use Rattle.record_bytes.proofs.Attested.{bytes4, bytes7, bytesGiven}
 use Rattle.head_rules.specs.Geometry.{blocksOf, placeOf}
@@ -28,7 +30,8 @@ use Rattle.head_rules.specs.Numbers.{groups, raised, readGroups, readNumber}
 use Rattle.sheet_rules.specs.Rows.{blockAt, channel, rowByte, rowBytes, rowOut, rowRefusal}
 use Rattle.sheet_rules.specs.Sheets.{blockIn, findRefusal, putBlock, replacedIn, sheetAfter, sheetRefusal}
 use Rattle.sheet_rules.proofs.Attested.{lower, lowerScanlines, small, smallReplaced}
-use Rattle.rinchovek_rules.specs.Promises.{Decodes, Gives, Packs, ReadsLine, Replaces, Unpacks, Versions, DecodesRow, ReadsHead, ReplacesIn, FindsExact, FindsNearest, WritesHead}
+use Rattle.rinchovek_rules.specs.Promises.{Decodes, Gives, Packs, ReadsLine, Replaces, Unpacks, Versions, DecodesRow, ReadsHead, ReplacesIn}
+use Rattle.rinchovek_rules.specs.Promises.{FindsExact, FindsNearest, WritesHead}
 
 abbrev zeros : ℕ → List ℕ
 zeros n = replicate n 0
