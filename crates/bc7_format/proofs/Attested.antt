@@ -10,7 +10,8 @@ use Rattle.laws.specs.Tables.{table, tableFrom}
 use Rattle.bcn_format.specs.Block.{number, trailing}
 use Rattle.bc7_format.specs.Modes.{modeOf, endpointCount, kindOfMode, modeRow}
 use Rattle.bcn_format.specs.Drawing.{drawn, promoted, weightOf, weights}
-use Rattle.bc7_format.specs.Lines.{eight, Line, indexSetOf, has, indexPlace, laid, lineAt, lineBits, lineOf, meansStored, own, pPlace, pixel, rotated, shown, turned, valuePlace, withLine}
+use Rattle.bc7_format.specs.Lines.{eight, Line, indexSetOf, has, indexPlace, laid, lineAt, lineBits, lineOf, meansStored, own, pPlace, pixel}
+use Rattle.bc7_format.specs.Lines.{rotated, shown, turned, valuePlace, withLine}
 use Rattle.bcn_format.specs.Partitions.{anchors2, anchors3, digits, marks, strings2, strings3, subset2, subset3}
 use Rattle.bc7_format.specs.Places.{atPlace, listOf, opened, pbit, placeAt, pos, width, widths}
 use Rattle.bc7_format.specs.Splits.{splitAt, splitOf}

@@ -11,7 +11,8 @@ use lib.Dec.{T, eqb}
 use Rattle.bc7_format.specs.declared.Split.{Split}
 use Rattle.laws.specs.Tables.{pick}
 use Rattle.laws.proofs.Tests.{T-true, both-true, true-T}
-use Rattle.bc7_format.specs.Lines.{Line, has, indexPlace, isDrawn, laid, lineAt, lineOf, lineOfPlace, meansStored, own, pPlace, rotated, shown, valuePlace, withLine}
+use Rattle.bc7_format.specs.Lines.{Line, has, indexPlace, isDrawn, laid, lineAt, lineOf, lineOfPlace, meansStored, own, pPlace, rotated, shown}
+use Rattle.bc7_format.specs.Lines.{valuePlace, withLine}
 use Rattle.bc7_format.specs.Places.{Place, lead, inside, width}
 use Rattle.bc7_format.specs.Splits.{rotation}
 

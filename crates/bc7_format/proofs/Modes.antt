@@ -17,7 +17,8 @@ use Rattle.laws.specs.Tables.{below, implies, pick}
 use Rattle.laws.proofs.Tests.{at, implied}
 use Rattle.bc7_format.specs.Lines.{anchorOf}
 use Rattle.bcn_format.specs.Partitions.{firstIn, among, anchors2, anchors3, digits, marks, or, strings2, strings3, subset2, subset3}
-use Rattle.bc7_format.specs.Modes.{endpointCount, firstBits, indexModeBits, kindOfMode, lines, modeRow, pCount, partitionBits, rotationBits, secondBits, modeOf}
+use Rattle.bc7_format.specs.Modes.{endpointCount, firstBits, indexModeBits, kindOfMode, lines, modeRow, pCount, partitionBits, rotationBits}
+use Rattle.bc7_format.specs.Modes.{secondBits, modeOf}
 use Rattle.bc7_format.specs.Places.{Place, lead, width}
 use Rattle.bc7_format.specs.Splits.{anchors, indexMode, isVector, kindOf, ofKind, partition, rotation, subset}
 use Rattle.bc7_format.specs.WellFormed.{WellFormed}

@@ -21,7 +21,8 @@ use Rattle.laws.proofs.Rows.{fit-table}
 use Rattle.laws.proofs.Tests.{at, both-intro, both-left, both-right}
 use Rattle.bc7_format.specs.Modes.{endpointCount, indexBits, kindOfMode, modeRow, partitionBits}
 use Rattle.bcn_format.specs.Partitions.{among, anchors2, anchors3, digits, marks, strings2, strings3}
-use Rattle.bc7_format.specs.Places.{Place, lead, index, inside, listOf, pbit, placeAt, pos, value, width, widths, valuesFrom, psFrom, firstFrom, placeCount}
+use Rattle.bc7_format.specs.Places.{Place, lead, index, inside, listOf, pbit, placeAt, pos, value, width, widths, valuesFrom, psFrom, firstFrom}
+use Rattle.bc7_format.specs.Places.{placeCount}
 use Rattle.bc7_format.specs.Splits.{anchors, indexMode, kindOf, ofKind, partition, rotation}
 
 -- the places that code names are there

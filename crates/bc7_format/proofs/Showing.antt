@@ -19,7 +19,8 @@ use Rattle.laws.proofs.Joining.{table-same}
 use Rattle.bcn_format.specs.Block.{eights, field, number}
 use Rattle.bc7_format.specs.Modes.{modeOf, channelBits, indexBits, lines, pCount}
 use Rattle.bcn_format.specs.Drawing.{drawn, weightOf}
-use Rattle.bc7_format.specs.Lines.{eight, indexSetOf, indexPlace, isDrawn, lineAt, lineBits, lineOf, meansStored, pPlace, pixel, pixels, rotated, shown, valuePlace}
+use Rattle.bc7_format.specs.Lines.{eight, indexSetOf, indexPlace, isDrawn, lineAt, lineBits, lineOf, meansStored, pPlace, pixel, pixels}
+use Rattle.bc7_format.specs.Lines.{rotated, shown, valuePlace}
 use Rattle.bcn_format.specs.Partitions.{among}
 use Rattle.bc7_format.specs.Places.{atPlace, index, opened, pbit, value, width}
 use Rattle.bc7_format.specs.Splits.{anchors, isVector, rotation, splitAt, splitOf, subset}

@@ -5,7 +5,8 @@ use mathlib.Core.List.{List}
 use Prim.Native.Nat.{ℕ, _<_, _≤_}
 use Rattle.bc7_places.specs.declared.modes.ModeRow.{ModeRow}
 use Rattle.bits.specs.declared.stream.BitStream.{BitStream}
-use Rattle.bc7_format.specs.Modes.{alphaBits, colourBits, endpointCount, firstBits, indexModeBits, kindOfMode, lines, modeOf, pCount, partitionBits, rotationBits, secondBits}
+use Rattle.bc7_format.specs.Modes.{alphaBits, colourBits, endpointCount, firstBits, indexModeBits, kindOfMode, lines, modeOf, pCount, partitionBits}
+use Rattle.bc7_format.specs.Modes.{rotationBits, secondBits}
 
 -- a row, its columns in the order of the struct
 abbrev pub modeRowAs : ℕ → ℕ → ℕ → ℕ → ℕ → ℕ → ℕ → ℕ → ℕ → ℕ → ℕ → ModeRow

@@ -10,7 +10,8 @@ ghost use Rattle.laws.specs.Tables.{pick};
 ghost use Rattle.bcn_format.specs.Block.{field};
 ghost use Rattle.bcn_format.specs.Drawing.{promoted};
 ghost use Rattle.bcn_format.specs.Painting.{endOf, endOfP, solid};
-ghost use Rattle.drawing.specs.Words.{laned, Lanes, lanesOf, LanesOfOne, wordBytes, woven, blend, blends, endsP, Fitting, Holds, HoldsOne, plain, withAlpha, withP};
+ghost use Rattle.drawing.specs.Words.{laned, Lanes, lanesOf, LanesOfOne, wordBytes, woven, blend, blends, endsP, Fitting, Holds, HoldsOne};
+ghost use Rattle.drawing.specs.Words.{plain, withAlpha, withP};
 
 // What a block stores of a colour: each value has a channel of both endpoints, the first one's in the low bits, and p both p bits.
 pub struct Stored {

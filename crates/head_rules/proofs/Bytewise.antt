@@ -25,7 +25,8 @@ use Rattle.laws.proofs.Refusals.{accepted-when, exactly}
 use Rattle.laws.proofs.Tests.{no-both}
 use Rattle.head_rules.specs.Heads.{Sized, form, formIn, headOf, headRules, heightIn, readHead, sizeRefusal, widthIn}
 use Rattle.head_rules.specs.Numbers.{found, noNumber, raised, readGroups, readNumber}
-use Rattle.head_rules.specs.Reader.{Going, Reading, atForm, awaiting, before, byteTaken, emptyAbove, endedIn, formTaken, groupTaken, hasEnded, heightTaken, lastTaken, nextNumber, numberIn, readBy, refusedWith}
+use Rattle.head_rules.specs.Reader.{Going, Reading, atForm, awaiting, before, byteTaken, emptyAbove, endedIn, formTaken, groupTaken, hasEnded}
+use Rattle.head_rules.specs.Reader.{heightTaken, lastTaken, nextNumber, numberIn, readBy, refusedWith}
 use Rattle.head_rules.proofs.Heading.{accepted, head-rules, refusal-is, refused, size-0, size-refused, sized}
 use Rattle.head_rules.proofs.Reading.{cut-off, last-group, more-groups, near, no-group, raised-none, raised-some}
 

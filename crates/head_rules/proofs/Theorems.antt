@@ -15,7 +15,8 @@ use Rattle.head_rules.specs.declared.HeadBytes.{HeadBytes}
 use Rattle.laws.specs.Refusals.{Given}
 use Rattle.laws.proofs.Cases.{lt-or}
 use Rattle.laws.proofs.Refusals.{Answers, accepted-when, alone, exactly}
-use Rattle.head_rules.specs.Heads.{ReadsHead, Sized, WritesHead, form, formIn, headBytes, headOf, headRefusal, headRules, heightIn, readHead, sizeRefusal, sizeRules, widthIn, writeHead}
+use Rattle.head_rules.specs.Heads.{ReadsHead, Sized, WritesHead, form, formIn, headBytes, headOf, headRefusal, headRules, heightIn, readHead}
+use Rattle.head_rules.specs.Heads.{sizeRefusal, sizeRules, widthIn, writeHead}
 use Rattle.head_rules.specs.Numbers.{Bytes, found, groups, noNumber, numberBytes, numbersEnd, raised, readGroups, readNumber}
 use Rattle.head_rules.specs.Geometry.{across, blocksOf, placeOf, wholeLength}
 use Rattle.head_rules.specs.Reader.{atForm, readBy}

@@ -20,7 +20,8 @@ use Rattle.bc7_format.specs.Splits.{splitAt, splitOf}
 use Rattle.bc7_format.proofs.Examples.{block4, block5, block7}
 use Rattle.line_rules.specs.Calls.{afterAll}
 use Rattle.line_rules.specs.Read.{givenAs, lineRead, readRefusal, widthsOf}
-use Rattle.line_rules.specs.Replace.{after, callOf, indexFits, lineFits, lineGiven, oriented, ownWidth, pFits, put, refusal, refusalIn, replaced, valueFits}
+use Rattle.line_rules.specs.Replace.{after, callOf, indexFits, lineFits, lineGiven, oriented, ownWidth, pFits, put, refusal, refusalIn}
+use Rattle.line_rules.specs.Replace.{replaced, valueFits}
 
 -- two endpoints, of which the first has this red and this p; indexes at the pixels 8 to 15, of which 15 is the anchor, and one at pixel
 -- 0, which is another line's

@@ -7,13 +7,15 @@ use Prim.Native.Nat.{ℕ, _^_, _<_, _≤_}
 use borrow.Author.Tests.{eqb-false, not-true}
 use Rattle.bc7_format.specs.declared.Split.{Split}
 use Rattle.laws.specs.Tables.{pick}
-use Rattle.bc7_format.specs.Lines.{Line, indexPlace, isDrawn, lineAt, lineBits, lineOf, meansStored, own, pPlace, rotated, shown, turned, valuePlace, withLine}
+use Rattle.bc7_format.specs.Lines.{Line, indexPlace, isDrawn, lineAt, lineBits, lineOf, meansStored, own, pPlace, rotated, shown, turned, valuePlace}
+use Rattle.bc7_format.specs.Lines.{withLine}
 use Rattle.bc7_format.specs.Modes.{channelBits, pCount}
 use Rattle.bc7_format.specs.Places.{Place}
 use Rattle.bc7_format.specs.Splits.{rotation}
 use Rattle.bc7_format.specs.WellFormed.{WellFormed}
 use Rattle.bc7_format.proofs.Lens.{own-same}
-use Rattle.bc7_format.proofs.Meaning.{good-rotation, has-index, has-p, has-value, laid-index, laid-p, laid-value, line-bits, means-ext, rotated-lt, turned-means}
+use Rattle.bc7_format.proofs.Meaning.{good-rotation, has-index, has-p, has-value, laid-index, laid-p, laid-value, line-bits, means-ext, rotated-lt}
+use Rattle.bc7_format.proofs.Meaning.{turned-means}
 use Rattle.line_rules.specs.Acceptable.{Acceptable}
 use Rattle.line_rules.specs.Replace.{oriented, put, refusalIn, topSet}
 use Rattle.line_rules.proofs.Accepting.{accepted-is}

@@ -23,7 +23,8 @@ use Rattle.laws.proofs.Refusals.{Answers, accepted-when, answers, by-not-ltb, n
 use Rattle.laws.proofs.Tests.{T-true, both-left, both-right, no-both, not-so}
 use Rattle.bcn_format.specs.Block.{eights}
 use Rattle.bc7_format.specs.Modes.{modeOf, lines}
-use Rattle.bc7_format.specs.Lines.{Line, anchorOf, draws, has, indexPlace, laid, lineBits, lineOf, meansShown, own, pPlace, pixel, rotated, shown, turned, valuePlace, withLine}
+use Rattle.bc7_format.specs.Lines.{Line, anchorOf, draws, has, indexPlace, laid, lineBits, lineOf, meansShown, own, pPlace, pixel, rotated, shown}
+use Rattle.bc7_format.specs.Lines.{turned, valuePlace, withLine}
 use Rattle.bcn_format.specs.Partitions.{among}
 use Rattle.bc7_format.specs.Places.{Place, lead, index, inside, opened, pbit, value, width}
 use Rattle.bc7_format.specs.Splits.{anchors, rotation, splitOf}

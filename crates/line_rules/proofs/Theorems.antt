@@ -27,10 +27,12 @@ use Rattle.line_rules.specs.Calls.{afterAll, last, lastOfEach, seen}
 use Rattle.line_rules.specs.Read.{TooWide, givenAs, lineRead, readRules, turnedIn}
 use Rattle.line_rules.specs.Replace.{Call, after, callOf, lineGiven, oriented, refusal, replaced, replacedAs, topSet}
 use Rattle.line_rules.proofs.Accepting.{on-block}
-use Rattle.line_rules.proofs.Blocks.{after-mode, after-sixteen, after-split, full-alpha, given-drawn, others-kept, places-kept, places-stored, same-refusal, unchanged}
+use Rattle.line_rules.proofs.Blocks.{after-mode, after-sixteen, after-split, full-alpha, given-drawn, others-kept, places-kept, places-stored}
+use Rattle.line_rules.proofs.Blocks.{same-refusal, unchanged}
 use Rattle.line_rules.proofs.Draws.{drawn-by-one}
 use Rattle.line_rules.proofs.OwnWidths.{own-widths}
-use Rattle.line_rules.proofs.Reading.{given-back, other-read, put-draws, put-is-read, read-after, read-answers, read-drawn, read-not-turned, replaced-by-read}
+use Rattle.line_rules.proofs.Reading.{given-back, other-read, put-draws, put-is-read, read-after, read-answers, read-drawn, read-not-turned}
+use Rattle.line_rules.proofs.Reading.{replaced-by-read}
 use Rattle.line_rules.proofs.Sequences.{all-stays, bytes-trade, first-stays, lasts, same-lasts, sequence-draws, trading}
 use Rattle.line_rules.proofs.TooWide.{refused-with-3}
 use Rattle.line_rules.specs.Promises.{ReadsLine, Replaces}

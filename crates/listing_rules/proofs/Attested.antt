@@ -11,7 +11,8 @@ use Rattle.laws.specs.Tables.{table, tableFrom}
 use Rattle.bc7_format.specs.Modes.{modeOf, endpointCount, kindOfMode, modeRow}
 use Rattle.bcn_format.specs.Block.{number, trailing}
 use Rattle.bcn_format.specs.Drawing.{drawn, promoted, weightOf, weights}
-use Rattle.bc7_format.specs.Lines.{eight, indexSetOf, has, indexPlace, lineAt, lineBits, lineOf, meansStored, own, pPlace, pixel, pixels, rotated, shown, valuePlace}
+use Rattle.bc7_format.specs.Lines.{eight, indexSetOf, has, indexPlace, lineAt, lineBits, lineOf, meansStored, own, pPlace, pixel, pixels, rotated}
+use Rattle.bc7_format.specs.Lines.{shown, valuePlace}
 use Rattle.bcn_format.specs.Partitions.{anchors2, anchors3, digits, marks, strings2, strings3, subset2, subset3}
 use Rattle.bc7_format.specs.Places.{atPlace, opened, placeAt, pos, width, widths}
 use Rattle.bc7_format.specs.Splits.{splitAt, splitOf}

@@ -24,7 +24,9 @@ use Rattle.head_rules.proofs.Bytewise.{Stepped, going-start, not-far, read-byte
 use Rattle.head_rules.proofs.Theorems.{fold-leaves-the-blocks, read-head-is-the-fold}
 use Rattle.listing_rules.specs.Text.{refusedText, sheetText}
 use Rattle.listing_rules.specs.Listing.{listed, listing, rowsListing, unlessExact}
-use Rattle.listing_rules.specs.Machine.{Ready, ReadyIn, Run, atHead, atStart, begun, ended, headText, inRows, nextAtHead, nextIn, nextInRows, nextOf, over, rowsPhase, takenOf, textAtHead, textIn, textOf, round, roundsIn, roundsOf, wantedIn, wantedOf}
+use Rattle.listing_rules.specs.Machine.{Ready, ReadyIn, Run, atHead, atStart, begun, ended, headText, inRows, nextAtHead, nextIn, nextInRows}
+use Rattle.listing_rules.specs.Machine.{nextOf, over, rowsPhase, takenOf, textAtHead, textIn, textOf, round, roundsIn, roundsOf, wantedIn}
+use Rattle.listing_rules.specs.Machine.{wantedOf}
 use Rattle.listing_rules.proofs.Rows.{listing-by-rows, listing-refused}
 
 -- what comes of the head's next byte

@@ -8,7 +8,8 @@ use lib.Dec.{T, eqb}
 use Rattle.laws.specs.Tables.{pick}
 use Rattle.bcn_format.specs.Partitions.{among}
 use Rattle.bcn_format.proofs.Expanding.{times-width}
-use Rattle.published.specs.Asserts.{ConsumeBits, DecompressSingleIndex, ExtractPartitionSetId, GetEndPoints2, GetEndPoints4, GetEndPoints6, GetIndex, NewP1, NewP2, NewP3}
+use Rattle.published.specs.Asserts.{ConsumeBits, DecompressSingleIndex, ExtractPartitionSetId, GetEndPoints2, GetEndPoints4, GetEndPoints6}
+use Rattle.published.specs.Asserts.{GetIndex, NewP1, NewP2, NewP3}
 
 pub reads : (k : ℕ) → 0 < k → k ≤ 8 → ConsumeBits k
 reads k h l = (h, l, omega arith, omega arith)

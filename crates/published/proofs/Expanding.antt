@@ -14,7 +14,8 @@ use Rattle.bcn_format.specs.Indexes.{expanded, part}
 use Rattle.bcn_format.proofs.Expanding.{after-1, after-2, one-anchor, spare-bit, three-anchors, times-width, two-anchors}
 use Rattle.bcn_format.proofs.Insert.{inserted-high, inserted-low, inserted-lt}
 use Rattle.published.specs.Machine.{flip, mul, shl, shr, sub}
-use Rattle.published.specs.BcnUtil.{Indexes, decompress-single-index, from-compressed-p1, from-compressed-p2, from-compressed-p3, get-index, get-mask, new-p1, new-p2, new-p3}
+use Rattle.published.specs.BcnUtil.{Indexes, decompress-single-index, from-compressed-p1, from-compressed-p2, from-compressed-p3, get-index}
+use Rattle.published.specs.BcnUtil.{get-mask, new-p1, new-p2, new-p3}
 use Rattle.published.proofs.Reading.{consume-bits-64-is, mask-64}
 
 -- the steps on what is left above the kept bits

@@ -10,7 +10,8 @@ use Rattle.laws.specs.Tables.{over, table, tableFrom}
 use Rattle.bcn_format.specs.Block.{bytesOf, number, trailing}
 use Rattle.bc7_format.specs.Modes.{modeOf, endpointCount, kindOfMode, modeRow}
 use Rattle.bcn_format.specs.Drawing.{drawn, promoted, weightOf, weights}
-use Rattle.bc7_format.specs.Lines.{eight, anchorOf, indexSetOf, has, indexPlace, laid, lineAt, lineBits, lineOf, meansStored, own, pPlace, pixel, pixels, rotated, shown, turned, valuePlace, withLine}
+use Rattle.bc7_format.specs.Lines.{eight, anchorOf, indexSetOf, has, indexPlace, laid, lineAt, lineBits, lineOf, meansStored, own, pPlace, pixel}
+use Rattle.bc7_format.specs.Lines.{pixels, rotated, shown, turned, valuePlace, withLine}
 use Rattle.bc7_format.specs.Places.{atPlace, blockOf, listOf, opened, placeAt, pos, width, widths}
 use Rattle.bc7_format.specs.Splits.{splitAt, splitOf}
 use Rattle.head_rules.specs.Geometry.{across, blocksOf, placeOf, sideShown}

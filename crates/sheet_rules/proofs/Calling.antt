@@ -35,7 +35,8 @@ use Rattle.sheet_rules.specs.Rows.{blockAt}
 use Rattle.sheet_rules.specs.Sheets.{blockIn, putBlock, replacedIn, sheetRefusal, sheetRules}
 use Rattle.sheet_rules.proofs.Finding.{finding-in-words, room}
 use Rattle.sheet_rules.proofs.Replacing.{accepted-is, refused-is, replacing}
-use Rattle.sheet_rules.proofs.Storing.{block-get, block-long, head-kept, other-block, places-apart, put-inside, put-long, put-outside, put-same, same-block}
+use Rattle.sheet_rules.proofs.Storing.{block-get, block-long, head-kept, other-block, places-apart, put-inside, put-long, put-outside}
+use Rattle.sheet_rules.proofs.Storing.{put-same, same-block}
 
 -- the bytes of a block
 eight-at-most : (i : ℕ) → getD eights i 0 ≤ 8

@@ -21,7 +21,8 @@ use Rattle.laws.proofs.Tests.{both-left, both-right, not-so}
 use Rattle.bcn_format.specs.Block.{bytesOf}
 use Rattle.bc7_format.specs.Lines.{Line, indexSetOf, has, indexPlace, laid, pPlace, valuePlace, withLine}
 use Rattle.bc7_format.specs.Modes.{indexBits, lines, pCount}
-use Rattle.bc7_format.specs.Places.{Place, atPlace, blockOf, lead, index, inside, pbit, pos, value, width, widths, valuesFrom, psFrom, firstFrom, placeCount}
+use Rattle.bc7_format.specs.Places.{Place, atPlace, blockOf, lead, index, inside, pbit, pos, value, width, widths, valuesFrom, psFrom, firstFrom}
+use Rattle.bc7_format.specs.Places.{placeCount}
 use Rattle.bc7_format.specs.Splits.{anchors, isVector}
 use Rattle.bc7_format.specs.WellFormed.{WellFormed}
 use Rattle.bc7_format.proofs.Lens.{has-lead}

@@ -24,7 +24,8 @@ use Rattle.laws.proofs.RowParts.{rows-join, rows-total, tail-join, tail-total}
 use Rattle.laws.proofs.Rows.{fit-table, total-same}
 use Rattle.bc7_format.specs.Modes.{channelBits, endpointCount, indexBits, pCount, partitionBits, secondBits}
 use Rattle.bcn_format.specs.Partitions.{among}
-use Rattle.bc7_format.specs.Places.{blockOf, lead, index, listOf, pbit, placeAt, pos, value, width, widths, valuesFrom, psFrom, firstFrom, secondFrom, placeCount}
+use Rattle.bc7_format.specs.Places.{blockOf, lead, index, listOf, pbit, placeAt, pos, value, width, widths, valuesFrom, psFrom, firstFrom, secondFrom}
+use Rattle.bc7_format.specs.Places.{placeCount}
 use Rattle.bcn_format.specs.Block.{bytesOf}
 use Rattle.bc7_format.specs.Splits.{anchors, indexMode, kindOf, partition, rotation}
 use Rattle.bc7_format.proofs.Modes.{by-subset}

@@ -88,7 +88,8 @@ read-indexes-requires c κs =
       rising =
           rise _ (sixteen s) (s .pre .mode-is) (s .pre .low) (s .pre .mode-row-is) (split-of (c .before .before .before .before .before))
           (c .anchors-of .ensures);
-      within = first-room _ (sixteen s) (s .pre .mode-is) (s .pre .low) (s .pre .mode-row-is) (behind (c .before .before .before .before .before .before))
+      within =
+          first-room _ (sixteen s) (s .pre .mode-is) (s .pre .low) (s .pre .mode-row-is) (behind (c .before .before .before .before .before .before))
           (c .before .before .before .before .before .read-split .ensures) (c .before .before .before .before .read-endpoints .ensures)
           (c .before .before .read-p .ensures);
     }

@@ -25,7 +25,8 @@ copy-requires : tie.Need-copy-requires
 copy-requires c κs = search needs
 
 returns : tie.Need-returns
-returns c = let s = c .before .before .before .before .before in rw (c .before .copy .ensures .1) (loaded (s .args .s .now) _ (s .args .at) (s .pre) refl)
+returns c =
+    let s = c .before .before .before .before .before in rw (c .before .copy .ensures .1) (loaded (s .args .s .now) _ (s .args .at) (s .pre) refl)
 
 pub load-spec : {M : Type 1} → statement M
 load-spec =
