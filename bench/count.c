@@ -347,6 +347,7 @@ typedef u32 two_buffers(const u8 *from, u8 *to);
 typedef u32 read_one(const u8 *block, u32 line, u8 *replacement, u8 *widths);
 typedef u32 replace_one(u8 *block, u32 line, const u8 *replacement);
 typedef u32 replace_in(u8 *sheet, u64 length, u32 block, u32 line, const u8 *replacement);
+typedef u32 find_index(const u8 *block, u32 line, u32 pixel, const u8 *wanted, u32 *index);
 typedef u32 read_head(const u8 *sheet, u64 length, u32 *head);
 typedef u32 write_head(u32 width, u32 height, u8 *head, u32 *count);
 typedef u32 version(void);
@@ -354,6 +355,8 @@ typedef u32 version(void);
 two_buffers rinchovek_bc7_unpack, rinchovek_bc7_pack;
 read_one rinchovek_bc7_read_line;
 replace_one rinchovek_bc7_replace_line;
+/* weak: an older archive hasn't got them */
+__attribute__((weak)) find_index rinchovek_bc7_nearest_index, rinchovek_bc7_exact_index;
 replace_in rinchovek_sheet_replace_line;
 read_head rinchovek_sheet_read_head;
 write_head rinchovek_sheet_write_head;
@@ -364,7 +367,8 @@ enum { RECORD = 66, LINE = 26, VALUES = 8, FIRST_INDEX = 10, HEAD = 4 };
 /* a sheet of COUNTED blocks in one row, 256 by 4, and beside it the calls that are measured on it */
 static u8 sheet[HEAD + 16 * COUNTED], kept_sheet[sizeof sheet];
 static u8 records[RECORD * COUNTED], lines[LINE * COUNTED], widths[LINE];
-static u32 line_numbers[COUNTED];
+static u32 line_numbers[COUNTED], pixel_numbers[COUNTED], found_index;
+static u8 wanted[4 * COUNTED];
 static u8 *const sheet_blocks = sheet + HEAD;
 
 /* what is measured, by its number; each goes through a pointer, so that the call of a function that does nothing costs the same */
@@ -372,6 +376,7 @@ static two_buffers *volatile two_buffers_call;
 static read_one *volatile read_call;
 static replace_one *volatile replace_call;
 static replace_in *volatile replace_in_call;
+static find_index *volatile nearest_call, *volatile exact_call;
 static read_head *volatile read_head_call;
 static write_head *volatile write_head_call;
 static version *volatile version_call;
@@ -396,6 +401,11 @@ static u32 no_replace_in(u8 *all, u64 length, u32 block, u32 line, const u8 *rep
     return 0;
 }
 
+static u32 no_find(const u8 *block, u32 line, u32 pixel, const u8 *colour, u32 *index) {
+    __asm__ volatile("" ::"r"(block), "r"(line), "r"(pixel), "r"(colour), "r"(index) : "memory");
+    return 0;
+}
+
 static u32 no_read_head(const u8 *all, u64 length, u32 *numbers) {
     __asm__ volatile("" ::"r"(all), "r"(length), "r"(numbers) : "memory");
     return 0;
@@ -417,6 +427,12 @@ static u32 replace_a_line(u32 i) { return replace_call(sheet_blocks + 16 * i, li
 static u32 replace_in_sheet(u32 i) {
     return replace_in_call(sheet, sizeof sheet, i, line_numbers[i], lines + LINE * i);
 }
+static u32 find_nearest(u32 i) {
+    return nearest_call(sheet_blocks + 16 * i, line_numbers[i], pixel_numbers[i], wanted + 4 * i, &found_index);
+}
+static u32 find_exact(u32 i) {
+    return exact_call(sheet_blocks + 16 * i, line_numbers[i], pixel_numbers[i], wanted + 4 * i, &found_index);
+}
 
 static u32 head_numbers[3];
 static u32 read_a_head(u32 i) { return read_head_call(sheet, sizeof sheet - i % 2, head_numbers); }
@@ -434,6 +450,8 @@ static void point_at_calls(int at_none) {
     write_head_call = at_none ? no_write_head : rinchovek_sheet_write_head;
     read_call = at_none ? no_read : rinchovek_bc7_read_line;
     replace_call = at_none ? no_replace : rinchovek_bc7_replace_line;
+    nearest_call = at_none ? no_find : rinchovek_bc7_nearest_index;
+    exact_call = at_none ? no_find : rinchovek_bc7_exact_index;
     replace_in_call = at_none ? no_replace_in : rinchovek_sheet_replace_line;
 }
 
@@ -491,7 +509,18 @@ static void make_lines(void) {
         line_numbers[i] = count ? (u32)(random_number() % count) : 0;
         rinchovek_bc7_read_line(block, line_numbers[i], line, widths);
         for (int v = 0; v < VALUES; v++) line[v] = (u8)(random_number() % (1ul << widths[v]));
+        /* a pixel of the line, and the colour that it shows */
+        u32 pixel = 0;
+        while (pixel < 15 && !widths[FIRST_INDEX + pixel]) pixel++;
+        pixel_numbers[i] = pixel;
+        rinchovek_bc7_decode_block(block, out);
+        memcpy(wanted + 4 * i, out + 4 * pixel, 4);
     }
+}
+
+/* Each wanted colour moved: with blocks that are always the same, no index gives any of these. */
+static void miss_colours(void) {
+    for (u32 i = 0; i < 4 * COUNTED; i++) wanted[i] = (u8)(wanted[i] + 77);
 }
 
 /* Each index i as last - i: the anchor's top bit is set, and the pair has to be turned. */
@@ -504,6 +533,15 @@ static void turn_lines(void) {
 
 static void set_in_each(u8 *bytes, u32 size, u32 place, u8 value) {
     for (u32 i = 0; i < COUNTED; i++) bytes[size * i + place] = value;
+}
+
+static void count_finding(void) {
+    say_call("rinchovek_bc7_exact_index", find_exact, 0);
+    miss_colours();
+    say_call("rinchovek_bc7_exact_index, refused with 14", find_exact, 14);
+    say_call("rinchovek_bc7_nearest_index", find_nearest, 0);
+    for (u32 i = 0; i < COUNTED; i++) pixel_numbers[i] = 16;
+    say_call("rinchovek_bc7_nearest_index, refused with 13", find_nearest, 13);
 }
 
 static void count_writing(void) {
@@ -529,6 +567,7 @@ static void count_writing(void) {
     say_call("rinchovek_sheet_write_head, 128 to 191 by 4", write_a_head, 0);
     say_call("rinchovek_version", ask_version, 0);
     say_call("rinchovek_bc7_read_line", read_a_line, 0);
+    if (rinchovek_bc7_nearest_index) count_finding();
     say_call("rinchovek_bc7_replace_line, kept", replace_a_line, 0);
     say_call("rinchovek_sheet_replace_line, kept", replace_in_sheet, 0);
     turn_lines();
@@ -547,11 +586,11 @@ static void count_writing(void) {
 
     say("\nThe same by mode\nmode                        ");
     for (int mode = 0; mode < 8; mode++) say_right(column_names[mode], 7);
-    one_call *const calls[] = {unpack_one, pack_one, read_a_line, replace_a_line};
-    two_buffers *const functions[] = {rinchovek_bc7_unpack, rinchovek_bc7_pack, 0, 0};
+    one_call *const calls[] = {unpack_one, pack_one, read_a_line, replace_a_line, find_nearest};
+    two_buffers *const functions[] = {rinchovek_bc7_unpack, rinchovek_bc7_pack, 0, 0, 0};
     const char *const names[] = {"rinchovek_bc7_unpack", "rinchovek_bc7_pack", "rinchovek_bc7_read_line",
-                                 "rinchovek_bc7_replace_line"};
-    for (int k = 0; k < 4; k++) {
+                                 "rinchovek_bc7_replace_line", "rinchovek_bc7_nearest_index"};
+    for (int k = 0; k < (rinchovek_bc7_nearest_index ? 5 : 4); k++) {
         say("\n");
         say_left(names[k], 28);
         for (int mode = 0; mode < 8; mode++) {

@@ -109,6 +109,10 @@ mod writing {
         fn rinchovek_bc7_pack(record: &Record, block: &mut Block) -> u32;
         fn rinchovek_bc7_read_line(block: &Block, line: u32, replacement: &mut Line, widths: &mut Line) -> u32;
         fn rinchovek_bc7_replace_line(block: &mut Block, line: u32, replacement: &Line) -> u32;
+        #[cfg(indexes)]
+        fn rinchovek_bc7_nearest_index(block: &Block, line: u32, pixel: u32, wanted: &[u8; 4], index: &mut u32) -> u32;
+        #[cfg(indexes)]
+        fn rinchovek_bc7_exact_index(block: &Block, line: u32, pixel: u32, wanted: &[u8; 4], index: &mut u32) -> u32;
         fn rinchovek_sheet_replace_line(sheet: *mut u8, length: usize, block: u32, line: u32, replacement: &Line) -> u32;
     }
 
@@ -119,6 +123,26 @@ mod writing {
             start.elapsed().as_secs_f64()
         });
         println!("{name:38} {:7.1}", 1e9 * median(times.collect()) / count as f64);
+    }
+
+    /// Pixel 0 is in line 0 of every mode; what it shows is hit.
+    #[cfg(indexes)]
+    fn time_finding(blocks: &[Block]) {
+        let mut index = 0;
+        nanoseconds("rinchovek_bc7_nearest_index", SMALL, || {
+            let find = |block| unsafe { rinchovek_bc7_nearest_index(block, 0, 0, &[9, 99, 199, 255], &mut index) };
+            blocks.iter().map(find).fold(0, |refused, refusal| refused | refusal)
+        });
+        let mut pixels = [[0; 4]; 16];
+        let shown = blocks.iter().map(|block| {
+            unsafe { rinchovek_bc7_decode_block(block, &mut pixels) };
+            pixels[0]
+        });
+        let shown: Vec<[u8; 4]> = shown.collect();
+        nanoseconds("rinchovek_bc7_exact_index", SMALL, || {
+            let find = |(block, wanted)| unsafe { rinchovek_bc7_exact_index(block, 0, 0, wanted, &mut index) };
+            blocks.iter().zip(&shown).map(find).fold(0, |refused, refusal| refused | refusal)
+        });
     }
 
     pub fn time() {
@@ -144,6 +168,8 @@ mod writing {
         nanoseconds("rinchovek_bc7_read_line", SMALL, || {
             every(&mut |i| unsafe { rinchovek_bc7_read_line(&blocks[i], 0, &mut lines[i], &mut widths) })
         });
+        #[cfg(indexes)]
+        time_finding(&blocks);
         let replaced = |lines: &[Line], out: &mut [Block]| {
             every(&mut |i| unsafe { rinchovek_bc7_replace_line(&mut out[i], 0, &lines[i]) })
         };

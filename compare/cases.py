@@ -137,6 +137,34 @@ def some_replacement(dice, block, wrong_percent=30):
 
 
 # ---------------------------------------------------------------------------------------------------------------------
+# Wanted colours.
+def some_wanted(dice, block):
+    """(line, pixel, 4 bytes) for the block: most often a colour that an index draws, one near it, or one halfway between
+    two, where both may be as near; the channels that the line doesn't draw by chance."""
+    mode = model.mode_of(block)
+    number, pixel, wanted = dice.below(3), dice.below(16), list(dice.bytes(4))
+    if mode != model.RESERVED:
+        record = model.take_apart(block)
+        number = dice.below(model.MODES[mode].lines)
+        line = model.lines(mode, record.split)[number]
+        pixel, sort = dice.one_of(line.pixels), dice.below(8)
+        drawn, other = (model.drawn_with(record, line, pixel, dice.below(1 << line.index_width)) for _ in range(2))
+        for channel in drawn:
+            if sort < 5:
+                wanted[channel] = drawn[channel]
+            if sort in (3, 4):
+                wanted[channel] = (drawn[channel] + other[channel]) // 2
+            if sort == 2:
+                wanted[channel] = min(255, max(0, drawn[channel] + dice.within(-9, 9)))
+    wrong = dice.below(50)
+    if wrong < 3:
+        number = dice.one_of((1, 2, 3, *LARGE))
+    if wrong in (2, 3, 4):
+        pixel = dice.one_of((*range(16), 16, 17, *LARGE))
+    return number, pixel, bytes(wanted)
+
+
+# ---------------------------------------------------------------------------------------------------------------------
 # Heads, rows and sheets.
 SIDES = (*range(1, 10), 127, 128, 129, 4092, 4093, 4094, 4095, 4096)
 WRONG_SIDES = (0, 4097, 4098, 8192, 16383, 16384, (1 << 21) - 1)

@@ -1,10 +1,11 @@
 """Holds the model itself against document 01's list, against document 002's tables, and against what must be true of
-any right reading: round trips, lines that keep to themselves, and the last call of a line deciding."""
+any right reading: round trips, lines that keep to themselves, the last call of a line deciding, and a pixel that shows
+the colour whose distance was measured."""
 import document_01
 import model
 import partitions
 import protocol
-from cases import block_of, bits_of_style, some_block, some_record, some_replacement, some_split
+from cases import block_of, bits_of_style, some_block, some_record, some_replacement, some_split, some_wanted
 from dice import Dice
 
 
@@ -80,3 +81,39 @@ def check_lines(seed, count):
                 assert refusal == 0
             assert again == block
     return calls
+
+
+def check_nearest(seed, count):
+    """The line as it stands with any one index at the pixel is accepted, and the pixel then shows a colour at that
+    index's distance; an exact index is where the distance is 0; and what the line shows as it stands is hit."""
+    dice, measured = Dice(seed), 0
+    for _ in range(count):
+        block = some_block(dice, reserved_percent=1)
+        number, pixel, wanted = some_wanted(dice, block)
+        refusal, found = model.distances(block, number, pixel, wanted)
+        nearest, exact = (call(block, number, pixel, wanted) for call in (model.nearest_index, model.exact_index))
+        if refusal:
+            assert nearest == exact == (refusal, 0), block.hex()
+            continue
+        index = dice.below(len(found))
+        assert (found[nearest[1]], nearest[1]) <= (found[index], index), block.hex()
+        assert exact == (nearest if found[nearest[1]] == 0 else (14, 0)), block.hex()
+        _, held, _ = model.read_line(block, number)
+        held[10 + pixel] = index
+        refused, after = model.replace(block, number, held)
+        mode, split, _ = model.take_apart(block)
+        shown = model.decode(after)[4 * pixel :]
+        channels = [model.rotated(split, channel) for channel in model.lines(mode, split)[number].channels]
+        assert refused == 0 and sum((shown[each] - wanted[each]) ** 2 for each in channels) == found[index], block.hex()
+        assert model.exact_index(block, number, pixel, model.decode(block)[4 * pixel :][:4])[0] == 0, block.hex()
+        measured += 1
+    return measured
+
+
+def check_block_c():
+    """Document 01's block C, the other way round: red is 119 with index 7 and 135 with index 8, also at its anchor."""
+    for red, nearest, hit in ((135, 8, True), (130, 8, False), (127, 7, False), (254, 15, True), (0, 0, True)):
+        asked = document_01.C, 0, 0, (red, 0, 0, 0)
+        assert model.nearest_index(*asked) == (0, nearest), red
+        assert model.exact_index(*asked) == ((0, nearest) if hit else (14, 0)), red
+    return 10

@@ -29,6 +29,7 @@ from cases import (
     some_row,
     some_sheet,
     some_sheet_call,
+    some_wanted,
 )
 from dice import Dice
 
@@ -227,6 +228,50 @@ def reading_lines(dice, shared):
         calls += [("r", block, line) for line in (*range(lines + 1), dice.one_of((256, 65536, 1 << 31, (1 << 32) - 1)))]
     reserved = bytes(16), bytes(1) + b"\xff" * 15
     return calls + [("r", block, line) for block in reserved for line in (0, 1, 2, 3, 255, 256)]
+
+
+# ---------------------------------------------------------------------------------------------------------------------
+def wanted_colours(dice):
+    """(block, line, pixel, wanted). Block C at its anchor, hit, missed and halfway. Limits and each pair of refusals that
+    can meet. Then every mode and split: a line at its anchor or another pixel, for what an index draws there; a pixel that
+    isn't the line's, or another colour. At last every rotation with a wanted value in one channel alone."""
+    calls = [(document_01.C, 0, 0, (red, 0, 0, 0)) for red in (135, 130, 127, 119, 254, 255, 0)]
+    reserved = bytes(16), bytes(1) + b"\xff" * 15
+    for number in (0, 1, 2, 3, 256, LARGE[-1]):
+        for pixel in (0, 15, 16, 256, LARGE[-1]):
+            blocks = reserved[number % 2], document_01.C, document_01.D
+            calls += [(block, number, pixel, (0, 0, 0, 0)) for block in blocks]
+    for turn, (mode, split) in enumerate(all_splits()):
+        block = block_of(mode, split, bits_of_style(dice, dice.one_of(("random", "sparse", "dense"))))
+        lines = model.lines(mode, split)
+        number = turn % len(lines)
+        line = lines[number]
+        pixel = dice.one_of((line.anchor, dice.one_of(line.pixels)))
+        wanted = list(dice.bytes(4))
+        drawn = model.drawn_with(model.take_apart(block), line, pixel, dice.below(1 << line.index_width))
+        for channel, value in drawn.items():
+            wanted[channel] = value
+        calls.append((block, number, pixel, wanted))
+        if turn % 8 == 0:
+            calls.append((block, number, next((q for q in range(16) if q not in line.pixels), 16), wanted))
+        elif turn % 8 == 4:
+            calls.append((block, *some_wanted(dice, block)))
+    for mode in (4, 5):
+        for split in model.splits(mode):
+            block = block_of(mode, split, bits_of_style(dice, "random"))
+            alone = [[255 * (each == channel) for each in range(4)] for channel in range(4)]
+            calls += [(block, number, 5, wanted) for number in (0, 1) for wanted in alone]
+    return calls
+
+
+def finding_nearest(dice, shared):
+    del shared
+    return [("N", *asked) for asked in wanted_colours(dice)]
+
+
+def finding_exact(dice, shared):
+    del shared
+    return [("E", *asked) for asked in wanted_colours(dice)]
 
 
 # ---------------------------------------------------------------------------------------------------------------------
@@ -432,6 +477,8 @@ MAKERS = {
     "S": replacing_in_sheets,
     "l": listing_sheets,
     "r": reading_lines,
+    "N": finding_nearest,
+    "E": finding_exact,
 }
 
 

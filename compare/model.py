@@ -1,4 +1,5 @@
-"""Document 01 read a second time, in Python and for clarity: what every public call answers.
+"""Document 01 read a second time, and document 02 as far as it has landed, in Python and for clarity: what every public
+call answers.
 
 A block is one number of 128 bits, byte 0 lowest. For a mode and its split, each stored value has a first bit and a
 width; a record is the list of these values; a line is the part of the record that one endpoint pair draws with. All
@@ -305,6 +306,48 @@ def replace(block, number, new):
     refusal, changed = pack(record._replace(values=tuple(values)))
     assert refusal == 0  # the anchor's top bit is clear now, and all else was within its width
     return 0, changed
+
+
+# ---------------------------------------------------------------------------------------------------------------------
+# M-100: which index of a line gives a wanted colour at a pixel.
+def drawn_with(record, line, pixel, index):
+    """What the line as it stands draws at that pixel with that index: the value of each shown channel that it draws."""
+    held = line_of(record, line)
+    held[10 + pixel] = index
+    pixels = bytearray(64)
+    paint(pixels, record.mode, record.split, line._replace(pixels=(pixel,)), held)
+    shown = [rotated(record.split, channel) for channel in line.channels]
+    return {channel: pixels[4 * pixel + channel] for channel in shown}
+
+
+def distances(block, number, pixel, wanted):
+    """refusal, the sum of squared differences of every index of the line's full width"""
+    if mode_of(block) == RESERVED:
+        return 1, []
+    record = take_apart(block)
+    if number >= MODES[record.mode].lines:
+        return 2, []
+    line = lines(record.mode, record.split)[number]
+    if pixel not in line.pixels:
+        return 13, []
+    found = []
+    for index in range(1 << line.index_width):
+        drawn = drawn_with(record, line, pixel, index)
+        found.append(sum((value - wanted[channel]) ** 2 for channel, value in drawn.items()))
+    return 0, found
+
+
+def nearest_index(block, number, pixel, wanted):
+    """refusal, the index: of equal ones the lowest"""
+    refusal, found = distances(block, number, pixel, wanted)
+    return (refusal, 0) if refusal else (0, found.index(min(found)))
+
+
+def exact_index(block, number, pixel, wanted):
+    refusal, found = distances(block, number, pixel, wanted)
+    if refusal:
+        return refusal, 0
+    return (0, found.index(0)) if 0 in found else (14, 0)
 
 
 # ---------------------------------------------------------------------------------------------------------------------

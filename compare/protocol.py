@@ -12,10 +12,12 @@ A call is (letter, arguments..):
   O width height row blocks out      decode a row
   S sheet block line new             replace a line in a sheet
   l sheet            list a sheet
+  N block line pixel wanted          nearest index; wanted is 4 bytes
+  E block line pixel wanted          exact index
 """
 import model
 
-LETTERS = "DUPRHWOSlr"
+LETTERS = "DUPRHWOSlrNE"
 KINDS = ("whole", "two", "three", "vector")
 RECORD, REPLACEMENT = 66, 26
 LARGEST_LENGTH = 65536  # a longer slice ends the run
@@ -46,6 +48,9 @@ def call_bytes(call):
         body = block + number(line) + bytes(new)
     elif letter == "r":
         body = given[0] + number(given[1])
+    elif letter in "NE":
+        block, line, pixel, wanted = given
+        body = block + number(line) + number(pixel) + bytes(wanted)
     elif letter == "H":
         body = bytes([len(given[0])]) + given[0]
     elif letter == "W":
@@ -85,6 +90,9 @@ def model_answer(call):
     elif letter == "r":
         refusal, held, widths = model.read_line(*given)
         rest = bytes(held) + bytes(widths)
+    elif letter in "NE":
+        refusal, index = (model.nearest_index if letter == "N" else model.exact_index)(*given)
+        rest = bytes([index])
     elif letter == "H":
         refusal, *found = model.read_head(given[0])
         rest = b"".join(map(number, found))

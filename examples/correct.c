@@ -1,5 +1,6 @@
 /* Every call of include/rinchovek.h, from C: a row of a small sheet is decoded, one of its blocks is corrected, and the row is
- * decoded again; the same correction on the block alone; what happens to calls that are refused; records and heads. */
+ * decoded again; the other way round, which index gives a red; the same correction on the block alone; what happens to calls that
+ * are refused; records and heads. */
 #include "rinchovek.h"
 
 int printf(const char *format, ...);
@@ -42,6 +43,18 @@ static void show_pixel(const uint8_t block[RINCHOVEK_BLOCK_BYTES]) {
     printf("pixel 0: %u %u %u %u\n", pixels[RINCHOVEK_RED], pixels[RINCHOVEK_GREEN], pixels[RINCHOVEK_BLUE], pixels[RINCHOVEK_ALPHA]);
 }
 
+/* Which index of line 0 gives pixel 0 this red, and which is nearest. */
+static void show_indexes(const uint8_t block[RINCHOVEK_BLOCK_BYTES], uint8_t red) {
+    const uint8_t wanted[RINCHOVEK_PIXEL_BYTES] = {red, 0, 0, 0};
+    const uint32_t line = 0, pixel = 0;
+    uint32_t exact = 0, nearest = 0;
+    const uint32_t refusal = rinchovek_bc7_exact_index(block, line, pixel, wanted, &exact);
+    printf("red %u, exactly: %u, %s", red, refusal, rinchovek_refusal_text(refusal));
+    if (refusal == RINCHOVEK_ACCEPTED) printf(", index %u", exact);
+    if (rinchovek_bc7_nearest_index(block, line, pixel, wanted, &nearest) == RINCHOVEK_ACCEPTED) printf("; nearest: index %u", nearest);
+    printf("\n");
+}
+
 int main(void) {
     const uint32_t version = rinchovek_version();
     if (version / 10000 != RINCHOVEK_VERSION_MAJOR || version < RINCHOVEK_VERSION) return 1; /* an archive of another header */
@@ -62,6 +75,8 @@ int main(void) {
     show_row();
 
     show_pixel(alone);
+    show_indexes(alone, 135);
+    show_indexes(alone, 130);
     show_refusal("replaced", rinchovek_bc7_replace_line(alone, line, replacement));
     show_bytes("block", alone, RINCHOVEK_BLOCK_BYTES);
     show_pixel(alone);
@@ -100,7 +115,7 @@ int main(void) {
     show_bytes("head", head, count);
     show_refusal("head", rinchovek_sheet_write_head(RINCHOVEK_LARGEST_SIDE + 1, 5, head, &count));
 
-    for (uint32_t number = RINCHOVEK_RESERVED_BLOCK; number <= RINCHOVEK_BEYOND_SHEET; number++)
+    for (uint32_t number = RINCHOVEK_RESERVED_BLOCK; number <= RINCHOVEK_NO_EXACT_INDEX; number++)
         printf("%u: %s\n", number, rinchovek_refusal_text(number));
     return 0;
 }

@@ -1,5 +1,5 @@
 // Every call of include/rinchovek.h, from C++, through wrappers whose types have the lengths that C would only promise, and tell a
-// block's number from a line's. It prints what correct.c prints.
+// block's number from a line's and a pixel's. It prints what correct.c prints.
 #include "rinchovek.h"
 
 #include <algorithm>
@@ -12,11 +12,13 @@ namespace rinchovek {
 using Block = std::array<uint8_t, RINCHOVEK_BLOCK_BYTES>;
 using Record = std::array<uint8_t, RINCHOVEK_RECORD_BYTES>;
 using Replacement = std::array<uint8_t, RINCHOVEK_LINE_BYTES>;
-using Pixels = std::array<std::array<uint8_t, RINCHOVEK_PIXEL_BYTES>, RINCHOVEK_BLOCK_PIXELS>;
+using Pixel = std::array<uint8_t, RINCHOVEK_PIXEL_BYTES>;
+using Pixels = std::array<Pixel, RINCHOVEK_BLOCK_PIXELS>;
 
-// In C both are uint32_t, side by side in one call; here they can't be exchanged.
+// In C all are uint32_t, and two of them side by side in one call; here they can't be exchanged.
 enum class BlockNumber : uint32_t {};
 enum class LineNumber : uint32_t {};
+enum class PixelNumber : uint32_t {};
 
 struct Head {
     uint32_t width = 0, height = 0, start = 0;
@@ -34,6 +36,14 @@ uint32_t pack(const Record &record, Block &block) { return rinchovek_bc7_pack(re
 
 uint32_t read_line(const Block &block, LineNumber line, Replacement &replacement, Replacement &widths) {
     return rinchovek_bc7_read_line(block.data(), uint32_t(line), replacement.data(), widths.data());
+}
+
+uint32_t nearest_index(const Block &block, LineNumber line, PixelNumber pixel, const Pixel &wanted, uint32_t &index) {
+    return rinchovek_bc7_nearest_index(block.data(), uint32_t(line), uint32_t(pixel), wanted.data(), &index);
+}
+
+uint32_t exact_index(const Block &block, LineNumber line, PixelNumber pixel, const Pixel &wanted, uint32_t &index) {
+    return rinchovek_bc7_exact_index(block.data(), uint32_t(line), uint32_t(pixel), wanted.data(), &index);
 }
 
 uint32_t replace_line(Block &block, LineNumber line, const Replacement &replacement) {
@@ -96,6 +106,17 @@ static void show_pixel(const Block &block) {
     std::printf("pixel 0: %u %u %u %u\n", pixel[RINCHOVEK_RED], pixel[RINCHOVEK_GREEN], pixel[RINCHOVEK_BLUE], pixel[RINCHOVEK_ALPHA]);
 }
 
+static void show_indexes(const Block &block, uint8_t red) {
+    const Pixel wanted = {red, 0, 0, 0};
+    uint32_t exact = 0, nearest = 0;
+    const uint32_t refusal = exact_index(block, LineNumber(0), PixelNumber(0), wanted, exact);
+    std::printf("red %u, exactly: %u, %s", red, refusal, rinchovek_refusal_text(refusal));
+    if (refusal == RINCHOVEK_ACCEPTED) std::printf(", index %u", exact);
+    if (nearest_index(block, LineNumber(0), PixelNumber(0), wanted, nearest) == RINCHOVEK_ACCEPTED)
+        std::printf("; nearest: index %u", nearest);
+    std::printf("\n");
+}
+
 int main() {
     const uint32_t version = rinchovek_version();
     if (version / 10000 != RINCHOVEK_VERSION_MAJOR || version < RINCHOVEK_VERSION) return 1;
@@ -116,6 +137,8 @@ int main() {
     show_row(sheet);
 
     show_pixel(alone);
+    show_indexes(alone, 135);
+    show_indexes(alone, 130);
     show_refusal("replaced", replace_line(alone, LineNumber(0), replacement));
     show_bytes("block", alone.data(), alone.size());
     show_pixel(alone);
@@ -148,6 +171,6 @@ int main() {
     show_bytes("head", head.data(), head.size());
     show_refusal("head", write_head(RINCHOVEK_LARGEST_SIDE + 1, 5, head));
 
-    for (uint32_t number = RINCHOVEK_RESERVED_BLOCK; number <= RINCHOVEK_BEYOND_SHEET; number++)
+    for (uint32_t number = RINCHOVEK_RESERVED_BLOCK; number <= RINCHOVEK_NO_EXACT_INDEX; number++)
         std::printf("%u: %s\n", number, rinchovek_refusal_text(number));
 }

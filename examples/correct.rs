@@ -34,6 +34,18 @@ fn show_pixel(block: &Block) {
     println!("pixel 0: {red} {green} {blue} {alpha}");
 }
 
+/// Which index of line 0 gives pixel 0 this red, and which is nearest.
+fn show_indexes(block: &Block, red: u8) {
+    let wanted = [red, 0, 0, 0];
+    let exact = exact_index(block, LineNumber(0), PixelNumber(0), &wanted);
+    let text = exact.map_or_else(|refusal| refusal.to_string(), |index| format!("accepted, index {index}"));
+    print!("red {red}, exactly: {}, {text}", number(&exact));
+    if let Ok(index) = nearest_index(block, LineNumber(0), PixelNumber(0), &wanted) {
+        print!("; nearest: index {index}");
+    }
+    println!();
+}
+
 fn main() -> Result<(), Refusal> {
     let (major, minor, patch) = version();
     println!("version {major}.{minor}.{patch}");
@@ -54,6 +66,8 @@ fn main() -> Result<(), Refusal> {
     show_row(&sheet)?;
 
     show_pixel(&alone);
+    show_indexes(&alone, 135);
+    show_indexes(&alone, 130);
     show_refusal("replaced", &replace_line(&mut alone, LineNumber(0), &new));
     show_bytes("block", &alone);
     show_pixel(&alone);

@@ -46,13 +46,17 @@ static void try_null(void) {
 static __attribute__((noinline)) void make_calls(uint8_t first, uint8_t others) {
     uint8_t sheet[RINCHOVEK_HEAD_BYTES + RINCHOVEK_BLOCK_BYTES], record[RINCHOVEK_RECORD_BYTES];
     uint8_t held[RINCHOVEK_LINE_BYTES], widths[RINCHOVEK_LINE_BYTES];
-    uint32_t head[RINCHOVEK_HEAD_NUMBERS], count = 0;
+    uint32_t head[RINCHOVEK_HEAD_NUMBERS], count = 0, index = 0;
     rinchovek_sheet_write_head(4, 3, sheet, &count);
     uint8_t *block = sheet + count;
     for (int i = 0; i < RINCHOVEK_BLOCK_BYTES; i++) block[i] = i == 0 ? first : others;
     rinchovek_bc7_decode_block(block, out);
     if (rinchovek_bc7_unpack(block, record) == RINCHOVEK_ACCEPTED) rinchovek_bc7_pack(record, block);
     for (uint32_t line = 0; rinchovek_bc7_read_line(block, line, held, widths) == RINCHOVEK_ACCEPTED; line++) {
+        for (uint32_t pixel = 0; pixel < RINCHOVEK_BLOCK_PIXELS; pixel++) {
+            rinchovek_bc7_nearest_index(block, line, pixel, block, &index);
+            rinchovek_bc7_exact_index(block, line, pixel, block, &index);
+        }
         rinchovek_bc7_replace_line(block, line, held);
         rinchovek_sheet_replace_line(sheet, count + RINCHOVEK_BLOCK_BYTES, 0, line, held);
     }

@@ -13,6 +13,8 @@ extern "C" {
     fn rinchovek_bc7_pack(record: *const u8, block: *mut u8) -> u32;
     fn rinchovek_bc7_read_line(block: *const u8, line: u32, replacement: *mut u8, widths: *mut u8) -> u32;
     fn rinchovek_bc7_replace_line(block: *mut u8, line: u32, replacement: *const u8) -> u32;
+    fn rinchovek_bc7_nearest_index(block: *const u8, line: u32, pixel: u32, wanted: *const u8, index: *mut u32) -> u32;
+    fn rinchovek_bc7_exact_index(block: *const u8, line: u32, pixel: u32, wanted: *const u8, index: *mut u32) -> u32;
     fn rinchovek_sheet_read_head(sheet: *const u8, length: usize, head: *mut u32) -> u32;
     fn rinchovek_sheet_write_head(width: u32, height: u32, head: *mut u8, count: *mut u32) -> u32;
     fn rinchovek_sheet_decode_row(
@@ -49,10 +51,12 @@ pub enum Refusal {
     WrongBlockBytes = 10,
     WrongOutputLength = 11,
     BeyondSheet = 12,
+    PixelNotInLine = 13,
+    NoExactIndex = 14,
 }
 
 impl Refusal {
-    pub const ALL: [Refusal; 12] = [
+    pub const ALL: [Refusal; 14] = [
         Refusal::ReservedBlock,
         Refusal::NoSuchLine,
         Refusal::ValueTooWide,
@@ -65,6 +69,8 @@ impl Refusal {
         Refusal::WrongBlockBytes,
         Refusal::WrongOutputLength,
         Refusal::BeyondSheet,
+        Refusal::PixelNotInLine,
+        Refusal::NoExactIndex,
     ];
 
     pub fn number(self) -> u32 {
@@ -87,6 +93,8 @@ impl fmt::Display for Refusal {
             Refusal::WrongBlockBytes => "too few or too many bytes of blocks",
             Refusal::WrongOutputLength => "the output is too short or too long",
             Refusal::BeyondSheet => "the row or the block is beyond the sheet",
+            Refusal::PixelNotInLine => "the pixel is not in the line",
+            Refusal::NoExactIndex => "no index of the line gives exactly this colour",
         })
     }
 }
@@ -111,11 +119,13 @@ pub type Block = [u8; 16];
 /// Red, green, blue, alpha.
 pub type Color = [u8; 4];
 
-/// In C a block's number and a line's are both `uint32_t` and stand side by side; these can't be exchanged.
+/// In C the numbers of a block, a line and a pixel are all `uint32_t` and stand side by side; these can't be exchanged.
 #[derive(Clone, Copy, Debug, PartialEq, Eq)]
 pub struct BlockNumber(pub u32);
 #[derive(Clone, Copy, Debug, PartialEq, Eq)]
 pub struct LineNumber(pub u32);
+#[derive(Clone, Copy, Debug, PartialEq, Eq)]
+pub struct PixelNumber(pub u32);
 
 #[derive(Clone, Copy, Debug, PartialEq, Eq)]
 pub enum Split {
@@ -225,6 +235,20 @@ pub fn read_line(block: &Block, line: LineNumber) -> Result<(Line, Line), Refusa
 
 pub fn replace_line(block: &mut Block, line: LineNumber, new: &Line) -> Result<(), Refusal> {
     answer(unsafe { rinchovek_bc7_replace_line(block.as_mut_ptr(), line.0, new.bytes().as_ptr()) }, ())
+}
+
+/// The index whose colour at the pixel is nearest to the wanted one; of several the lowest.
+pub fn nearest_index(block: &Block, line: LineNumber, pixel: PixelNumber, wanted: &Color) -> Result<u32, Refusal> {
+    let mut index = 0;
+    let refusal = unsafe { rinchovek_bc7_nearest_index(block.as_ptr(), line.0, pixel.0, wanted.as_ptr(), &mut index) };
+    answer(refusal, index)
+}
+
+/// The index that gives the pixel exactly the wanted colour; of several the lowest.
+pub fn exact_index(block: &Block, line: LineNumber, pixel: PixelNumber, wanted: &Color) -> Result<u32, Refusal> {
+    let mut index = 0;
+    let refusal = unsafe { rinchovek_bc7_exact_index(block.as_ptr(), line.0, pixel.0, wanted.as_ptr(), &mut index) };
+    answer(refusal, index)
 }
 
 /// Width and height in pixels, and where the first block starts in the sheet.

@@ -1,4 +1,4 @@
-/* rinchovek.h: BC7 blocks, and sheets of them, decoded, taken apart, packed and corrected.
+/* rinchovek.h: BC7 blocks, and sheets of them, decoded, taken apart, packed and corrected; and which index gives a wanted colour.
  *
  * WORDS
  * A block is 16 bytes that draw 4 by 4 pixels. A pixel is 4 bytes: red, green, blue, alpha. The pixel in column x and row y of a
@@ -39,7 +39,7 @@
 /* The version of this file. The major number is raised where a call goes, or answers otherwise what it accepted before; the minor
  * one where a call comes, or accepts what it refused before; the patch where neither is so. */
 #define RINCHOVEK_VERSION_MAJOR 1
-#define RINCHOVEK_VERSION_MINOR 0
+#define RINCHOVEK_VERSION_MINOR 1
 #define RINCHOVEK_VERSION_PATCH 0
 #define RINCHOVEK_VERSION (10000 * RINCHOVEK_VERSION_MAJOR + 100 * RINCHOVEK_VERSION_MINOR + RINCHOVEK_VERSION_PATCH)
 
@@ -53,7 +53,7 @@
 #define RINCHOVEK_HEAD_BYTES 7 /* the most that a head has */
 #define RINCHOVEK_HEAD_NUMBERS 3 /* uint32_t */
 #define RINCHOVEK_LARGEST_SIDE 4096 /* pixels, of a sheet */
-#define RINCHOVEK_STACK_BYTES 2048 /* found: 1,064 and the 128 below the stack pointer, in rinchovek_sheet_replace_line */
+#define RINCHOVEK_STACK_BYTES 2048 /* found: 1,240 and the 128 below the stack pointer, in rinchovek_bc7_nearest_index */
 
 /* A channel in a pixel and in an endpoint. */
 enum rinchovek_channel { RINCHOVEK_RED = 0, RINCHOVEK_GREEN = 1, RINCHOVEK_BLUE = 2, RINCHOVEK_ALPHA = 3 };
@@ -127,7 +127,9 @@ enum rinchovek_refusal {
     RINCHOVEK_BAD_SIDE = 9,             /* the width or the height is 0 or above RINCHOVEK_LARGEST_SIDE */
     RINCHOVEK_WRONG_BLOCK_BYTES = 10,   /* there are not exactly as many bytes of blocks as the sheet or the row needs */
     RINCHOVEK_WRONG_OUTPUT_LENGTH = 11, /* the output isn't exactly as long as the row needs */
-    RINCHOVEK_BEYOND_SHEET = 12         /* the row or the block number is beyond the sheet */
+    RINCHOVEK_BEYOND_SHEET = 12,        /* the row or the block number is beyond the sheet */
+    RINCHOVEK_PIXEL_NOT_IN_LINE = 13,   /* the pixel is of another line's subset, or 16 and up */
+    RINCHOVEK_NO_EXACT_INDEX = 14       /* no index of the line gives the pixel exactly what is wanted */
 };
 
 #ifdef __cplusplus
@@ -161,6 +163,21 @@ uint32_t rinchovek_bc7_read_line(const uint8_t block[RINCHOVEK_BLOCK_BYTES], uin
  * have its endpoints exchanged and its indexes counted from the other end, which draws the same.
  * Refusals: 1, 2, 3, 4. */
 uint32_t rinchovek_bc7_replace_line(uint8_t block[RINCHOVEK_BLOCK_BYTES], uint32_t line, const uint8_t replacement[RINCHOVEK_LINE_BYTES]);
+
+/* Finds the index of one line whose colour at one of its pixels is nearest to the wanted one, and writes it. `wanted` is 4 bytes: red,
+ * green, blue, alpha as the pixel is shown, so after rotation. Nearest is the least sum of squared differences over the channels that
+ * the line draws there; of several the lowest index. What is wanted in another channel is not looked at: alpha in the modes 0 to 3, and
+ * in the modes 4 and 5 what the other line draws. Every index of the line's width counts, at an anchor too: put it at
+ * replacement[RINCHOVEK_LINE_INDEXES + pixel] of the line as it was read, replace the line, and the pixel shows the colour that was
+ * measured. BEWARE: line and pixel stand side by side and have one type. Hand them over in variables of these names.
+ * Refusals: 1, 2, 13. */
+uint32_t rinchovek_bc7_nearest_index(const uint8_t block[RINCHOVEK_BLOCK_BYTES], uint32_t line, uint32_t pixel,
+                                     const uint8_t wanted[RINCHOVEK_PIXEL_BYTES], uint32_t *index);
+
+/* The same, and only an exact hit is accepted: writes the lowest index at which no channel that the line draws there differs.
+ * Refusals: 1, 2, 13, 14. */
+uint32_t rinchovek_bc7_exact_index(const uint8_t block[RINCHOVEK_BLOCK_BYTES], uint32_t line, uint32_t pixel,
+                                   const uint8_t wanted[RINCHOVEK_PIXEL_BYTES], uint32_t *index);
 
 /* Reads the head of a sheet: writes width, height and start (enum rinchovek_head_number). What stands behind the head isn't looked
  * at: the first RINCHOVEK_HEAD_BYTES bytes of a sheet are enough. An empty sheet is refused with 7.
@@ -216,6 +233,8 @@ static inline const char *rinchovek_refusal_text(uint32_t refusal) {
     case RINCHOVEK_WRONG_BLOCK_BYTES: return "too few or too many bytes of blocks";
     case RINCHOVEK_WRONG_OUTPUT_LENGTH: return "the output is too short or too long";
     case RINCHOVEK_BEYOND_SHEET: return "the row or the block is beyond the sheet";
+    case RINCHOVEK_PIXEL_NOT_IN_LINE: return "the pixel is not in the line";
+    case RINCHOVEK_NO_EXACT_INDEX: return "no index of the line gives exactly this colour";
     default: return "no refusal of this version";
     }
 }

@@ -7,6 +7,8 @@ use libc::STDIN_FILENO;
 use libc::STDOUT_FILENO;
 use listing::list_sheet;
 use rinchovek::rinchovek_bc7_decode_block;
+use rinchovek::rinchovek_bc7_exact_index;
+use rinchovek::rinchovek_bc7_nearest_index;
 use rinchovek::rinchovek_bc7_pack;
 use rinchovek::rinchovek_bc7_read_line;
 use rinchovek::rinchovek_bc7_replace_line;
@@ -147,6 +149,33 @@ fn replace_call() -> bool {
     }
     write_refusal(rinchovek_bc7_replace_line(&mut block, number(&line, 0), &given));
     write_block(&block)
+}
+
+// The nearest index, or the one that hits: both are asked for in the same bytes.
+fn index_call(exact: bool) -> bool {
+    let mut block = [0u8; 16];
+    if !filled(&mut block) {
+        return false;
+    }
+    let mut place = [0u8; 8];
+    if !filled(&mut place) {
+        return false;
+    }
+    let mut wanted = [0u8; 4];
+    if !filled(&mut wanted) {
+        return false;
+    }
+    let line = number(&place, 0);
+    let pixel = number(&place, 4);
+    let mut index: u32 = 0;
+    let refusal = if exact {
+        rinchovek_bc7_exact_index(&block, line, pixel, &wanted, &mut index)
+    } else {
+        rinchovek_bc7_nearest_index(&block, line, pixel, &wanted, &mut index)
+    };
+    write_refusal(refusal);
+    write_u8(if index < 255 { index as u8 } else { 255 });
+    true
 }
 
 fn read_head_of(sheet: &mut [u8]) -> bool {
@@ -306,6 +335,8 @@ fn call(letter: u8) -> bool {
         b'S' => sheet_call(),
         b'l' => list_call(),
         b'r' => read_line_call(),
+        b'N' => index_call(false),
+        b'E' => index_call(true),
         _ => false,
     }
 }

@@ -2,10 +2,12 @@
 // was lent. What a call promises has one name, in specs/Promises. include/rinchovek.h declares these functions and says what a
 // C caller has to know; `rt staticlib rinchovek` writes the archive.
 ghost use Rattle.rinchovek_rules.specs.Promises.{Decodes, Packs, ReadsLine, Replaces, Unpacks, Versions, DecodesRow, ReadsHead, ReplacesIn};
-ghost use Rattle.rinchovek_rules.specs.Promises.{WritesHead};
+ghost use Rattle.rinchovek_rules.specs.Promises.{FindsExact, FindsNearest, WritesHead};
 use bc7::decode_bc7_block;
 use line::read_line;
 use line::replace_line;
+use nearest::exact_index;
+use nearest::nearest_index;
 use record::unpack;
 use record_bytes::pack_bytes;
 use record_bytes::record_bytes;
@@ -18,7 +20,7 @@ use sheet_head::write_head;
 
 // Which version of the calls and their answers this is: 10000 times the major number, 100 times the minor one, and the patch. The
 // header has the same three.
-const VERSION: u32 = 10000;
+const VERSION: u32 = 10100;
 
 #[no_mangle]
 pub extern "C" fn rinchovek_version() -> u32
@@ -100,6 +102,44 @@ pub extern "C" fn rinchovek_bc7_replace_line(
     }
     let bytes = answer.block;
     *block = bytes;
+    0
+}
+
+// The index of a line whose colour at a pixel is nearest to the wanted one.
+#[no_mangle]
+pub extern "C" fn rinchovek_bc7_nearest_index(
+    block: &[u8; 16],
+    line: u32,
+    pixel: u32,
+    wanted: &[u8; 4],
+    index: &mut u32,
+) -> u32
+    ensures { λ r. ⌜ FindsNearest (now (block .entry)) line pixel (now (wanted .entry)) (now (index .entry)) r (now (index .exit)) ⌝ }
+{
+    let found = nearest_index(*block, line, pixel, *wanted);
+    if found.refusal != 0 {
+        return found.refusal as u32;
+    }
+    *index = found.index as u32;
+    0
+}
+
+// The index of a line that gives a pixel the wanted colour exactly.
+#[no_mangle]
+pub extern "C" fn rinchovek_bc7_exact_index(
+    block: &[u8; 16],
+    line: u32,
+    pixel: u32,
+    wanted: &[u8; 4],
+    index: &mut u32,
+) -> u32
+    ensures { λ r. ⌜ FindsExact (now (block .entry)) line pixel (now (wanted .entry)) (now (index .entry)) r (now (index .exit)) ⌝ }
+{
+    let hit = exact_index(*block, line, pixel, *wanted);
+    if hit.refusal != 0 {
+        return hit.refusal as u32;
+    }
+    *index = hit.index as u32;
     0
 }
 

@@ -10,8 +10,8 @@ use Rattle.laws.specs.Tables.{over, table, tableFrom}
 use Rattle.bcn_format.specs.Block.{bytesOf, number, trailing}
 use Rattle.bc7_format.specs.Modes.{modeOf, endpointCount, kindOfMode, modeRow}
 use Rattle.bcn_format.specs.Drawing.{drawn, promoted, weightOf, weights}
-use Rattle.bc7_format.specs.Lines.{eight, anchorOf, indexSetOf, has, indexPlace, laid, lineAt, lineBits, lineOf, meansStored, own, pPlace, pixel}
-use Rattle.bc7_format.specs.Lines.{pixels, rotated, shown, turned, valuePlace, withLine}
+use Rattle.bc7_format.specs.Lines.{anchorOf, draws, eight, indexSetOf, has, indexPlace, laid, lineAt, lineBits, lineOf, meansShown, meansStored, own}
+use Rattle.bc7_format.specs.Lines.{pPlace, pixel, pixels, rotated, shown, turned, valuePlace, withLine}
 use Rattle.bcn_format.specs.Partitions.{anchors2, anchors3, digits, marks, strings2, strings3, subset2, subset3}
 use Rattle.bc7_format.specs.Places.{atPlace, blockOf, listOf, opened, placeAt, pos, width, widths}
 use Rattle.bc7_format.specs.Splits.{splitAt, splitOf}
@@ -20,6 +20,8 @@ use Rattle.record_rules.specs.Records.{fits, made, packRefusal, packed, recordO
 use Rattle.line_rules.specs.Read.{givenAs, lineRead, readRefusal, valueAt, widthsOf}
 use Rattle.line_rules.specs.Replace.{after, indexFits, lineFits, lineGiven, oriented, ownWidth, pFits, put, refusal, refusalIn, replaced, valueFits}
 use Rattle.line_rules.proofs.Attested.{after7}
+use Rattle.nearest_rules.specs.Nearest.{channelDistance, distance, drawnWith, exactIndex, exactRefusal, inLine, indexCount, leastAt, nearestIndex}
+use Rattle.nearest_rules.specs.Nearest.{nearestRefusal, squared, withIndex, zeroAt}
 use Rattle.record_bytes.specs.Wire.{bytesRefusal, packedBytes, recordByte, recordBytes, recordOfBytes, replacementBytes, replacementOf, spelt}
 use Rattle.record_bytes.proofs.Attested.{bytes4, bytes7, bytesGiven}
 use Rattle.head_rules.specs.Geometry.{blocksOf, placeOf}
@@ -29,7 +31,7 @@ use Rattle.sheet_rules.specs.Rows.{blockAt, channel, rowByte, rowBytes, rowOut,
 use Rattle.sheet_rules.specs.Sheets.{blockIn, findRefusal, putBlock, replacedIn, sheetAfter, sheetRefusal}
 use Rattle.sheet_rules.proofs.Attested.{lower, lowerScanlines, small, smallReplaced}
 use Rattle.rinchovek_rules.specs.Promises.{Decodes, Gives, Packs, ReadsLine, Replaces, Unpacks, Versions, DecodesRow, ReadsHead, ReplacesIn}
-use Rattle.rinchovek_rules.specs.Promises.{WritesHead}
+use Rattle.rinchovek_rules.specs.Promises.{FindsExact, FindsNearest, WritesHead}
 
 abbrev zeros : ℕ → List ℕ
 zeros n = replicate n 0
@@ -63,7 +65,7 @@ computed : {A : Type 0} {refusal : ℕ} {left : A} → Gives refusal left refusa
 computed = record { answers = refl; leaves = refl }
 
 pub record Calls : Type 0 where
-  pub version : Versions (10000 * 1 + 100 * 0 + 0)
+  pub version : Versions (10000 * 1 + 100 * 1 + 0)
   pub decodes : Decodes block4 (half4 ++ half4)
   pub decodes-reserved : Decodes (zeros 16) (replicate 16 (rgba 0 0 0 0))
   pub unpacks : Unpacks block4 (nines 66) 0 (bytes4 3)
@@ -74,6 +76,10 @@ pub record Calls : Type 0 where
   pub reads-line-not : ReadsLine block7 2 (nines 26, nines 26) 2 (nines 26, nines 26)
   pub replaces : Replaces block7 1 bytesGiven 0 after7
   pub replaces-not : Replaces block7 2 bytesGiven 2 block7
+  pub finds-nearest : FindsNearest block7 1 8 (rgba 77 85 93 130) 9 0 1
+  pub finds-nearest-not : FindsNearest block7 1 7 (rgba 77 85 93 130) 9 13 9
+  pub finds-exact : FindsExact block7 1 8 (rgba 88 96 104 112) 9 0 1
+  pub finds-exact-not : FindsExact block7 1 8 (rgba 77 85 93 130) 9 14 9
   pub reads-head : ReadsHead small (nines 3) 0 (5 ∷ 6 ∷ 3 ∷ [])
   pub reads-head-not : ReadsHead (0x02 ∷ []) (nines 3) 8 (nines 3)
   pub writes-head : WritesHead 5 6 (nines 7, 9) 0 (0x01 ∷ 0x05 ∷ 0x06 ∷ zeros 4, 3)
@@ -91,7 +97,8 @@ unfolding padded first over table tableFrom weights weightOf drawn promoted eigh
     indexFits ownWidth lineGiven put oriented withLine laid turned anchorOf lineRead readRefusal givenAs widthsOf valueAt
     recordByte recordBytes recordOfBytes replacementOf replacementBytes packedBytes bytesRefusal spelt readHead headRefusal formIn
     widthIn heightIn readNumber readGroups raised sizeRefusal writeHead headBytes groups blockAt channel rowByte rowBytes rowOut
-    rowRefusal blockIn blocksOf findRefusal placeOf putBlock replacedIn sheetAfter sheetRefusal
+    rowRefusal blockIn blocksOf findRefusal placeOf putBlock replacedIn sheetAfter sheetRefusal draws meansShown channelDistance
+    distance drawnWith exactIndex exactRefusal inLine indexCount leastAt nearestIndex nearestRefusal squared withIndex zeroAt
 calls-hold = record {
   version = refl;
   decodes = refl;
@@ -104,6 +111,10 @@ calls-hold = record {
   reads-line-not = computed;
   replaces = computed;
   replaces-not = computed;
+  finds-nearest = computed;
+  finds-nearest-not = computed;
+  finds-exact = computed;
+  finds-exact-not = computed;
   reads-head = computed;
   reads-head-not = computed;
   writes-head = computed;

@@ -10,7 +10,7 @@ use Rattle.line_rules.proofs.Theorems.{refused-same}
 use Rattle.record_bytes.specs.Wire.{replacementOf}
 use Rattle.sheet_rules.proofs.Theorems.{refused-row-leaves, refused-sheet-leaves}
 use Rattle.rinchovek_rules.specs.Promises.{Decodes, Determined, Gives, Packs, ReadsLine, Replaces, Unpacks, Versions, Writes, DecodesRow}
-use Rattle.rinchovek_rules.specs.Promises.{ReadsHead, ReplacesIn, WritesHead}
+use Rattle.rinchovek_rules.specs.Promises.{ReadsHead, FindsExact, FindsNearest, ReplacesIn, WritesHead}
 
 one-given : {A : Type 0} (refusal : ℕ) (left : A) → Determined (Gives refusal left)
 one-given refusal left a b x y p q = (p .answers ∙ sym (q .answers), p .leaves ∙ sym (q .leaves))
@@ -32,6 +32,14 @@ determined-bc7-read-line block line before = one-given _ _
 
 pub determined-bc7-replace-line : (block : List ℕ) (line : ℕ) (bytes : List ℕ) → Determined (Replaces block line bytes)
 determined-bc7-replace-line block line bytes = one-given _ _
+
+pub determined-bc7-nearest-index : (block : List ℕ) (line pixel : ℕ) (wanted : List ℕ) (before : ℕ)
+    → Determined (FindsNearest block line pixel wanted before)
+determined-bc7-nearest-index block line pixel wanted before = one-given _ _
+
+pub determined-bc7-exact-index : (block : List ℕ) (line pixel : ℕ) (wanted : List ℕ) (before : ℕ)
+    → Determined (FindsExact block line pixel wanted before)
+determined-bc7-exact-index block line pixel wanted before = one-given _ _
 
 pub determined-sheet-read-head : (sheet before : List ℕ) → Determined (ReadsHead sheet before)
 determined-sheet-read-head sheet before = one-given _ _
@@ -65,6 +73,14 @@ pub refused-bc7-replace-line-leaves : (block : List ℕ) (line : ℕ) (bytes : L
 unfolding replaced
 refused-bc7-replace-line-leaves block line bytes answer after p ne =
     p .leaves ∙ refused-same block (callOf line (replacementOf bytes)) (λ e. ne (p .answers ∙ e))
+
+pub refused-bc7-nearest-index-leaves : (block : List ℕ) (line pixel : ℕ) (wanted : List ℕ) (before : ℕ)
+    → Leaves before (FindsNearest block line pixel wanted before)
+refused-bc7-nearest-index-leaves block line pixel wanted before = refused-leaves _ _ before
+
+pub refused-bc7-exact-index-leaves : (block : List ℕ) (line pixel : ℕ) (wanted : List ℕ) (before : ℕ)
+    → Leaves before (FindsExact block line pixel wanted before)
+refused-bc7-exact-index-leaves block line pixel wanted before = refused-leaves _ _ before
 
 pub refused-sheet-read-head-leaves : (sheet before : List ℕ) → Leaves before (ReadsHead sheet before)
 refused-sheet-read-head-leaves sheet before = refused-leaves _ _ before

@@ -16,6 +16,7 @@ use Rattle.line_rules.specs.Replace.{replaced}
 use Rattle.record_rules.specs.Records.{takenApart}
 use Rattle.sheet_rules.specs.Rows.{rowOut, rowRefusal}
 use Rattle.sheet_rules.specs.Sheets.{sheetAfter, sheetRefusal}
+use Rattle.nearest_rules.specs.Nearest.{exactIndex, nearestIndex}
 use Rattle.record_bytes.specs.Wire.{packedBytes, recordBytes, replacementBytes, replacementOf}
 
 -- this number is answered, and this is left
@@ -27,9 +28,9 @@ pub record Gives {A : Type 0} (refusal : ℕ) (left : A) (answer : ℕ) (after :
 abbrev pub Writes : {A : Type 0} → ℕ → A → A → ℕ → A → Type 0
 Writes refusal value before = Gives refusal (pick (eqb refusal 0) value before)
 
--- version 1.0.0: major, minor and patch, with two digits for each of the last two
+-- version 1.1.0: major, minor and patch, with two digits for each of the last two
 abbrev pub Versions : ℕ → Type 0
-Versions answer = answer ≡ 10000
+Versions answer = answer ≡ 10100
 
 abbrev pub Decodes : List ℕ → List (List ℕ) → Type 0
 Decodes block after = after ≡ pixels block
@@ -49,6 +50,15 @@ ReadsLine block line before = Writes (lineRead block line .refusal) (lineAndWidt
 
 abbrev pub Replaces : List ℕ → ℕ → List ℕ → ℕ → List ℕ → Type 0
 Replaces block line bytes = Gives (replaced block line (replacementOf bytes) .refusal) (replaced block line (replacementOf bytes) .block)
+
+-- the nearest index, and the one that hits
+abbrev pub FindsNearest : List ℕ → ℕ → ℕ → List ℕ → ℕ → ℕ → ℕ → Type 0
+FindsNearest block line pixel wanted before =
+    Writes (nearestIndex block line pixel wanted .refusal) (nearestIndex block line pixel wanted .index) before
+
+abbrev pub FindsExact : List ℕ → ℕ → ℕ → List ℕ → ℕ → ℕ → ℕ → Type 0
+FindsExact block line pixel wanted before =
+    Writes (exactIndex block line pixel wanted .refusal) (exactIndex block line pixel wanted .index) before
 
 -- width, height and where the blocks start
 abbrev pub headNumbers : Head → List ℕ
