@@ -27,7 +27,7 @@ use Rattle.bcn_format.proofs.Expanding.{size-2, size-3}
 use Rattle.bc7_format.specs.Fields.{directPixels}
 use Rattle.bcn_format.specs.Painting.{painted}
 use Rattle.bc7_format.proofs.Pictures.{Palette, indexes-at, keyed-law}
-use Rattle.partitions.specs.Sets.{anchorIn2, secondIn3, partitionWord2, partitionWord3, thirdIn3}
+use Rattle.partitions.specs.Words.{anchorIn2, secondIn3, partitionWord2, partitionWord3, thirdIn3}
 use Rattle.partitions.proofs.Maps.{anchors-in2, anchors-in3}
 use Rattle.partitions.proofs.PartitionWords.{anchor-of2, second-of3, subset-of2, subset-of3, third-of3}
 use Rattle.drawing.specs.declared.keys.Keys.{Keys}

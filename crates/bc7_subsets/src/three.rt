@@ -9,7 +9,7 @@ ghost use Rattle.bcn_format.specs.Partitions.{among};
 ghost use Rattle.bcn_format.specs.Indexes.{expanded};
 ghost use Rattle.bits.specs.Stream.{held, nextBits};
 ghost use Rattle.bc7_format.specs.Fields.{directPixels};
-ghost use Rattle.partitions.specs.Sets.{secondIn3, thirdIn3};
+ghost use Rattle.partitions.specs.Words.{secondIn3, thirdIn3};
 use crate::extract_partition_set_id;
 use bits::stream::BitStream;
 use drawing::colour::Stored;
@@ -22,8 +22,8 @@ use drawing::keys::paint_4;
 use drawing::palette::palette_3_2;
 use drawing::palette::palette_3_3;
 use indexes::Indexes;
-use partitions::sets::partition_word_3_2;
-use partitions::sets::partition_word_3_3;
+use partitions::words::partition_word_3_2;
+use partitions::words::partition_word_3_3;
 
 // The mode's number is the Rust's constant parameter. The stream stands at the marker, which each arm skips, so that positions are
 // literals; and the decoder calls this at one place, so that the compiler folds the `match` into its own.

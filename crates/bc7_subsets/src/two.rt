@@ -8,7 +8,7 @@ ghost use Rattle.bcn_format.specs.Partitions.{among};
 ghost use Rattle.bcn_format.specs.Indexes.{expanded};
 ghost use Rattle.bits.specs.Stream.{held, nextBits};
 ghost use Rattle.bc7_format.specs.Fields.{directPixels};
-ghost use Rattle.partitions.specs.Sets.{anchorIn2};
+ghost use Rattle.partitions.specs.Words.{anchorIn2};
 use crate::extract_partition_set_id;
 use bits::stream::BitStream;
 use drawing::colour::Stored;
@@ -21,8 +21,8 @@ use drawing::keys::paint_2_3;
 use drawing::palette::palette_2_2;
 use drawing::palette::palette_2_3;
 use indexes::Indexes;
-use partitions::sets::partition_word_2_2;
-use partitions::sets::partition_word_2_3;
+use partitions::words::partition_word_2_2;
+use partitions::words::partition_word_2_3;
 
 // The mode's number is the Rust's constant parameter. The stream stands at the marker, which each arm skips, so that positions are
 // literals; and the decoder calls this at one place, so that the compiler folds the `match` into its own.

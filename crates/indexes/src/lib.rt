@@ -5,9 +5,10 @@ ghost use mathlib.Core.Path.{_≡_};
 ghost use mathlib.Core.List.{[], _∷_};
 ghost use Prim.Native.Nat.{_+_, _-_, _*_, _^_, _≤_, _<_};
 ghost use Rattle.laws.specs.Digits.{inserted};
-ghost use Rattle.indexes.specs.Reading.{Index, indexesOf, newIndexes, Room};
+ghost use Rattle.indexes.specs.Reading.{Anchors1, Anchors2, Anchors3, Index, Insertable, Room, indexesOf, newIndexes};
 use bits::stream::BitStream;
 
+pub mod sets;
 pub mod storing;
 
 // Index i is the i-th part of `bits` bits of the word.
@@ -25,7 +26,7 @@ pub struct NewIndexes {
 // A zero put in at the top of an index, where every anchor below has its own already. What is above moves up a bit, and that
 // is to add it once more: high * 2^top + low becomes 2 * high * 2^top + low.
 fn decompress_single_index(bits: u32, compressed: u64, index: u32) -> u64
-    requires { ⌜ (0 < bits) × (bits ≤ 4) × (index < 16) × (compressed < 2 ^ 63) ⌝ }
+    requires { ⌜ Insertable bits compressed index ⌝ }
     ensures { λ r. ⌜ r ≡ inserted compressed (index * bits + (bits - 1)) ⌝ }
 {
     let top = index * bits + (bits - 1);
@@ -34,7 +35,7 @@ fn decompress_single_index(bits: u32, compressed: u64, index: u32) -> u64
 
 impl Indexes {
     pub fn new_p1(bits: u32, stream: BitStream) -> NewIndexes
-        requires { ⌜ (0 < bits) × (bits ≤ 4) × Room stream bits 1 ⌝ }
+        requires { ⌜ Anchors1 bits (Room stream bits 1) ⌝ }
         ensures { λ r. ⌜ r ≡ newIndexes bits (0 ∷ []) stream (16 * bits - 1) ⌝ }
     {
         let compressed = stream.consume_bits_64(16 * bits - 1);
@@ -47,7 +48,7 @@ impl Indexes {
     }
 
     pub fn new_p2(bits: u32, stream: BitStream, p2_fixup: u32) -> NewIndexes
-        requires { ⌜ (0 < bits) × (bits ≤ 4) × (0 < «p2_fixup») × («p2_fixup» < 16) × Room stream bits 2 ⌝ }
+        requires { ⌜ Anchors2 bits «p2_fixup» (Room stream bits 2) ⌝ }
         ensures { λ r. ⌜ r ≡ newIndexes bits (0 ∷ «p2_fixup» ∷ []) stream (16 * bits - 2) ⌝ }
     {
         let compressed = stream.consume_bits_64(16 * bits - 2);
@@ -60,7 +61,7 @@ impl Indexes {
     }
 
     pub fn new_p3(bits: u32, stream: BitStream, p2_fixup: u32, p3_fixup: u32) -> NewIndexes
-        requires { ⌜ (0 < bits) × (bits ≤ 4) × (0 < «p2_fixup») × («p2_fixup» < «p3_fixup») × («p3_fixup» < 16) × Room stream bits 3 ⌝ }
+        requires { ⌜ Anchors3 bits «p2_fixup» «p3_fixup» (Room stream bits 3) ⌝ }
         ensures { λ r. ⌜ r ≡ newIndexes bits (0 ∷ «p2_fixup» ∷ «p3_fixup» ∷ []) stream (16 * bits - 3) ⌝ }
     {
         let compressed = stream.consume_bits_64(16 * bits - 3);
@@ -74,7 +75,7 @@ impl Indexes {
 
     // Pixel 0 is always an anchor, and the fix-ups are the others in pixel order.
     pub fn from_compressed_p1(bits: u32, compressed: u64) -> Self
-        requires { ⌜ (0 < bits) × (bits ≤ 4) × (compressed < 2 ^ (16 * bits - 1)) ⌝ }
+        requires { ⌜ Anchors1 bits (compressed < 2 ^ (16 * bits - 1)) ⌝ }
         ensures { λ r. ⌜ r ≡ indexesOf bits (0 ∷ []) compressed ⌝ }
     {
         Indexes {
@@ -84,7 +85,7 @@ impl Indexes {
     }
 
     pub fn from_compressed_p2(bits: u32, compressed: u64, p2_fixup: u32) -> Self
-        requires { ⌜ (0 < bits) × (bits ≤ 4) × (compressed < 2 ^ (16 * bits - 2)) × (0 < «p2_fixup») × («p2_fixup» < 16) ⌝ }
+        requires { ⌜ Anchors2 bits «p2_fixup» (compressed < 2 ^ (16 * bits - 2)) ⌝ }
         ensures { λ r. ⌜ r ≡ indexesOf bits (0 ∷ «p2_fixup» ∷ []) compressed ⌝ }
     {
         let first = decompress_single_index(bits, compressed, 0);
@@ -95,7 +96,7 @@ impl Indexes {
     }
 
     pub fn from_compressed_p3(bits: u32, compressed: u64, p2_fixup: u32, p3_fixup: u32) -> Self
-        requires { ⌜ (0 < bits) × (bits ≤ 4) × (compressed < 2 ^ (16 * bits - 3)) × (0 < «p2_fixup») × («p2_fixup» < «p3_fixup») × («p3_fixup» < 16) ⌝ }
+        requires { ⌜ Anchors3 bits «p2_fixup» «p3_fixup» (compressed < 2 ^ (16 * bits - 3)) ⌝ }
         ensures { λ r. ⌜ r ≡ indexesOf bits (0 ∷ «p2_fixup» ∷ «p3_fixup» ∷ []) compressed ⌝ }
     {
         let first = decompress_single_index(bits, compressed, 0);

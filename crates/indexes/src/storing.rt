@@ -2,12 +2,14 @@
 ghost use mathlib.Core.Path.{_≡_};
 ghost use mathlib.Core.List.{[]};
 ghost use Prim.Native.Nat.{_+_, _-_, _*_, _^_, _≤_, _<_};
-ghost use Rattle.laws.specs.Digits.{Fit, join, removed, split};
-ghost use Rattle.bcn_format.specs.Indexes.{Rising, anchorCount, anchorsOfKind, indexWidths};
+ghost use Rattle.laws.specs.Digits.{join, removed, split};
+ghost use Rattle.bcn_format.specs.Indexes.{anchorCount, anchorsOfKind, indexWidths};
+ghost use Rattle.indexes.specs.Reading.{IndexAt};
+ghost use Rattle.indexes.specs.Storing.{Storable};
 
 // The zero at the top of an index taken out: what is above moves down a bit, down to where that zero stood, and what is below stays.
 fn compress_single_index(bits: u32, word: u64, index: u32) -> u64
-    requires { ⌜ (0 < bits) × (bits ≤ 4) × (index < 16) ⌝ }
+    requires { ⌜ IndexAt bits index ⌝ }
     ensures { λ r. ⌜ r ≡ removed word (index * bits + (bits - 1)) ⌝ }
 {
     let top = index * bits + (bits - 1);
@@ -17,7 +19,7 @@ fn compress_single_index(bits: u32, word: u64, index: u32) -> u64
 // The indexes of a word at their stored widths. The highest anchor's zero goes first, so that the others stand where they were.
 // The kinds: 1 has two anchors, 2 has three, the others have pixel 0 alone.
 pub fn compressed(kind: u8, bits: u32, p2_fixup: u32, p3_fixup: u32, word: u64) -> u64
-    requires { ⌜ (0 < bits) × (bits ≤ 4) × Rising kind «p2_fixup» «p3_fixup» × (word < 2 ^ (16 * bits)) × Fit (indexWidths bits (anchorsOfKind kind «p2_fixup» «p3_fixup»)) (split (indexWidths bits []) word) ⌝ }
+    requires { ⌜ Storable kind bits «p2_fixup» «p3_fixup» word ⌝ }
     ensures { λ r. ⌜ r ≡ join (indexWidths bits (anchorsOfKind kind «p2_fixup» «p3_fixup»)) (split (indexWidths bits []) word) ⌝ }
 {
     if kind == 1 {

@@ -10,9 +10,9 @@ use bc7_places::lines::LinePart;
 use bc7_places::modes::ModeRow;
 use bc7_places::places::fields_of;
 use bits::stream::BitStream;
+use indexes::sets::read_indexes;
 use indexes::storing::compressed;
 use indexes::storing::stored_bits;
-use record::reading::read_indexes;
 
 // The stream at another position.
 pub fn standing_at(s: BitStream, at: u32) -> BitStream
@@ -86,7 +86,7 @@ fn put_indexes(s: BitStream, kind: u8, at: u32, part: LinePart, mask: u64, new: 
 {
     let width = part.index;
     let anchors = part.anchors;
-    let set = read_indexes(kind, anchors, width, standing_at(s, at));
+    let set = read_indexes(kind, width, standing_at(s, at), anchors.b, anchors.c);
     let indexes = set.indexes;
     let before = indexes.uncompressed;
     let after = (before - (before & mask)) + new;

@@ -30,10 +30,10 @@ use bc7_places::modes::mode_row;
 use bc7_places::splits::read_split;
 use bits::stream::BitStream;
 use bits::writer::BitWriter;
+use indexes::sets::word_of;
 use line_rules::LineRead;
 use line_rules::Replaced;
 use line_rules::Replacement;
-use record::writing::word_of;
 
 pub mod fields;
 pub mod parts;

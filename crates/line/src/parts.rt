@@ -7,15 +7,15 @@ ghost use lib.ListN.{getD};
 ghost use Rattle.laws.specs.Tables.{below, pick};
 ghost use Rattle.bc7_places.specs.Lines.{ownPixel};
 ghost use Rattle.line.specs.Parts.{maskOf, partsFit, storedAs};
+use bc7_places::fits::above;
+use bc7_places::fits::indexes_fit;
+use bc7_places::fits::pair_fits;
 use bc7_places::lines::LinePart;
 use bc7_places::lines::Pixels;
 use bc7_places::lines::own;
 use bits::stream::word;
+use indexes::sets::top_of;
 use line_rules::Replacement;
-use record::fits::above;
-use record::fits::indexes_fit;
-use record::fits::pair_fits;
-use record::writing::top_of;
 
 // A value at a pixel of the line, and zero at any other.
 pub fn at_own(pixels: Pixels, pixel: usize, value: u64) -> u64

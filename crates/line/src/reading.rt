@@ -13,9 +13,9 @@ use bc7_places::lines::Pixels;
 use bc7_places::modes::ModeRow;
 use bc7_places::places::fields_of;
 use bits::stream::BitStream;
+use indexes::sets::parts_of;
+use indexes::sets::read_indexes;
 use line_rules::Replacement;
-use record::reading::parts_of;
-use record::reading::read_indexes;
 
 // What the first and the second endpoint have.
 pub struct PerEndpoint {
@@ -59,7 +59,7 @@ fn set_at(s: BitStream, kind: u8, at: u32, part: LinePart) -> [u8; 16]
     let anchors = part.anchors;
     let pixels = part.pixels;
     let mask = mask_of(pixels, width);
-    let set = read_indexes(kind, anchors, width, standing_at(s, at));
+    let set = read_indexes(kind, width, standing_at(s, at), anchors.b, anchors.c);
     let indexes = set.indexes;
     parts_of(indexes.uncompressed & mask, width)
 }

@@ -1,9 +1,9 @@
 -- WHAT HOLDS THE DEFINITIONS OF REPLACING AND READING A LINE: calls with the block that each leaves or the line that it answers,
--- written out (format's Examples has what the blocks store, and where).
+-- written out (format's Examples has what the blocks store, and where); and the bytes of a replacement.
 -- Assumes nothing.
 use mathlib.Core.Path.{_≡_, refl}
 use mathlib.Core.List.{List, [], _∷_, _++_, map}
-use Prim.Native.Nat.{ℕ}
+use Prim.Native.Nat.{ℕ, _+_}
 use lib.ListN.{replicate}
 use Rattle.line_rules.specs.declared.Replacement.{Replacement}
 use Rattle.line_rules.specs.declared.Replaced.{Replaced}
@@ -19,7 +19,7 @@ use Rattle.bc7_format.specs.Places.{atPlace, blockOf, listOf, opened, placeAt, 
 use Rattle.bc7_format.specs.Splits.{splitAt, splitOf}
 use Rattle.bc7_format.proofs.Examples.{block4, block5, block7}
 use Rattle.line_rules.specs.Calls.{afterAll}
-use Rattle.line_rules.specs.Read.{givenAs, lineRead, readRefusal, widthsOf}
+use Rattle.line_rules.specs.Read.{givenAs, lineRead, readRefusal, replacementBytes, replacementOf, valueAt, widthsOf}
 use Rattle.line_rules.specs.Replace.{after, callOf, indexFits, lineFits, lineGiven, oriented, ownWidth, pFits, put, refusal, refusalIn}
 use Rattle.line_rules.specs.Replace.{replaced, valueFits}
 
@@ -140,3 +140,20 @@ unfolding first table tableFrom digits marks strings2 strings3 subset2 subset3 a
     widths trailing number modeOf splitAt splitOf atPlace opened has valuePlace pPlace indexSetOf indexPlace own lineOf ownWidth lineRead readRefusal
     givenAs widthsOf
 lines-read = refl
+
+-- given7 1 as bytes: two endpoints, p bits, indexes
+abbrev pub bytesGiven : List ℕ
+bytesGiven = 31 ∷ 30 ∷ 29 ∷ 28 ∷ 27 ∷ 26 ∷ 25 ∷ 24 ∷ 1 ∷ 0 ∷ 0 ∷ 0 ∷ 0 ∷ 0 ∷ 0 ∷ 0 ∷ 0 ∷ 0 ∷ 0 ∷ 1 ∷ 2 ∷ 3 ∷ 0 ∷ 1 ∷ 2 ∷ 1 ∷ []
+
+-- n numbers, each one more than the last
+abbrev counting : ℕ → ℕ → List ℕ
+counting from n = table n (λ i. from + i)
+
+pub record Bytes : Type 0 where
+  pub of-replacement : replacementBytes (given7 1) ≡ bytesGiven
+  pub to-replacement : replacementOf bytesGiven ≡ given7 1
+  pub to-replacement-in-order : replacementOf (counting 0 26) ≡ record { endpoints = counting 0 8; p = 8 ∷ 9 ∷ []; indexes = counting 10 16 }
+
+pub bytes-hold : Bytes
+unfolding replacementOf replacementBytes valueAt table tableFrom
+bytes-hold = record { of-replacement = refl; to-replacement = refl; to-replacement-in-order = refl }

@@ -35,7 +35,7 @@ use Rattle.line_rules.proofs.Reading.{given-back, other-read, put-draws
 use Rattle.line_rules.proofs.Reading.{replaced-by-read}
 use Rattle.line_rules.proofs.Sequences.{all-stays, bytes-trade, first-stays, lasts, same-lasts, sequence-draws, trading}
 use Rattle.line_rules.proofs.TooWide.{refused-with-3}
-use Rattle.line_rules.specs.Promises.{ReadsLine, Replaces}
+use Rattle.line_rules.specs.Promises.{ReadsLine, ReadsReplacement, Replaces, WritesReplacement}
 
 -- a call is accepted exactly when the first byte isn't zero, the line number is below the mode's count, every value is within
 -- the width that it has in that line, and in mode 1 the p bits are equal
@@ -227,3 +227,9 @@ determined-replace-line bs l g a b ea eb = ea ∙ sym eb
 
 pub determined-read-line : (bs : List ℕ) (l : ℕ) (a b : LineRead) → ReadsLine bs l a → ReadsLine bs l b → a ≡ b
 determined-read-line bs l a b ea eb = ea ∙ sym eb
+
+pub determined-replacement-of : (bs : List ℕ) (a b : Replacement) → ReadsReplacement bs a → ReadsReplacement bs b → a ≡ b
+determined-replacement-of bs a b p q = p ∙ sym q
+
+pub determined-replacement-bytes : (g : Replacement) (a b : List ℕ) → WritesReplacement g a → WritesReplacement g b → a ≡ b
+determined-replacement-bytes g a b p q = p ∙ sym q

@@ -3,7 +3,7 @@
 use mathlib.Core.Logic.{_≢_}
 use mathlib.Core.Bool.{Bool, not}
 use mathlib.Core.List.{List, [], _∷_}
-use Prim.Native.Nat.{ℕ, _-_, _/_, _%_, _^_, _<_, _≤_}
+use Prim.Native.Nat.{ℕ, _+_, _-_, _/_, _%_, _^_, _<_, _≤_}
 use lib.Dec.{eqb, ltb}
 use lib.ListN.{getD}
 use Rattle.line_rules.specs.declared.Replacement.{Replacement}
@@ -28,6 +28,17 @@ givenAs ln = record {
 -- its 26 values in order: eight of the endpoints, two p bits, sixteen indexes
 unfoldable pub valueAt : Replacement → ℕ → ℕ
 valueAt g i = pick (ltb i 8) (getD (g .endpoints) i 0) (pick (ltb i 10) (getD (g .p) (i - 8) 0) (getD (g .indexes) (i - 10) 0))
+
+-- and as 26 bytes, which say the replacement
+unfoldable pub replacementBytes : Replacement → List ℕ
+replacementBytes g = table 26 (valueAt g)
+
+unfoldable pub replacementOf : List ℕ → Replacement
+replacementOf bs = record {
+  endpoints = table 8 (λ i. getD bs i 0);
+  p = getD bs 8 0 ∷ getD bs 9 0 ∷ [];
+  indexes = table 16 (λ q. getD bs (10 + q) 0);
+}
 
 -- how many bits the parts of line l have
 unfoldable pub widthsOf : ℕ → Split → ℕ → Line

@@ -13,7 +13,7 @@ use Rattle.laws.proofs.Digits.{join-lt, split-join}
 use Rattle.laws.proofs.Rows.{split-mod}
 use Rattle.bcn_format.specs.Partitions.{digits, marks, strings2, strings3, subset2, subset3}
 use Rattle.partitions.specs.Maps.{map2, map3}
-use Rattle.partitions.specs.Sets.{partitionWord2, partitionWord3, partitionWord}
+use Rattle.partitions.specs.Words.{partitionWord2, partitionWord3, partitionWord}
 use Rattle.partitions.proofs.Maps.{anchors-in3, fit2, fit3, marks2, marks3, shareOf}
 
 wider : (n b w : ℕ) {vs : List ℕ} → b ≤ w → Fit (replicate n b) vs → Fit (replicate n w) vs

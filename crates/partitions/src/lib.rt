@@ -1,13 +1,13 @@
 // The partition tables of the Rust's src/bcn_data.rs: the subset of each pixel, the anchors, and how many pixels a subset has.
 // The Rust's parsers of byte strings are constant tables here, and that they say what the strings say is proved. The decoder reads
-// the words of `sets`, which say the same.
+// the words of `words`, which say the same.
 ghost use mathlib.Core.Path.{_≡_};
 ghost use Prim.Native.Nat.{_+_, _*_, _<_};
 ghost use Rattle.bcn_format.specs.Block.{field};
 ghost use Rattle.bcn_format.specs.Partitions.{howMany};
 ghost use Rattle.partitions.specs.Maps.{fixups3, map2, map3, subsets};
 
-pub mod sets;
+pub mod words;
 
 // The subset of each pixel for modes with 2 subsets: bit i is that of pixel i. `fixup_index_2` is the second anchor; the first
 // is always 0.

@@ -46,13 +46,7 @@ secondRead row a s =
     .uncompressed) (row .second)))
     (replicate 16 0)
 
--- what reading a set asks for: a width of one to four bits, anchors in rising order, and a stream that stands within its block
-pub record SetAt (kind : ℕ) (a : Anchors) (w : ℕ) (s : BitStream) : Type 0 where
-  pub least : 0 < w
-  pub most : w ≤ 4
-  pub rising : Rising kind (a .b) (a .c)
-  pub within : s .at ≤ 128
-
+-- what that asks for: anchors in rising order, and a stream that stands within its block
 pub record SecondAt (row : ModeRow) (a : Anchors) (s : BitStream) : Type 0 where
   pub of-mode : OfMode row
   pub rising : Rising (row .kind) (a .b) (a .c)

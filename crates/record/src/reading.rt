@@ -1,49 +1,19 @@
 // Reading a block group by group: behind the split a word for each channel, a word of p bits, a word for each set of indexes. A
 // word is then taken apart into its parts.
 ghost use mathlib.Core.Path.{_≡_};
-ghost use Prim.Native.Nat.{_+_, _-_, _*_, _<_, _≤_};
-ghost use Rattle.laws.specs.Tables.{table};
-ghost use Rattle.bcn_format.specs.Indexes.{anchorCount, anchorsOfKind, part};
-ghost use Rattle.indexes.specs.Reading.{newIndexes};
+ghost use Prim.Native.Nat.{_<_, _≤_};
+ghost use Rattle.bcn_format.specs.Indexes.{part};
 ghost use Rattle.record_rules.specs.Records.{recordOf};
 ghost use Rattle.bc7_places.specs.Modes.{OfBlock, OfMode, RowAt};
-ghost use Rattle.record.specs.Reading.{SecondAt, SetAt, endpointsOf, endpointsRead, pRead, secondRead};
+ghost use Rattle.record.specs.Reading.{SecondAt, endpointsOf, endpointsRead, pRead, secondRead};
 use bc7_places::modes::ModeRow;
 use bc7_places::splits::Anchors;
 use bc7_places::splits::anchors_of;
 use bc7_places::splits::read_split;
 use bits::stream::BitStream;
-use indexes::Indexes;
-use indexes::NewIndexes;
+use indexes::sets::parts_of;
+use indexes::sets::read_indexes;
 use record_rules::Record;
-
-// The sixteen indexes of a set as one word of equal parts, the anchors' zeros put in.
-pub fn read_indexes(kind: u8, anchors: Anchors, width: u32, stream: BitStream) -> NewIndexes
-    requires { ⌜ SetAt kind anchors width stream ⌝ }
-    ensures { λ r. ⌜ r ≡ newIndexes width (anchorsOfKind kind (anchors .b) (anchors .c)) stream (16 * width - anchorCount kind) ⌝ }
-{
-    if kind == 1 {
-        return Indexes::new_p2(width, stream, anchors.b as u32);
-    }
-    if kind == 2 {
-        return Indexes::new_p3(width, stream, anchors.b as u32, anchors.c as u32);
-    }
-    Indexes::new_p1(width, stream)
-}
-
-// The sixteen parts of a word.
-pub fn parts_of(word: u64, width: u32) -> [u8; 16]
-    requires { ⌜ width ≤ 4 ⌝ }
-    ensures { λ r. ⌜ r ≡ table 16 (part word width) ⌝ }
-{
-    let mut parts = [0u8; 16];
-    let mut rest = word;
-    for i in 0..16usize {
-        parts[i] = (rest % (1u64 << width)) as u8;
-        rest = rest >> width;
-    }
-    parts
-}
 
 // Part i of a word of parts of one width.
 fn part_of(word: u64, width: u32, i: usize) -> u8
@@ -130,7 +100,7 @@ pub fn read_second(row: ModeRow, anchors: Anchors, stream: BitStream) -> [u8; 16
     if row.kind != 3 {
         return [0u8; 16];
     }
-    let set = read_indexes(row.kind, anchors, row.second, stream);
+    let set = read_indexes(row.kind, row.second, stream, anchors.b, anchors.c);
     let indexes = set.indexes;
     parts_of(indexes.uncompressed, row.second)
 }
@@ -147,7 +117,7 @@ pub fn read_record(block: [u8; 16], mode: u8, row: ModeRow) -> Record
     let bits = read_p(row, values.stream);
     let p = bits.p;
     let anchors = anchors_of(split);
-    let set = read_indexes(row.kind, anchors, row.first, bits.stream);
+    let set = read_indexes(row.kind, row.first, bits.stream, anchors.b, anchors.c);
     let indexes = set.indexes;
     let first = parts_of(indexes.uncompressed, row.first);
     let second = read_second(row, anchors, set.stream);

@@ -1,11 +1,9 @@
 // Writing a block group by group: the marker and the split, a word for each channel, a word of p bits, a word for each set of
 // indexes, each of them pushed at once.
 ghost use mathlib.Core.Path.{_≡_};
-ghost use mathlib.Core.List.{[]};
 ghost use Prim.Native.Nat.{ℕ, _+_, _-_, _*_, _^_, _<_, _≤_};
 ghost use lib.ListN.{getD};
-ghost use Rattle.laws.specs.Digits.{Fit, join, evenly};
-ghost use Rattle.bcn_format.specs.Block.{field};
+ghost use Rattle.laws.specs.Digits.{join, evenly};
 ghost use Rattle.bc7_format.specs.Places.{blockOf, firstFrom, placeCount, psFrom, valuesFrom};
 ghost use Rattle.bcn_format.specs.Indexes.{anchorCount, anchorsOfKind, indexWidths};
 ghost use Rattle.bits.specs.Writer.{pushed};
@@ -17,31 +15,10 @@ use bc7_places::splits::index_mode_of;
 use bc7_places::splits::partition_of;
 use bc7_places::splits::rotation_of;
 use bits::writer::BitWriter;
+use indexes::sets::word_of;
 use indexes::storing::compressed;
 use indexes::storing::stored_bits;
 use record_rules::Record;
-
-// Sixteen indexes that fit a width as one word of equal parts.
-pub fn word_of(indexes: [u8; 16], width: u32) -> u64
-    requires { ⌜ (width ≤ 4) × Fit (indexWidths width []) indexes ⌝ }
-    ensures { λ r. ⌜ r ≡ join (indexWidths width []) indexes ⌝ }
-{
-    let mut word: u64 = 0;
-    let mut i: usize = 16;
-    while i > 0 {
-        i -= 1;
-        word = (word << width) + indexes[i] as u64;
-    }
-    word
-}
-
-// The top bit of an index in a word of parts of one width.
-pub fn top_of(word: u64, width: u32, index: usize) -> u64
-    requires { ⌜ (0 < width) × (width ≤ 4) × (index < 16) ⌝ }
-    ensures { λ r. ⌜ r ≡ field word (index * width + (width - 1)) 1 ⌝ }
-{
-    (word >> (index as u32 * width + (width - 1))) % 2
-}
 
 // The values of a channel as one word, endpoint 0 lowest.
 fn channel_word(e: [u8; 24], count: usize, channel: usize, width: u32) -> u64

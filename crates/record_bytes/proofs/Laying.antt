@@ -3,26 +3,23 @@
 use mathlib.Core.Path.{_≡_, refl, ap, subst, sym, _∙_}
 use mathlib.Core.List.{List, _++_, append-nil}
 use Prim.Native.Nat.{ℕ, _+_, _-_, _<_, _≤_}
-use native.Mathlib.Nat.{zero-add, le-of-eq, le-refl}
+use native.Mathlib.Nat.{zero-add, le-of-eq}
 use native.Mathlib.Omega.{arith}
 use borrow.Author.Tests.{lt-ltb, le-ltb}
 use lib.Dec.{lit<}
-use lib.ListN.{length, getD, set, take, drop, drop-of-length-le, length-drop}
+use lib.ListN.{length, getD, set, take, drop, length-drop}
 use Rattle.line_rules.specs.declared.Replacement.{Replacement}
 use Rattle.record_rules.specs.declared.Record.{Record}
-use Rattle.laws.specs.Tables.{over}
+use Rattle.laws.specs.Tables.{over, table}
 use Rattle.laws.proofs.Filled.{Filled, filled-next, filled-none}
-use Rattle.laws.proofs.Over.{filled-run, over-spliced}
+use Rattle.laws.proofs.Over.{filled-run}
 use Rattle.bc7_format.specs.Splits.{indexMode, kindOf}
 use Rattle.line_rules.specs.Read.{valueAt}
-use Rattle.record_bytes.specs.Wire.{recordByte, splitByte, bytesFrom}
-use Rattle.bc7_format.specs.Places.{valuesFrom, psFrom, firstFrom, secondFrom, placeCount}
-use lib.Seq.{drop-drop, drop-length, getD-drop, getD-take, length-take-le, take-all, ext-getD}
+use Rattle.record_rules.specs.Wire.{recordByte, splitByte, bytesFrom}
+use Rattle.record_rules.proofs.Wire.{behind}
+use Rattle.bc7_format.specs.Places.{valuesFrom, placeCount}
+use lib.Seq.{drop-length, getD-drop, getD-take, length-take-le, take-all, ext-getD}
 use Rattle.laws.proofs.Part.{getD-table, length-table}
-
--- i places behind o
-pub behind : (o i : ℕ) (xs : List ℕ) → getD xs (o + i - o) 0 ≡ getD xs i 0
-behind o i xs = ap (λ (k : ℕ). getD xs k 0) (let z : o + i - o ≡ i = omega arith in z)
 
 -- an array of k bytes laid behind o bytes that stand
 pub laid : {N : ℕ} {F : ℕ → ℕ} {out next : List ℕ} (o k : ℕ) (vs : List ℕ) → length vs ≡ k → next ≡ over out o (length vs) (λ i. getD vs i 0)
@@ -55,39 +52,6 @@ lead-laid r k s i out long ek es ei =
     filled-next 3 i (filled-next 2 s (filled-next 1 k (filled-next {out = out} 0 (r .mode) (filled-none long) (lit< tt) refl) (lit< tt) ek)
     (lit< tt) es) (lit< tt) ei
 
--- where the values of a record stand
-module _ (r : Record) (i : ℕ) where
-  pub value-at : i < 24 → recordByte r (valuesFrom + i) ≡ getD (r .endpoints) i 0
-  unfolding recordByte
-  value-at h =
-      rw (le-ltb (valuesFrom + i) valuesFrom (omega arith), lt-ltb (valuesFrom + i) psFrom (omega arith)) (behind valuesFrom i (r .endpoints))
-
-  pub p-bit-at : i < 6 → recordByte r (psFrom + i) ≡ getD (r .p) i 0
-  unfolding recordByte
-  p-bit-at h =
-      rw (le-ltb (psFrom + i) valuesFrom (omega arith), le-ltb (psFrom + i) psFrom (omega arith), lt-ltb (psFrom + i) firstFrom (omega arith))
-      (behind psFrom i (r .p))
-
-  pub first-at : i < 16 → recordByte r (firstFrom + i) ≡ getD (r .first) i 0
-  unfolding recordByte
-  first-at h =
-      rw (
-        le-ltb (firstFrom + i) valuesFrom (omega arith),
-        le-ltb (firstFrom + i) psFrom (omega arith),
-        le-ltb (firstFrom + i) firstFrom (omega arith),
-        lt-ltb (firstFrom + i) secondFrom (omega arith),
-      ) (behind firstFrom i (r .first))
-
-  pub second-at : i < 16 → recordByte r (secondFrom + i) ≡ getD (r .second) i 0
-  unfolding recordByte
-  second-at h =
-      rw (
-        le-ltb (secondFrom + i) valuesFrom (omega arith),
-        le-ltb (secondFrom + i) psFrom (omega arith),
-        le-ltb (secondFrom + i) firstFrom (omega arith),
-        le-ltb (secondFrom + i) secondFrom (omega arith),
-      ) (behind secondFrom i (r .second))
-
 -- a part of a list that is copied into a list of its length
 pub copied-part : (bs vs : List ℕ) (at : ℕ) → at + length vs ≤ length bs
     → take (length (take (at + length vs - at) (drop at bs))) (take (at + length vs - at) (drop at bs))
@@ -103,17 +67,6 @@ copied-part bs vs at h =
     let l' : i < n = rw long at l in
     getD-take n (drop at bs) i 0 l' ∙ getD-drop at bs i 0 ∙ sym (getD-table n (λ j. getD bs (at + j) 0) 0 i l')))
 
--- a list copied over the rest of another, from a place on
-pub copied-over : (l vs : List ℕ) (at : ℕ) → at + length vs ≤ length l
-    → take at l ++ ((take (length vs) vs ++ drop (length vs) (take (length l - at) (drop at l))) ++ drop (length l - at) (drop at l))
-    ≡ over l at (length vs) (λ i. getD vs i 0)
-copied-over l vs at h =
-    let m : ℕ = length l - at in
-    let rest : length (drop at l) ≡ m = length-drop at l in
-    rw (
-      take-all m (drop at l) (le-of-eq rest),
-      drop-of-length-le (drop at l) {i = m} (le-of-eq rest),
-      drop-drop (length vs) at l,
-      append-nil (take (length vs) vs ++ drop (at + length vs) l),
-    )
-    (sym (over-spliced l vs at (length vs) 0 h (le-refl (length vs))))
+-- as many bytes from place 0 on as there is room for
+pub from-0 : (bs : List ℕ) (n : ℕ) → bytesFrom bs 0 n ≡ table n (λ i. getD bs i 0)
+from-0 bs n = λ j. table n (λ i. getD bs (zero-add i j) 0)

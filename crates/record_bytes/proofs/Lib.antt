@@ -1,4 +1,1 @@
-pub mod Attested
 pub mod Laying
-pub mod Packing
-pub mod Theorems

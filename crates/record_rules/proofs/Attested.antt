@@ -1,8 +1,10 @@
--- WHAT HOLDS THE DEFINITIONS OF THE RECORD: whole records written out (format's Examples has what the blocks store, and where).
+-- WHAT HOLDS THE DEFINITIONS OF THE RECORD: whole records and their bytes, written out (format's Examples has what the blocks store, and
+-- where).
 -- Assumes nothing.
 use mathlib.Core.Path.{_≡_, refl}
 use mathlib.Core.List.{List, [], _∷_, map}
-use Prim.Native.Nat.{ℕ}
+use Prim.Native.Nat.{ℕ, _+_}
+use lib.ListN.{drop, replicate}
 use Rattle.record_rules.specs.declared.Record.{Record}
 use Rattle.record_rules.specs.declared.Unpacked.{Unpacked}
 use Rattle.record_rules.specs.declared.Packed.{Packed}
@@ -17,6 +19,7 @@ use Rattle.bc7_format.specs.Places.{atPlace, blockOf, listOf, opened, placeAt, 
 use Rattle.bc7_format.specs.Splits.{splitAt, splitOf}
 use Rattle.bc7_format.proofs.Examples.{block4, block7}
 use Rattle.record_rules.specs.Records.{fits, made, packRefusal, packed, recordOf, says, takenApart}
+use Rattle.record_rules.specs.Wire.{bytesRefusal, packedBytes, recordByte, recordBytes, recordOfBytes, spelt}
 
 abbrev sixteenZeros : List ℕ
 sixteenZeros = 0 ∷ 0 ∷ 0 ∷ 0 ∷ 0 ∷ 0 ∷ 0 ∷ 0 ∷ 0 ∷ 0 ∷ 0 ∷ 0 ∷ 0 ∷ 0 ∷ 0 ∷ 0 ∷ []
@@ -89,3 +92,43 @@ pub blocks-of-records : map packed (record4 ∷ record7 ∷ zerosOf 8 ∷ like7 
 unfolding packed packRefusal fits first says blockOf listOf bytesOf table tableFrom placeAt width widths modeRow kindOfMode endpointCount anchors2
     anchors3 digits marks strings2 strings3
 blocks-of-records = refl
+
+-- mode, the kind that is given, rotation, index mode; six endpoints; p bits; the first indexes; the second
+abbrev pub bytes4 : ℕ → List ℕ
+bytes4 kind =
+    4 ∷ kind ∷ 2 ∷ 1 ∷
+    1 ∷ 3 ∷ 5 ∷ 7 ∷ 2 ∷ 4 ∷ 6 ∷ 8 ∷ 0 ∷ 0 ∷ 0 ∷ 0 ∷ 0 ∷ 0 ∷ 0 ∷ 0 ∷ 0 ∷ 0 ∷ 0 ∷ 0 ∷ 0 ∷ 0 ∷ 0 ∷ 0 ∷
+    0 ∷ 0 ∷ 0 ∷ 0 ∷ 0 ∷ 0 ∷
+    1 ∷ 2 ∷ 3 ∷ 0 ∷ 1 ∷ 2 ∷ 3 ∷ 0 ∷ 1 ∷ 2 ∷ 3 ∷ 0 ∷ 1 ∷ 2 ∷ 3 ∷ 0 ∷
+    3 ∷ 4 ∷ 5 ∷ 6 ∷ 7 ∷ 0 ∷ 1 ∷ 2 ∷ 3 ∷ 4 ∷ 5 ∷ 6 ∷ 7 ∷ 0 ∷ 1 ∷ 2 ∷
+    []
+
+-- mode, kind, partition, 0; the rest as above
+abbrev pub bytes7 : List ℕ
+bytes7 =
+    7 ∷ 1 ∷ 13 ∷ 0 ∷
+    1 ∷ 2 ∷ 3 ∷ 4 ∷ 5 ∷ 6 ∷ 7 ∷ 8 ∷ 9 ∷ 10 ∷ 11 ∷ 12 ∷ 13 ∷ 14 ∷ 15 ∷ 16 ∷ 0 ∷ 0 ∷ 0 ∷ 0 ∷ 0 ∷ 0 ∷ 0 ∷ 0 ∷
+    1 ∷ 0 ∷ 1 ∷ 1 ∷ 0 ∷ 0 ∷
+    1 ∷ 2 ∷ 3 ∷ 0 ∷ 1 ∷ 2 ∷ 3 ∷ 0 ∷ 0 ∷ 3 ∷ 2 ∷ 1 ∷ 0 ∷ 3 ∷ 2 ∷ 1 ∷
+    0 ∷ 0 ∷ 0 ∷ 0 ∷ 0 ∷ 0 ∷ 0 ∷ 0 ∷ 0 ∷ 0 ∷ 0 ∷ 0 ∷ 0 ∷ 0 ∷ 0 ∷ 0 ∷
+    []
+
+-- n numbers, each one more than the last
+abbrev counting : ℕ → ℕ → List ℕ
+counting from n = table n (λ i. from + i)
+
+-- what 66 bytes say that count from 2 on
+abbrev counted : Record
+counted = record { mode = 2; split = Vector 4 5; endpoints = counting 6 24; p = counting 30 6; first = counting 36 16; second = counting 52 16 }
+
+pub record Bytes : Type 0 where
+  pub of-records : map recordBytes (record4 ∷ record7 ∷ zerosOf 0 ∷ counted ∷ []) ≡ bytes4 3 ∷ bytes7 ∷ replicate 66 0 ∷ counting 2 66 ∷ []
+  pub to-records : map recordOfBytes (bytes4 3 ∷ bytes7 ∷ replicate 66 0 ∷ counting 2 66 ∷ []) ≡ record4 ∷ record7 ∷ zerosOf 0 ∷ counted ∷ []
+  -- no split has a kind above 3, and two subsets have no index mode
+  pub to-blocks : map packedBytes (bytes7 ∷ bytes4 3 ∷ bytes4 0 ∷ bytes4 4 ∷ bytes4 255 ∷ (7 ∷ 1 ∷ 13 ∷ 1 ∷ drop 4 bytes7) ∷ [])
+      ≡ block 0 block7 ∷ block 0 block4 ∷ refused 5 ∷ refused 5 ∷ refused 5 ∷ refused 3 ∷ []
+
+pub bytes-hold : Bytes
+unfolding recordByte recordBytes recordOfBytes packedBytes bytesRefusal spelt packed packRefusal fits first says blockOf listOf bytesOf table
+    tableFrom placeAt width widths modeRow kindOfMode endpointCount anchors2 digits marks strings2
+bytes-hold = record { of-records = refl; to-records = refl; to-blocks = refl }

@@ -1,5 +1,7 @@
 pub mod Attested
-pub mod Widths
 pub mod Answering
 pub mod Packing
 pub mod Theorems
+pub mod Wire
+pub mod WirePacking
+pub mod WireTheorems

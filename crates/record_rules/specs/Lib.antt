@@ -1,4 +1,5 @@
 -- The record of a block, taking apart and packing.
 pub mod Records
 pub mod Answers
+pub mod Wire
 pub mod Promises

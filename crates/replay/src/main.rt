@@ -3,6 +3,7 @@
 // is what is shipped; the listing goes through its machine. Here only lengths and kinds that end the run are looked at.
 ghost use Prim.Native.Nat.{_+_, _≤_, _<_};
 ghost use lib.ListN.{length};
+use bc7_places::places::PLACES;
 use libc::STDIN_FILENO;
 use libc::STDOUT_FILENO;
 use listing::list_sheet;
@@ -59,7 +60,7 @@ fn write_block(block: &[u8; 16]) -> bool {
     io::write_all(STDOUT_FILENO, block)
 }
 
-fn write_record(record: &[u8; 66]) -> bool {
+fn write_record(record: &[u8; PLACES]) -> bool {
     io::write_all(STDOUT_FILENO, record)
 }
 
@@ -100,13 +101,13 @@ fn unpack_call() -> bool {
     if !filled(&mut block) {
         return false;
     }
-    let mut record = [0u8; 66];
+    let mut record = [0u8; PLACES];
     write_refusal(rinchovek_bc7_unpack(&block, &mut record));
     write_record(&record)
 }
 
 fn pack_call() -> bool {
-    let mut record = [0u8; 66];
+    let mut record = [0u8; PLACES];
     if !filled(&mut record) {
         return false;
     }

@@ -4,6 +4,7 @@
 ghost use Rattle.rinchovek_rules.specs.Promises.{Decodes, Packs, ReadsLine, Replaces, Unpacks, Versions, DecodesRow, ReadsHead, ReplacesIn};
 ghost use Rattle.rinchovek_rules.specs.Promises.{FindsExact, FindsNearest, WritesHead};
 use bc7::decode_bc7_block;
+use bc7_places::places::PLACES;
 use line::read_line;
 use line::replace_line;
 use nearest::exact_index;
@@ -39,7 +40,7 @@ pub extern "C" fn rinchovek_bc7_decode_block(block: &[u8; 16], out: &mut [[u8; 4
 
 // A block taken apart into the 66 bytes of its record.
 #[no_mangle]
-pub extern "C" fn rinchovek_bc7_unpack(block: &[u8; 16], bytes: &mut [u8; 66]) -> u32
+pub extern "C" fn rinchovek_bc7_unpack(block: &[u8; 16], bytes: &mut [u8; PLACES]) -> u32
     ensures { λ r. ⌜ Unpacks (now (block .entry)) (now (bytes .entry)) r (now (bytes .exit)) ⌝ }
 {
     let unpacked = unpack(*block);
@@ -53,7 +54,7 @@ pub extern "C" fn rinchovek_bc7_unpack(block: &[u8; 16], bytes: &mut [u8; 66]) -
 
 // The block of a record that is given in 66 bytes.
 #[no_mangle]
-pub extern "C" fn rinchovek_bc7_pack(bytes: &[u8; 66], block: &mut [u8; 16]) -> u32
+pub extern "C" fn rinchovek_bc7_pack(bytes: &[u8; PLACES], block: &mut [u8; 16]) -> u32
     ensures { λ r. ⌜ Packs (now (bytes .entry)) (now (block .entry)) r (now (block .exit)) ⌝ }
 {
     let packed = pack_bytes(*bytes);

@@ -17,13 +17,13 @@ use Rattle.bc7_format.specs.Places.{atPlace, blockOf, listOf, opened, placeAt, 
 use Rattle.bc7_format.specs.Splits.{splitAt, splitOf}
 use Rattle.bc7_format.proofs.Examples.{block4, block7}
 use Rattle.record_rules.specs.Records.{fits, made, packRefusal, packed, recordOf, says, takenApart}
-use Rattle.line_rules.specs.Read.{givenAs, lineRead, readRefusal, valueAt, widthsOf}
+use Rattle.record_rules.specs.Wire.{bytesRefusal, packedBytes, recordByte, recordBytes, recordOfBytes, spelt}
+use Rattle.record_rules.proofs.Attested.{bytes4, bytes7}
+use Rattle.line_rules.specs.Read.{givenAs, lineRead, readRefusal, replacementBytes, replacementOf, valueAt, widthsOf}
 use Rattle.line_rules.specs.Replace.{after, indexFits, lineFits, lineGiven, oriented, ownWidth, pFits, put, refusal, refusalIn, replaced, valueFits}
-use Rattle.line_rules.proofs.Attested.{after7}
+use Rattle.line_rules.proofs.Attested.{after7, bytesGiven}
 use Rattle.nearest_rules.specs.Nearest.{channelDistance, distance, drawnWith, exactIndex, exactRefusal, inLine, indexCount, leastAt, nearestIndex}
 use Rattle.nearest_rules.specs.Nearest.{nearestRefusal, squared, withIndex, zeroAt}
-use Rattle.record_bytes.specs.Wire.{bytesRefusal, packedBytes, recordByte, recordBytes, recordOfBytes, replacementBytes, replacementOf, spelt}
-use Rattle.record_bytes.proofs.Attested.{bytes4, bytes7, bytesGiven}
 use Rattle.head_rules.specs.Geometry.{blocksOf, placeOf}
 use Rattle.head_rules.specs.Heads.{formIn, headBytes, headRefusal, heightIn, readHead, sizeRefusal, widthIn, writeHead}
 use Rattle.head_rules.specs.Numbers.{groups, raised, readGroups, readNumber}

@@ -11,13 +11,13 @@ use Rattle.bc7_format.specs.Lines.{pixels}
 use Rattle.head_rules.specs.declared.Head.{Head}
 use Rattle.head_rules.specs.Heads.{readHead, writeHead}
 use Rattle.line_rules.specs.declared.LineRead.{LineRead}
-use Rattle.line_rules.specs.Read.{lineRead}
+use Rattle.line_rules.specs.Read.{lineRead, replacementBytes, replacementOf}
 use Rattle.line_rules.specs.Replace.{replaced}
 use Rattle.record_rules.specs.Records.{takenApart}
+use Rattle.record_rules.specs.Wire.{packedBytes, recordBytes}
 use Rattle.sheet_rules.specs.Rows.{rowOut, rowRefusal}
 use Rattle.sheet_rules.specs.Sheets.{sheetAfter, sheetRefusal}
 use Rattle.nearest_rules.specs.Nearest.{exactIndex, nearestIndex}
-use Rattle.record_bytes.specs.Wire.{packedBytes, recordBytes, replacementBytes, replacementOf}
 
 -- this number is answered, and this is left
 pub record Gives {A : Type 0} (refusal : ℕ) (left : A) (answer : ℕ) (after : A) : Type 0 where

@@ -26,9 +26,7 @@ pub fn store(s: &mut [u8], at: usize, block: [u8; 16])
     requires { ⌜ at + 16 ≤ length (now s) ⌝ }
     ensures { λ _. ⌜ now (s .exit) ≡ putBlock (now (s .entry)) at block ⌝ }
 {
-    for i in 0..16usize {
-        s[at + i] = block[i];
-    }
+    bytes::copy(&block, &mut s[at..]);
 }
 
 // The place of a block, or why it has none.

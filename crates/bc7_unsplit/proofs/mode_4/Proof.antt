@@ -56,7 +56,7 @@ new-p1-requires c κs = search needs
 new-p1-requires-2 : tie.Need-new-p1-requires-2
 new-p1-requires-2 c κs =
     let a = c .before .before in
-    (omega arith, omega arith, rw (c .new-p1 .ensures) (omega (arith, a, a .before .before .before)))
+    record { least = omega arith; most = omega arith; enough = rw (c .new-p1 .ensures) (omega (arith, a, a .before .before .before)) }
 
 words-2-requires : tie.Need-words-2-requires
 words-2-requires c κs = search needs

@@ -49,7 +49,7 @@ new-p1-requires : tie.Need-new-p1-requires
 new-p1-requires c κs = search needs
 
 new-p1-requires-2 : tie.Need-new-p1-requires-2
-new-p1-requires-2 c κs = (omega arith, omega arith, rw (c .new-p1 .ensures) (omega arith))
+new-p1-requires-2 c κs = record { least = omega arith; most = omega arith; enough = rw (c .new-p1 .ensures) (omega arith) }
 
 palette-2-and-2-requires : tie.Need-palette-2-and-2-requires
 palette-2-and-2-requires c κs = search needs

@@ -37,10 +37,10 @@ add-result : tie.Need-add-result
 add-result c =
     let top = c .args .index * c .args .bits + (c .args .bits - 1) in
     let n = c .args .compressed in
-    record { fits = rw (insert-machine n top (c .pre .3)) (inserted-lt n top 63 (c .pre .3) (omega (arith, below-64 c))) }
+    record { fits = rw (insert-machine n top (c .pre .room)) (inserted-lt n top 63 (c .pre .room) (omega (arith, below-64 c))) }
 
 returns : tie.Need-returns
-returns c = insert-machine (c .args .compressed) (c .args .index * c .args .bits + (c .args .bits - 1)) (c .pre .3)
+returns c = insert-machine (c .args .compressed) (c .args .index * c .args .bits + (c .args .bits - 1)) (c .pre .room)
 
 pub decompress-single-index-spec : {M : Type 1} → statement M
 decompress-single-index-spec =

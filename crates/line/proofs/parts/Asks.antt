@@ -16,7 +16,7 @@ use Rattle.laws.proofs.Digits.{split-join}
 use Rattle.laws.proofs.Rows.{fit-table}
 use Rattle.laws.proofs.Words.{one-shl}
 use Rattle.bcn_format.specs.Indexes.{indexWidth, indexWidths}
-use Rattle.record_rules.proofs.Widths.{fit, unfit}
+use Rattle.bc7_places.proofs.fits.Widths.{fit, unfit}
 use Rattle.bc7_places.specs.declared.lines.Pixels.{Pixels}
 use Rattle.bc7_places.specs.declared.lines.LinePart.{LinePart}
 use Rattle.line_rules.specs.declared.Replacement.{Replacement}

@@ -15,7 +15,7 @@ use Rattle.bc7_format.specs.declared.Split.{Split}
 use Rattle.laws.specs.Tables.{pick}
 use Rattle.bcn_format.specs.Block.{field}
 use Rattle.bc7_format.specs.Lines.{Line, lineBits, turned}
-use Rattle.record_rules.proofs.Widths.{fit, unfit}
+use Rattle.bc7_places.proofs.fits.Widths.{fit, unfit}
 use Rattle.line_rules.specs.Replace.{lineGiven, oriented, topSet}
 use Rattle.line.specs.Parts.{asGiven, storedAs, turnedRound}
 use Rattle.bc7_places.specs.Lines.{ownPixel}

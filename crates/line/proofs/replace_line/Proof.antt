@@ -144,10 +144,11 @@ returns-3 c =
 word-of-requires : tie.Need-word-of-requires
 word-of-requires c κs =
     let o = opening (c .before) in
-    let d = unreserved (o .before) in (
-      line-is o .most,
-      indexes-fit _ (sixteen (call d)) _ _ (long (call d)) (low d) (counted (o .before)) (o .open-line .ensures) (fitting (c .before)),
-    )
+    let d = unreserved (o .before) in
+    record {
+      most = line-is o .most;
+      fits = indexes-fit _ (sixteen (call d)) _ _ (long (call d)) (low d) (counted (o .before)) (o .open-line .ensures) (fitting (c .before));
+    }
 
 mask-of-requires : tie.Need-mask-of-requires
 mask-of-requires c κs = let i = line-is (opening (c .before .before .before)) in (i .map, i .most)

@@ -34,7 +34,7 @@ use Rattle.bc7_places.specs.Modes.{modeRowOf}
 use Rattle.bc7_places.proofs.modes.Bounds.{low-partition}
 use Rattle.bc7_places.proofs.splits.AnchorPixels.{three-are, anchors-low}
 use Rattle.record.specs.Fitting.{Full, splitFits, storedFit, topsZero, valueBits}
-use Rattle.record.proofs.fits.Bytes.{one-width}
+use Rattle.bc7_places.proofs.fits.Bytes.{one-width}
 
 -- a pair of endpoints as one word
 module _ (row : ModeRow) (e : List ℕ) (o : ℕ) (bytes : (i : ℕ) → getD e i 0 < 2 ^ 8) (whole : o % 8 ≡ 0) where

@@ -1,7 +1,7 @@
 -- `lay` meets its contract.
 -- Assumes nothing.
 use borrow.Author.Needs.{needs}
-use Rattle.record_bytes.proofs.Laying.{copied-over}
+use Rattle.laws.proofs.Over.{copied-over}
 use Rattle.record_bytes.proofs.lay.Statement.{statement}
 use Rattle.record_bytes.proofs.lay.Tie as tie
 
@@ -23,7 +23,7 @@ same-length c = search needs
 returns : tie.Need-returns
 returns c =
     let s = c .before .before .before .before .before .before in
-    rw (c .before .before .copy .ensures .1) (copied-over (s .args .into .now) (s .args .values .now) (s .args .at) (s .pre))
+    rw (c .before .before .copy .ensures .1) (copied-over (s .args .into .now) (s .args .values .now) (s .args .at) 0 (s .pre))
 
 pub lay-spec : {M : Type 1} → statement M
 lay-spec = tie.close (tie.spec sub-copy part-copy-start part-copy-end copy-requires same-length returns)

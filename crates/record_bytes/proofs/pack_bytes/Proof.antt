@@ -12,8 +12,8 @@ use Rattle.record_rules.specs.declared.Record.{Record}
 use Rattle.laws.specs.Tables.{both}
 use Rattle.bc7_format.specs.Splits.{indexMode}
 use Rattle.record_rules.specs.Records.{packRefusal, packed}
-use Rattle.record_bytes.specs.Wire.{recordOfBytes, spelt, splitByte}
-use Rattle.record_bytes.proofs.Packing.{another-kind, as-record, more-said, no-kind}
+use Rattle.record_rules.specs.Wire.{recordOfBytes, spelt, splitByte}
+use Rattle.record_rules.proofs.WirePacking.{another-kind, as-record, more-said, no-kind}
 use Rattle.record_bytes.proofs.pack_bytes.Statement.{statement}
 use Rattle.record_bytes.proofs.pack_bytes.Tie as tie
 

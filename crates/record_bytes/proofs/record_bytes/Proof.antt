@@ -6,8 +6,9 @@ use native.Mathlib.Omega.{arith}
 use lib.ListN.{length, replicate}
 use borrow.Author.Needs.{needs}
 use Rattle.laws.proofs.Filled.{Filled, filled-all}
-use Rattle.record_bytes.specs.Wire.{recordByte, recordBytes}
-use Rattle.record_bytes.proofs.Laying.{first-at, lead-laid, laid, p-bit-at, second-at, value-at}
+use Rattle.record_rules.specs.Wire.{recordByte, recordBytes}
+use Rattle.record_rules.proofs.Wire.{first-at, p-bit-at, second-at, value-at}
+use Rattle.record_bytes.proofs.Laying.{lead-laid, laid}
 use Rattle.record_bytes.proofs.record_bytes.Statement.{statement}
 use Rattle.record_bytes.proofs.record_bytes.Tie as tie
 use Rattle.bc7_format.specs.Places.{valuesFrom, psFrom, firstFrom, secondFrom, placeCount}

@@ -1,6 +1,6 @@
 -- `record_of_bytes`: each array by the copy that fills it.
 -- Assumes nothing.
-use Rattle.record_bytes.specs.Wire.{recordOfBytes}
+use Rattle.record_rules.specs.Wire.{recordOfBytes}
 use lib.ListN.{getD}
 use borrow.Author.Needs.{needs}
 use Rattle.record_bytes.proofs.record_of_bytes.Statement.{statement}

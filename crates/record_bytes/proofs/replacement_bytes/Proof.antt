@@ -5,9 +5,8 @@ use Prim.Native.Nat.{ℕ, _+_, _≤_}
 use native.Mathlib.Omega.{arith}
 use lib.ListN.{length}
 use borrow.Author.Needs.{needs}
-use Rattle.line_rules.specs.Read.{valueAt}
 use Rattle.laws.proofs.Filled.{Filled, filled-all, filled-none}
-use Rattle.record_bytes.specs.Wire.{replacementBytes}
+use Rattle.line_rules.specs.Read.{replacementBytes, valueAt}
 use Rattle.record_bytes.proofs.Laying.{endpoint-at, index-at, laid, p-at}
 use Rattle.record_bytes.proofs.replacement_bytes.Statement.{statement}
 use Rattle.record_bytes.proofs.replacement_bytes.Tie as tie

@@ -1,9 +1,11 @@
 -- `replacement_of`: each array by the copy that fills it.
 -- Assumes nothing.
-use Rattle.record_bytes.specs.Wire.{replacementOf}
+use Rattle.line_rules.specs.Read.{replacementOf}
+use mathlib.Core.Path.{_∙_}
 use mathlib.Core.List.{[], _∷_}
 use lib.ListN.{getD}
 use borrow.Author.Needs.{needs}
+use Rattle.record_bytes.proofs.Laying.{from-0}
 use Rattle.record_bytes.proofs.replacement_of.Statement.{statement}
 use Rattle.record_bytes.proofs.replacement_of.Tie as tie
 
@@ -38,7 +40,7 @@ returns c =
     let endpoints = indexes .before .before .before .before in
     let bytes = endpoints .before .before .before .args .t1 in
     λ j. record {
-      endpoints = endpoints .copy-from .ensures j;
+      endpoints = (endpoints .copy-from .ensures ∙ from-0 bytes 8) j;
       p = getD bytes 8 0 ∷ getD bytes 9 0 ∷ [];
       indexes = indexes .copy-from2 .ensures j;
     }

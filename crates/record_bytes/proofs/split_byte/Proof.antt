@@ -8,7 +8,7 @@ use borrow.Author.Needs.{needs}
 use Rattle.bc7_format.specs.declared.Split.{Split}
 use Rattle.bc7_format.specs.declared.Split.the-variants.{Whole, Two, Three, Vector}
 use Rattle.bc7_format.specs.Splits.{kindOf, partition, rotation}
-use Rattle.record_bytes.specs.Wire.{splitByte}
+use Rattle.record_rules.specs.Wire.{splitByte}
 use Rattle.record_bytes.proofs.split_byte.Statement.{statement}
 use Rattle.record_bytes.proofs.split_byte.Tie as tie
 

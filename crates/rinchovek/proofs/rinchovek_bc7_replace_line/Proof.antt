@@ -4,7 +4,7 @@ use mathlib.Core.Path.{_≡_, sym, ap, _∙_}
 use Rattle.line_rules.specs.declared.Replaced.{Replaced}
 use Rattle.line_rules.specs.Replace.{callOf, replaced}
 use Rattle.line_rules.proofs.Theorems.{refused-same}
-use Rattle.record_bytes.specs.Wire.{replacementOf}
+use Rattle.line_rules.specs.Read.{replacementOf}
 use borrow.Author.Needs.{needs}
 use Rattle.rinchovek.proofs.rinchovek_bc7_replace_line.Statement.{statement}
 use Rattle.rinchovek.proofs.rinchovek_bc7_replace_line.Tie as tie

@@ -7,12 +7,13 @@ use Rattle.indexes.proofs.Indexes.from_compressed_p1.Tie as tie
 
 decompress-single-index-requires : tie.Need-decompress-single-index-requires
 decompress-single-index-requires c κs =
-    (c .pre .0, c .pre .1, omega arith, spare-bit (c .args .bits) 1 (c .args .compressed) (c .pre .1) (omega arith) (c .pre .2))
+    let s = c .pre in
+    record { least = s .least; most = s .most; pixel = omega arith; room = spare-bit (c .args .bits) 1 (c .args .compressed) (s .most) (omega arith) (s .enough) }
 
 returns : tie.Need-returns
 returns c =
     let s = c .before in
-    let all = one-anchor (s .args .bits) (s .pre .0) (s .args .compressed) 0 _ (omega arith) (s .pre .2) (c .decompress-single-index .ensures) in
+    let all = one-anchor (s .args .bits) (s .pre .least) (s .args .compressed) 0 _ (omega arith) (s .pre .enough) (c .decompress-single-index .ensures) in
     rw all
 
 pub from-compressed-p1-spec : {M : Type 1} → statement M

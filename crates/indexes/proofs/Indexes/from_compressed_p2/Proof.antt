@@ -7,20 +7,21 @@ use Rattle.indexes.proofs.Indexes.from_compressed_p2.Tie as tie
 
 decompress-single-index-requires : tie.Need-decompress-single-index-requires
 decompress-single-index-requires c κs =
-    (c .pre .0, c .pre .1, omega arith, spare-bit (c .args .bits) 2 (c .args .compressed) (c .pre .1) (omega arith) (c .pre .2))
+    let s = c .pre in
+    record { least = s .least; most = s .most; pixel = omega arith; room = spare-bit (c .args .bits) 2 (c .args .compressed) (s .most) (omega arith) (s .enough) }
 
 decompress-single-index-requires-2 : tie.Need-decompress-single-index-requires-2
 decompress-single-index-requires-2 c κs =
     let s = c .before in
     let w = s .args .bits in
     let x = c .decompress-single-index in
-    let below = after-1 w (s .pre .0) (s .args .compressed) 0 (x .result) (omega arith) (s .pre .2) (x .ensures) in
-    (s .pre .0, s .pre .1, omega arith, spare-bit w 1 (x .result) (s .pre .1) (omega arith) below)
+    let below = after-1 w (s .pre .least) (s .args .compressed) 0 (x .result) (omega arith) (s .pre .enough) (x .ensures) in
+    record { least = s .pre .least; most = s .pre .most; pixel = s .pre .pixel; room = spare-bit w 1 (x .result) (s .pre .most) (omega arith) below }
 
 returns : tie.Need-returns
 returns c =
     let s = c .before .before in
-    let all = two-anchors (s .args .bits) (s .pre .0) (s .args .compressed) 0 (s .args .p2-fixup) _ _ (s .pre .3) (s .pre .4) (s .pre .2)
+    let all = two-anchors (s .args .bits) (s .pre .least) (s .args .compressed) 0 (s .args .p2-fixup) _ _ (s .pre .above) (s .pre .pixel) (s .pre .enough)
     (c .before .decompress-single-index .ensures) (c .decompress-single-index2 .ensures) in
     rw all
 

@@ -8,15 +8,21 @@ use Rattle.indexes.proofs.Indexes.from_compressed_p3.Tie as tie
 
 decompress-single-index-requires : tie.Need-decompress-single-index-requires
 decompress-single-index-requires c κs =
-    (c .pre .0, c .pre .1, omega arith, spare-bit (c .args .bits) 3 (c .args .compressed) (c .pre .1) (omega arith) (c .pre .2))
+    let s = c .pre in
+    record { least = s .least; most = s .most; pixel = omega arith; room = spare-bit (c .args .bits) 3 (c .args .compressed) (s .most) (omega arith) (s .enough) }
 
 decompress-single-index-requires-2 : tie.Need-decompress-single-index-requires-2
 decompress-single-index-requires-2 c κs =
     let s = c .before in
     let w = s .args .bits in
     let x = c .decompress-single-index in
-    let below = after-2 w (s .pre .0) (s .args .compressed) (x .result) (s .pre .2) (x .ensures) in
-    (s .pre .0, s .pre .1, omega arith, spare-bit w 2 (x .result) (s .pre .1) (omega arith) below)
+    let below = after-2 w (s .pre .least) (s .args .compressed) (x .result) (s .pre .enough) (x .ensures) in
+    record {
+      least = s .pre .least;
+      most = s .pre .most;
+      pixel = omega (arith, s .pre .rising, s .pre .pixel);
+      room = spare-bit w 2 (x .result) (s .pre .most) (omega arith) below;
+    }
 
 decompress-single-index-requires-3 : tie.Need-decompress-single-index-requires-3
 decompress-single-index-requires-3 c κs =
@@ -24,15 +30,15 @@ decompress-single-index-requires-3 c κs =
     let w = s .args .bits in
     let x = c .before .decompress-single-index in
     let y = c .decompress-single-index2 in
-    let first = after-2 w (s .pre .0) (s .args .compressed) (x .result) (s .pre .2) (x .ensures) in
-    let below = after-1 w (s .pre .0) (x .result) (s .args .p2-fixup) (y .result) (omega arith) first (y .ensures) in
-    (s .pre .0, s .pre .1, s .pre .5, spare-bit w 1 (y .result) (s .pre .1) (omega arith) below)
+    let first = after-2 w (s .pre .least) (s .args .compressed) (x .result) (s .pre .enough) (x .ensures) in
+    let below = after-1 w (s .pre .least) (x .result) (s .args .p2-fixup) (y .result) (omega (arith, s .pre .rising, s .pre .pixel)) first (y .ensures) in
+    record { least = s .pre .least; most = s .pre .most; pixel = s .pre .pixel; room = spare-bit w 1 (y .result) (s .pre .most) (omega arith) below }
 
 returns : tie.Need-returns
 returns c =
     let s = c .before .before .before in
-    let all = three-anchors (s .args .bits) (s .pre .0) (s .args .compressed) (s .args .p2-fixup) (s .args .p3-fixup) _ _ _
-    (s .pre .3) (s .pre .4) (s .pre .5) (s .pre .2)
+    let all = three-anchors (s .args .bits) (s .pre .least) (s .args .compressed) (s .args .p2-fixup) (s .args .p3-fixup) _ _ _
+    (s .pre .above) (s .pre .rising) (s .pre .pixel) (s .pre .enough)
     (c .before .before .decompress-single-index .ensures) (c .before .decompress-single-index2 .ensures) (c .decompress-single-index3 .ensures) in
     rw all
 

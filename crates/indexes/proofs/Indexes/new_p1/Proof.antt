@@ -16,7 +16,7 @@ consume-bits-64-requires c κs = search needs
 from-compressed-p1-requires : tie.Need-from-compressed-p1-requires
 from-compressed-p1-requires c κs =
     let s = c .before in
-    (s .pre .0, s .pre .1, c .consume-bits-64 .ensures .small)
+    record { least = s .pre .least; most = s .pre .most; enough = c .consume-bits-64 .ensures .small }
 
 returns : tie.Need-returns
 returns c = rw (c .before .from-compressed-p1 .ensures, c .before .before .consume-bits-64 .ensures .same)

@@ -58,7 +58,7 @@ compressed-requires c κs =
     let e =
     after-is (s .args .s) (s .args .kind) (s .args .at) (s .args .part) (s .args .mask) (s .args .new) (before (c .before .before .before))
     (s .pre) in
-    (s .pre .least, s .pre .most, s .pre .rising, rw e (s .pre .small), rw e (s .pre .fits))
+    record { least = s .pre .least; most = s .pre .most; rising = s .pre .rising; small = rw e (s .pre .small); fits = rw e (s .pre .fits) }
 
 -- the set as it is stored
 stored : (c : tie.After-compressed)

@@ -10,7 +10,7 @@ use Rattle.laws.specs.Tables.{pick, table}
 use Rattle.laws.proofs.Part.{getD-table}
 use Rattle.bc7_places.specs.declared.lines.Pixels.{Pixels}
 use Rattle.bc7_places.specs.Lines.{ownPixel}
-use Rattle.record.proofs.writing.Sets.{Next, Upper, upper-all, upper-next, upper-none}
+use Rattle.indexes.proofs.sets.Words.{Next, Upper, upper-all, upper-next, upper-none}
 use Rattle.line.proofs.parts.Asks.{mask-fits, one-less}
 use Rattle.line.proofs.parts.mask_of.Statement.{statement}
 use Rattle.line.proofs.parts.mask_of.Tie as tie

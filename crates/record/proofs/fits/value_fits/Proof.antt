@@ -1,7 +1,7 @@
 -- `fits::value_fits` meets its contract.
 -- Assumes nothing.
 use mathlib.Core.Path.{_∙_, sym}
-use Rattle.record_rules.proofs.Widths.{fit, unfit}
+use Rattle.bc7_places.proofs.fits.Widths.{fit, unfit}
 use borrow.Author.Needs.{needs}
 use Rattle.record.proofs.fits.value_fits.Statement.{statement}
 use Rattle.record.proofs.fits.value_fits.Tie as tie

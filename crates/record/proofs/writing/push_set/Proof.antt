@@ -6,7 +6,7 @@ use Rattle.laws.specs.Digits.{join}
 use Rattle.laws.proofs.Digits.{join-lt}
 use Rattle.bcn_format.specs.Indexes.{anchorsOfKind, indexWidths}
 use Rattle.indexes.proofs.Remove.{size-kind}
-use Rattle.record.proofs.writing.Sets.{full-fit, stored-again, word-lt, word-split}
+use Rattle.indexes.proofs.sets.Words.{full-fit, stored-again, word-lt, word-split}
 use Rattle.record.proofs.writing.push_set.Statement.{statement}
 use Rattle.record.proofs.writing.push_set.Tie as tie
 
@@ -18,7 +18,7 @@ stored : (c : tie.After-compressed)
 stored c = c .compressed .ensures ∙ stored-again _ _ _ (c .before .before .before .before .pre .fits) (c .before .before .before .word-of .ensures)
 
 word-of-requires : tie.Need-word-of-requires
-word-of-requires c κs = (c .pre .most, full-fit _ _ _ (c .pre .fits))
+word-of-requires c κs = record { most = c .pre .most; fits = full-fit _ _ _ (c .pre .fits) }
 
 cast-compressed : tie.Need-cast-compressed
 cast-compressed c = omega (arith, c .before .before .pre .pixels .second)
@@ -30,7 +30,13 @@ compressed-requires : tie.Need-compressed-requires
 compressed-requires c κs =
     let s = c .before .before .before in
     let w = c .before .before .word-of .ensures in
-    (s .pre .least, s .pre .most, s .pre .rising, word-lt _ _ _ (s .pre .fits) w, rw (word-split _ _ _ (s .pre .fits) w) (s .pre .fits))
+    record {
+      least = s .pre .least;
+      most = s .pre .most;
+      rising = s .pre .rising;
+      small = word-lt _ _ _ (s .pre .fits) w;
+      fits = rw (word-split _ _ _ (s .pre .fits) w) (s .pre .fits);
+    }
 
 stored-bits-requires : tie.Need-stored-bits-requires
 stored-bits-requires c κs = (c .before .before .before .before .pre .least, c .before .before .before .before .pre .most)

@@ -1,60 +1,40 @@
 -- `blocks::store` meets its contract.
 -- Assumes nothing.
-use mathlib.Core.Path.{_≡_, _∙_, ap, sym}
-use Prim.Native.Nat.{_-_, _≤_}
+use mathlib.Core.Path.{_≡_, _∙_}
 use native.Mathlib.Omega.{arith}
-use lib.ListN.{length, getD}
-use Rattle.laws.specs.Tables.{over}
-use Rattle.laws.proofs.Over.{length-over, over-more, over-none}
+use lib.ListN.{length}
+use Rattle.laws.proofs.Over.{copied-over}
 use Rattle.sheet.proofs.blocks.Blocks.{stored}
+use borrow.Author.Needs.{needs}
 use Rattle.sheet.proofs.blocks.store.Statement.{statement}
 use Rattle.sheet.proofs.blocks.store.Tie as tie
 
-abbrev Inv-loop : tie.InvT-loop
-Inv-loop s₀ at block i₀ s i = (i ≤ 16) × (s ≡ over s₀ at i (λ j. getD block j 0))
+long : (s : tie.Start) → length (s .args .t3) ≡ 16
+long s = search needs
 
-abbrev μ-loop : tie.MeasureT-loop
-μ-loop s₀ at block i₀ s i = 16 - i
+slice-aggregate-copy : tie.Need-slice-aggregate-copy
+slice-aggregate-copy c = search needs
 
-loop-holds : tie.Need-loop-holds Inv-loop μ-loop
-loop-holds c = (omega arith, sym (over-none _ _ _))
+sub-copy : tie.Need-sub-copy
+sub-copy c = search needs
 
-array-read-s : tie.Need-array-read-s Inv-loop μ-loop
-array-read-s c = omega arith
+part-copy-start : tie.Need-part-copy-start
+part-copy-start c = search needs
 
-add-s : tie.Need-add-s Inv-loop μ-loop
-add-s c = omega arith
+part-copy-end : tie.Need-part-copy-end
+part-copy-end c = search needs
 
-slice-write-s : tie.Need-slice-write-s Inv-loop μ-loop
-slice-write-s c = omega (arith, ap length (c .before .loop .inv .1) ∙ length-over _ _ _ _)
+copy-requires : tie.Need-copy-requires
+copy-requires c κs = search needs
 
-add-i : tie.Need-add-i Inv-loop μ-loop
-add-i c = omega arith
+same-length : tie.Need-same-length
+same-length c = search needs
 
-loop-less : tie.Need-loop-less Inv-loop μ-loop
-loop-less c = omega arith
-
-loop-again : tie.Need-loop-again Inv-loop μ-loop
-loop-again c = (omega arith, over-more _ _ _ _ _ (c .before .loop .inv .1))
-
-same-length : tie.Need-same-length Inv-loop μ-loop
-same-length c = ap length (c .before .loop .inv .1) ∙ length-over _ _ _ _
-
-returns : tie.Need-returns Inv-loop μ-loop
-returns c = c .before .loop .inv .1 ∙ stored _ _ _ (omega arith)
+returns : tie.Need-returns
+returns c =
+    let s = c .before .before .before .before .before .before in
+    rw (c .before .before .copy .ensures .1)
+    (copied-over (s .args .s .now) (s .args .t3) (s .args .at) 0 (omega (arith, s .pre, long s)) ∙ stored _ _ _ (long s))
 
 pub store-spec : {M : Type 1} → statement M
-store-spec =
-    tie.close
-    (tie.spec
-    Inv-loop
-    μ-loop
-    loop-holds
-    array-read-s
-    add-s
-    slice-write-s
-    add-i
-    loop-less
-    loop-again
-    same-length
-    returns)
+store-spec = tie.close (tie.spec slice-aggregate-copy sub-copy part-copy-start part-copy-end copy-requires same-length returns)
