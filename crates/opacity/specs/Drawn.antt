@@ -13,9 +13,13 @@ use Rattle.head_rules.specs.Geometry.{blocksOf}
 use Rattle.head_rules.specs.Heads.{Sized}
 use Rattle.opacity_rules.specs.Opacity.{isVisible}
 
--- drawn pixel q passes where it isn't visible, or its alpha is 255
-unfoldable pub drawnPasses : ℕ → ℕ → List (List ℕ) → ℕ → Bool
-drawnPasses columns rows drawn q = implies (isVisible columns rows q) (eqb (getD (getD drawn q []) 3 0) 255)
+-- pixel q passes with this alpha
+unfoldable pub alphaPasses : ℕ → ℕ → ℕ → ℕ → Bool
+alphaPasses columns rows alpha q = implies (isVisible columns rows q) (eqb alpha 255)
+
+-- all drawn pixels do
+abbrev pub drawnPasses : ℕ → ℕ → List (List ℕ) → ℕ → Bool
+drawnPasses columns rows drawn q = alphaPasses columns rows (getD (getD drawn q []) 3 0) q
 
 unfoldable pub opaqueDrawn : ℕ → ℕ → List (List ℕ) → Bool
 opaqueDrawn columns rows drawn = below 16 (drawnPasses columns rows drawn)

@@ -3,8 +3,8 @@
 ghost use mathlib.Core.Path.{_≡_};
 ghost use lib.Dec.{ltb};
 ghost use Rattle.bc7_format.specs.Modes.{modeOf};
-ghost use Rattle.opacity.specs.Drawn.{InSheet, opaqueDrawn};
-ghost use Rattle.opacity_rules.specs.Opacity.{isVisible, opaqueIn};
+ghost use Rattle.opacity.specs.Drawn.{InSheet, alphaPasses, opaqueDrawn};
+ghost use Rattle.opacity_rules.specs.Opacity.{opaqueIn};
 ghost use Rattle.opacity_rules.specs.Promises.{TellsOpaque};
 use bc7::decode_bc7_block;
 use bc7_places::modes::mode_of;
@@ -12,26 +12,27 @@ use head_rules::Head;
 use sheet_head::geometry::blocks_across;
 use sheet_head::geometry::shown_in;
 
-// Is pixel q within the first so many columns and rows?
-fn is_visible(q: usize, columns: usize, rows: usize) -> bool
-    ensures { λ r. ⌜ r ≡ isVisible columns rows q ⌝ }
+// Does pixel q pass: is its alpha 255, or does it lie beyond the first so many columns or rows?
+fn passes(alpha: u8, q: usize, columns: usize, rows: usize) -> bool
+    ensures { λ r. ⌜ r ≡ alphaPasses columns rows alpha q ⌝ }
 {
-    if columns <= q % 4 {
-        return false;
+    if alpha == 255 {
+        return true;
     }
-    q / 4 < rows
+    if columns <= q % 4 {
+        return true;
+    }
+    rows <= q / 4
 }
 
 // Has every visible pixel alpha 255? The first that hasn't ends the search.
-fn all_full(drawn: [[u8; 4]; 16], columns: usize, rows: usize) -> bool
+fn all_pass(drawn: [[u8; 4]; 16], columns: usize, rows: usize) -> bool
     ensures { λ r. ⌜ r ≡ opaqueDrawn columns rows drawn ⌝ }
 {
     let mut q: usize = 0;
     while q < 16 {
-        if drawn[q][3] != 255 {
-            if is_visible(q, columns, rows) {
-                return false;
-            }
+        if !passes(drawn[q][3], q, columns, rows) {
+            return false;
         }
         q += 1;
     }
@@ -52,7 +53,7 @@ pub fn is_opaque(block: [u8; 16], columns: u32, rows: u32) -> bool
     if stores_no_alpha(block) {
         return true;
     }
-    all_full(decode_bc7_block(block), columns as usize, rows as usize)
+    all_pass(decode_bc7_block(block), columns as usize, rows as usize)
 }
 
 // Is a block of a sheet opaque, whose pixels are drawn already? Blocks count row by row.
@@ -63,8 +64,9 @@ pub fn is_opaque_in(head: Head, number: u32, block: [u8; 16], drawn: [[u8; 4]; 1
     if stores_no_alpha(block) {
         return true;
     }
-    let across = blocks_across(head.width);
-    let columns = shown_in(head.width as usize, (number % across) as usize);
-    let rows = shown_in(head.height as usize, (number / across) as usize);
-    all_full(drawn, columns, rows)
+    let n = number as usize;
+    let across = blocks_across(head.width) as usize;
+    let columns = shown_in(head.width as usize, n % across);
+    let rows = shown_in(head.height as usize, n / across);
+    all_pass(drawn, columns, rows)
 }
