@@ -79,9 +79,12 @@ one-row : (k c from n : ℕ) → 1 ≤ k → from + k * c ≡ n → (from + c) +
 one-row zero c from n h e = absurd (not-suc-le-zero h)
 one-row (suc k) c from n h e = let less : suc k - 1 ≡ k = omega arith in rw less (omega (arith, e, suc-mul k c))
 
-pub row-there : {h : SheetHead} {k from : ℕ} → InRows h k from → (from + across (h .width) ≤ blocksOf h) × (blocksOf h ≤ 1048576)
+pub row-there : {h : SheetHead} {k from : ℕ} → InRows h k from → from + across (h .width) ≤ blocksOf h
+row-there {h} {k} {from} i = omega (arith, one-row k _ from _ (i .more) (i .numbers))
+
+pub few-in-all : (h : SheetHead) → Sized (h .width) (h .height) → blocksOf h ≤ 1048576
 unfolding blocksOf
-row-there {h} {k} {from} i = (omega (arith, one-row k _ from _ (i .more) (i .numbers)), omega (arith, few-blocks (i .sized)))
+few-in-all h z = omega (arith, few-blocks z)
 
 -- at the end
 ready-ended : (exact : Bool) → Ready (ended exact)
