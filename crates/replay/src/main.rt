@@ -286,12 +286,7 @@ fn sheet_call_of(sheet: &mut [u8]) -> bool {
     if !filled(&mut given) {
         return false;
     }
-    write_small(rinchovek_sheet_replace_line(
-        sheet,
-        number(&place, 0),
-        number(&place, 4),
-        &given,
-    ));
+    write_small(rinchovek_sheet_replace_line(sheet, number(&place, 0), number(&place, 4), &given));
     io::write_all(STDOUT_FILENO, sheet)
 }
 
