@@ -19,7 +19,8 @@ module _ (head : Head) (out₀ : List ℕ) (at₀ from : ℕ) (bs : List ℕ) wh
   unfolding blocksText
   texts-none = written-none
 
-  pub texts-more : (n : ℕ) {out out' : List ℕ} {at at' : ℕ} → Texts n out at → Written out at (blockListed head (from + n) (blockAt bs (16 * n))) out' at'
-      → Texts (n + 1) out' at'
+  pub texts-more : (n : ℕ) {out out' : List ℕ} {at at' : ℕ} → Texts n out at
+      → Written out at (blockListed head (from + n) (blockAt bs (16 * n))) out' at' → Texts (n + 1) out' at'
   unfolding blocksText
-  texts-more n {out} {out'} {at} {at'} e f = subst (λ (m : ℕ). Written out₀ at₀ (blocksText head from m bs) out' at') (sym (add-one n)) (written-then e f)
+  texts-more n {out' = out'} {at' = at'} e f =
+      subst (λ (m : ℕ). Written out₀ at₀ (blocksText head from m bs) out' at') (sym (add-one n)) (written-then e f)

@@ -14,7 +14,8 @@ use Rattle.bc7_format.specs.Lines.{eight, indexSetOf, has, indexPlace, lineAt, 
 use Rattle.bc7_format.specs.Lines.{shown, valuePlace}
 use Rattle.bc7_format.specs.Places.{atPlace, opened, placeAt, pos, width, widths}
 use Rattle.bc7_format.specs.Splits.{splitAt, splitOf}
-use Rattle.opacity_rules.specs.Opacity.{isVisible, opaque, opaqueIn, passes}
+use Rattle.bc7_format.proofs.Examples.{block4}
+use Rattle.opacity_rules.specs.Opacity.{isVisible, opaque, opaqueIn, opaqueShort, passes}
 
 -- mode 6: seven bits of the marker, then two reds, greens, blues and alphas of seven bits (the alphas from bit 49 and from bit 56 on), p bits at 63
 -- and 64, indexes from 65 on. Both alphas 127 with p 1: 255 everywhere
@@ -88,10 +89,18 @@ claims =
     []
 
 pub opaque-as-claimed : map (λ c. opaque (c .columns) (c .rows) (c .block)) claims ≡ map (λ c. c .answer) claims
-unfolding implies table tableFrom digits marks strings2 strings3 subset2 subset3 anchors2 anchors3 weights weightOf drawn promoted eight modeRow kindOfMode
-    endpointCount placeAt pos width widths trailing number modeOf splitAt splitOf atPlace opened has valuePlace pPlace indexSetOf indexPlace own
+unfolding implies table tableFrom digits marks strings2 strings3 subset2 subset3 anchors2 anchors3 weights weightOf drawn promoted eight
+    modeRow kindOfMode endpointCount placeAt pos width widths trailing number modeOf splitAt splitOf atPlace opened has valuePlace pPlace indexSetOf indexPlace own
     lineOf lineBits meansStored rotated lineAt shown pixel isVisible passes opaque
 opaque-as-claimed = refl
+
+-- the short way, of the modes 3, 4 (which shows alpha 27 and more), 6 and 8
+pub short-as-claimed : map (opaqueShort 4 4) ((0x08 ∷ replicate 15 0) ∷ block4 ∷ solid ∷ corner ∷ reserved ∷ [])
+    ≡ true ∷ false ∷ true ∷ false ∷ false ∷ []
+unfolding implies table tableFrom digits marks strings2 strings3 subset2 subset3 anchors2 anchors3 weights weightOf drawn promoted eight
+    modeRow kindOfMode endpointCount placeAt pos width widths trailing number modeOf splitAt splitOf atPlace opened has valuePlace pPlace
+    indexSetOf indexPlace own lineOf lineBits meansStored rotated lineAt shown pixel isVisible passes opaqueShort
+short-as-claimed = refl
 
 -- a sheet of 9 by 6 has three columns and two rows of blocks; of the third column one column of pixels is shown, and of the second row two rows
 pub in-a-sheet : map (λ (b : List ℕ). map (λ (n : ℕ). opaqueIn 9 6 n b) (0 ∷ 1 ∷ 2 ∷ 3 ∷ 4 ∷ 5 ∷ [])) (middle ∷ corner ∷ reserved ∷ [])
@@ -99,7 +108,7 @@ pub in-a-sheet : map (λ (b : List ℕ). map (λ (n : ℕ). opaqueIn 9 6 n b) (0
     (false ∷ false ∷ true ∷ true ∷ true ∷ true ∷ []) ∷
     (false ∷ false ∷ false ∷ false ∷ false ∷ false ∷ []) ∷
     []
-unfolding implies table tableFrom digits marks strings2 strings3 subset2 subset3 anchors2 anchors3 weights weightOf drawn promoted eight modeRow kindOfMode
-    endpointCount placeAt pos width widths trailing number modeOf splitAt splitOf atPlace opened has valuePlace pPlace indexSetOf indexPlace own
+unfolding implies table tableFrom digits marks strings2 strings3 subset2 subset3 anchors2 anchors3 weights weightOf drawn promoted eight
+    modeRow kindOfMode endpointCount placeAt pos width widths trailing number modeOf splitAt splitOf atPlace opened has valuePlace pPlace indexSetOf indexPlace own
     lineOf lineBits meansStored rotated lineAt shown pixel isVisible passes opaque opaqueIn
 in-a-sheet = refl
