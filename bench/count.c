@@ -348,6 +348,7 @@ typedef u32 read_one(const u8 *block, u32 line, u8 *replacement, u8 *widths);
 typedef u32 replace_one(u8 *block, u32 line, const u8 *replacement);
 typedef u32 replace_in(u8 *sheet, u64 length, u32 block, u32 line, const u8 *replacement);
 typedef u32 find_index(const u8 *block, u32 line, u32 pixel, const u8 *wanted, u32 *index);
+typedef u32 tell_opaque(const u8 *block, u32 columns, u32 rows);
 typedef u32 read_head(const u8 *sheet, u64 length, u32 *head);
 typedef u32 write_head(u32 width, u32 height, u8 *head, u32 *count);
 typedef u32 version(void);
@@ -357,6 +358,7 @@ read_one rinchovek_bc7_read_line;
 replace_one rinchovek_bc7_replace_line;
 /* weak: an older archive hasn't got them */
 __attribute__((weak)) find_index rinchovek_bc7_nearest_index, rinchovek_bc7_exact_index;
+__attribute__((weak)) tell_opaque rinchovek_bc7_is_opaque;
 replace_in rinchovek_sheet_replace_line;
 read_head rinchovek_sheet_read_head;
 write_head rinchovek_sheet_write_head;
@@ -377,6 +379,7 @@ static read_one *volatile read_call;
 static replace_one *volatile replace_call;
 static replace_in *volatile replace_in_call;
 static find_index *volatile nearest_call, *volatile exact_call;
+static tell_opaque *volatile tell_call;
 static read_head *volatile read_head_call;
 static write_head *volatile write_head_call;
 static version *volatile version_call;
@@ -403,6 +406,11 @@ static u32 no_replace_in(u8 *all, u64 length, u32 block, u32 line, const u8 *rep
 
 static u32 no_find(const u8 *block, u32 line, u32 pixel, const u8 *colour, u32 *index) {
     __asm__ volatile("" ::"r"(block), "r"(line), "r"(pixel), "r"(colour), "r"(index) : "memory");
+    return 0;
+}
+
+static u32 no_tell(const u8 *block, u32 columns, u32 rows) {
+    __asm__ volatile("" ::"r"(block), "r"(columns), "r"(rows) : "memory");
     return 0;
 }
 
@@ -434,6 +442,12 @@ static u32 find_exact(u32 i) {
     return exact_call(sheet_blocks + 16 * i, line_numbers[i], pixel_numbers[i], wanted + 4 * i, &found_index);
 }
 
+
+static u32 tell_a_block(u32 i) {
+    tell_call(sheet_blocks + 16 * i, 4, 4);
+    return 0;
+}
+
 static u32 head_numbers[3];
 static u32 read_a_head(u32 i) { return read_head_call(sheet, sizeof sheet - i % 2, head_numbers); }
 static u32 write_a_head(u32 i) { return write_head_call(128 + i, 4, out, head_numbers); }
@@ -452,6 +466,7 @@ static void point_at_calls(int at_none) {
     replace_call = at_none ? no_replace : rinchovek_bc7_replace_line;
     nearest_call = at_none ? no_find : rinchovek_bc7_nearest_index;
     exact_call = at_none ? no_find : rinchovek_bc7_exact_index;
+    tell_call = at_none ? no_tell : rinchovek_bc7_is_opaque;
     replace_in_call = at_none ? no_replace_in : rinchovek_sheet_replace_line;
 }
 
@@ -544,6 +559,16 @@ static void count_finding(void) {
     say_call("rinchovek_bc7_nearest_index, refused with 13", find_nearest, 13);
 }
 
+/* Mode 6 with both alphas 127 and both p bits 1: every pixel has alpha 255, so all sixteen are looked at. */
+static void make_opaque(void) {
+    make_sheet(6);
+    for (u32 i = 0; i < COUNTED; i++) {
+        u8 *block = sheet_blocks + 16 * i;
+        block[6] |= 0xFE, block[7] = 0xFF, block[8] |= 0x01;
+    }
+    memcpy(kept_sheet, sheet, sizeof sheet);
+}
+
 static void count_writing(void) {
     make_sheet(MIXED);
     make_lines();
@@ -568,6 +593,7 @@ static void count_writing(void) {
     say_call("rinchovek_version", ask_version, 0);
     say_call("rinchovek_bc7_read_line", read_a_line, 0);
     if (rinchovek_bc7_nearest_index) count_finding();
+    if (rinchovek_bc7_is_opaque) say_call("rinchovek_bc7_is_opaque", tell_a_block, 0);
     say_call("rinchovek_bc7_replace_line, kept", replace_a_line, 0);
     say_call("rinchovek_sheet_replace_line, kept", replace_in_sheet, 0);
     turn_lines();
@@ -584,13 +610,19 @@ static void count_writing(void) {
     say_call("rinchovek_bc7_read_line, refused with 1", read_a_line, 1);
     say_call("rinchovek_bc7_replace_line, refused with 1", replace_a_line, 1);
 
+    if (rinchovek_bc7_is_opaque) {
+        say_call("rinchovek_bc7_is_opaque, reserved", tell_a_block, 0);
+        make_opaque();
+        say_call("rinchovek_bc7_is_opaque, mode 6, opaque", tell_a_block, 0);
+    }
+
     say("\nThe same by mode\nmode                        ");
     for (int mode = 0; mode < 8; mode++) say_right(column_names[mode], 7);
-    one_call *const calls[] = {unpack_one, pack_one, read_a_line, replace_a_line, find_nearest};
-    two_buffers *const functions[] = {rinchovek_bc7_unpack, rinchovek_bc7_pack, 0, 0, 0};
+    one_call *const calls[] = {unpack_one, pack_one, read_a_line, replace_a_line, find_nearest, tell_a_block};
+    two_buffers *const functions[] = {rinchovek_bc7_unpack, rinchovek_bc7_pack, 0, 0, 0, 0};
     const char *const names[] = {"rinchovek_bc7_unpack", "rinchovek_bc7_pack", "rinchovek_bc7_read_line",
-                                 "rinchovek_bc7_replace_line", "rinchovek_bc7_nearest_index"};
-    for (int k = 0; k < (rinchovek_bc7_nearest_index ? 5 : 4); k++) {
+                                 "rinchovek_bc7_replace_line", "rinchovek_bc7_nearest_index", "rinchovek_bc7_is_opaque"};
+    for (int k = 0; k < (rinchovek_bc7_is_opaque ? 6 : rinchovek_bc7_nearest_index ? 5 : 4); k++) {
         say("\n");
         say_left(names[k], 28);
         for (int mode = 0; mode < 8; mode++) {

@@ -113,6 +113,8 @@ mod writing {
         fn rinchovek_bc7_nearest_index(block: &Block, line: u32, pixel: u32, wanted: &[u8; 4], index: &mut u32) -> u32;
         #[cfg(indexes)]
         fn rinchovek_bc7_exact_index(block: &Block, line: u32, pixel: u32, wanted: &[u8; 4], index: &mut u32) -> u32;
+        #[cfg(opacity)]
+        fn rinchovek_bc7_is_opaque(block: &Block, columns: u32, rows: u32) -> u32;
         fn rinchovek_sheet_replace_line(sheet: *mut u8, length: usize, block: u32, line: u32, replacement: &Line) -> u32;
     }
 
@@ -170,6 +172,11 @@ mod writing {
         });
         #[cfg(indexes)]
         time_finding(&blocks);
+        // it answers yes or no, and refuses nothing
+        #[cfg(opacity)]
+        nanoseconds("rinchovek_bc7_is_opaque", SMALL, || {
+            every(&mut |i| unsafe { black_box(rinchovek_bc7_is_opaque(&blocks[i], 4, 4)); 0 })
+        });
         let replaced = |lines: &[Line], out: &mut [Block]| {
             every(&mut |i| unsafe { rinchovek_bc7_replace_line(&mut out[i], 0, &lines[i]) })
         };

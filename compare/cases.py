@@ -165,6 +165,36 @@ def some_wanted(dice, block):
 
 
 # ---------------------------------------------------------------------------------------------------------------------
+# Opacity.
+def nearly_opaque(dice, mode, split, others):
+    """A block of a mode from 4 to 7 with alpha 255 but at these pixels: what is shown as alpha starts at 255, and all indexes that
+    choose it are 0, elsewhere not."""
+    record = model.take_apart(block_of(mode, split, bits_of_style(dice, "random")))
+    values = list(record.values)
+    for line in model.lines(mode, split):
+        channel = next((each for each in line.channels if model.rotated(split, each) == 3), None)
+        if channel is not None:
+            values[4 * line.ends[0] + channel] = (1 << model.channel_width(mode, channel)) - 1
+            values[4 * line.ends[1] + channel] = 0
+            if line.p:
+                values[line.p[0]] = 1
+            for pixel in line.pixels:
+                most = (1 << line.index_width - (pixel == line.anchor)) - 1
+                values[line.indexes + pixel] = dice.within(1, most) if pixel in others else 0
+    return model.put_together(record._replace(values=tuple(values)))
+
+
+def some_opacity(dice):
+    """The arguments of telling an opaque block: most often one that is nearly so."""
+    block = some_block(dice, reserved_percent=10)
+    if dice.chance(75):
+        mode = dice.within(4, 7)
+        others = [dice.below(16) for _ in range(dice.below(3))]
+        block = nearly_opaque(dice, mode, some_split(dice, mode), others)
+    return block, *(dice.within(1, 4) if dice.chance(90) else dice.one_of((0, 5, *LARGE)) for _ in range(2))
+
+
+# ---------------------------------------------------------------------------------------------------------------------
 # Heads, rows and sheets.
 SIDES = (*range(1, 10), 127, 128, 129, 4092, 4093, 4094, 4095, 4096)
 WRONG_SIDES = (0, 4097, 4098, 8192, 16383, 16384, (1 << 21) - 1)

@@ -1,11 +1,13 @@
 """Holds the model itself against document 01's list, against document 002's tables, and against what must be true of
-any right reading: round trips, lines that keep to themselves, the last call of a line deciding, and a pixel that shows
-the colour whose distance was measured."""
+any right reading: round trips, lines that keep to themselves, the last call of a line deciding, a pixel that shows the
+colour whose distance was measured, and marks that go by what a picture shows."""
+from collections import Counter
+
 import document_01
 import model
 import partitions
 import protocol
-from cases import block_of, bits_of_style, some_block, some_record, some_replacement, some_split, some_wanted
+from cases import block_of, bits_of_style, some_block, some_opacity, some_record, some_replacement, some_split, some_wanted
 from dice import Dice
 
 
@@ -117,3 +119,19 @@ def check_block_c():
         assert model.nearest_index(*asked) == (0, nearest), red
         assert model.exact_index(*asked) == ((0, nearest) if hit else (14, 0)), red
     return 10
+
+
+def check_marks(seed, count):
+    """Sheets of one row: a block is marked `o` exactly where every alpha that the decoded row shows of it is 255."""
+    dice, marked = Dice(seed), Counter()
+    for _ in range(count // 4):
+        width, height = dice.within(1, 17), dice.within(1, 4)
+        blocks = b"".join(some_opacity(dice)[0] for _ in range(model.in_blocks(width)))
+        refusal, shown = model.decode_row(width, height, 0, blocks, bytes(4 * width * height))
+        said = model.listing(model.write_head(width, height)[1] + blocks).splitlines()[1:]
+        for column, line in enumerate(said):
+            alphas = [shown[4 * (y * width + x) + 3] for y in range(height) for x in range(4 * column, min(width, 4 * column + 4))]
+            assert refusal == 0 and line[-1] == ("o" if set(alphas) == {255} else "-"), (width, height, blocks.hex())
+            marked[line[-1]] += 1
+    assert min(marked["o"], marked["-"]) > count // 10
+    return sum(marked.values())

@@ -6,7 +6,7 @@ import time
 
 import document_01
 import model
-from cases import some_block, some_head, some_sheet
+from cases import some_block, some_head, some_opacity, some_sheet
 from dice import Dice
 
 TIMEOUT = 300
@@ -76,6 +76,12 @@ def inputs(seed):
         data = head + blocks
         some.append(data[: dice.below(len(data) + 1)] if dice.chance(30) else data + dice.bytes(dice.below(3)))
     yield "random sheets", some
+    edges = []
+    for width in range(1, 10):
+        for height in range(1, 10):
+            count = model.in_blocks(width) * model.in_blocks(height)
+            edges.append(model.write_head(width, height)[1] + b"".join(some_opacity(dice)[0] for _ in range(count)))
+    yield "opacity marks at every edge", edges
 
 
 def in_pieces(seed):

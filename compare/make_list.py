@@ -21,9 +21,11 @@ from cases import (
     bits_of_style,
     block_of,
     fitting_replacement,
+    nearly_opaque,
     some_block,
     some_head,
     some_listed,
+    some_opacity,
     some_record,
     some_replacement,
     some_row,
@@ -274,6 +276,32 @@ def finding_exact(dice, shared):
     return [("E", *asked) for asked in wanted_colours(dice)]
 
 
+def telling_opaque(dice, shared):
+    """One pixel that isn't 255, at each place, just hidden and just shown. Every mode, split and rotation: opaque, and with two pixels that
+    aren't; modes 0 to 3 and reserved blocks under every columns and rows to 5; large numbers; document 01's and outside blocks."""
+    calls = []
+    for pixel in range(16):
+        mode = 4 + pixel % 4
+        block = nearly_opaque(dice, mode, dice.one_of(model.splits(mode)), [pixel])
+        x, y = pixel % 4, pixel // 4
+        for columns, rows in ((x, y), (x, 4), (4, y), (x + 1, y + 1), (4, 4), (1, 1)):
+            calls.append(("A", block, columns, rows))
+    for mode, split in all_splits():
+        if mode > 3:
+            calls.append(("A", nearly_opaque(dice, mode, split, []), 4, 4))
+            two = [dice.below(16), dice.below(16)]
+            calls.append(("A", nearly_opaque(dice, mode, split, two), dice.within(1, 4), dice.within(1, 4)))
+    some = [block_of(mode, model.splits(mode)[0], bits_of_style(dice, "random")) for mode in range(4)]
+    some += [bytes(16), bytes(1) + b"\xff" * 15, document_01.C, document_01.D]
+    for block in some:
+        calls += [("A", block, columns, rows) for columns in range(6) for rows in (0, 1, 4, 5)]
+    corner = nearly_opaque(dice, 6, ("whole",), [15])
+    for large in LARGE:
+        calls += [("A", corner, large, 4), ("A", corner, 3, large), ("A", corner, large, large)]
+    calls += [("A", block, dice.within(1, 4), dice.within(1, 4)) for block in outside(shared, 96)]
+    return calls + [("A", *some_opacity(dice)) for _ in range(60)]
+
+
 # ---------------------------------------------------------------------------------------------------------------------
 WIDE_SIDES = (0, *range(1, 10), 127, 128, 129, 4095, 4096, 4097, 16383, 16384, (1 << 21) - 1)
 # Not numbers: a needless last group, a cut-off group, too many groups.
@@ -479,6 +507,7 @@ MAKERS = {
     "r": reading_lines,
     "N": finding_nearest,
     "E": finding_exact,
+    "A": telling_opaque,
 }
 
 

@@ -351,6 +351,14 @@ def exact_index(block, number, pixel, wanted):
 
 
 # ---------------------------------------------------------------------------------------------------------------------
+# M-101: does every shown pixel of a block have alpha 255?
+def is_opaque(block, columns, rows):
+    """The full answer: no pixel in one of the first `columns` columns and one of the first `rows` rows has another alpha."""
+    pixels = decode(block)
+    return all(pixels[4 * (4 * y + x) + 3] == 255 for y in range(min(4, rows)) for x in range(min(4, columns)))
+
+
+# ---------------------------------------------------------------------------------------------------------------------
 # The sheet.
 FORM, LARGEST_SIDE, GROUPS = 1, 4096, 3
 
@@ -447,10 +455,10 @@ def replace_in_sheet(sheet, block, line, new):
 # ---------------------------------------------------------------------------------------------------------------------
 # The listing.
 @lru_cache(100_000)
-def listed(block):
-    """A block's line without its number."""
-    mode = mode_of(block)
-    return "%d %d %d %d %d %s" % (mode, *decode(block)[:4], "o" if mode <= 3 else "-")
+def listed(block, columns, rows):
+    """A block's line without its number, where so many columns and rows of it are shown."""
+    mark = "o" if is_opaque(block, columns, rows) else "-"
+    return "%d %d %d %d %d %s" % (mode_of(block), *decode(block)[:4], mark)
 
 
 def listing(data):
@@ -462,7 +470,9 @@ def listing(data):
     text = ["sheet %d %d\n" % (width, height)]
     for number in range(present):
         at = start + 16 * number
-        text.append("%d %s\n" % (number, listed(bytes(data[at : at + 16]))))
+        row, column = divmod(number, in_blocks(width))
+        shown = min(4, width - 4 * column), min(4, height - 4 * row)
+        text.append("%d %s\n" % (number, listed(bytes(data[at : at + 16]), *shown)))
     if len(data) - start != 16 * declared:
         text.append("refused 10\n")
     return "".join(text)

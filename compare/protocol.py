@@ -14,10 +14,11 @@ A call is (letter, arguments..):
   l sheet            list a sheet
   N block line pixel wanted          nearest index; wanted is 4 bytes
   E block line pixel wanted          exact index
+  A block columns rows               opacity of a block
 """
 import model
 
-LETTERS = "DUPRHWOSlrNE"
+LETTERS = "DUPRHWOSlrNEA"
 KINDS = ("whole", "two", "three", "vector")
 RECORD, REPLACEMENT = 66, 26
 LARGEST_LENGTH = 65536  # a longer slice ends the run
@@ -51,6 +52,8 @@ def call_bytes(call):
     elif letter in "NE":
         block, line, pixel, wanted = given
         body = block + number(line) + number(pixel) + bytes(wanted)
+    elif letter == "A":
+        body = given[0] + number(given[1]) + number(given[2])
     elif letter == "H":
         body = bytes([len(given[0])]) + given[0]
     elif letter == "W":
@@ -80,6 +83,8 @@ def model_answer(call):
     if letter == "U":
         refusal, record = model.unpack(given[0])
         return bytes([refusal]) + record_bytes(record)
+    if letter == "A":
+        return bytes([model.is_opaque(*given)])
     if letter == "l":
         text = model.listing(given[0]).encode()
         return number(len(text)) + text
@@ -109,7 +114,7 @@ def model_answer(call):
 
 def refusal_in(letter, reply):
     """The refusal number that an answer gives: 0 where there is none. A listing's stands in its last line."""
-    if letter == "D":
+    if letter in "DA":
         return 0
     if letter == "l":
         last = reply.splitlines()[-1].split()

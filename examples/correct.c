@@ -1,6 +1,6 @@
 /* Every call of include/rinchovek.h, from C: a row of a small sheet is decoded, one of its blocks is corrected, and the row is
  * decoded again; the other way round, which index gives a red; the same correction on the block alone; what happens to calls that
- * are refused; records and heads. */
+ * are refused; records and heads; which blocks are opaque. */
 #include "rinchovek.h"
 
 int printf(const char *format, ...);
@@ -53,6 +53,14 @@ static void show_indexes(const uint8_t block[RINCHOVEK_BLOCK_BYTES], uint8_t red
     if (refusal == RINCHOVEK_ACCEPTED) printf(", index %u", exact);
     if (rinchovek_bc7_nearest_index(block, line, pixel, wanted, &nearest) == RINCHOVEK_ACCEPTED) printf("; nearest: index %u", nearest);
     printf("\n");
+}
+
+/* Whether block n of a sheet of this size is opaque. */
+static void show_opaque(const uint8_t block[RINCHOVEK_BLOCK_BYTES], uint32_t width, uint32_t height, uint32_t n) {
+    const uint32_t across = (width + 3) / 4;
+    const uint32_t columns = rinchovek_shown(width, n % across), rows = rinchovek_shown(height, n / across);
+    printf("block %u of %u by %u shows %u by %u: %s\n", n, width, height, columns, rows,
+           rinchovek_bc7_is_opaque(block, columns, rows) ? "opaque" : "not opaque");
 }
 
 int main(void) {
@@ -114,6 +122,12 @@ int main(void) {
     show_refusal("head", rinchovek_sheet_write_head(RINCHOVEK_LARGEST_SIDE, 5, head, &count));
     show_bytes("head", head, count);
     show_refusal("head", rinchovek_sheet_write_head(RINCHOVEK_LARGEST_SIDE + 1, 5, head, &count));
+
+    /* Mode 6 from alpha 255 to 0: every pixel has index 0 but the last one, in column 3 and row 3, which has 15. */
+    static const uint8_t corner[RINCHOVEK_BLOCK_BYTES] = {0x40, 0, 0, 0, 0, 0, 0xFE, 0x80, 0, 0, 0, 0, 0, 0, 0, 0xF0};
+    show_opaque(corner, 7, 4, 0);
+    show_opaque(corner, 7, 4, 1);
+    show_opaque(sheet + HEAD + RINCHOVEK_BLOCK_BYTES, WIDTH, HEIGHT, 1);
 
     for (uint32_t number = RINCHOVEK_RESERVED_BLOCK; number <= RINCHOVEK_NO_EXACT_INDEX; number++)
         printf("%u: %s\n", number, rinchovek_refusal_text(number));

@@ -24,11 +24,23 @@ struct Head {
     uint32_t width = 0, height = 0, start = 0;
 };
 
+// How much of a block is shown.
+struct Shown {
+    uint32_t columns, rows;
+};
+
+Shown shown(uint32_t width, uint32_t height, BlockNumber block) {
+    const uint32_t n = uint32_t(block), across = (width + 3) / 4;
+    return {rinchovek_shown(width, n % across), rinchovek_shown(height, n / across)};
+}
+
 Pixels decode_block(const Block &block) {
     Pixels pixels;
     rinchovek_bc7_decode_block(block.data(), pixels[0].data());
     return pixels;
 }
+
+bool is_opaque(const Block &block, Shown shown) { return rinchovek_bc7_is_opaque(block.data(), shown.columns, shown.rows) != 0; }
 
 // Each of these answers 0, or the number of the refusal, and then what was handed over is as it was.
 uint32_t unpack(const Block &block, Record &record) { return rinchovek_bc7_unpack(block.data(), record.data()); }
@@ -117,6 +129,12 @@ static void show_indexes(const Block &block, uint8_t red) {
     std::printf("\n");
 }
 
+static void show_opaque(const Block &block, uint32_t width, uint32_t height, BlockNumber n) {
+    const Shown part = shown(width, height, n);
+    std::printf("block %u of %u by %u shows %u by %u: %s\n", uint32_t(n), width, height, part.columns, part.rows,
+                is_opaque(block, part) ? "opaque" : "not opaque");
+}
+
 int main() {
     const uint32_t version = rinchovek_version();
     if (version / 10000 != RINCHOVEK_VERSION_MAJOR || version < RINCHOVEK_VERSION) return 1;
@@ -170,6 +188,11 @@ int main() {
     show_refusal("head", write_head(RINCHOVEK_LARGEST_SIDE, 5, head));
     show_bytes("head", head.data(), head.size());
     show_refusal("head", write_head(RINCHOVEK_LARGEST_SIDE + 1, 5, head));
+
+    const Block corner = {0x40, 0, 0, 0, 0, 0, 0xFE, 0x80, 0, 0, 0, 0, 0, 0, 0, 0xF0}, reserved = {};
+    show_opaque(corner, 7, 4, BlockNumber(0));
+    show_opaque(corner, 7, 4, BlockNumber(1));
+    show_opaque(reserved, 8, 4, BlockNumber(1));
 
     for (uint32_t number = RINCHOVEK_RESERVED_BLOCK; number <= RINCHOVEK_NO_EXACT_INDEX; number++)
         std::printf("%u: %s\n", number, rinchovek_refusal_text(number));

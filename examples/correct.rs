@@ -46,6 +46,13 @@ fn show_indexes(block: &Block, red: u8) {
     println!();
 }
 
+/// Whether a block of a sheet of this size is opaque.
+fn show_opaque(block: &Block, width: u32, height: u32, number: u32) {
+    let shown = Head { width, height, start: 0 }.shown(BlockNumber(number));
+    let said = if is_opaque(block, shown) { "opaque" } else { "not opaque" };
+    println!("block {number} of {width} by {height} shows {} by {}: {said}", shown.columns, shown.rows);
+}
+
 fn main() -> Result<(), Refusal> {
     let (major, minor, patch) = version();
     println!("version {major}.{minor}.{patch}");
@@ -99,6 +106,12 @@ fn main() -> Result<(), Refusal> {
     show_refusal("head", &head);
     show_bytes("head", &head?);
     show_refusal("head", &write_head(4097, 5));
+
+    // mode 6 from alpha 255 to 0: every pixel has index 0 but the last one, in column 3 and row 3, which has 15
+    let corner = [0x40, 0, 0, 0, 0, 0, 0xFE, 0x80, 0, 0, 0, 0, 0, 0, 0, 0xF0];
+    show_opaque(&corner, 7, 4, 0);
+    show_opaque(&corner, 7, 4, 1);
+    show_opaque(&[0; 16], 8, 4, 1);
 
     for refusal in Refusal::ALL {
         println!("{}: {refusal}", refusal.number());

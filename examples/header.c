@@ -60,6 +60,7 @@ static __attribute__((noinline)) void make_calls(uint8_t first, uint8_t others) 
         rinchovek_bc7_replace_line(block, line, held);
         rinchovek_sheet_replace_line(sheet, count + RINCHOVEK_BLOCK_BYTES, 0, line, held);
     }
+    rinchovek_bc7_is_opaque(block, 4, 3);
     rinchovek_sheet_read_head(sheet, sizeof sheet, head);
     rinchovek_sheet_decode_row(4, 3, 0, block, RINCHOVEK_BLOCK_BYTES, out, 48);
     rinchovek_version();

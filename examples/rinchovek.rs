@@ -15,6 +15,7 @@ extern "C" {
     fn rinchovek_bc7_replace_line(block: *mut u8, line: u32, replacement: *const u8) -> u32;
     fn rinchovek_bc7_nearest_index(block: *const u8, line: u32, pixel: u32, wanted: *const u8, index: *mut u32) -> u32;
     fn rinchovek_bc7_exact_index(block: *const u8, line: u32, pixel: u32, wanted: *const u8, index: *mut u32) -> u32;
+    fn rinchovek_bc7_is_opaque(block: *const u8, columns: u32, rows: u32) -> u32;
     fn rinchovek_sheet_read_head(sheet: *const u8, length: usize, head: *mut u32) -> u32;
     fn rinchovek_sheet_write_head(width: u32, height: u32, head: *mut u8, count: *mut u32) -> u32;
     fn rinchovek_sheet_decode_row(
@@ -251,6 +252,18 @@ pub fn exact_index(block: &Block, line: LineNumber, pixel: PixelNumber, wanted: 
     answer(refusal, index)
 }
 
+/// How much of a block is shown: its first columns and rows.
+#[derive(Clone, Copy, Debug, PartialEq, Eq)]
+pub struct Shown {
+    pub columns: u32,
+    pub rows: u32,
+}
+
+/// Whether every shown pixel of the block has alpha 255.
+pub fn is_opaque(block: &Block, shown: Shown) -> bool {
+    unsafe { rinchovek_bc7_is_opaque(block.as_ptr(), shown.columns, shown.rows) != 0 }
+}
+
 /// Width and height in pixels, and where the first block starts in the sheet.
 #[derive(Clone, Copy, Debug, PartialEq, Eq)]
 pub struct Head {
@@ -263,6 +276,13 @@ impl Head {
     /// The bytes of a row of blocks.
     pub fn row_blocks(self) -> usize {
         16 * (self.width as usize).div_ceil(4)
+    }
+
+    /// What the sheet shows of a block: all of it, or what is left at an edge.
+    pub fn shown(self, block: BlockNumber) -> Shown {
+        let (row, column) = (block.0 / self.width.div_ceil(4), block.0 % self.width.div_ceil(4));
+        let part = |side: u32, n: u32| u64::from(side).saturating_sub(4 * u64::from(n)).min(4) as u32;
+        Shown { columns: part(self.width, column), rows: part(self.height, row) }
     }
 
     /// The bytes of the pixels that a row of blocks shows: four lines, or as many as are left.

@@ -1,4 +1,5 @@
-/* rinchovek.h: BC7 blocks, and sheets of them, decoded, taken apart, packed and corrected; and which index gives a wanted colour.
+/* rinchovek.h: BC7 blocks, and sheets of them, decoded, taken apart, packed and corrected; which index gives a wanted colour, and
+ * which blocks are opaque.
  *
  * WORDS
  * A block is 16 bytes that draw 4 by 4 pixels. A pixel is 4 bytes: red, green, blue, alpha. The pixel in column x and row y of a
@@ -19,7 +20,8 @@
  *
  * WHAT HOLDS FOR EVERY CALL
  * - It answers 0, RINCHOVEK_ACCEPTED, or the number of a refusal: of those that its comment lists, the first that applies, in that
- *   order. Two calls refuse nothing: rinchovek_version answers the version, rinchovek_bc7_decode_block answers nothing.
+ *   order. Three calls refuse nothing: rinchovek_version answers the version, rinchovek_bc7_decode_block nothing, and
+ *   rinchovek_bc7_is_opaque yes or no.
  * - A refused call writes nothing at all. An accepted one writes what its comment says, all of it, and no other byte.
  * - Of the arguments an input stands before an output, what is changed in place stands first of all, and a length behind its pointer.
  * - An array has the length that is shown, also where the call is refused. A pointer has the length that is given behind it. Where
@@ -39,7 +41,7 @@
 /* The version of this file. The major number is raised where a call goes, or answers otherwise what it accepted before; the minor
  * one where a call comes, or accepts what it refused before; the patch where neither is so. */
 #define RINCHOVEK_VERSION_MAJOR 1
-#define RINCHOVEK_VERSION_MINOR 1
+#define RINCHOVEK_VERSION_MINOR 2
 #define RINCHOVEK_VERSION_PATCH 0
 #define RINCHOVEK_VERSION (10000 * RINCHOVEK_VERSION_MAJOR + 100 * RINCHOVEK_VERSION_MINOR + RINCHOVEK_VERSION_PATCH)
 
@@ -179,6 +181,14 @@ uint32_t rinchovek_bc7_nearest_index(const uint8_t block[RINCHOVEK_BLOCK_BYTES],
 uint32_t rinchovek_bc7_exact_index(const uint8_t block[RINCHOVEK_BLOCK_BYTES], uint32_t line, uint32_t pixel,
                                    const uint8_t wanted[RINCHOVEK_PIXEL_BYTES], uint32_t *index);
 
+/* Tells whether a block is opaque: answers 1 where every shown pixel has alpha 255, and 0 otherwise. Shown are the pixels in the first
+ * `columns` columns and the first `rows` rows of the block; the others don't count. Above 4 counts as 4; where nothing is shown the answer
+ * is 1. Alpha is as drawn, after rotation. Block n of a sheet shows rinchovek_shown(width, n % across) columns and
+ * rinchovek_shown(height, n / across) rows, where across is (width + 3) / 4; a reserved block is never opaque there. BEWARE: columns and
+ * rows stand side by side and have one type. Hand them over in variables of these names.
+ * Refusals: none. */
+uint32_t rinchovek_bc7_is_opaque(const uint8_t block[RINCHOVEK_BLOCK_BYTES], uint32_t columns, uint32_t rows);
+
 /* Reads the head of a sheet: writes width, height and start (enum rinchovek_head_number). What stands behind the head isn't looked
  * at: the first RINCHOVEK_HEAD_BYTES bytes of a sheet are enough. An empty sheet is refused with 7.
  * Refusals: 7 and 8 on the form, 7 on width and height, 9. */
@@ -209,12 +219,15 @@ uint32_t rinchovek_sheet_replace_line(uint8_t *sheet, size_t length, uint32_t bl
 
 /* What follows is plain C, beside the archive and not proved. */
 
-/* The lengths of a row, for sides from 1 to RINCHOVEK_LARGEST_SIDE and a row below (height + 3) / 4. */
+/* How many columns of a width the column n of blocks shows, and how many lines of a height the row n of blocks, for sides from 1 to
+ * RINCHOVEK_LARGEST_SIDE and n below (side + 3) / 4. */
+static inline uint32_t rinchovek_shown(uint32_t side, uint32_t n) { return side - 4 * n < 4 ? side - 4 * n : 4; }
+
+/* The lengths of a row, for the same sides and rows. */
 static inline size_t rinchovek_row_blocks(uint32_t width) { return (size_t)RINCHOVEK_BLOCK_BYTES * ((width + 3) / 4); }
 
 static inline size_t rinchovek_row_pixels(uint32_t width, uint32_t height, uint32_t row) {
-    uint32_t left = height - 4 * row;
-    return (size_t)RINCHOVEK_PIXEL_BYTES * width * (left < 4 ? left : 4);
+    return (size_t)RINCHOVEK_PIXEL_BYTES * width * rinchovek_shown(height, row);
 }
 
 /* What a refusal means, in a few words that last as long as the program. */

@@ -7,11 +7,13 @@ ghost use Prim.Native.Nat.{_+_, _-_, _*_, _/_, _^_, _≤_, _<_};
 ghost use lib.Dec.{eqb};
 ghost use lib.ListN.{length};
 ghost use Rattle.laws.specs.Tables.{pick};
+ghost use Rattle.head_rules.specs.Geometry.{rowLength};
 ghost use Rattle.head_rules.specs.Heads.{Sized};
 ghost use Rattle.head_rules.specs.Reader.{Going, hasEnded};
 ghost use Rattle.laws.specs.Padding.{Written};
 ghost use Rattle.listing_rules.specs.Listing.{blockListed, listed, unlessExact};
 ghost use Rattle.listing_rules.specs.Promises.{GoesOn, SaysListing, SaysNext, Wants};
+ghost use Rattle.listing.specs.Asked.{BlockAsked, BlocksAsked};
 ghost use Rattle.listing_rules.specs.Machine.{InRows, NextEnd, Ready, atHead, atStart, begun, ended, headText, inRows, nextAtHead, nextInRows};
 ghost use Rattle.listing_rules.specs.Machine.{nextOf, spareOf, takenOf, textAtHead, textInRows, roundsOf, wantedOf};
 use bc7::decode_bc7_block;
@@ -20,8 +22,10 @@ use head_rules::Head;
 use head_rules::HeadReader;
 use listing_rules::Machine;
 use listing_rules::Phase;
+use opacity::is_opaque_in;
 use sheet::blocks::load;
 use sheet_head::geometry::blocks_across;
+use sheet_head::geometry::row_length;
 use sheet_head::reader::has_ended;
 use sheet_head::reader::refused_with;
 use sheet_head::reader::take_byte;
@@ -40,28 +44,29 @@ fn take_next(reader: HeadReader, came: &[u8]) -> HeadReader
     take_byte(reader, came[0])
 }
 
-// A block's text to a place of the output; the place behind it.
-fn list_block(block: [u8; 16], number: u32, at: usize, out: &mut [u8]) -> usize
-    requires { ⌜ at + 40 ≤ length (now out) ⌝ }
-    ensures { λ r. ⌜ Written (now (out .entry)) at (blockListed number block) (now (out .exit)) r ⌝ }
+// The text of a block of a sheet, to a place of the output; the place behind it.
+fn list_block(head: Head, number: u32, block: [u8; 16], at: usize, out: &mut [u8]) -> usize
+    requires { ⌜ BlockAsked head number at (length (now out)) ⌝ }
+    ensures { λ r. ⌜ Written (now (out .entry)) at (blockListed head number block) (now (out .exit)) r ⌝ }
     ensures { λ r. ⌜ r ≤ at + 40 ⌝ }
 {
     let pixels = decode_bc7_block(block);
+    let opaque = is_opaque_in(head, number, block, pixels);
     let first = pixels[0];
-    crate::text::block_text(number, mode_of(block), first, at, out)
+    crate::text::block_text(number, mode_of(block), first, opaque, at, out)
 }
 
 // The texts of the whole blocks among these bytes, numbered from `from` on, to a place of the output; the place behind them.
 // No text has more than 40 bytes.
-fn list_blocks(blocks: &[u8], from: u32, at: usize, out: &mut [u8]) -> usize
-    requires { ⌜ (from + length (now blocks) < 2 ^ 32) × (at + 40 * (length (now blocks) / 16) ≤ length (now out)) ⌝ }
-    ensures { λ r. ⌜ Written (now (out .entry)) at (listed from (now (blocks .entry))) (now (out .exit)) r ⌝ }
+fn list_blocks(head: Head, from: u32, blocks: &[u8], at: usize, out: &mut [u8]) -> usize
+    requires { ⌜ BlocksAsked head from (length (now blocks)) at (length (now out)) ⌝ }
+    ensures { λ r. ⌜ Written (now (out .entry)) at (listed head from (now (blocks .entry))) (now (out .exit)) r ⌝ }
     ensures { λ r. ⌜ r ≤ at + 40 * (length (now (blocks .entry)) / 16) ⌝ }
 {
     let count = blocks.len() / 16;
     let mut next = at;
     for k in 0..count {
-        next = list_block(load(blocks, 16 * k), from + k as u32, next, out);
+        next = list_block(head, from + k as u32, load(blocks, 16 * k), next, out);
     }
     next
 }
@@ -72,7 +77,6 @@ fn at_head(reader: HeadReader) -> Machine
     Machine {
         phase: Phase::Head,
         reader: reader,
-        columns: 0,
         rows: 0,
         from: 0,
     }
@@ -87,15 +91,13 @@ pub fn start() -> Machine
 }
 
 // Before so many rows.
-fn in_rows(columns: u32, rows: u32, from: u32) -> Machine
-    ensures { λ r. ⌜ r ≡ inRows columns rows from ⌝ }
+fn in_rows(reader: HeadReader, rows: u32, from: u32) -> Machine
+    ensures { λ r. ⌜ r ≡ inRows reader rows from ⌝ }
 {
-    let reader = sheet_head::reader::start();
     if rows == 0 {
         return Machine {
             phase: Phase::End,
             reader: reader,
-            columns: columns,
             rows: rows,
             from: from,
         };
@@ -103,7 +105,6 @@ fn in_rows(columns: u32, rows: u32, from: u32) -> Machine
     Machine {
         phase: Phase::Row,
         reader: reader,
-        columns: columns,
         rows: rows,
         from: from,
     }
@@ -118,7 +119,6 @@ fn stopped(exact: bool) -> Machine
         return Machine {
             phase: Phase::Listed,
             reader: reader,
-            columns: 0,
             rows: 0,
             from: 0,
         };
@@ -126,21 +126,21 @@ fn stopped(exact: bool) -> Machine
     Machine {
         phase: Phase::Refused,
         reader: reader,
-        columns: 0,
         rows: 0,
         from: 0,
     }
 }
 
 // Behind a head.
-fn behind_head(head: Head) -> Machine
-    requires { ⌜ (head .refusal ≡ 0 → Sized (head .width) (head .height)) ⌝ }
-    ensures { λ r. ⌜ r ≡ begun head ⌝ }
+fn behind_head(reader: HeadReader) -> Machine
+    requires { ⌜ (reader .head .refusal ≡ 0 → Sized (reader .head .width) (reader .head .height)) ⌝ }
+    ensures { λ r. ⌜ r ≡ begun reader ⌝ }
 {
+    let head = reader.head;
     if head.refusal != 0 {
         return stopped(false);
     }
-    in_rows(blocks_across(head.width), blocks_across(head.height), 0)
+    in_rows(reader, blocks_across(head.height), 0)
 }
 
 fn next_at_head(reader: HeadReader, came: &[u8]) -> Machine
@@ -149,20 +149,20 @@ fn next_at_head(reader: HeadReader, came: &[u8]) -> Machine
 {
     let taken = take_next(reader, came);
     if has_ended(taken) {
-        let head = taken.head;
-        return behind_head(head);
+        return behind_head(taken);
     }
     at_head(taken)
 }
 
-fn next_in_rows(columns: u32, rows: u32, from: u32, got: usize) -> Machine
-    requires { ⌜ InRows columns rows from ⌝ }
-    ensures { λ r. ⌜ r ≡ nextInRows columns rows from got ⌝ }
+fn next_in_rows(reader: HeadReader, rows: u32, from: u32, got: usize) -> Machine
+    requires { ⌜ InRows (reader .head) rows from ⌝ }
+    ensures { λ r. ⌜ r ≡ nextInRows reader rows from got ⌝ }
 {
-    if got != 16 * columns as usize {
+    let head = reader.head;
+    if got != row_length(head.width) {
         return stopped(false);
     }
-    in_rows(columns, rows - 1, from + columns)
+    in_rows(reader, rows - 1, from + blocks_across(head.width))
 }
 
 // The next state, after what came.
@@ -174,7 +174,7 @@ pub fn next(machine: Machine, came: &[u8]) -> Machine
     let phase = machine.phase;
     match phase {
         Phase::Head => next_at_head(machine.reader, came),
-        Phase::Row => next_in_rows(machine.columns, machine.rows, machine.from, came.len()),
+        Phase::Row => next_in_rows(machine.reader, machine.rows, machine.from, came.len()),
         Phase::End => stopped(came.len() == 0),
         Phase::Listed => stopped(true),
         Phase::Refused => stopped(false),
@@ -188,9 +188,10 @@ pub fn wanted(machine: Machine) -> usize
     ensures { λ r. ⌜ (r ≤ 16384) × (r ≤ 16384 * roundsOf machine) ⌝ }
 {
     let phase = machine.phase;
+    let head = machine.reader.head;
     match phase {
         Phase::Head => 1,
-        Phase::Row => 16 * machine.columns as usize,
+        Phase::Row => row_length(head.width),
         Phase::End => 1,
         Phase::Listed => 0,
         Phase::Refused => 0,
@@ -235,13 +236,13 @@ fn list_at_head(reader: HeadReader, came: &[u8], at: usize, out: &mut [u8]) -> u
 }
 
 // What is said of the bytes of a row that came.
-fn list_row(columns: u32, from: u32, came: &[u8], at: usize, out: &mut [u8]) -> usize
-    requires { ⌜ (from ≤ 1048576) × (length (now came) ≤ 16384) × (at + 40 * (length (now came) / 16) + 40 ≤ length (now out)) ⌝ }
-    ensures { λ r. ⌜ Written (now (out .entry)) at (textInRows columns from (now (came .entry))) (now (out .exit)) r ⌝ }
-    ensures { λ r. ⌜ r + pick (eqb (length (now (came .entry))) (16 * columns)) 40 0 ≤ at + 40 * (length (now (came .entry)) / 16) + 40 ⌝ }
+fn list_row(head: Head, from: u32, came: &[u8], at: usize, out: &mut [u8]) -> usize
+    requires { ⌜ BlocksAsked head from (length (now came)) (at + 40) (length (now out)) ⌝ }
+    ensures { λ r. ⌜ Written (now (out .entry)) at (textInRows head from (now (came .entry))) (now (out .exit)) r ⌝ }
+    ensures { λ r. ⌜ r + pick (eqb (length (now (came .entry))) (rowLength (head .width))) 40 0 ≤ at + 40 * (length (now (came .entry)) / 16) + 40 ⌝ }
 {
-    let lines = list_blocks(came, from, at, out);
-    refuse_unless(came.len() == 16 * columns as usize, lines, out)
+    let lines = list_blocks(head, from, came, at, out);
+    refuse_unless(came.len() == row_length(head.width), lines, out)
 }
 
 // What is said of what came, to a place of the output; the place behind it.
@@ -251,9 +252,10 @@ pub fn list(machine: Machine, came: &[u8], at: usize, out: &mut [u8]) -> usize
     ensures { λ r. ⌜ r + spareOf (nextOf machine (now (came .entry))) ≤ at + 40 * (length (now (came .entry)) / 16) + spareOf machine ⌝ }
 {
     let phase = machine.phase;
+    let head = machine.reader.head;
     match phase {
         Phase::Head => list_at_head(machine.reader, came, at, out),
-        Phase::Row => list_row(machine.columns, machine.from, came, at, out),
+        Phase::Row => list_row(head, machine.from, came, at, out),
         Phase::End => refuse_unless(came.len() == 0, at, out),
         Phase::Listed => at,
         Phase::Refused => at,

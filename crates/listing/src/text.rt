@@ -125,22 +125,28 @@ pub fn sheet_text(width: u32, height: u32, at: usize, out: &mut [u8]) -> usize
     put(b'\n', high, out)
 }
 
-// `o` where the mode stores no alpha, so that the block is opaque.
-fn opacity_mark(mode: u8) -> u8
-    ensures { λ r. ⌜ r ≡ opacityMark mode ⌝ }
+fn opacity_mark(opaque: bool) -> u8
+    ensures { λ r. ⌜ r ≡ opacityMark opaque ⌝ }
 {
-    if mode < 4 { b'o' } else { b'-' }
+    if opaque { b'o' } else { b'-' }
 }
 
 // The text of a block: its number, its mode, the four channels of its pixel 0, and its opacity mark.
-pub fn block_text(number: u32, mode: u8, pixel: [u8; 4], at: usize, out: &mut [u8]) -> usize
+pub fn block_text(
+    number: u32,
+    mode: u8,
+    pixel: [u8; 4],
+    opaque: bool,
+    at: usize,
+    out: &mut [u8],
+) -> usize
     requires { ⌜ at + 40 ≤ length (now out) ⌝ }
-    ensures { λ r. ⌜ SaysBlock number mode pixel (now (out .entry)) at (now (out .exit)) r ⌝ }
+    ensures { λ r. ⌜ SaysBlock number mode pixel opaque (now (out .entry)) at (now (out .exit)) r ⌝ }
     ensures { λ r. ⌜ r ≤ at + 40 ⌝ }
 {
     let numbered = put_number(number, at, out);
     let drawn = put_pixel(pixel, put_spaced(mode, numbered, out), out);
-    let marked = put(opacity_mark(mode), put(b' ', drawn, out), out);
+    let marked = put(opacity_mark(opaque), put(b' ', drawn, out), out);
     put(b'\n', marked, out)
 }
 

@@ -7,7 +7,7 @@ use Prim.Native.Nat.{ℕ}
 use Prim.Native.String.{String}
 use lib.ListN.{replicate}
 use Rattle.laws.specs.Refusals.{first}
-use Rattle.laws.specs.Tables.{table, tableFrom}
+use Rattle.laws.specs.Tables.{implies, table, tableFrom}
 use Rattle.bc7_format.specs.Modes.{modeOf, endpointCount, kindOfMode, modeRow}
 use Rattle.bcn_format.specs.Block.{number, trailing}
 use Rattle.bcn_format.specs.Drawing.{drawn, promoted, weightOf, weights}
@@ -16,11 +16,12 @@ use Rattle.bc7_format.specs.Lines.{shown, valuePlace}
 use Rattle.bcn_format.specs.Partitions.{anchors2, anchors3, digits, marks, strings2, strings3, subset2, subset3}
 use Rattle.bc7_format.specs.Places.{atPlace, opened, placeAt, pos, width, widths}
 use Rattle.bc7_format.specs.Splits.{splitAt, splitOf}
-use Rattle.bc7_format.proofs.Examples.{block0, block3, block4}
+use Rattle.bc7_format.proofs.Examples.{block3, block4}
 use Rattle.head_rules.specs.Geometry.{blocksOf}
 use Rattle.head_rules.specs.Heads.{formIn, headRefusal, heightIn, readHead, sizeRefusal, widthIn}
 use Rattle.head_rules.specs.Numbers.{raised, readGroups, readNumber}
 use Rattle.listing_rules.specs.Text.{ascii, blockText, channels, decimal, digitsIn, opacityMark, refusedText, sheetText}
+use Rattle.opacity_rules.specs.Opacity.{isVisible, opaque, opaqueIn, passes}
 use Rattle.sheet_rules.specs.Rows.{blockAt}
 use Rattle.listing_rules.specs.Listing.{blockListed, blocksListing, blocksText, listed, listing}
 
@@ -29,21 +30,25 @@ pub text : List String → List ℕ
 text [] = []
 text (s ∷ more) = ascii s ++ (10 ∷ []) ++ text more
 
--- a sheet of 5 by 6 pixels: two rows of two blocks, with what is given in the place of the last
+-- mode 6: all pixels have alpha 255 but pixel 1, in the second column, which has 0
+abbrev block6 : List ℕ
+block6 = 0x40 ∷ (replicate 5 0 ++ (0xFE ∷ 0x80 ∷ 0xF0 ∷ replicate 7 0))
+
+-- a sheet of 5 by 6 pixels: two rows of two blocks, with what is given in the place of the last. Of the blocks 1 and 3 one column is shown
 abbrev sheet : List ℕ → List ℕ
-sheet last = (0x01 ∷ 0x05 ∷ 0x06 ∷ []) ++ block0 ++ block3 ++ block4 ++ last
+sheet last = (0x01 ∷ 0x05 ∷ 0x06 ∷ []) ++ block3 ++ block6 ++ block4 ++ last
 
 -- a whole sheet, whose last block is reserved; a byte more; a byte less; a sheet of another form
 pub listings-hold : map listing (sheet (replicate 16 0) ∷ sheet (replicate 17 0) ∷ sheet (replicate 15 0) ∷ (0x02 ∷ []) ∷ [])
     ≡ map text
-    (("sheet 5 6" ∷ "0 0 24 41 57 255 o" ∷ "1 3 3 5 7 255 o" ∷ "2 4 11 29 44 28 -" ∷ "3 8 0 0 0 0 -" ∷ []) ∷
-    ("sheet 5 6" ∷ "0 0 24 41 57 255 o" ∷ "1 3 3 5 7 255 o" ∷ "2 4 11 29 44 28 -" ∷ "3 8 0 0 0 0 -" ∷ "refused 10" ∷ []) ∷
-    ("sheet 5 6" ∷ "0 0 24 41 57 255 o" ∷ "1 3 3 5 7 255 o" ∷ "2 4 11 29 44 28 -" ∷ "refused 10" ∷ []) ∷
+    (("sheet 5 6" ∷ "0 3 3 5 7 255 o" ∷ "1 6 1 1 1 255 o" ∷ "2 4 11 29 44 28 -" ∷ "3 8 0 0 0 0 -" ∷ []) ∷
+    ("sheet 5 6" ∷ "0 3 3 5 7 255 o" ∷ "1 6 1 1 1 255 o" ∷ "2 4 11 29 44 28 -" ∷ "3 8 0 0 0 0 -" ∷ "refused 10" ∷ []) ∷
+    ("sheet 5 6" ∷ "0 3 3 5 7 255 o" ∷ "1 6 1 1 1 255 o" ∷ "2 4 11 29 44 28 -" ∷ "refused 10" ∷ []) ∷
     ("refused 8" ∷ []) ∷
     [])
 unfolding text listing blocksListing listed blocksText blockListed readHead headRefusal formIn widthIn heightIn readNumber readGroups raised first
     sizeRefusal blocksOf blockAt sheetText refusedText blockText channels opacityMark decimal digitsIn ascii table tableFrom digits marks strings2
     strings3 subset2 subset3 anchors2 anchors3 weights weightOf drawn promoted eight modeRow kindOfMode endpointCount placeAt pos width widths
     trailing number modeOf splitAt splitOf atPlace opened has valuePlace pPlace indexSetOf indexPlace own lineOf lineBits meansStored rotated lineAt
-    shown pixel pixels
+    shown pixel pixels implies isVisible passes opaque opaqueIn
 listings-hold = refl

@@ -10,17 +10,17 @@ use lib.ListN.{length}
 use Rattle.listing_rules.specs.declared.Machine.{Machine}
 use Rattle.listing_rules.specs.declared.Phase.{Phase}
 use Rattle.listing_rules.specs.declared.Phase.the-variants.{Head, Row, End, Listed, Refused}
-use Rattle.head_rules.specs.Geometry.{across}
-use Rattle.head_rules.specs.declared.Head.{Head as SheetHead}
+use Rattle.head_rules.specs.Geometry.{across, rowLength}
+use Rattle.head_rules.specs.declared.HeadReader.{HeadReader}
 use Rattle.laws.specs.Padding.{Written}
 use Rattle.laws.specs.Tables.{pick}
 use Rattle.laws.proofs.Cases.{pick-either}
 use Rattle.listing_rules.specs.Machine.{ReadyIn, begun, ended, inRows, nextIn, nextInRows, nextOf, spareIn, spareOf, textIn, textOf, wantedIn}
 
-spare-rows : (c k from : ℕ) → spareOf (inRows c k from) ≡ 40
+spare-rows : (r : HeadReader) (k from : ℕ) → spareOf (inRows r k from) ≡ 40
 unfolding inRows
-spare-rows c zero from = refl
-spare-rows c (suc k) from = refl
+spare-rows r zero from = refl
+spare-rows r (suc k) from = refl
 
 pub spare-ended : (exact : Bool) → spareOf (ended exact) ≡ 0
 unfolding ended
@@ -39,13 +39,13 @@ pub spare-most : (m : Machine) → spareOf m ≤ 80
 spare-most m = spare-in (m .phase)
 
 -- behind a head, and behind a row
-pub spare-begun : (h : SheetHead) → spareOf (begun h) ≤ 40
+pub spare-begun : (r : HeadReader) → spareOf (begun r) ≤ 40
 unfolding begun
-spare-begun h = pick-either (λ m. spareOf m ≤ 40) (eqb (h .refusal) 0)
-    (omega (arith, spare-rows (across (h .width)) (across (h .height)) 0)) (omega (arith, spare-ended false))
+spare-begun r = pick-either (λ m. spareOf m ≤ 40) (eqb (r .head .refusal) 0)
+    (omega (arith, spare-rows r (across (r .head .height)) 0)) (omega (arith, spare-ended false))
 
-pub spare-next : (c k from got : ℕ) → spareOf (nextInRows c k from got) ≡ pick (eqb got (16 * c)) 40 0
-spare-next c k from got = go (eqb got (16 * c)) _ (spare-rows _ _ _)
+pub spare-next : (r : HeadReader) (k from got : ℕ) → spareOf (nextInRows r k from got) ≡ pick (eqb got (rowLength (r .head .width))) 40 0
+spare-next r k from got = go (eqb got (rowLength (r .head .width))) _ (spare-rows _ _ _)
   where
     go : (t : Bool) (m : Machine) → spareOf m ≡ 40 → spareOf (pick t m (ended false)) ≡ pick t 40 0
     go true m e = e
@@ -54,7 +54,7 @@ spare-next c k from got = go (eqb got (16 * c)) _ (spare-rows _ _ _)
 -- what is asked and said at a phase is what is asked and said
 module _ (m : Machine) (came : List ℕ) where
   abbrev Asked : Phase → ℕ → ℕ → Type 0
-  Asked p at room = ReadyIn p m × (length came ≤ wantedIn p (m .columns)) × (at + 40 * (length came / 16) + spareIn p ≤ room)
+  Asked p at room = ReadyIn p m × (length came ≤ wantedIn p (m .reader .head)) × (at + 40 * (length came / 16) + spareIn p ≤ room)
 
   pub asked : (at room : ℕ) {p : Phase} → m .phase ≡ p → Asked (m .phase) at room → Asked p at room
   asked at room e h = subst (λ (p : Phase). Asked p at room) e h

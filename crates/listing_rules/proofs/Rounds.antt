@@ -4,13 +4,13 @@ use mathlib.Core.Path.{_≡_, refl, _∙_, ap, sym, subst}
 use mathlib.Core.Bool.{Bool, true, false}
 use mathlib.Core.List.{List, [], _∷_, _++_, append-nil}
 use Prim.Native.Nat.{ℕ, zero, suc, _+_, _-_, _*_, _≤_}
-use native.Mathlib.Nat.{not-suc-le-zero}
+use native.Mathlib.Nat.{not-suc-le-zero, suc-mul, zero-add}
 use native.Mathlib.Omega.{arith}
 use lib.Dec.{eqb, leb}
 use lib.ListN.{length, getD, take, drop}
 use lib.Seq.{length-take-le, take-all}
 use borrow.Author.Tests.{eq-eqb, eqb-false, eqb-true, leb-false, leb-true, ne-eqb}
-use Rattle.head_rules.specs.Geometry.{across}
+use Rattle.head_rules.specs.Geometry.{across, blocksOf, rowLength}
 use Rattle.head_rules.specs.declared.HeadReader.{HeadReader}
 use Rattle.listing_rules.specs.declared.Machine.{Machine}
 use Rattle.listing_rules.specs.declared.Phase.{Phase}
@@ -19,13 +19,15 @@ use Rattle.head_rules.specs.declared.Head.{Head as SheetHead}
 use Rattle.laws.specs.Tables.{pick}
 use Rattle.laws.proofs.Cases.{pick-either}
 use Rattle.head_rules.specs.Heads.{Sized, headOf, readHead}
+use Rattle.head_rules.proofs.Blocks.{few-blocks}
 use Rattle.head_rules.specs.Reader.{Going, Reading, atForm, byteTaken, hasEnded, readBy, refusedWith}
 use Rattle.head_rules.proofs.Bytewise.{Stepped, going-start, not-far, read-byte, read-cut, read-ended, stepped, stepped-refused}
 use Rattle.head_rules.proofs.Theorems.{fold-leaves-the-blocks, read-head-is-the-fold}
 use Rattle.listing_rules.specs.Text.{refusedText, sheetText}
 use Rattle.listing_rules.specs.Listing.{listed, listing, rowsListing, unlessExact}
-use Rattle.listing_rules.specs.Machine.{Ready, ReadyIn, Run, atHead, atStart, begun, ended, headText, inRows, nextAtHead, nextIn, nextInRows}
-use Rattle.listing_rules.specs.Machine.{nextOf, over, rowsPhase, takenOf, textAtHead, textIn, textOf, round, roundsIn, roundsOf, wantedIn}
+use Rattle.listing_rules.specs.Machine.{InRows, Ready, ReadyIn, Run, atHead, atStart, begun, ended, headText, inRows, nextAtHead, nextIn}
+use Rattle.listing_rules.specs.Machine.{nextInRows, nextOf, over, rowsPhase, takenOf, textAtHead, textIn, textInRows, textOf, round}
+use Rattle.listing_rules.specs.Machine.{roundsIn, roundsOf, wantedIn}
 use Rattle.listing_rules.specs.Machine.{wantedOf}
 use Rattle.listing_rules.proofs.Rows.{listing-by-rows, listing-refused}
 
@@ -61,15 +63,28 @@ pub some-rows : (k : ℕ) → (k ≡ 0 → ⊥) → rowsPhase k ≡ Row
 some-rows zero n = absurd (n refl)
 some-rows (suc k) n = refl
 
-ready-rows : (c k from : ℕ) → c ≤ 1024 → 1 ≤ c → from + 1024 * k ≤ 1048576 → Ready (inRows c k from)
+ready-rows : (r : HeadReader) (k from : ℕ) → Sized (r .head .width) (r .head .height) → from + k * across (r .head .width) ≡ blocksOf (r .head)
+    → Ready (inRows r k from)
 unfolding inRows
-ready-rows c zero from w s n = tt
-ready-rows c (suc k) from w s n = record { within = w; some = s; more = omega arith; numbers = n }
+ready-rows r zero from z e = tt
+ready-rows r (suc k) from z e = record { sized = z; more = omega arith; numbers = e }
 
-rounds-rows : (c k from n : ℕ) → k + 1 ≤ n → roundsOf (inRows c k from) ≤ n
+rounds-rows : (r : HeadReader) (k from n : ℕ) → k + 1 ≤ n → roundsOf (inRows r k from) ≤ n
 unfolding inRows
-rounds-rows c zero from n h = omega arith
-rounds-rows c (suc k) from n h = omega arith
+rounds-rows r zero from n h = omega arith
+rounds-rows r (suc k) from n h = omega arith
+
+-- at a row its blocks, and behind it those of the rows that are left, make up the sheet
+one-row : (k c from n : ℕ) → 1 ≤ k → from + k * c ≡ n → (from + c) + (k - 1) * c ≡ n
+one-row zero c from n h e = absurd (not-suc-le-zero h)
+one-row (suc k) c from n h e = let less : suc k - 1 ≡ k = omega arith in rw less (omega (arith, e, suc-mul k c))
+
+pub row-there : {h : SheetHead} {k from : ℕ} → InRows h k from → from + across (h .width) ≤ blocksOf h
+row-there {h} {k} {from} i = omega (arith, one-row k _ from _ (i .more) (i .numbers))
+
+pub few-in-all : (h : SheetHead) → Sized (h .width) (h .height) → blocksOf h ≤ 1048576
+unfolding blocksOf
+few-in-all h z = omega (arith, few-blocks z)
 
 -- at the end
 ready-ended : (exact : Bool) → Ready (ended exact)
@@ -83,33 +98,36 @@ rounds-ended true = refl
 rounds-ended false = refl
 
 -- what holds before rows that a head declares, and at the end, holds behind the head
-behind-head : (P : Machine → Type 0) (h : SheetHead) → (h .refusal ≡ 0 → Sized (h .width) (h .height))
-    → ((w h : ℕ) → Sized w h → P (inRows (across w) (across h) 0)) → P (ended false) → P (begun h)
+behind-head : (P : Machine → Type 0) (r : HeadReader) → (r .head .refusal ≡ 0 → Sized (r .head .width) (r .head .height))
+    → (Sized (r .head .width) (r .head .height) → P (inRows r (across (r .head .height)) 0)) → P (ended false) → P (begun r)
 unfolding begun
-behind-head P h sized rows end = go (eqb (h .refusal) 0) refl
+behind-head P r sized rows end = go (eqb (r .head .refusal) 0) refl
   where
-    go : (t : Bool) → eqb (h .refusal) 0 ≡ t → P (pick t (inRows (across (h .width)) (across (h .height)) 0) (ended false))
-    go true e = rows _ _ (sized (eqb-true _ 0 e))
+    go : (t : Bool) → eqb (r .head .refusal) 0 ≡ t → P (pick t (inRows r (across (r .head .height)) 0) (ended false))
+    go true e = rows (sized (eqb-true _ 0 e))
     go false e = end
 
 -- and what holds there and at the head with a byte more holds after each byte of the head
-after-byte : (P : Machine → Type 0) (r : HeadReader) → Going r → ((h : SheetHead) → (h .refusal ≡ 0 → Sized (h .width) (h .height)) → P (begun h))
+after-byte : (P : Machine → Type 0) (r : HeadReader) → Going r
+    → ((x : HeadReader) → (x .head .refusal ≡ 0 → Sized (x .head .width) (x .head .height)) → P (begun x))
     → ((x : HeadReader) → Stepped r x → hasEnded x ≡ false → P (atHead x)) → (came : List ℕ) → P (nextAtHead (takenOf r came))
 after-byte P r g behind more came = go (takenOf r came) (taken-stepped r came g) (hasEnded (takenOf r came)) refl
   where
-    go : (x : HeadReader) → Stepped r x → (t : Bool) → hasEnded x ≡ t → P (pick t (begun (x .head)) (atHead x))
-    go x s true e = behind (x .head) (s .sized-head e)
+    go : (x : HeadReader) → Stepped r x → (t : Bool) → hasEnded x ≡ t → P (pick t (begun x) (atHead x))
+    go x s true e = behind x (s .sized-head e)
     go x s false e = more x s e
+
+all-to-come : (h : SheetHead) → 0 + across (h .height) * across (h .width) ≡ blocksOf h
+unfolding blocksOf
+all-to-come h = zero-add _
 
 -- the next state is ready
 ready-next : (p : Phase) (m : Machine) (came : List ℕ) → ReadyIn p m → Ready (nextIn p m came)
 ready-next Head m came h =
     after-byte Ready (m .reader) h
-    (λ q z. behind-head Ready q z
-    (λ w h s. ready-rows (across w) (across h) 0 (omega (arith, s .within-wide)) (omega (arith, s .wide)) (omega (arith, s .within-high)))
-    (ready-ended false)) (λ x s e. s .going e) came
+    (λ x z. behind-head Ready x z (λ s. ready-rows x _ 0 s (all-to-come (x .head))) (ready-ended false)) (λ x s e. s .going e) came
 ready-next Row m came h = pick-either Ready (eqb (length came) _)
-    (ready-rows _ _ _ (h .within) (h .some) (omega (arith, h .within, h .more, h .numbers))) (ready-ended false)
+    (ready-rows (m .reader) _ _ (h .sized) (one-row (m .rows) _ (m .from) _ (h .more) (h .numbers))) (ready-ended false)
 ready-next End m came h = ready-ended (eqb (length came) 0)
 ready-next Listed m came h = ready-ended true
 ready-next Refused m came h = ready-ended false
@@ -118,7 +136,7 @@ ready-next Refused m came h = ready-ended false
 rounds-next : (p : Phase) (m : Machine) (came : List ℕ) → ReadyIn p m → roundsOf (nextIn p m came) ≤ roundsIn p m - 1
 rounds-next Head m came h =
     after-byte (λ n. roundsOf n ≤ roundsIn Head m - 1) (m .reader) h
-    (λ q z. behind-head (λ n. roundsOf n ≤ roundsIn Head m - 1) q z (λ w h s. rounds-rows _ _ _ _ (omega (arith, s .within-high)))
+    (λ x z. behind-head (λ n. roundsOf n ≤ roundsIn Head m - 1) x z (λ s. rounds-rows _ _ _ _ (omega (arith, s .within-high)))
     (omega (arith, rounds-ended false)))
     (λ x s e. omega (arith, s .on e, not-far h, h .few)) came
 rounds-next Row m came h = pick-either (λ n. roundsOf n ≤ roundsIn Row m - 1) (eqb (length came) _) (rounds-rows _ _ _ _ (omega (arith, h .more)))
@@ -139,9 +157,9 @@ nexts m came h e = (
 )
 
 -- it never wants more than the buffer holds, and at the end nothing
-wanted-in : (p : Phase) (m : Machine) → ReadyIn p m → (wantedIn p (m .columns) ≤ 16384) × (wantedIn p (m .columns) ≤ 16384 * roundsIn p m)
+wanted-in : (p : Phase) (m : Machine) → ReadyIn p m → (wantedIn p (m .reader .head) ≤ 16384) × (wantedIn p (m .reader .head) ≤ 16384 * roundsIn p m)
 wanted-in Head m h = (omega arith, omega arith)
-wanted-in Row m h = (omega (arith, h .within), omega (arith, h .within))
+wanted-in Row m h = (omega (arith, h .sized .within-wide), omega (arith, h .sized .within-wide))
 wanted-in End m h = (omega arith, omega arith)
 wanted-in Listed m h = (omega arith, omega arith)
 wanted-in Refused m h = (omega arith, omega arith)
@@ -149,58 +167,58 @@ wanted-in Refused m h = (omega arith, omega arith)
 wanted-within : (m : Machine) → Ready m → (wantedOf m ≤ 16384) × (wantedOf m ≤ 16384 * roundsOf m)
 wanted-within m h = wanted-in (m .phase) m h
 
-pub wants : (m : Machine) → Ready m → {p : Phase} {n : ℕ} → m .phase ≡ p → n ≡ wantedIn p (m .columns)
+pub wants : (m : Machine) → Ready m → {p : Phase} {n : ℕ} → m .phase ≡ p → n ≡ wantedIn p (m .reader .head)
     → (n ≡ wantedOf m) × ((n ≤ 16384) × (n ≤ 16384 * roundsOf m))
 wants m h {p} {n} at e =
-    let q : n ≡ wantedOf m = e ∙ sym (ap (λ (p : Phase). wantedIn p (m .columns)) at) in
+    let q : n ≡ wantedOf m = e ∙ sym (ap (λ (p : Phase). wantedIn p (m .reader .head)) at) in
     (q, (omega (arith, q, wanted-within m h .0), omega (arith, q, wanted-within m h .1)))
 
 -- what is still said of an input: from a head on, and from a byte of the head on
 behind : SheetHead → List ℕ → List ℕ
-behind h s = pick (eqb (h .refusal) 0) (rowsListing (across (h .width)) 0 (across (h .height)) s) []
+behind h s = pick (eqb (h .refusal) 0) (rowsListing h 0 (across (h .height)) s) []
 
 fromHead : Reading → List ℕ
 fromHead t = headText (t .head) ++ behind (t .head) (t .rest)
 
 restIn : Phase → Machine → List ℕ → List ℕ
 restIn Head m s = fromHead (readBy (m .reader) s)
-restIn Row m s = rowsListing (m .columns) (m .from) (m .rows) s
-restIn End m s = rowsListing (m .columns) (m .from) 0 s
+restIn Row m s = rowsListing (m .reader .head) (m .from) (m .rows) s
+restIn End m s = rowsListing (m .reader .head) (m .from) 0 s
 restIn Listed m s = []
 restIn Refused m s = []
 
 pub restOf : Machine → List ℕ → List ℕ
 restOf m s = restIn (m .phase) m s
 
-rest-rows : (c k from : ℕ) (s : List ℕ) → restOf (inRows c k from) s ≡ rowsListing c from k s
+rest-rows : (r : HeadReader) (k from : ℕ) (s : List ℕ) → restOf (inRows r k from) s ≡ rowsListing (r .head) from k s
 unfolding inRows restOf restIn
-rest-rows c zero from s = refl
-rest-rows c (suc k) from s = refl
+rest-rows r zero from s = refl
+rest-rows r (suc k) from s = refl
 
 rest-ended : (exact : Bool) (s : List ℕ) → restOf (ended exact) s ≡ []
 unfolding ended restOf restIn
 rest-ended true s = refl
 rest-ended false s = refl
 
-rest-begun : (h : SheetHead) (s : List ℕ) → restOf (begun h) s ≡ behind h s
+rest-begun : (r : HeadReader) (s : List ℕ) → restOf (begun r) s ≡ behind (r .head) s
 unfolding begun behind
-rest-begun h s = go (eqb (h .refusal) 0)
+rest-begun r s = go (eqb (r .head .refusal) 0)
   where
-    go : (t : Bool) → restOf (pick t (inRows (across (h .width)) (across (h .height)) 0) (ended false)) s
-        ≡ pick t (rowsListing (across (h .width)) 0 (across (h .height)) s) []
-    go true = rest-rows _ _ 0 s
+    go : (t : Bool) → restOf (pick t (inRows r (across (r .head .height)) 0) (ended false)) s
+        ≡ pick t (rowsListing (r .head) 0 (across (r .head .height)) s) []
+    go true = rest-rows r _ 0 s
     go false = rest-ended false s
 
 -- a byte of the head, or none
 head-step : (r : HeadReader) → hasEnded r ≡ false → (s : List ℕ)
     → fromHead (readBy r s) ≡ textAtHead (takenOf r (take 1 s)) ++ restOf (nextAtHead (takenOf r (take 1 s))) (drop 1 s)
 unfolding fromHead restOf restIn
-head-step r un [] = ap fromHead (read-cut r un) ∙ ap (λ (t : List ℕ). headText (headOf 7 0 0 0) ++ t) (sym (rest-begun (headOf 7 0 0 0) []))
+head-step r un [] = ap fromHead (read-cut r un) ∙ ap (λ (t : List ℕ). headText (headOf 7 0 0 0) ++ t) (sym (rest-begun (refusedWith 7) []))
 head-step r un (b ∷ bs) = ap fromHead (read-byte r un b bs) ∙ go (byteTaken r b) (hasEnded (byteTaken r b)) refl
   where
     go : (x : HeadReader) (t : Bool) → hasEnded x ≡ t → fromHead (readBy x bs)
-        ≡ pick t (headText (x .head)) [] ++ restOf (pick t (begun (x .head)) (atHead x)) bs
-    go x true e = ap fromHead (read-ended x e bs) ∙ ap (λ (t : List ℕ). headText (x .head) ++ t) (sym (rest-begun (x .head) bs))
+        ≡ pick t (headText (x .head)) [] ++ restOf (pick t (begun x) (atHead x)) bs
+    go x true e = ap fromHead (read-ended x e bs) ∙ ap (λ (t : List ℕ). headText (x .head) ++ t) (sym (rest-begun x bs))
     go x false e = refl
 
 -- of what was wanted all came exactly when the input has so much
@@ -211,21 +229,26 @@ all-came n s = go (leb n (length s)) refl
     go true e = eq-eqb _ n (length-take-le n s (leb-true n (length s) e))
     go false e = ne-eqb _ n (λ q. omega (arith, leb-false n (length s) e, ap length (take-all n s (omega (arith, leb-false n (length s) e)))))
 
-row-step : (c k from : ℕ) (s : List ℕ) → 1 ≤ k
-    → rowsListing c from k s
-    ≡ (listed from (take (16 * c) s) ++ unlessExact (eqb (length (take (16 * c) s)) (16 * c))) ++ restOf
-    (nextInRows c k from (length (take (16 * c) s))) (drop (16 * c) s)
+row-step : (r : HeadReader) (k from : ℕ) (s : List ℕ) → 1 ≤ k
+    → let n = rowLength (r .head .width) in
+    rowsListing (r .head) from k s ≡ textInRows (r .head) from (take n s) ++ restOf (nextInRows r k from (length (take n s))) (drop n s)
 unfolding rowsListing
-row-step c zero from s h = absurd (not-suc-le-zero h)
-row-step c (suc k) from s h = rw (all-came (16 * c) s) (go (leb (16 * c) (length s)))
+row-step r zero from s h = absurd (not-suc-le-zero h)
+row-step r (suc k) from s h = rw (all-came n s) (go (leb n (length s)))
   where
+    n : ℕ
+    n = rowLength (r .head .width)
+
+    c : ℕ
+    c = across (r .head .width)
+
     less : suc k - 1 ≡ k
     less = omega arith
 
     go : (t : Bool)
-        → listed from (take (16 * c) s) ++ pick t (rowsListing c (from + c) k (drop (16 * c) s)) (refusedText 10)
-        ≡ (listed from (take (16 * c) s) ++ unlessExact t) ++ restOf (pick t (inRows c (suc k - 1) (from + c)) (ended false)) (drop (16 * c) s)
-    go true = rw (append-nil, less) (ap (λ (t : List ℕ). listed from (take (16 * c) s) ++ t) (sym (rest-rows c k (from + c) (drop (16 * c) s))))
+        → listed (r .head) from (take n s) ++ pick t (rowsListing (r .head) (from + c) k (drop n s)) (refusedText 10)
+        ≡ (listed (r .head) from (take n s) ++ unlessExact t) ++ restOf (pick t (inRows r (suc k - 1) (from + c)) (ended false)) (drop n s)
+    go true = rw (append-nil, less) (ap (λ (t : List ℕ). listed (r .head) from (take n s) ++ t) (sym (rest-rows r k (from + c) (drop n s))))
     go false = rw (rest-ended, append-nil)
 
 -- a byte came exactly when the input has one
@@ -233,18 +256,18 @@ none-came : (s : List ℕ) → eqb (length (take 1 s)) 0 ≡ eqb (length s) 0
 none-came [] = refl
 none-came (b ∷ bs) = ne-eqb (suc (length (take 0 bs))) 0 (λ q. omega (arith, q)) ∙ sym (ne-eqb (suc (length bs)) 0 (λ q. omega (arith, q)))
 
-end-step : (c from : ℕ) (s : List ℕ)
-    → rowsListing c from 0 s ≡ unlessExact (eqb (length (take 1 s)) 0) ++ restOf (ended (eqb (length (take 1 s)) 0)) (drop 1 s)
+end-step : (h : SheetHead) (from : ℕ) (s : List ℕ)
+    → rowsListing h from 0 s ≡ unlessExact (eqb (length (take 1 s)) 0) ++ restOf (ended (eqb (length (take 1 s)) 0)) (drop 1 s)
 unfolding rowsListing
-end-step c from s = rw (rest-ended, append-nil, none-came s)
+end-step h from s = rw (rest-ended, append-nil, none-came s)
 
 -- what is still said is what is said of the next bytes, and what is still said behind them
 step-in : (p : Phase) (m : Machine) (s : List ℕ) → ReadyIn p m
-    → let n = wantedIn p (m .columns) in restIn p m s ≡ textIn p m (take n s) ++ restOf (nextIn p m (take n s)) (drop n s)
+    → let n = wantedIn p (m .reader .head) in restIn p m s ≡ textIn p m (take n s) ++ restOf (nextIn p m (take n s)) (drop n s)
 unfolding restIn
 step-in Head m s h = head-step (m .reader) (h .unended) s
-step-in Row m s h = row-step (m .columns) (m .rows) (m .from) s (h .more)
-step-in End m s h = end-step (m .columns) (m .from) s
+step-in Row m s h = row-step (m .reader) (m .rows) (m .from) s (h .more)
+step-in End m s h = end-step (m .reader .head) (m .from) s
 step-in Listed m s h = sym (rest-ended true s)
 step-in Refused m s h = sym (rest-ended false s)
 
@@ -254,10 +277,10 @@ unfolding restOf
 step m s h = step-in (m .phase) m s h
 
 -- where nothing is wanted nothing is left to say; that is so at the end alone
-done-in : (p : Phase) (m : Machine) (s : List ℕ) → ReadyIn p m → wantedIn p (m .columns) ≡ 0 → restIn p m s ≡ []
+done-in : (p : Phase) (m : Machine) (s : List ℕ) → ReadyIn p m → wantedIn p (m .reader .head) ≡ 0 → restIn p m s ≡ []
 unfolding restIn
 done-in Head m s h e = absurd (let q : ⊥ = omega (arith, e) in q)
-done-in Row m s h e = absurd (let q : ⊥ = omega (arith, e, h .some) in q)
+done-in Row m s h e = absurd (let q : ⊥ = omega (arith, e, h .sized .wide) in q)
 done-in End m s h e = absurd (let q : ⊥ = omega (arith, e) in q)
 done-in Listed m s h e = refl
 done-in Refused m s h e = refl
@@ -292,10 +315,10 @@ rest-start s =
   where
     go : (t : Bool) → eqb (readHead s .refusal) 0 ≡ t
         → pick t (sheetText (readHead s .width) (readHead s .height)) (refusedText (readHead s .refusal))
-        ++ pick t (rowsListing (across (readHead s .width)) 0 (across (readHead s .height)) (readBy atForm s .rest)) [] ≡ listing s
+        ++ pick t (rowsListing (readHead s) 0 (across (readHead s .height)) (readBy atForm s .rest)) [] ≡ listing s
     go true e =
         let z = eqb-true _ 0 e in
         ap (λ (bs : List ℕ). sheetText (readHead s .width)
-        (readHead s .height) ++ rowsListing (across (readHead s .width)) 0 (across (readHead s .height)) bs)
+        (readHead s .height) ++ rowsListing (readHead s) 0 (across (readHead s .height)) bs)
         (fold-leaves-the-blocks s z) ∙ sym (listing-by-rows s z)
     go false e = append-nil _ ∙ sym (listing-refused s (eqb-false _ 0 e))

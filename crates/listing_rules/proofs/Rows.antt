@@ -13,46 +13,47 @@ use lib.Seq.{drop-append-add, drop-append-le, length-take-le, take-add, take-all
 use borrow.Author.Tests.{eq-eqb, eqb-false, eqb-true, le-leb, lt-leb, ne-eqb}
 use Rattle.laws.specs.Tables.{pick}
 use Rattle.laws.proofs.Cases.{lt-or}
-use Rattle.head_rules.specs.Geometry.{across, blocksOf}
+use Rattle.head_rules.specs.declared.Head.{Head}
+use Rattle.head_rules.specs.Geometry.{across, blocksOf, rowLength}
 use Rattle.head_rules.specs.Heads.{readHead}
 use Rattle.listing_rules.specs.Text.{refusedText, sheetText}
 use Rattle.sheet_rules.specs.Rows.{blockAt}
 use Rattle.listing_rules.specs.Listing.{blockListed, blocksListing, blocksText, listed, listing, rowsListing}
 
 -- blocks in the first of two lists, and in the second
-module _ (xs ys : List ℕ) where
+module _ (h : Head) (xs ys : List ℕ) where
   in-first : (at : ℕ) → at + 16 ≤ length xs → blockAt (xs ++ ys) at ≡ blockAt xs at
   unfolding blockAt
-  in-first at h = ap (take 16) (drop-append-le at xs ys (omega arith)) ∙ take-append-le 16 (drop at xs) ys (omega (arith, length-drop at xs))
+  in-first at l = ap (take 16) (drop-append-le at xs ys (omega arith)) ∙ take-append-le 16 (drop at xs) ys (omega (arith, length-drop at xs))
 
   in-second : (at : ℕ) → blockAt (xs ++ ys) (length xs + at) ≡ blockAt ys at
   unfolding blockAt
   in-second at = ap (take 16) (drop-append-add xs ys at)
 
-  text-first : (from n : ℕ) → 16 * n ≤ length xs → blocksText from n (xs ++ ys) ≡ blocksText from n xs
+  text-first : (from n : ℕ) → 16 * n ≤ length xs → blocksText h from n (xs ++ ys) ≡ blocksText h from n xs
   unfolding blocksText
-  text-first from zero h = refl
-  text-first from (suc n) h =
-      ap₂ (λ (a b : List ℕ). a ++ b) (text-first from n (omega arith)) (ap (blockListed (from + n)) (in-first (16 * n) (omega arith)))
+  text-first from zero l = refl
+  text-first from (suc n) l =
+      ap₂ (λ (a b : List ℕ). a ++ b) (text-first from n (omega arith)) (ap (blockListed h (from + n)) (in-first (16 * n) (omega arith)))
 
-  text-both : (from c n : ℕ) → length xs ≡ 16 * c → blocksText from (c + n) (xs ++ ys) ≡ blocksText from c xs ++ blocksText (from + c) n ys
+  text-both : (from c n : ℕ) → length xs ≡ 16 * c → blocksText h from (c + n) (xs ++ ys) ≡ blocksText h from c xs ++ blocksText h (from + c) n ys
   unfolding blocksText
-  text-both from c zero e = ap (λ (m : ℕ). blocksText from m (xs ++ ys)) (add-zero c) ∙ text-first from c (omega arith) ∙ sym (append-nil _)
+  text-both from c zero e = ap (λ (m : ℕ). blocksText h from m (xs ++ ys)) (add-zero c) ∙ text-first from c (omega arith) ∙ sym (append-nil _)
   text-both from c (suc n) e =
       let at : 16 * (c + n) ≡ length xs + 16 * n = omega arith in
-      ap (λ (m : ℕ). blocksText from m (xs ++ ys)) (add-suc c n)
+      ap (λ (m : ℕ). blocksText h from m (xs ++ ys)) (add-suc c n)
       ∙ ap₂ (λ (a b : List ℕ). a ++ b) (text-both from c n e)
-      (ap₂ blockListed (sym (add-assoc from c n)) (ap (blockAt (xs ++ ys)) at ∙ in-second (16 * n)))
-      ∙ append-assoc (blocksText from c xs) (blocksText (from + c) n ys) _
+      (ap₂ (blockListed h) (sym (add-assoc from c n)) (ap (blockAt (xs ++ ys)) at ∙ in-second (16 * n)))
+      ∙ append-assoc (blocksText h from c xs) (blocksText h (from + c) n ys) _
 
   -- the texts of both, where the first has whole blocks
-  pub listed-both : (from c : ℕ) → length xs ≡ 16 * c → listed from (xs ++ ys) ≡ listed from xs ++ listed (from + c) ys
+  pub listed-both : (from c : ℕ) → length xs ≡ 16 * c → listed h from (xs ++ ys) ≡ listed h from xs ++ listed h (from + c) ys
   unfolding listed
   listed-both from c e =
       let all : length (xs ++ ys) / 16 ≡ c + length ys / 16 = omega (arith, length-append xs ys) in
       let first : length xs / 16 ≡ c = omega arith in
-      ap (λ (n : ℕ). blocksText from n (xs ++ ys)) all ∙ text-both from c (length ys / 16) e
-      ∙ ap (λ (n : ℕ). blocksText from n xs ++ blocksText (from + c) (length ys / 16) ys) (sym first)
+      ap (λ (n : ℕ). blocksText h from n (xs ++ ys)) all ∙ text-both from c (length ys / 16) e
+      ∙ ap (λ (n : ℕ). blocksText h from n xs ++ blocksText h (from + c) (length ys / 16) ys) (sym first)
 
 -- as many bytes as are needed, told behind the first of them
 same-test : (a n m : ℕ) → a ≤ n → eqb (n - a) m ≡ eqb n (a + m)
@@ -63,20 +64,23 @@ same-test a n m h = go (eqb n (a + m)) refl
     go false e = ne-eqb (n - a) m (λ q. eqb-false n (a + m) e (omega arith))
 
 -- the texts of n blocks that are numbered from a number on, and the refusal
-blocksFrom : ℕ → ℕ → List ℕ → List ℕ
-blocksFrom from n bs = listed from (take (16 * n) bs) ++ pick (eqb (length bs) (16 * n)) [] (refusedText 10)
+blocksFrom : Head → ℕ → ℕ → List ℕ → List ℕ
+blocksFrom h from n bs = listed h from (take (16 * n) bs) ++ pick (eqb (length bs) (16 * n)) [] (refusedText 10)
 
-module _ (c from k : ℕ) (bs : List ℕ) where
+module _ (h : Head) (from k : ℕ) (bs : List ℕ) where
+  abbrev c : ℕ
+  c = across (h .width)
+
   more : 16 * (suc k * c) ≡ 16 * c + 16 * (k * c)
   more = omega (arith, suc-mul k c)
 
   -- the first row is cut off
-  row-cut : length bs < 16 * c → rowsListing c from (suc k) bs ≡ blocksFrom from (suc k * c) bs
+  row-cut : length bs < 16 * c → rowsListing h from (suc k) bs ≡ blocksFrom h from (suc k * c) bs
   unfolding rowsListing blocksFrom
-  row-cut h =
+  row-cut l =
       rw (
         lt-leb (16 * c)
-            (length bs) h,
+            (length bs) l,
         take-all (16 * c) bs (omega arith),
         take-all (16 * (suc k * c)) bs (omega (arith, more)),
         ne-eqb (length bs)
@@ -84,33 +88,34 @@ module _ (c from k : ℕ) (bs : List ℕ) where
       )
 
   -- it is whole
-  row-whole : 16 * c ≤ length bs → rowsListing c (from + c) k (drop (16 * c) bs) ≡ blocksFrom (from + c) (k * c) (drop (16 * c) bs)
-      → rowsListing c from (suc k) bs ≡ blocksFrom from (suc k * c) bs
+  row-whole : 16 * c ≤ length bs → rowsListing h (from + c) k (drop (16 * c) bs) ≡ blocksFrom h (from + c) (k * c) (drop (16 * c) bs)
+      → rowsListing h from (suc k) bs ≡ blocksFrom h from (suc k * c) bs
   unfolding rowsListing blocksFrom
-  row-whole h e =
+  row-whole l e =
       let row = take (16 * c) bs in
       let rest = drop (16 * c) bs in
-      rw (le-leb (16 * c) (length bs) h) (ap (λ (t : List ℕ). listed from row ++ t) e
-      ∙ sym (append-assoc (listed from row) (listed (from + c) (take (16 * (k * c)) rest)) _)
+      rw (le-leb (16 * c) (length bs) l) (ap (λ (t : List ℕ). listed h from row ++ t) e
+      ∙ sym (append-assoc (listed h from row) (listed h (from + c) (take (16 * (k * c)) rest)) _)
       ∙ ap₂ (λ (t : List ℕ) (b : Bool). t ++ pick b [] (refusedText 10))
-      (sym (ap (λ (m : ℕ). listed from (take m bs)) more ∙ ap (listed from) (take-add (16 * c) (16 * (k * c)) bs)
-      ∙ listed-both row (take (16 * (k * c)) rest) from c (length-take-le (16 * c) bs h)))
-      (ap (λ (n : ℕ). eqb n (16 * (k * c))) (length-drop (16 * c) bs) ∙ same-test (16 * c) (length bs) (16 * (k * c)) h ∙ ap (eqb (length bs))
+      (sym (ap (λ (m : ℕ). listed h from (take m bs)) more ∙ ap (listed h from) (take-add (16 * c) (16 * (k * c)) bs)
+      ∙ listed-both h row (take (16 * (k * c)) rest) from c (length-take-le (16 * c) bs l)))
+      (ap (λ (n : ℕ). eqb n (16 * (k * c))) (length-drop (16 * c) bs) ∙ same-test (16 * c) (length bs) (16 * (k * c)) l ∙ ap (eqb (length bs))
       (sym more)))
 
-no-rows : (c from : ℕ) (bs : List ℕ) → rowsListing c from 0 bs ≡ blocksFrom from (0 * c) bs
+no-rows : (h : Head) (from : ℕ) (bs : List ℕ) → rowsListing h from 0 bs ≡ blocksFrom h from (0 * across (h .width)) bs
 unfolding rowsListing blocksFrom listed blocksText
-no-rows c from bs = rw (zero-mul c)
+no-rows h from bs = rw (zero-mul (across (h .width)))
 
-rows-are-blocks : (c from k : ℕ) (bs : List ℕ) → rowsListing c from k bs ≡ blocksFrom from (k * c) bs
-rows-are-blocks c from zero bs = no-rows c from bs
-rows-are-blocks c from (suc k) bs =
-    ⊎-elim (row-cut c from k bs) (λ h. row-whole c from k bs h (rows-are-blocks c (from + c) k (drop (16 * c) bs))) (lt-or (length bs) (16 * c))
+rows-are-blocks : (h : Head) (from k : ℕ) (bs : List ℕ) → rowsListing h from k bs ≡ blocksFrom h from (k * across (h .width)) bs
+rows-are-blocks h from zero bs = no-rows h from bs
+rows-are-blocks h from (suc k) bs =
+    let n = rowLength (h .width) in
+    ⊎-elim (row-cut h from k bs) (λ l. row-whole h from k bs l (rows-are-blocks h (from + across (h .width)) k (drop n bs))) (lt-or (length bs) n)
 
--- k rows of c blocks, one at a time, are k · c blocks
-rows-are-listing : (c k : ℕ) (bs : List ℕ) → rowsListing c 0 k bs ≡ blocksListing (k * c) bs
-unfolding blocksListing blocksFrom
-rows-are-listing c k bs = rows-are-blocks c 0 k bs
+-- the rows of a sheet, one at a time, are its blocks
+rows-are-listing : (h : Head) (bs : List ℕ) → rowsListing h 0 (across (h .height)) bs ≡ blocksListing h (blocksOf h) bs
+unfolding blocksListing blocksFrom blocksOf
+rows-are-listing h bs = rows-are-blocks h 0 (across (h .height)) bs
 
 module _ (s : List ℕ) where
   -- a refused head prints only `refused` and the number
@@ -120,11 +125,9 @@ module _ (s : List ℕ) where
 
   -- an accepted one its text, and then the rows of blocks, one at a time, from the byte behind those of the head on
   pub listing-by-rows : readHead s .refusal ≡ 0
-      → listing s ≡ sheetText (readHead s .width) (readHead s .height) ++ rowsListing (across (readHead s .width)) 0 (across (readHead s .height))
+      → listing s ≡ sheetText (readHead s .width) (readHead s .height) ++ rowsListing (readHead s) 0 (across (readHead s .height))
       (drop (readHead s .start) s)
-  unfolding listing blocksOf
+  unfolding listing
   listing-by-rows e =
-      let w = readHead s .width in
-      let h = readHead s .height in
-      rw (eq-eqb (readHead s .refusal) 0 e) (ap (λ (t : List ℕ). sheetText w h ++ t)
-      (sym (rows-are-listing (across w) (across h) (drop (readHead s .start) s))))
+      let h = readHead s in
+      rw (eq-eqb (h .refusal) 0 e) (ap (λ (t : List ℕ). sheetText (h .width) (h .height) ++ t) (sym (rows-are-listing h (drop (h .start) s))))

@@ -1,12 +1,13 @@
 -- For every input the machine, fed with it as it asks, says `listing` of the input, and nothing else; and document 01's example.
 -- Assumes nothing.
 use mathlib.Core.Path.{_≡_, refl, _∙_, ap, sym, subst}
+use mathlib.Core.Bool.{Bool}
 use mathlib.Core.List.{List, [], _∷_, _++_}
 use Prim.Native.Nat.{ℕ}
 use native.Mathlib.Nat.{le-refl}
 use lib.ListN.{replicate, take}
 use Rattle.laws.specs.Refusals.{first}
-use Rattle.laws.specs.Tables.{table, tableFrom}
+use Rattle.laws.specs.Tables.{implies, table, tableFrom}
 use Rattle.bc7_format.specs.Modes.{modeOf, endpointCount, kindOfMode, modeRow}
 use Rattle.bcn_format.specs.Block.{number, trailing}
 use Rattle.bcn_format.specs.Drawing.{drawn, promoted, weightOf, weights}
@@ -19,6 +20,7 @@ use Rattle.head_rules.specs.Geometry.{blocksOf}
 use Rattle.head_rules.specs.Heads.{formIn, headRefusal, heightIn, readHead, sizeRefusal, widthIn}
 use Rattle.head_rules.specs.Numbers.{raised, readGroups, readNumber}
 use Rattle.listing_rules.specs.Text.{ascii, blockText, channels, decimal, digitsIn, newline, opacityMark, sheetText}
+use Rattle.opacity_rules.specs.Opacity.{isVisible, opaque, opaqueIn, passes}
 use Rattle.sheet_rules.specs.Rows.{blockAt}
 use Rattle.listing_rules.specs.declared.Machine.{Machine}
 use Rattle.listing_rules.specs.Listing.{blockListed, blocksListing, blocksText, listed, listing}
@@ -47,9 +49,9 @@ module _ {before after after' : List ℕ} {at next next' : ℕ} where
       × (next ≡ next')
   determined-sheet-line w h = says-one
 
-  pub determined-block-line : (number m : ℕ) (px : List ℕ) → SaysBlock number m px before at after next → SaysBlock number m px before at after' next'
-      → (after ≡ after') × (next ≡ next')
-  determined-block-line number m px = says-one
+  pub determined-block-line : (number m : ℕ) (px : List ℕ) (isOpaque : Bool) → SaysBlock number m px isOpaque before at after next
+      → SaysBlock number m px isOpaque before at after' next' → (after ≡ after') × (next ≡ next')
+  determined-block-line number m px isOpaque = says-one
 
   pub determined-refused-line : (n : ℕ) → SaysRefused n before at after next → SaysRefused n before at after' next' → (after ≡ after')
       × (next ≡ next')
@@ -76,5 +78,5 @@ unfolding listing blocksListing listed blocksText blockListed readHead headRefus
     sizeRefusal blocksOf blockAt sheetText blockText channels opacityMark decimal digitsIn ascii table tableFrom digits marks strings2 strings3
     subset2 subset3 anchors2 anchors3 weights weightOf drawn promoted eight modeRow kindOfMode endpointCount placeAt pos width widths trailing number
     modeOf splitAt splitOf atPlace opened has valuePlace pPlace indexSetOf indexPlace own lineOf lineBits meansStored rotated lineAt shown pixel
-    pixels
+    pixels implies isVisible passes opaque opaqueIn
 document-lists = refl

@@ -9,7 +9,8 @@ use lib.ListN.{length, take, drop}
 use Rattle.listing_rules.specs.declared.Machine.{Machine}
 use Rattle.listing_rules.specs.declared.Phase.{Phase}
 use Rattle.listing_rules.specs.declared.Phase.the-variants.{Head, Row, End, Listed, Refused}
-use Rattle.head_rules.specs.Geometry.{across}
+use Rattle.head_rules.specs.Geometry.{across, blocksOf, rowLength}
+use Rattle.head_rules.specs.Heads.{Sized}
 use Rattle.head_rules.specs.declared.Head.{Head as SheetHead}
 use Rattle.head_rules.specs.declared.HeadReader.{HeadReader}
 use Rattle.laws.specs.Tables.{pick}
@@ -24,7 +25,7 @@ takenOf r (b ∷ bs) = byteTaken r b
 
 -- the states: at the head, before so many rows, at the end
 abbrev pub atHead : HeadReader → Machine
-atHead r = record { phase = Head; reader = r; columns = 0; rows = 0; from = 0 }
+atHead r = record { phase = Head; reader = r; rows = 0; from = 0 }
 
 abbrev pub atStart : Machine
 atStart = atHead atForm
@@ -33,40 +34,40 @@ abbrev pub rowsPhase : ℕ → Phase
 rowsPhase zero = End
 rowsPhase (suc k) = Row
 
-unfoldable pub inRows : ℕ → ℕ → ℕ → Machine
-inRows c k from = record { phase = rowsPhase k; reader = atForm; columns = c; rows = k; from = from }
+unfoldable pub inRows : HeadReader → ℕ → ℕ → Machine
+inRows r k from = record { phase = rowsPhase k; reader = r; rows = k; from = from }
 
 unfoldable pub ended : Bool → Machine
-ended exact = record { phase = pick exact Listed Refused; reader = atForm; columns = 0; rows = 0; from = 0 }
+ended exact = record { phase = pick exact Listed Refused; reader = atForm; rows = 0; from = 0 }
 
 -- behind a head: what is said of it, and the state
 unfoldable pub headText : SheetHead → List ℕ
 headText h = pick (eqb (h .refusal) 0) (sheetText (h .width) (h .height)) (refusedText (h .refusal))
 
-unfoldable pub begun : SheetHead → Machine
-begun h = pick (eqb (h .refusal) 0) (inRows (across (h .width)) (across (h .height)) 0) (ended false)
+unfoldable pub begun : HeadReader → Machine
+begun r = pick (eqb (r .head .refusal) 0) (inRows r (across (r .head .height)) 0) (ended false)
 
 -- how many bytes are wanted
-abbrev pub wantedIn : Phase → ℕ → ℕ
-wantedIn Head c = 1
-wantedIn Row c = 16 * c
-wantedIn End c = 1
-wantedIn Listed c = 0
-wantedIn Refused c = 0
+abbrev pub wantedIn : Phase → SheetHead → ℕ
+wantedIn Head h = 1
+wantedIn Row h = rowLength (h .width)
+wantedIn End h = 1
+wantedIn Listed h = 0
+wantedIn Refused h = 0
 
 abbrev pub wantedOf : Machine → ℕ
-wantedOf m = wantedIn (m .phase) (m .columns)
+wantedOf m = wantedIn (m .phase) (m .reader .head)
 
 -- what is said of what came
 abbrev pub textAtHead : HeadReader → List ℕ
 textAtHead r = pick (hasEnded r) (headText (r .head)) []
 
-abbrev pub textInRows : ℕ → ℕ → List ℕ → List ℕ
-textInRows c from came = listed from came ++ unlessExact (eqb (length came) (16 * c))
+abbrev pub textInRows : SheetHead → ℕ → List ℕ → List ℕ
+textInRows h from came = listed h from came ++ unlessExact (eqb (length came) (rowLength (h .width)))
 
 abbrev pub textIn : Phase → Machine → List ℕ → List ℕ
 textIn Head m came = textAtHead (takenOf (m .reader) came)
-textIn Row m came = textInRows (m .columns) (m .from) came
+textIn Row m came = textInRows (m .reader .head) (m .from) came
 textIn End m came = unlessExact (eqb (length came) 0)
 textIn Listed m came = []
 textIn Refused m came = []
@@ -76,14 +77,14 @@ textOf m came = textIn (m .phase) m came
 
 -- the next state
 abbrev pub nextAtHead : HeadReader → Machine
-nextAtHead r = pick (hasEnded r) (begun (r .head)) (atHead r)
+nextAtHead r = pick (hasEnded r) (begun r) (atHead r)
 
-abbrev pub nextInRows : ℕ → ℕ → ℕ → ℕ → Machine
-nextInRows c k from got = pick (eqb got (16 * c)) (inRows c (k - 1) (from + c)) (ended false)
+abbrev pub nextInRows : HeadReader → ℕ → ℕ → ℕ → Machine
+nextInRows r k from got = pick (eqb got (rowLength (r .head .width))) (inRows r (k - 1) (from + across (r .head .width))) (ended false)
 
 abbrev pub nextIn : Phase → Machine → List ℕ → Machine
 nextIn Head m came = nextAtHead (takenOf (m .reader) came)
-nextIn Row m came = nextInRows (m .columns) (m .rows) (m .from) (length came)
+nextIn Row m came = nextInRows (m .reader) (m .rows) (m .from) (length came)
 nextIn End m came = ended (eqb (length came) 0)
 nextIn Listed m came = ended true
 nextIn Refused m came = ended false
@@ -97,16 +98,15 @@ pub data Run : Machine → List ℕ → List ℕ → Type 0 where
   round : {m : Machine} {s t : List ℕ} → (wantedOf m ≡ 0 → ⊥) → Run (nextOf m (take (wantedOf m) s)) (drop (wantedOf m) s) t
       → Run m s (textOf m (take (wantedOf m) s) ++ t)
 
--- what holds in every state that a run comes to
-pub record InRows (c k from : ℕ) : Type 0 where
-  pub within : c ≤ 1024
-  pub some : 1 ≤ c
+-- what holds in every state that a run comes to: at a row the blocks up to it and those to come are the sheet's
+pub record InRows (h : SheetHead) (k from : ℕ) : Type 0 where
+  pub sized : Sized (h .width) (h .height)
   pub more : 1 ≤ k
-  pub numbers : from + 1024 * k ≤ 1048576
+  pub numbers : from + k * across (h .width) ≡ blocksOf h
 
 abbrev pub ReadyIn : Phase → Machine → Type 0
 ReadyIn Head m = Going (m .reader)
-ReadyIn Row m = InRows (m .columns) (m .rows) (m .from)
+ReadyIn Row m = InRows (m .reader .head) (m .rows) (m .from)
 ReadyIn End m = Unit {0}
 ReadyIn Listed m = Unit {0}
 ReadyIn Refused m = Unit {0}

@@ -3,6 +3,7 @@
 -- Assumes nothing.
 use Prim.Native.Nat.{ℕ}
 use mathlib.Core.Path.{_≡_}
+use mathlib.Core.Bool.{Bool}
 use mathlib.Core.List.{List}
 use Rattle.listing_rules.specs.declared.Machine.{Machine}
 use Rattle.laws.specs.Padding.{Written}
@@ -18,8 +19,8 @@ Says text before at after next = Written before at text after next
 abbrev pub SaysSheet : ℕ → ℕ → List ℕ → ℕ → List ℕ → ℕ → Type 0
 SaysSheet w h = Says (sheetText w h)
 
-abbrev pub SaysBlock : ℕ → ℕ → List ℕ → List ℕ → ℕ → List ℕ → ℕ → Type 0
-SaysBlock number m px = Says (blockText number m px)
+abbrev pub SaysBlock : ℕ → ℕ → List ℕ → Bool → List ℕ → ℕ → List ℕ → ℕ → Type 0
+SaysBlock number m px isOpaque = Says (blockText number m px isOpaque)
 
 abbrev pub SaysRefused : ℕ → List ℕ → ℕ → List ℕ → ℕ → Type 0
 SaysRefused n = Says (refusedText n)

@@ -3,6 +3,7 @@
 use Prim.Native.Nat.{ℕ, zero, suc, _+_, _/_, _%_}
 use Prim.Native.Char.{code}
 use Prim.Native.String.{String, [] as empty, _∷_ as _then_}
+use mathlib.Core.Bool.{Bool}
 use mathlib.Core.List.{List, [], _∷_, _++_}
 use lib.Dec.{ltb}
 use lib.ListN.{getD}
@@ -38,16 +39,17 @@ spaced n = space ∷ decimal n
 unfoldable pub sheetText : ℕ → ℕ → List ℕ
 sheetText w h = ascii "sheet " ++ decimal w ++ (space ∷ []) ++ decimal h ++ (newline ∷ [])
 
--- the opacity mark: `o` (111) for modes 0 to 3 and `-` (45) otherwise
-unfoldable pub opacityMark : ℕ → ℕ
-opacityMark m = pick (ltb m 4) 111 45
+-- the opacity mark: `o` (111) for an opaque block and `-` (45) otherwise
+unfoldable pub opacityMark : Bool → ℕ
+opacityMark isOpaque = pick isOpaque 111 45
 
 unfoldable pub channels : List ℕ → List ℕ
 channels px = spaced (getD px 0 0) ++ spaced (getD px 1 0) ++ spaced (getD px 2 0) ++ spaced (getD px 3 0)
 
 -- number, mode, the four channels of pixel 0, the opacity mark
-unfoldable pub blockText : ℕ → ℕ → List ℕ → List ℕ
-blockText number m px = decimal number ++ spaced m ++ channels px ++ (space ∷ []) ++ (opacityMark m ∷ []) ++ (newline ∷ [])
+unfoldable pub blockText : ℕ → ℕ → List ℕ → Bool → List ℕ
+blockText number m px isOpaque =
+    decimal number ++ spaced m ++ channels px ++ (space ∷ []) ++ (opacityMark isOpaque ∷ []) ++ (newline ∷ [])
 
 -- `refused` and the number
 unfoldable pub refusedText : ℕ → List ℕ

@@ -13,11 +13,10 @@ pub enum Phase {
     Refused,
 }
 
-// The reader of the head; the columns of blocks, the rows that have still to come, and the number of the next block.
+// The reader of the head, which keeps it while rows come; the rows that have still to come, and the number of the next block.
 pub struct Machine {
     pub phase: Phase,
     pub reader: HeadReader,
-    pub columns: u32,
     pub rows: u32,
     pub from: u32,
 }

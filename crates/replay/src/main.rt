@@ -9,6 +9,7 @@ use libc::STDOUT_FILENO;
 use listing::list_sheet;
 use rinchovek::rinchovek_bc7_decode_block;
 use rinchovek::rinchovek_bc7_exact_index;
+use rinchovek::rinchovek_bc7_is_opaque;
 use rinchovek::rinchovek_bc7_nearest_index;
 use rinchovek::rinchovek_bc7_pack;
 use rinchovek::rinchovek_bc7_read_line;
@@ -72,8 +73,8 @@ fn write_head_bytes(head: &[u8; 7]) -> bool {
     io::write_all(STDOUT_FILENO, head)
 }
 
-// A refusal is a byte; a number that is none, which no call gives, is told from all that are.
-fn write_refusal(n: u32) {
+// A refusal, an index, a count or a yes is one byte; a number that needs more, which no call gives, is told from all that are.
+fn write_small(n: u32) {
     write_u8(if n < 255 { n as u8 } else { 255 });
 }
 
@@ -102,7 +103,7 @@ fn unpack_call() -> bool {
         return false;
     }
     let mut record = [0u8; PLACES];
-    write_refusal(rinchovek_bc7_unpack(&block, &mut record));
+    write_small(rinchovek_bc7_unpack(&block, &mut record));
     write_record(&record)
 }
 
@@ -115,7 +116,7 @@ fn pack_call() -> bool {
         return false;
     }
     let mut block = [0u8; 16];
-    write_refusal(rinchovek_bc7_pack(&record, &mut block));
+    write_small(rinchovek_bc7_pack(&record, &mut block));
     write_block(&block)
 }
 
@@ -130,7 +131,7 @@ fn read_line_call() -> bool {
     }
     let mut held = [0u8; 26];
     let mut widths = [0u8; 26];
-    write_refusal(rinchovek_bc7_read_line(&block, number(&line, 0), &mut held, &mut widths));
+    write_small(rinchovek_bc7_read_line(&block, number(&line, 0), &mut held, &mut widths));
     write_line(&held);
     write_line(&widths)
 }
@@ -148,7 +149,7 @@ fn replace_call() -> bool {
     if !filled(&mut given) {
         return false;
     }
-    write_refusal(rinchovek_bc7_replace_line(&mut block, number(&line, 0), &given));
+    write_small(rinchovek_bc7_replace_line(&mut block, number(&line, 0), &given));
     write_block(&block)
 }
 
@@ -174,8 +175,21 @@ fn index_call(exact: bool) -> bool {
     } else {
         rinchovek_bc7_nearest_index(&block, line, pixel, &wanted, &mut index)
     };
-    write_refusal(refusal);
-    write_u8(if index < 255 { index as u8 } else { 255 });
+    write_small(refusal);
+    write_small(index);
+    true
+}
+
+fn opacity_call() -> bool {
+    let mut block = [0u8; 16];
+    if !filled(&mut block) {
+        return false;
+    }
+    let mut shown = [0u8; 8];
+    if !filled(&mut shown) {
+        return false;
+    }
+    write_small(rinchovek_bc7_is_opaque(&block, number(&shown, 0), number(&shown, 4)));
     true
 }
 
@@ -184,7 +198,7 @@ fn read_head_of(sheet: &mut [u8]) -> bool {
         return false;
     }
     let mut head = [0u32; 3];
-    write_refusal(rinchovek_sheet_read_head(sheet, &mut head));
+    write_small(rinchovek_sheet_read_head(sheet, &mut head));
     write_u32(head[0]);
     write_u32(head[1]);
     write_u32(head[2]);
@@ -208,13 +222,13 @@ fn write_head_call() -> bool {
     }
     let mut head = [0u8; 7];
     let mut count: u32 = 0;
-    write_refusal(rinchovek_sheet_write_head(
+    write_small(rinchovek_sheet_write_head(
         number(&size, 0),
         number(&size, 4),
         &mut head,
         &mut count,
     ));
-    write_u8(if count < 255 { count as u8 } else { 255 });
+    write_small(count);
     write_head_bytes(&head)
 }
 
@@ -226,7 +240,7 @@ fn row_call_of(width: u32, height: u32, row: u32, blocks: &mut [u8], out: &mut [
     if !filled(out) {
         return false;
     }
-    write_refusal(rinchovek_sheet_decode_row(width, height, row, blocks, out));
+    write_small(rinchovek_sheet_decode_row(width, height, row, blocks, out));
     io::write_all(STDOUT_FILENO, out)
 }
 
@@ -273,12 +287,7 @@ fn sheet_call_of(sheet: &mut [u8]) -> bool {
     if !filled(&mut given) {
         return false;
     }
-    write_refusal(rinchovek_sheet_replace_line(
-        sheet,
-        number(&place, 0),
-        number(&place, 4),
-        &given,
-    ));
+    write_small(rinchovek_sheet_replace_line(sheet, number(&place, 0), number(&place, 4), &given));
     io::write_all(STDOUT_FILENO, sheet)
 }
 
@@ -338,6 +347,7 @@ fn call(letter: u8) -> bool {
         b'r' => read_line_call(),
         b'N' => index_call(false),
         b'E' => index_call(true),
+        b'A' => opacity_call(),
         _ => false,
     }
 }

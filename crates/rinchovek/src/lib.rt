@@ -2,13 +2,14 @@
 // was lent. What a call promises has one name, in specs/Promises. include/rinchovek.h declares these functions and says what a
 // C caller has to know; `rt staticlib rinchovek` writes the archive.
 ghost use Rattle.rinchovek_rules.specs.Promises.{Decodes, Packs, ReadsLine, Replaces, Unpacks, Versions, DecodesRow, ReadsHead, ReplacesIn};
-ghost use Rattle.rinchovek_rules.specs.Promises.{FindsExact, FindsNearest, WritesHead};
+ghost use Rattle.rinchovek_rules.specs.Promises.{FindsExact, FindsNearest, TellsOpaque, WritesHead};
 use bc7::decode_bc7_block;
 use bc7_places::places::PLACES;
 use line::read_line;
 use line::replace_line;
 use nearest::exact_index;
 use nearest::nearest_index;
+use opacity::is_opaque;
 use record::unpack;
 use record_bytes::pack_bytes;
 use record_bytes::record_bytes;
@@ -21,7 +22,7 @@ use sheet_head::write_head;
 
 // Which version of the calls and their answers this is: 10000 times the major number, 100 times the minor one, and the patch. The
 // header has the same three.
-const VERSION: u32 = 10100;
+const VERSION: u32 = 10200;
 
 #[no_mangle]
 pub extern "C" fn rinchovek_version() -> u32
@@ -141,6 +142,17 @@ pub extern "C" fn rinchovek_bc7_exact_index(
         return hit.refusal as u32;
     }
     *index = hit.index as u32;
+    0
+}
+
+// Whether a block is opaque of which the first so many columns and rows are shown.
+#[no_mangle]
+pub extern "C" fn rinchovek_bc7_is_opaque(block: &[u8; 16], columns: u32, rows: u32) -> u32
+    ensures { λ r. ⌜ TellsOpaque (now (block .entry)) columns rows r ⌝ }
+{
+    if is_opaque(*block, columns, rows) {
+        return 1;
+    }
     0
 }
 

@@ -6,7 +6,7 @@ use Prim.Native.Nat.{ℕ, _+_, _*_}
 use lib.ListN.{replicate}
 use Rattle.laws.specs.Padding.{padded}
 use Rattle.laws.specs.Refusals.{first}
-use Rattle.laws.specs.Tables.{over, table, tableFrom}
+use Rattle.laws.specs.Tables.{implies, over, table, tableFrom}
 use Rattle.bcn_format.specs.Block.{bytesOf, number, trailing}
 use Rattle.bc7_format.specs.Modes.{modeOf, endpointCount, kindOfMode, modeRow}
 use Rattle.bcn_format.specs.Drawing.{drawn, promoted, weightOf, weights}
@@ -24,6 +24,7 @@ use Rattle.line_rules.specs.Replace.{after, indexFits, lineFits, lineGiven, ori
 use Rattle.line_rules.proofs.Attested.{after7, bytesGiven}
 use Rattle.nearest_rules.specs.Nearest.{channelDistance, distance, drawnWith, exactIndex, exactRefusal, inLine, indexCount, leastAt, nearestIndex}
 use Rattle.nearest_rules.specs.Nearest.{nearestRefusal, squared, withIndex, zeroAt}
+use Rattle.opacity_rules.specs.Opacity.{isVisible, opaque, passes}
 use Rattle.head_rules.specs.Geometry.{blocksOf, placeOf}
 use Rattle.head_rules.specs.Heads.{formIn, headBytes, headRefusal, heightIn, readHead, sizeRefusal, widthIn, writeHead}
 use Rattle.head_rules.specs.Numbers.{groups, raised, readGroups, readNumber}
@@ -31,7 +32,7 @@ use Rattle.sheet_rules.specs.Rows.{blockAt, channel, rowByte, rowBytes, rowOut,
 use Rattle.sheet_rules.specs.Sheets.{blockIn, findRefusal, putBlock, replacedIn, sheetAfter, sheetRefusal}
 use Rattle.sheet_rules.proofs.Attested.{lower, lowerScanlines, small, smallReplaced}
 use Rattle.rinchovek_rules.specs.Promises.{Decodes, Gives, Packs, ReadsLine, Replaces, Unpacks, Versions, DecodesRow, ReadsHead, ReplacesIn}
-use Rattle.rinchovek_rules.specs.Promises.{FindsExact, FindsNearest, WritesHead}
+use Rattle.rinchovek_rules.specs.Promises.{FindsExact, FindsNearest, TellsOpaque, WritesHead}
 
 abbrev zeros : ℕ → List ℕ
 zeros n = replicate n 0
@@ -60,12 +61,16 @@ widths7 = replicate 8 5 ++ (1 ∷ 1 ∷ zeros 8) ++ replicate 8 2
 abbrev bytesGiven6 : List ℕ
 bytesGiven6 = 1 ∷ 2 ∷ 3 ∷ 4 ∷ 5 ∷ 6 ∷ 7 ∷ 8 ∷ 1 ∷ 0 ∷ 8 ∷ replicate 15 1
 
+-- mode 6: all pixels have alpha 255 but pixel 6, in column 2 and row 1, which has 0
+abbrev graded6 : List ℕ
+graded6 = 0x40 ∷ (zeros 5 ++ (0xFE ∷ 0x80 ∷ 0x00 ∷ 0x00 ∷ 0x00 ∷ 0x0F ∷ zeros 4))
+
 -- both sides of each clause compute to the same
 computed : {A : Type 0} {refusal : ℕ} {left : A} → Gives refusal left refusal left
 computed = record { answers = refl; leaves = refl }
 
 pub record Calls : Type 0 where
-  pub version : Versions (10000 * 1 + 100 * 1 + 0)
+  pub version : Versions (10000 * 1 + 100 * 2 + 0)
   pub decodes : Decodes block4 (half4 ++ half4)
   pub decodes-reserved : Decodes (zeros 16) (replicate 16 (rgba 0 0 0 0))
   pub unpacks : Unpacks block4 (nines 66) 0 (bytes4 3)
@@ -80,6 +85,8 @@ pub record Calls : Type 0 where
   pub finds-nearest-not : FindsNearest block7 1 7 (rgba 77 85 93 130) 9 13 9
   pub finds-exact : FindsExact block7 1 8 (rgba 88 96 104 112) 9 0 1
   pub finds-exact-not : FindsExact block7 1 8 (rgba 77 85 93 130) 9 14 9
+  pub tells-opaque : TellsOpaque graded6 2 4 1
+  pub tells-opaque-not : TellsOpaque graded6 4 2 0
   pub reads-head : ReadsHead small (nines 3) 0 (5 ∷ 6 ∷ 3 ∷ [])
   pub reads-head-not : ReadsHead (0x02 ∷ []) (nines 3) 8 (nines 3)
   pub writes-head : WritesHead 5 6 (nines 7, 9) 0 (0x01 ∷ 0x05 ∷ 0x06 ∷ zeros 4, 3)
@@ -99,6 +106,7 @@ unfolding padded first over table tableFrom weights weightOf drawn promoted eigh
     widthIn heightIn readNumber readGroups raised sizeRefusal writeHead headBytes groups blockAt channel rowByte rowBytes rowOut
     rowRefusal blockIn blocksOf findRefusal placeOf putBlock replacedIn sheetAfter sheetRefusal draws meansShown channelDistance
     distance drawnWith exactIndex exactRefusal inLine indexCount leastAt nearestIndex nearestRefusal squared withIndex zeroAt
+    implies isVisible passes opaque
 calls-hold = record {
   version = refl;
   decodes = refl;
@@ -115,6 +123,8 @@ calls-hold = record {
   finds-nearest-not = computed;
   finds-exact = computed;
   finds-exact-not = computed;
+  tells-opaque = refl;
+  tells-opaque-not = refl;
   reads-head = computed;
   reads-head-not = computed;
   writes-head = computed;

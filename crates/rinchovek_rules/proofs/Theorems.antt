@@ -10,7 +10,7 @@ use Rattle.line_rules.proofs.Theorems.{refused-same}
 use Rattle.line_rules.specs.Read.{replacementOf}
 use Rattle.sheet_rules.proofs.Theorems.{refused-row-leaves, refused-sheet-leaves}
 use Rattle.rinchovek_rules.specs.Promises.{Decodes, Determined, Gives, Packs, ReadsLine, Replaces, Unpacks, Versions, Writes, DecodesRow}
-use Rattle.rinchovek_rules.specs.Promises.{ReadsHead, FindsExact, FindsNearest, ReplacesIn, WritesHead}
+use Rattle.rinchovek_rules.specs.Promises.{ReadsHead, FindsExact, FindsNearest, ReplacesIn, TellsOpaque, WritesHead}
 
 one-given : {A : Type 0} (refusal : ℕ) (left : A) → Determined (Gives refusal left)
 one-given refusal left a b x y p q = (p .answers ∙ sym (q .answers), p .leaves ∙ sym (q .leaves))
@@ -40,6 +40,9 @@ determined-bc7-nearest-index block line pixel wanted before = one-given _ _
 pub determined-bc7-exact-index : (block : List ℕ) (line pixel : ℕ) (wanted : List ℕ) (before : ℕ)
     → Determined (FindsExact block line pixel wanted before)
 determined-bc7-exact-index block line pixel wanted before = one-given _ _
+
+pub determined-bc7-is-opaque : (block : List ℕ) (columns rows a b : ℕ) → TellsOpaque block columns rows a → TellsOpaque block columns rows b → a ≡ b
+determined-bc7-is-opaque block columns rows a b p q = p ∙ sym q
 
 pub determined-sheet-read-head : (sheet before : List ℕ) → Determined (ReadsHead sheet before)
 determined-sheet-read-head sheet before = one-given _ _

@@ -18,6 +18,7 @@ use Rattle.record_rules.specs.Wire.{packedBytes, recordBytes}
 use Rattle.sheet_rules.specs.Rows.{rowOut, rowRefusal}
 use Rattle.sheet_rules.specs.Sheets.{sheetAfter, sheetRefusal}
 use Rattle.nearest_rules.specs.Nearest.{exactIndex, nearestIndex}
+use Rattle.opacity_rules.specs.Opacity.{opaque}
 
 -- this number is answered, and this is left
 pub record Gives {A : Type 0} (refusal : ℕ) (left : A) (answer : ℕ) (after : A) : Type 0 where
@@ -28,9 +29,9 @@ pub record Gives {A : Type 0} (refusal : ℕ) (left : A) (answer : ℕ) (after :
 abbrev pub Writes : {A : Type 0} → ℕ → A → A → ℕ → A → Type 0
 Writes refusal value before = Gives refusal (pick (eqb refusal 0) value before)
 
--- version 1.1.0: major, minor and patch, with two digits for each of the last two
+-- version 1.2.0: major, minor and patch, with two digits for each of the last two
 abbrev pub Versions : ℕ → Type 0
-Versions answer = answer ≡ 10100
+Versions answer = answer ≡ 10200
 
 abbrev pub Decodes : List ℕ → List (List ℕ) → Type 0
 Decodes block after = after ≡ pixels block
@@ -59,6 +60,10 @@ FindsNearest block line pixel wanted before =
 abbrev pub FindsExact : List ℕ → ℕ → ℕ → List ℕ → ℕ → ℕ → ℕ → Type 0
 FindsExact block line pixel wanted before =
     Writes (exactIndex block line pixel wanted .refusal) (exactIndex block line pixel wanted .index) before
+
+-- 1 for an opaque block, 0 for any other: a call that refuses nothing and writes nothing
+abbrev pub TellsOpaque : List ℕ → ℕ → ℕ → ℕ → Type 0
+TellsOpaque block columns rows answer = answer ≡ pick (opaque columns rows block) 1 0
 
 -- width, height and where the blocks start
 abbrev pub headNumbers : Head → List ℕ

@@ -15,29 +15,15 @@ unfolding begun
 returns c = c .stopped .ensures ∙ sym (rw (ne-eqb _ 0 (c .before .if1 .taken)))
 
 blocks-across-requires : tie.Need-blocks-across-requires
-blocks-across-requires c κs = c .before .before .pre (c .if1 .left) .within-wide
-
-blocks-across-requires-2 : tie.Need-blocks-across-requires-2
-blocks-across-requires-2 c κs = c .before .before .before .pre (c .before .if1 .left) .within-high
+blocks-across-requires c κs = c .before .before .before .pre (c .if1 .left) .within-high
 
 in-rows-requires : tie.Need-in-rows-requires
 in-rows-requires c κs = search needs
 
 returns-2 : tie.Need-returns-2
 unfolding begun
-returns-2 c = rw (
-  eq-eqb _ 0 (c .before .before .before .if1 .left),
-  ← c .before .before .blocks-across .ensures,
-  ← c .before .blocks-across2 .ensures,
-) (c .in-rows .ensures)
+returns-2 c = rw (eq-eqb _ 0 (c .before .before .if1 .left), ← c .before .blocks-across .ensures) (c .in-rows .ensures)
 
 pub behind-head-spec : {M : Type 1} → statement M
 behind-head-spec =
-    tie.close
-    (tie.spec
-    stopped-requires
-    returns
-    blocks-across-requires
-    blocks-across-requires-2
-    in-rows-requires
-    returns-2)
+    tie.close (tie.spec stopped-requires returns blocks-across-requires in-rows-requires returns-2)

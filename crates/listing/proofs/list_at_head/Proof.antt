@@ -26,7 +26,7 @@ returns c =
     let taken = head .before .before .before .take-next in (
       rw (← taken .ensures .0, ← head .before .before .has-ended .ensures, head .before .if1 .taken) (told .list-head .ensures .0),
       rw (← taken .ensures .0, ← head .before .before .has-ended .ensures, head .before .if1 .taken)
-          (omega (arith, spare-begun (taken .result .head), told .list-head .ensures .1)),
+          (omega (arith, spare-begun (taken .result), told .list-head .ensures .1)),
     )
 
 returns-2 : tie.Need-returns-2

@@ -8,6 +8,9 @@ use Rattle.listing.proofs.list_block.Tie as tie
 decode-bc7-block-requires : tie.Need-decode-bc7-block-requires
 decode-bc7-block-requires c κs = search needs
 
+is-opaque-in-requires : tie.Need-is-opaque-in-requires
+is-opaque-in-requires c κs = search needs
+
 array-copy-out-first : tie.Need-array-copy-out-first
 array-copy-out-first c = search needs
 
@@ -25,13 +28,17 @@ unfolding blockListed
 returns c =
     let told = c .before .before in
     let mode = told .before .before in
-    (rw (mode .mode-of .ensures, mode .before .before .decode-bc7-block .ensures) at (told .block-text .ensures .0), told .block-text .ensures .1)
+    let mark = mode .before .before in (
+      rw (mode .mode-of .ensures, mark .is-opaque-in .ensures, mark .before .decode-bc7-block .ensures) at (told .block-text .ensures .0),
+      told .block-text .ensures .1,
+    )
 
 pub list-block-spec : {M : Type 1} → statement M
 list-block-spec =
     tie.close
     (tie.spec
     decode-bc7-block-requires
+    is-opaque-in-requires
     array-copy-out-first
     mode-of-requires
     block-text-requires

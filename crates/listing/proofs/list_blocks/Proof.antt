@@ -6,18 +6,29 @@ use Prim.Native.Nat.{_+_, _-_, _*_, _/_, _≤_}
 use lib.ListN.{length}
 use Rattle.laws.proofs.Padding.{written-long}
 use Rattle.listing_rules.specs.Listing.{listed}
+use Rattle.listing_rules.proofs.Rounds.{few-in-all}
 use Rattle.listing.proofs.Texts.{Texts, texts-more, texts-none}
 use Rattle.listing.proofs.list_blocks.Statement.{statement}
 use Rattle.listing.proofs.list_blocks.Tie as tie
 
 abbrev Inv-loop : tie.InvT-loop
-Inv-loop blocks from at out₀ count next₀ k₀ out next k = (k ≤ count) × (next ≤ at + 40 * k) × Texts out₀ at from blocks k out next
+Inv-loop head from blocks at out₀ count next₀ k₀ out next k = (k ≤ count) × (next ≤ at + 40 * k) × Texts head out₀ at from blocks k out next
 
 abbrev μ-loop : tie.MeasureT-loop
-μ-loop blocks from at out₀ count next₀ k₀ out next k = count - k
+μ-loop head from blocks at out₀ count next₀ k₀ out next k = count - k
 
 loop-holds : tie.Need-loop-holds Inv-loop μ-loop
-loop-holds c = (omega arith, omega arith, texts-none _ _ _ _)
+loop-holds c = (omega arith, omega arith, texts-none _ _ _ _ _)
+
+-- what is asked of the blocks, and how many a sheet has at the most
+abbrev asked : tie.At-loop Inv-loop μ-loop → tie.Start Inv-loop μ-loop
+asked l = l .before .before .before
+
+cast-list-block : tie.Need-cast-list-block Inv-loop μ-loop
+cast-list-block c = let s = asked (c .before) in omega (arith, few-in-all (s .args .head) (s .pre .sized))
+
+add-list-block : tie.Need-add-list-block Inv-loop μ-loop
+add-list-block c = let s = asked (c .before) in omega (arith, few-in-all (s .args .head) (s .pre .sized))
 
 mul-load : tie.Need-mul-load Inv-loop μ-loop
 mul-load c = omega arith
@@ -25,14 +36,10 @@ mul-load c = omega arith
 load-requires : tie.Need-load-requires Inv-loop μ-loop
 load-requires c κs = omega arith
 
-cast-list-block : tie.Need-cast-list-block Inv-loop μ-loop
-cast-list-block c = omega arith
-
-add-list-block : tie.Need-add-list-block Inv-loop μ-loop
-add-list-block c = omega arith
-
 list-block-requires : tie.Need-list-block-requires Inv-loop μ-loop
-list-block-requires c κs = omega (arith, written-long (c .before .before .before .loop .inv .2))
+list-block-requires c κs =
+    let l = c .before .before .before in
+    record { sized = asked l .pre .sized; there = omega arith; fits = omega (arith, written-long (l .loop .inv .2)) }
 
 add-k : tie.Need-add-k Inv-loop μ-loop
 add-k c = omega arith
@@ -46,7 +53,7 @@ loop-again c =
     let l = b .before .before .before .before in (
       omega arith,
       omega (arith, b .list-block .ensures .1),
-      texts-more _ _ _ _ (l .loop .k) (l .loop .inv .2)
+      texts-more _ _ _ _ _ (l .loop .k) (l .loop .inv .2)
           (rw (b .before .before .load .ensures) at (b .list-block .ensures .0)),
     )
 
@@ -68,10 +75,10 @@ list-blocks-spec =
     Inv-loop
     μ-loop
     loop-holds
-    mul-load
-    load-requires
     cast-list-block
     add-list-block
+    mul-load
+    load-requires
     list-block-requires
     add-k
     loop-less

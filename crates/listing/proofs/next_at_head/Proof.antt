@@ -12,12 +12,11 @@ has-ended-requires : tie.Need-has-ended-requires
 has-ended-requires c κs = search needs
 
 behind-head-requires : tie.Need-behind-head-requires
-behind-head-requires c κs = c .before .before .before .take-next .ensures .1 (sym (c .before .before .has-ended .ensures) ∙ c .before .if1 .taken)
+behind-head-requires c κs = c .before .before .take-next .ensures .1 (sym (c .before .has-ended .ensures) ∙ c .if1 .taken)
 
 returns : tie.Need-returns
 returns c =
-    rw (← c .before .before .before .before .take-next .ensures .0, ← c .before .before .before .has-ended .ensures, c .before .before .if1 .taken)
-    (c .behind-head .ensures)
+    rw (← c .before .before .before .take-next .ensures .0, ← c .before .before .has-ended .ensures, c .before .if1 .taken) (c .behind-head .ensures)
 
 at-head-requires : tie.Need-at-head-requires
 at-head-requires c κs = search needs

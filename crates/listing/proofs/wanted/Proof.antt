@@ -1,6 +1,8 @@
 -- `wanted` meets its contract.
 -- Assumes nothing.
-use mathlib.Core.Path.{refl}
+use mathlib.Core.Path.{refl, subst}
+use Rattle.listing_rules.specs.declared.Phase.{Phase}
+use Rattle.listing_rules.specs.Machine.{ReadyIn}
 use Rattle.listing_rules.proofs.Rounds.{wants}
 use borrow.Author.Needs.{needs}
 use Rattle.listing.proofs.wanted.Statement.{statement}
@@ -12,11 +14,10 @@ enum-told c = search needs
 enum-told-2 : tie.Need-enum-told-2
 enum-told-2 c = search needs
 
-cast-result : tie.Need-cast-result
-cast-result c = search needs
-
-mul-result : tie.Need-mul-result
-mul-result c = search needs
+row-length-requires : tie.Need-row-length-requires
+row-length-requires c κs =
+    let a = c .before .before .before in
+    subst (λ (p : Phase). ReadyIn p (a .args .machine)) (c .enum-told2 .given .1) (a .pre) .sized .within-wide
 
 enum-told-3 : tie.Need-enum-told-3
 enum-told-3 c = search needs
@@ -28,13 +29,14 @@ enum-told-5 : tie.Need-enum-told-5
 enum-told-5 c = search needs
 
 returns : tie.Need-returns
-returns c = let a = c .before .before in wants (a .args .machine) (a .pre) (c .enum-told .given .1) refl
+returns c = let a = c .before .before .before in wants (a .args .machine) (a .pre) (c .enum-told .given .1) refl
 
 returns-2 : tie.Need-returns-2
-returns-2 c = let a = c .before .before .before in wants (a .args .machine) (a .pre) (c .before .enum-told2 .given .1) refl
+returns-2 c =
+    let a = c .before .before .before .before in wants (a .args .machine) (a .pre) (c .before .enum-told2 .given .1) (c .row-length .ensures)
 
 returns-3 : tie.Need-returns-3
-returns-3 c = let a = c .before .before in wants (a .args .machine) (a .pre) (c .enum-told3 .given .1) refl
+returns-3 c = let a = c .before .before .before in wants (a .args .machine) (a .pre) (c .enum-told3 .given .1) refl
 
 returns-4 : tie.Need-returns-4
 returns-4 c = search needs
@@ -48,8 +50,7 @@ wanted-spec =
     (tie.spec
     enum-told
     enum-told-2
-    cast-result
-    mul-result
+    row-length-requires
     enum-told-3
     enum-told-4
     enum-told-5

@@ -1,0 +1,3 @@
+-- Which blocks are opaque.
+pub mod Opacity
+pub mod Promises
