@@ -1,6 +1,7 @@
 -- A weight of 64.
 -- Assumes nothing.
-use mathlib.Core.Path.{refl}
+use mathlib.Core.Path.{ap, _∙_}
+use Prim.Native.Nat.{ℕ, _+_, _-_, _*_, _/_}
 use native.Mathlib.Omega.{arith}
 use borrow.Author.Needs.{needs}
 use Rattle.bcn_format.proofs.Drawing.{weight-le}
@@ -29,8 +30,9 @@ div-result c = omega (arith, cnt c .is, cnt c .least)
 returns : tie.Need-returns
 unfolding computed
 returns c =
-    rw (cnt c .is, computed-weight (c .args .bits) (c .args .index) (c .pre))
-    (refl, weight-le _ _ (c .pre .least) (c .pre .most) (c .pre .within))
+    let i = c .args .index in
+    let e = ap (λ (n : ℕ). (64 * i + (n - 1) / 2) / (n - 1)) (cnt c .is) ∙ computed-weight (c .args .bits) i (c .pre) in
+    (e, rw e (weight-le _ _ (c .pre .least) (c .pre .most) (c .pre .within)))
 
 pub weight-64-spec : {M : Type 1} → statement M
 weight-64-spec = tie.close (tie.spec shl-last sub-last mul-result add-result div-result returns)

@@ -21,7 +21,7 @@ loop-holds : tie.Need-loop-holds Inv-loop μ-loop
 loop-holds c = laid-none 4 2 2 _ refl
 
 weight-256-requires : tie.Need-weight-256-requires Inv-loop μ-loop
-weight-256-requires c κs = two-bits (c .loop-test .taken)
+weight-256-requires c κs = record { least = omega arith; most = omega arith; within = omega arith }
 
 mixed-colours-requires : tie.Need-mixed-colours-requires Inv-loop μ-loop
 mixed-colours-requires c κs =
