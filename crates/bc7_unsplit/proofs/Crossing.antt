@@ -20,6 +20,7 @@ use Rattle.laws.proofs.Rows.{split-mod}
 use Rattle.bcn_format.specs.Drawing.{weightOf}
 use Rattle.bcn_format.proofs.Drawing.{drawn-lt, weight-le}
 use Rattle.bcn_format.specs.Painting.{between}
+use Rattle.weights.specs.Weights.{Weighed}
 use Rattle.drawing.specs.declared.colour.Ends.{Ends}
 use Rattle.drawing.specs.Words.{Alone, endpoint, wordBytes}
 use Rattle.drawing.specs.Colours.{shade}
@@ -54,8 +55,13 @@ high-half {x} h =
     sym (join-split (replicate 4 8) (x / 2 ^ 32) (shr-lt 32 32 h)) ∙ ap (λ (y : ℕ). join (replicate 4 8) (split (replicate 4 8) y)) down
 
 -- two weights of b bits, 32 bits apart
-module _ (b k : ℕ) (least : 2 ≤ b) (most : b ≤ 4) (below : 2 * k + 1 < 2 ^ b) {u v : ℕ} (eu : u ≡ 4 * weightOf b (2 * k))
-    (ev : v ≡ 4 * weightOf b (2 * k + 1)) where
+pub first : (b k : ℕ) → Weighed b (2 * k + 1) → Weighed b (2 * k)
+first b k second = record { least = second .least; most = second .most; within = omega (arith, second .within) }
+
+module _ (b k : ℕ) (second : Weighed b (2 * k + 1)) {u v : ℕ} (eu : u ≡ 4 * weightOf b (2 * k)) (ev : v ≡ 4 * weightOf b (2 * k + 1)) where
+  before : Weighed b (2 * k)
+  before = first b k second
+
   pub record Pair : Type 0 where
     pub fits : u + (v * 2 ^ 32) % 2 ^ 64 < 2 ^ 64
     pub low : (u + (v * 2 ^ 32) % 2 ^ 64) % 2 ^ 32 ≡ 4 * weightOf b (2 * k)
@@ -65,8 +71,8 @@ module _ (b k : ℕ) (least : 2 ≤ b) (most : b ≤ 4) (below : 2 * k + 1 < 2 ^
 
   pub pair : Pair
   pair =
-      let lu : weightOf b (2 * k) ≤ 64 = weight-le b (2 * k) least most (omega arith) in
-      let lv : weightOf b (2 * k + 1) ≤ 64 = weight-le b (2 * k + 1) least most below in
+      let lu : weightOf b (2 * k) ≤ 64 = weight-le b (2 * k) (before .least) (before .most) (before .within) in
+      let lv : weightOf b (2 * k + 1) ≤ 64 = weight-le b (2 * k + 1) (second .least) (second .most) (second .within) in
       let whole : (v * 2 ^ 32) % 2 ^ 64 ≡ v * 2 ^ 32 = mod-eq-of-lt (omega arith) in
       record { fits = omega arith; low = omega arith; high = omega arith; low-256 = omega arith; high-256 = omega arith }
 
@@ -74,8 +80,8 @@ module _ (b k : ℕ) (least : 2 ≤ b) (most : b ≤ 4) (below : 2 * k + 1 < 2 ^
       → bytes ≡ shade e 0 ((u + (v * 2 ^ 32) % 2 ^ 64) % 2 ^ 32) ++ shade e 0 ((u + (v * 2 ^ 32) % 2 ^ 64) / 2 ^ 32)
       → bytes ≡ between b (endpoint e 0 0) (endpoint e 0 1) (2 * k) ++ between b (endpoint e 0 0) (endpoint e 0 1) (2 * k + 1)
   two-between e h =
-      h ∙ ap₂ {C = List ℕ} (λ x y. x ++ y) (shade-is b (2 * k) least most (omega arith) (pair .low) e 0)
-      (shade-is b (2 * k + 1) least most below (pair .high) e 0)
+      h ∙ ap₂ {C = List ℕ} (λ x y. x ++ y) (shade-is b (2 * k) before (pair .low) e 0)
+      (shade-is b (2 * k + 1) second (pair .high) e 0)
 
 -- words of colours of which a part is kept
 take-kept : (colour : Bool) (l m : List ℕ) → take 4 (kept colour l ++ m) ≡ kept colour l

@@ -13,6 +13,7 @@ ghost use Rattle.bcn_format.specs.Indexes.{part};
 ghost use Rattle.bc7_format.specs.Fields.{directPixels};
 ghost use Rattle.bcn_format.specs.Painting.{four};
 ghost use Rattle.bc7_format.specs.Rotating.{swapped};
+ghost use Rattle.weights.specs.Weights.{Weighed};
 ghost use Rattle.drawing.specs.Words.{Alone, wordBytes};
 ghost use Rattle.bc7_unsplit.specs.Crossing.{Apart, colorOf, crossed, crossedBoth, kept, keptWord};
 use bits::stream::BitStream;
@@ -24,11 +25,10 @@ use drawing::colour::high_colour;
 use drawing::colour::low_colour;
 use drawing::keys::keys_2;
 use drawing::keys::paint_4;
-use drawing::palette::get_weight_2;
-use drawing::palette::get_weight_3;
 use drawing::palette::mix_16;
 use drawing::palette::two_shades;
 use indexes::Indexes;
+use weights::weight_256;
 
 fn chosen(yes: bool, x: u8, y: u8) -> u8
     ensures { λ r. ⌜ r ≡ pick yes x y ⌝ }
@@ -81,18 +81,14 @@ fn keep(x: u64, colour: bool) -> u64
 }
 
 // The colours of the indexes 2 * k and 2 * k + 1: their weights stand 32 bits apart, as `two_shades` wants them.
-fn shades_2(e: Ends, k: usize) -> u64
-    requires { ⌜ (k < 2) × Alone e ⌝ }
-    ensures { λ r. ⌜ wordBytes r ≡ colorOf 2 e (2 * k) ++ colorOf 2 e (2 * k + 1) ⌝ }
+fn shades(e: Ends, bits: u32, k: usize) -> u64
+    requires { ⌜ Weighed bits (2 * k + 1) × Alone e ⌝ }
+    ensures { λ r. ⌜ wordBytes r ≡ colorOf bits e (2 * k) ++ colorOf bits e (2 * k + 1) ⌝ }
 {
-    two_shades(e, get_weight_2(2 * k) + (get_weight_2(2 * k + 1) << 32))
-}
-
-fn shades_3(e: Ends, k: usize) -> u64
-    requires { ⌜ (k < 4) × Alone e ⌝ }
-    ensures { λ r. ⌜ wordBytes r ≡ colorOf 3 e (2 * k) ++ colorOf 3 e (2 * k + 1) ⌝ }
-{
-    two_shades(e, get_weight_3(2 * k) + (get_weight_3(2 * k + 1) << 32))
+    two_shades(
+        e,
+        weight_256(bits, 2 * k) + (weight_256(bits, 2 * k + 1) << 32),
+    )
 }
 
 fn low_word(x: u64) -> u32
@@ -115,7 +111,7 @@ fn words_2(e: Ends, colour: bool) -> [u32; 4]
 {
     let mut q = [0u32; 4];
     for k in 0..2usize {
-        let x = keep(shades_2(e, k), colour);
+        let x = keep(shades(e, 2, k), colour);
         q[2 * k] = low_word(x);
         q[2 * k + 1] = high_word(x);
     }
@@ -128,7 +124,7 @@ fn words_3(e: Ends, colour: bool) -> [u32; 8]
 {
     let mut q = [0u32; 8];
     for k in 0..4usize {
-        let x = keep(shades_3(e, k), colour);
+        let x = keep(shades(e, 3, k), colour);
         q[2 * k] = low_word(x);
         q[2 * k + 1] = high_word(x);
     }
@@ -168,8 +164,8 @@ fn palette_2_and_2(e: Ends) -> [[u8; 4]; 16]
     ensures { λ r. ⌜ r ≡ table 16 (λ i. crossed (colorOf 2 e (i % 4)) (colorOf 2 e (i / 4))) ⌝ }
 {
     let alphas = words_2(e, false);
-    let low = keep(shades_2(e, 0), true);
-    let high = keep(shades_2(e, 1), true);
+    let low = keep(shades(e, 2, 0), true);
+    let high = keep(shades(e, 2, 1), true);
     let mut q = [[0u8; 4]; 16];
     for j in 0..4usize {
         let x = with_alphas(low, alphas[j]);

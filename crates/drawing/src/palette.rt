@@ -1,4 +1,4 @@
-// Weights and palettes. All colours of a block's subsets are computed once, two in a word, and stand in the palette where the keys
+// Palettes. All colours of a block's subsets are computed once, two in a word, and stand in the palette where the keys
 // of the pixels look them up; a subset with as many weights as pixels has no palette.
 ghost use mathlib.Core.Path.{_≡_};
 ghost use mathlib.Core.List.{_++_};
@@ -16,41 +16,7 @@ use crate::colour::low_colour;
 use crate::colour::mixed;
 use crate::colour::mixed_2;
 use crate::colour::two_colours;
-
-// The format's weights are parts of 64; here they are four times as large, as in the Rust, and the sum is divided by 256:
-//
-//     ((64 - w) * e0 + w * e1 + 32) / 64  =  ((256 - 4 * w) * e0 + 4 * w * e1 + 128) / 256
-//
-// The sum is still below 2^16, so it has room in a lane, and the channel is the upper byte of the lane, with no shift of its own.
-// A `match` and no constant array: the compiler makes a read-only table of it or folds it away, where an array would be laid on the
-// stack at each call.
-pub fn get_weight_2(index: usize) -> u64
-    requires { ⌜ index < 4 ⌝ }
-    ensures { λ r. ⌜ r ≡ 4 * weightOf 2 index ⌝ }
-{
-    match index {
-        0 => 0,
-        1 => 84,
-        2 => 172,
-        _ => 256,
-    }
-}
-
-pub fn get_weight_3(index: usize) -> u64
-    requires { ⌜ index < 8 ⌝ }
-    ensures { λ r. ⌜ r ≡ 4 * weightOf 3 index ⌝ }
-{
-    match index {
-        0 => 0,
-        1 => 36,
-        2 => 72,
-        3 => 108,
-        4 => 148,
-        5 => 184,
-        6 => 220,
-        _ => 256,
-    }
-}
+use weights::weight_256;
 
 // The colours of two subsets at a weight, that of the first in the low half.
 fn mixed_colours(e: Ends, weight: u64) -> u64
@@ -78,7 +44,7 @@ pub fn palette_2_2(e: Ends) -> [[u8; 4]; 8]
 {
     let mut q = [[0u8; 4]; 8];
     for k in 0..4usize {
-        let x = mixed_colours(e, get_weight_2(k));
+        let x = mixed_colours(e, weight_256(2, k));
         q[2 * k] = low_colour(x);
         q[2 * k + 1] = high_colour(x);
     }
@@ -91,7 +57,7 @@ pub fn palette_2_3(e: Ends) -> [[u8; 4]; 16]
 {
     let mut q = [[0u8; 4]; 16];
     for k in 0..8usize {
-        let x = mixed_colours(e, get_weight_3(k));
+        let x = mixed_colours(e, weight_256(3, k));
         q[2 * k] = low_colour(x);
         q[2 * k + 1] = high_colour(x);
     }
@@ -106,8 +72,9 @@ pub fn palette_3_2(e: Ends, f: Ends) -> [[u8; 4]; 16]
 {
     let mut q = [[0u8; 4]; 16];
     for k in 0..4usize {
-        let x = mixed_colours(e, get_weight_2(k));
-        let y = mixed_colours(f, get_weight_2(k));
+        let weight = weight_256(2, k);
+        let x = mixed_colours(e, weight);
+        let y = mixed_colours(f, weight);
         q[4 * k] = low_colour(x);
         q[4 * k + 1] = high_colour(x);
         q[4 * k + 2] = low_colour(y);
@@ -122,8 +89,9 @@ pub fn palette_3_3(e: Ends, f: Ends) -> [[u8; 4]; 32]
 {
     let mut q = [[0u8; 4]; 32];
     for k in 0..8usize {
-        let x = mixed_colours(e, get_weight_3(k));
-        let y = mixed_colours(f, get_weight_3(k));
+        let weight = weight_256(3, k);
+        let x = mixed_colours(e, weight);
+        let y = mixed_colours(f, weight);
         q[4 * k] = low_colour(x);
         q[4 * k + 1] = high_colour(x);
         q[4 * k + 2] = low_colour(y);

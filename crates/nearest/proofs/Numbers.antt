@@ -1,50 +1,15 @@
--- The numbers of the search: counts, weights, endpoints, squares.
+-- The numbers of the search: endpoints, squares.
 -- Assumes nothing.
 use mathlib.Core.Path.{_≡_, refl, ap}
 use mathlib.Core.Logic.{_≢_}
-use mathlib.Core.Bool.{Bool}
-use Prim.Native.Nat.{ℕ, zero, suc, _+_, _-_, _*_, _/_, _%_, _^_, _≤_, _<_}
+use Prim.Native.Nat.{ℕ, zero, suc, _+_, _-_, _*_, _%_, _^_, _≤_, _<_}
 use native.Mathlib.Nat.{mul-le-mul, mul-le-mul-right, suc-mul}
 use native.Mathlib.Omega.{arith}
-use lib.Dec.{T, eqb, eqb→eq}
-use lib.Pow.{pow-add, pow-mono, shl-exact}
-use Rattle.laws.specs.Tables.{below, pick}
-use Rattle.laws.proofs.Tests.{at}
-use Rattle.bcn_format.specs.Drawing.{weightOf, weights}
+use lib.Dec.{eqb}
+use lib.Pow.{pow-add, shl-exact}
+use Rattle.laws.specs.Tables.{pick}
 use Rattle.bc7_format.specs.Lines.{rotated}
 use Rattle.nearest_rules.specs.Nearest.{squared}
-
--- how many indexes of b bits there are, in a word of 32
-pub record Counted (b : ℕ) : Type 0 where
-  pub is : 1 * 2 ^ b % 2 ^ 32 ≡ 2 ^ b
-  pub least : 4 ≤ 2 ^ b
-  pub most : 2 ^ b ≤ 16
-
-pub counted : (b : ℕ) → 2 ≤ b → b ≤ 4 → Counted b
-counted b h l =
-    let low : 4 ≤ 2 ^ b = pow-mono {i = 2} h in
-    let high : 2 ^ b ≤ 16 = pow-mono {j = 4} l in
-    record { is = omega arith; least = low; most = high }
-
--- the weights as they are computed: one test of all 28
-computed : ℕ → ℕ → ℕ
-computed b i = (64 * i + (2 ^ b - 1) / 2) / (2 ^ b - 1)
-
-agree : ℕ → Bool
-agree b = below (2 ^ b) (λ i. eqb (computed b i) (weightOf b i))
-
-all-agree : (b : ℕ) → 2 ≤ b → b ≤ 4 → T (agree b)
-unfolding agree computed weightOf weights
-all-agree zero h l = absurd (let z : ⊥ = omega arith in z)
-all-agree (suc zero) h l = absurd (let z : ⊥ = omega arith in z)
-all-agree (suc (suc zero)) h l = tt
-all-agree (suc (suc (suc zero))) h l = tt
-all-agree (suc (suc (suc (suc zero)))) h l = tt
-all-agree (suc (suc (suc (suc (suc b))))) h l = absurd (let z : ⊥ = omega arith in z)
-
-pub computed-weight : (b i : ℕ) → 2 ≤ b → b ≤ 4 → i < 2 ^ b → (64 * i + (2 ^ b - 1) / 2) / (2 ^ b - 1) ≡ weightOf b i
-unfolding agree computed
-computed-weight b i h l p = eqb→eq _ _ (at (2 ^ b) (λ i. eqb (computed b i) (weightOf b i)) (all-agree b h l) i p)
 
 -- a value of b bits shifted by k, within a byte; and with a value of k bits below it
 pub shifted : (b v k : ℕ) → b + k ≤ 8 → v < 2 ^ b → (v * 2 ^ k) % 2 ^ 32 ≡ v * 2 ^ k

@@ -3,7 +3,7 @@
 ghost use mathlib.Core.Path.{_≡_};
 ghost use mathlib.Core.Bool.{true};
 ghost use Prim.Native.Nat.{_+_, _-_, _*_, _^_, _≤_, _<_};
-ghost use Rattle.bcn_format.specs.Drawing.{drawn, promoted, weightOf};
+ghost use Rattle.bcn_format.specs.Drawing.{drawn, promoted};
 ghost use Rattle.bc7_format.specs.Lines.{rotated as rotatedChannel};
 ghost use Rattle.bc7_format.specs.Modes.{modeOf};
 ghost use Rattle.bc7_format.specs.Splits.{rotation as rotationIn, splitOf};
@@ -18,6 +18,7 @@ use bits::stream::BitStream;
 use line::read_line;
 use line_rules::Replacement;
 use nearest_rules::Found;
+use weights::weight_64;
 
 // A shown channel of a pixel: what the line's endpoints have there as eight bits, and what is wanted. A channel that the line doesn't
 // draw doesn't count.
@@ -39,16 +40,6 @@ pub struct Tried {
     pub refusal: u8,
     pub index: u8,
     pub distance: u32,
-}
-
-// The weight of an index, of 64: of n indexes the last has the whole and each an equal part of it, rounded. Half of n - 1 is added
-// before the division.
-fn weight(bits: u32, index: u32) -> u32
-    requires { ⌜ (2 ≤ bits) × (bits ≤ 4) × (index < 2 ^ bits) ⌝ }
-    ensures { λ r. ⌜ (r ≡ weightOf bits index) × (r ≤ 64) ⌝ }
-{
-    let last = (1u32 << bits) - 1;
-    (64 * index + last / 2) / last
 }
 
 // A value of some bits as eight: shifted left, and the empty places filled from its top.
@@ -121,7 +112,7 @@ fn distance(
     requires { ⌜ Byte red × Byte green × Byte blue × Byte alpha × (2 ≤ bits) × (bits ≤ 4) × (index < 2 ^ bits) ⌝ }
     ensures { λ r. ⌜ r ≡ distanceAt red green blue alpha bits index ⌝ }
 {
-    let at = weight(bits, index);
+    let at = weight_64(bits, index);
     far(red, at) + far(green, at) + far(blue, at) + far(alpha, at)
 }
 

@@ -9,6 +9,7 @@ use borrow.Author.Needs.{needs}
 use Rattle.laws.specs.Tables.{table}
 use Rattle.laws.proofs.Filled.{Filled, filled-all, filled-four, filled-none}
 use Rattle.bcn_format.specs.Painting.{between}
+use Rattle.weights.proofs.Weights.{two-bits}
 use Rattle.drawing.specs.declared.colour.Ends.{Ends}
 use Rattle.drawing.specs.Words.{Alone, endpoint, wordBytes}
 use Rattle.bc7_unsplit.specs.Crossing.{kept, keptWord}
@@ -40,21 +41,21 @@ words c =
       e = s .args .e;
       one = s .pre;
       alphas-are = low .before .before .words-2 .ensures;
-      low-is = both-kept true 2 0 1 _ _ (low .before .shades-2 .ensures) (low .keep .ensures);
-      high-is = both-kept true 2 2 3 _ _ (c .before .shades-22 .ensures) (c .keep2 .ensures);
+      low-is = both-kept true 2 0 1 _ _ (low .before .shades .ensures) (low .keep .ensures);
+      high-is = both-kept true 2 2 3 _ _ (c .before .shades2 .ensures) (c .keep2 .ensures);
     }
 
 words-2-requires : tie.Need-words-2-requires Inv-loop μ-loop
 words-2-requires c κs = search needs
 
-shades-2-requires : tie.Need-shades-2-requires Inv-loop μ-loop
-shades-2-requires c κs = (omega arith, c .before .pre)
+shades-requires : tie.Need-shades-requires Inv-loop μ-loop
+shades-requires c κs = (two-bits (omega arith), c .before .pre)
 
 keep-requires : tie.Need-keep-requires Inv-loop μ-loop
 keep-requires c κs = search needs
 
-shades-2-requires-2 : tie.Need-shades-2-requires-2 Inv-loop μ-loop
-shades-2-requires-2 c κs = (omega arith, c .before .before .before .pre)
+shades-requires-2 : tie.Need-shades-requires-2 Inv-loop μ-loop
+shades-requires-2 c κs = (two-bits (omega arith), c .before .before .before .pre)
 
 keep-requires-2 : tie.Need-keep-requires-2 Inv-loop μ-loop
 keep-requires-2 c κs = search needs
@@ -182,9 +183,9 @@ palette-2-and-2-spec =
     Inv-loop
     μ-loop
     words-2-requires
-    shades-2-requires
+    shades-requires
     keep-requires
-    shades-2-requires-2
+    shades-requires-2
     keep-requires-2
     loop-holds
     mul-with-alphas

@@ -6,6 +6,7 @@ use native.Mathlib.Omega.{arith}
 use borrow.Author.Needs.{needs}
 use Rattle.laws.proofs.Filled.{Filled, filled-all, filled-none, filled-two}
 use Rattle.bcn_format.specs.Painting.{between}
+use Rattle.weights.proofs.Weights.{three-bits}
 use Rattle.drawing.specs.Words.{endpoint}
 use Rattle.bc7_unsplit.specs.Crossing.{keptWord}
 use Rattle.bc7_unsplit.proofs.Crossing.{high-kept, low-kept}
@@ -21,8 +22,8 @@ abbrev μ-loop : tie.MeasureT-loop
 loop-holds : tie.Need-loop-holds Inv-loop μ-loop
 loop-holds c = (omega arith, filled-none refl)
 
-shades-3-requires : tie.Need-shades-3-requires Inv-loop μ-loop
-shades-3-requires c κs = (omega arith, c .before .before .pre)
+shades-requires : tie.Need-shades-requires Inv-loop μ-loop
+shades-requires c κs = (three-bits (omega arith), c .before .before .pre)
 
 keep-requires : tie.Need-keep-requires Inv-loop μ-loop
 keep-requires c κs = search needs
@@ -70,8 +71,8 @@ loop-again c =
     let e1 = endpoint (s .args .e) 0 1 in (
       omega arith,
       filled-two k (at .before .loop .inv .1) (omega arith)
-          (low-kept (s .args .colour) 3 (2 * k) (2 * k + 1) e0 e1 (x .before .shades-3 .ensures) (x .keep .ensures) (c .before .low-word .ensures))
-          (high-kept (s .args .colour) 3 (2 * k) (2 * k + 1) e0 e1 (x .before .shades-3 .ensures) (x .keep .ensures) (c .high-word .ensures)),
+          (low-kept (s .args .colour) 3 (2 * k) (2 * k + 1) e0 e1 (x .before .shades .ensures) (x .keep .ensures) (c .before .low-word .ensures))
+          (high-kept (s .args .colour) 3 (2 * k) (2 * k + 1) e0 e1 (x .before .shades .ensures) (x .keep .ensures) (c .high-word .ensures)),
     )
 
 returns : tie.Need-returns Inv-loop μ-loop
@@ -84,7 +85,7 @@ words-3-spec =
     Inv-loop
     μ-loop
     loop-holds
-    shades-3-requires
+    shades-requires
     keep-requires
     low-word-requires
     mul-q

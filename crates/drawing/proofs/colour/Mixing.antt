@@ -127,7 +127,8 @@ weave {a} {b} {c} {d} {e} {f} {g} {h} (more ha (more hb (more hc (more hd none))
 woven-bytes : {xs ys : List ℕ} → Fit (replicate 4 16) xs → Fit (replicate 4 16) ys → Fit (replicate 8 8) (woven xs ys)
 woven-bytes (more ha (more hb (more hc (more hd none)))) (more he (more hf (more hg (more hh none)))) =
     let top : (v : ℕ) → v < 2 ^ 16 → v / 256 < 2 ^ 8 = λ v h. shr-lt 8 8 h in
-    more (top _ ha) (more (top _ he) (more (top _ hb) (more (top _ hf) (more (top _ hc) (more (top _ hg) (more (top _ hd) (more (top _ hh) none)))))))
+    more (top _ ha) (more (top _ he) (more (top _ hb) (more (top _ hf)
+    (more (top _ hc) (more (top _ hg) (more (top _ hd) (more (top _ hh) none)))))))
 
 module _ (rb ga : ℕ) {r g : ℕ} (er : r ≡ laned (map (λ v. field v 8 8) (lanesOf rb))) (eg : g ≡ laned (map (λ v. field v 8 8) (lanesOf ga))) where
   top-bytes : (x : ℕ) → Fit (replicate 4 8) (map (λ v. v / 256) (lanesOf x))

@@ -208,7 +208,8 @@ module _ (n k x : ℕ) (hk : k < 2) where
         (parts-lanes p k 1 (omega arith) d)
 
 -- a word made of four values
-pub lanes-four : {r a b c d : ℕ} → r ≡ laned (a ∷ b ∷ c ∷ d ∷ []) → a < 2 ^ 16 → b < 2 ^ 16 → c < 2 ^ 16 → d < 2 ^ 16 → lanesOf r ≡ a ∷ b ∷ c ∷ d ∷ []
+pub lanes-four : {r a b c d : ℕ} → r ≡ laned (a ∷ b ∷ c ∷ d ∷ []) → a < 2 ^ 16 → b < 2 ^ 16 → c < 2 ^ 16 → d < 2 ^ 16
+    → lanesOf r ≡ a ∷ b ∷ c ∷ d ∷ []
 lanes-four e ha hb hc hd = ap lanesOf e ∙ lanes-laned (more ha (more hb (more hc (more hd none))))
 
 -- all ones are promoted to 255

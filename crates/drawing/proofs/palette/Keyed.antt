@@ -11,6 +11,7 @@ use Rattle.laws.specs.Tables.{table}
 use Rattle.laws.proofs.Filled.{Filled, filled-all, filled-four, filled-none, filled-two}
 use Rattle.bcn_format.specs.Drawing.{weightOf}
 use Rattle.bcn_format.specs.Painting.{between}
+use Rattle.weights.specs.Weights.{Weighed}
 use Rattle.drawing.specs.declared.colour.Ends.{Ends}
 use Rattle.drawing.specs.Words.{Alone, blend, blends, Bytes, endpoint, laned, Lanes, lanesOf, woven}
 use Rattle.drawing.proofs.colour.Mixing.{blend-lt, blends-fit}
@@ -32,10 +33,10 @@ shades w e h b er eg ex =
     ex ∙ ap₂ woven (mixed-lanes w (e .rb0) (e .rb1) h (b .rb0) (b .rb1) er) (mixed-lanes w (e .ga0) (e .ga1) h (b .ga0) (b .ga1) eg)
 
 -- each of two colours
-module _ (b k : ℕ) (least : 2 ≤ b) (most : b ≤ 4) (below : k < 2 ^ b) {w : ℕ} (ew : w ≡ 4 * weightOf b k) (e : Ends) (l : ℕ) where
+module _ (b k : ℕ) (index : Weighed b k) {w : ℕ} (ew : w ≡ 4 * weightOf b k) (e : Ends) (l : ℕ) where
   pub shade-is : shade e l w ≡ between b (endpoint e l 0) (endpoint e l 1) k
   unfolding shade
-  shade-is = between-is b k least most below ew (endpoint e l 0) (endpoint e l 1)
+  shade-is = between-is b k index ew (endpoint e l 0) (endpoint e l 1)
 
   pub low-is : {bytes p : List ℕ} (j v : ℕ) → bytes ≡ shade e l w ++ shade e j v → p ≡ take 4 bytes
       → p ≡ between b (endpoint e l 0) (endpoint e l 1) k

@@ -1,35 +1,29 @@
 -- The weights of indexes of four bits, eight at a time.
 -- Assumes nothing.
 use mathlib.Core.Path.{_≡_, sym, ap, ap₂, _∙_}
-use mathlib.Core.Bool.{Bool}
 use mathlib.Core.List.{List, []}
 use Prim.Native.Nat.{ℕ, _+_, _*_, _/_, _%_, _^_, _≤_, _<_}
-use native.Mathlib.Nat.{add-comm, mod-lt, mul-comm, not-suc-le-zero}
+use native.Mathlib.Nat.{add-comm, mod-eq-of-lt, mod-lt, mul-comm, not-suc-le-zero}
 use native.Mathlib.Omega.{arith}
 use lib.Bits.{bitAnd}
-use lib.Dec.{T, eqb, eqb→eq}
 use lib.ListN.{length, set}
 use lib.Pow.{field, mod-mod-pow, pow-pos, shr-shr}
 use Rattle.laws.specs.Digits.{evenly}
-use Rattle.laws.specs.Tables.{below, table, tableFrom}
+use Rattle.laws.specs.Tables.{table, tableFrom}
 use Rattle.laws.proofs.Evenly.{evenly-linear, evenly-mask, evenly-part, evenly-same}
 use Rattle.laws.proofs.Part.{Part, part-all, part-none, part-set}
-use Rattle.laws.proofs.Tests.{at}
-use Rattle.bcn_format.specs.Drawing.{weightOf, weights}
+use Rattle.bcn_format.specs.Drawing.{weightOf}
 use Rattle.bcn_format.proofs.Drawing.{weight-le}
 use Rattle.bcn_format.specs.Indexes.{part}
+use Rattle.weights.proofs.Weights.{computed, computed-weight, four-bits}
 
 -- a weight is four times its index, and one more for each four
-weighed : ℕ → Bool
-weighed i = eqb (i * 4 + (i + 2) / 4 % 8) (weightOf 4 i)
-
-all-weighed : T (below 16 weighed)
-unfolding weighed weightOf weights
-all-weighed = tt
-
 weight-is : (i : ℕ) → i < 16 → i * 4 + (i + 2) / 4 % 8 ≡ weightOf 4 i
-unfolding weighed
-weight-is i h = eqb→eq _ _ (at 16 weighed all-weighed i h)
+unfolding computed
+weight-is i h =
+    let whole : (i + 2) / 4 % 8 ≡ (i + 2) / 4 = mod-eq-of-lt (omega arith) in
+    let e : i * 4 + (i + 2) / 4 ≡ (64 * i + 7) / 15 = omega arith in
+    ap (λ (n : ℕ). i * 4 + n) whole ∙ e ∙ computed-weight 4 i (four-bits h)
 
 module _ (x : ℕ) where
   abbrev index : ℕ → ℕ

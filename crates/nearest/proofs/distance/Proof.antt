@@ -5,8 +5,8 @@ use Rattle.nearest.specs.Trying.{distanceAt}
 use Rattle.nearest.proofs.distance.Statement.{statement}
 use Rattle.nearest.proofs.distance.Tie as tie
 
-weight-requires : tie.Need-weight-requires
-weight-requires c κs = search needs
+weight-64-requires : tie.Need-weight-64-requires
+weight-64-requires c κs = record { least = c .pre .4; most = c .pre .5; within = c .pre .6 }
 
 far-requires : tie.Need-far-requires
 far-requires c κs = search needs
@@ -33,13 +33,13 @@ returns : tie.Need-returns
 unfolding distanceAt
 returns c =
     let f = c .before .before .before in
-    rw (f .far .ensures .0, c .before .before .far2 .ensures .0, c .before .far3 .ensures .0, c .far4 .ensures .0, f .before .weight .ensures .0)
+    rw (f .far .ensures .0, c .before .before .far2 .ensures .0, c .before .far3 .ensures .0, c .far4 .ensures .0, f .before .weight-64 .ensures .0)
 
 pub distance-spec : {M : Type 1} → statement M
 distance-spec =
     tie.close
     (tie.spec
-    weight-requires
+    weight-64-requires
     far-requires
     far-requires-2
     add-result

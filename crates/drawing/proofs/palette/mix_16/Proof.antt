@@ -6,6 +6,7 @@ use native.Mathlib.Omega.{arith}
 use borrow.Author.Needs.{needs}
 use Rattle.bcn_format.specs.Indexes.{part}
 use Rattle.bcn_format.specs.Painting.{between}
+use Rattle.weights.proofs.Weights.{four-bits}
 use Rattle.drawing.specs.Words.{endpoint}
 use Rattle.drawing.proofs.palette.Keyed.{high-is, low-is}
 use Rattle.drawing.proofs.palette.Weighing.{all-columns, column, Columns, index-16, next-index, no-column, two-weights}
@@ -129,14 +130,14 @@ loop-again c =
     let end : 2 * (i + 1) ≡ 2 * i + 1 + 1 = omega arith in
     let even =
     column (2 * i) (2 * i + 8) (omega arith) refl (at .before .loop .inv)
-    (low-is 4 (part n 4 (2 * i)) (omega arith) (omega arith) (index-16 n (2 * i)) (w .low) e 0 0 _ (x .two-shades .ensures)
+    (low-is 4 (part n 4 (2 * i)) (four-bits (index-16 n (2 * i))) (w .low) e 0 0 _ (x .two-shades .ensures)
     (y .before .before .before .low-colour .ensures))
-    (high-is 4 (part n 4 (2 * i + 8)) (omega arith) (omega arith) (index-16 n (2 * i + 8)) (w .high) e 0 0 _ (x .two-shades .ensures)
+    (high-is 4 (part n 4 (2 * i + 8)) (four-bits (index-16 n (2 * i + 8))) (w .high) e 0 0 _ (x .two-shades .ensures)
     (y .before .before .high-colour .ensures)) in
     rw end (column (2 * i + 1) (2 * i + 9) (omega arith) (omega arith) even
-    (low-is 4 (part (n / 2 ^ 4) 4 (2 * i)) (omega arith) (omega arith) (index-16 (n / 2 ^ 4) (2 * i)) (v .low) e 0 0 _ (y .two-shades2 .ensures)
+    (low-is 4 (part (n / 2 ^ 4) 4 (2 * i)) (four-bits (index-16 (n / 2 ^ 4) (2 * i))) (v .low) e 0 0 _ (y .two-shades2 .ensures)
     (c .before .low-colour2 .ensures) ∙ ap colour (next-index n (2 * i)))
-    (high-is 4 (part (n / 2 ^ 4) 4 (2 * i + 8)) (omega arith) (omega arith) (index-16 (n / 2 ^ 4) (2 * i + 8)) (v .high) e 0 0 _
+    (high-is 4 (part (n / 2 ^ 4) 4 (2 * i + 8)) (four-bits (index-16 (n / 2 ^ 4) (2 * i + 8))) (v .high) e 0 0 _
     (y .two-shades2 .ensures) (c .high-colour2 .ensures) ∙ ap colour (next-index n (2 * i + 8) ∙ ap (part n 4) ninth)))
 
 returns : tie.Need-returns Inv-loop μ-loop

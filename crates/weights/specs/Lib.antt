@@ -1,0 +1,2 @@
+-- The definitions that the contracts cite, beside those of `bcn_format`.
+pub mod Weights
