@@ -13,7 +13,7 @@ use Rattle.laws.proofs.Evenly.{evenly-same}
 use Rattle.laws.proofs.Joining.{table-same}
 use Rattle.laws.proofs.Part.{getD-table, length-table}
 use Rattle.laws.proofs.Rows.{split-table, total-same}
-use Rattle.dds_rules.specs.Header.{byteOf, canonicalHeader, headerByte, headerLength, headerNumber, numberAt}
+use Rattle.dds_rules.specs.Header.{byteOf, bytesIn, canonicalHeader, headerLength, headerNumber, numberAt}
 
 -- the digits of a number in n fields of k bits make it again
 evenly-digits : (n k x : ℕ) → x < 2 ^ (n * k) → evenly n k (λ i. x / 2 ^ (i * k) % 2 ^ k) ≡ x
@@ -25,7 +25,7 @@ evenly-digits n k x h =
 
 pub header-long : (h : Head) → length (canonicalHeader h) ≡ headerLength
 unfolding canonicalHeader
-header-long h = length-table headerLength (headerByte h)
+header-long h = length-table headerLength (bytesIn (table 37 (headerNumber h)))
 
 module _ (h : Head) (rest : List ℕ) where
   byte-back : (i j : ℕ) → i < 37 → j < 4 → getD (canonicalHeader h ++ rest) (4 * i + j) 0 ≡ byteOf (headerNumber h i) j
@@ -33,9 +33,11 @@ module _ (h : Head) (rest : List ℕ) where
   byte-back i j l b =
       let at : (4 * i + j) / 4 ≡ i = omega arith in
       let in-it : (4 * i + j) % 4 ≡ j = omega arith in
-      List·getD-append (table headerLength (headerByte h)) rest 0 (4 * i + j) (omega (arith, length-table headerLength (headerByte h)))
-      ∙ getD-table headerLength (headerByte h) 0 (4 * i + j) (omega arith)
-      ∙ ap₂ (λ (m n : ℕ). byteOf (headerNumber h m) n) at in-it
+      let F : ℕ → ℕ = bytesIn (table 37 (headerNumber h)) in
+      List·getD-append (table headerLength F) rest 0 (4 * i + j) (omega (arith, length-table headerLength F))
+      ∙ getD-table headerLength F 0 (4 * i + j) (omega arith)
+      ∙ ap₂ (λ (m n : ℕ). byteOf (getD (table 37 (headerNumber h)) m 0) n) at in-it
+      ∙ ap (λ (n : ℕ). byteOf n j) (getD-table 37 (headerNumber h) 0 i l)
 
   pub number-back : (i : ℕ) → i < 37 → headerNumber h i < 2 ^ 32 → numberAt (canonicalHeader h ++ rest) (4 * i) ≡ headerNumber h i
   unfolding numberAt

@@ -127,15 +127,15 @@ abbrev pub entryAt : List Entry → ℕ → ℕ
 entryAt [] at = 0
 entryAt (e ∷ es) at = pick (eqb at (offset (e .field))) (e .value) (entryAt es at)
 
--- number i of the 37, and byte k of the 148
+-- number i of the 37; byte k of numbers; and the 148 bytes
 unfoldable pub headerNumber : Head → ℕ → ℕ
 headerNumber h i = entryAt (entries h) (4 * i)
 
-abbrev pub headerByte : Head → ℕ → ℕ
-headerByte h k = byteOf (headerNumber h (k / 4)) (k % 4)
+abbrev pub bytesIn : List ℕ → ℕ → ℕ
+bytesIn numbers k = byteOf (getD numbers (k / 4) 0) (k % 4)
 
 unfoldable pub canonicalHeader : Head → List ℕ
-canonicalHeader h = table headerLength (headerByte h)
+canonicalHeader h = table headerLength (bytesIn (table 37 (headerNumber h)))
 
 -- WHAT IMPORT LOOKS AT: one texture of two dimensions in BC7, with one level at the most, and no cube. Every other field may be anything
 abbrev pub cubeBit : ℕ → ℕ
