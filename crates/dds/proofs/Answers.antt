@@ -20,10 +20,10 @@ use Rattle.head_rules.proofs.Theorems.{head-sized}
 use Rattle.laws.specs.Refusals.{Given, accepted, first, here, refuse, then}
 use Rattle.laws.specs.Tables.{pick}
 use Rattle.laws.proofs.Refusals.{exactly}
-use Rattle.dds_rules.specs.Files.{exportHead, exportLength, exportRefusal, exportAfter, fileLength, fileMade, fileRefusal, fileRules, headAs, headMade}
-use Rattle.dds_rules.specs.Files.{importAfter, importHead, importLength, importRefusal, lengthAs, sheetMade, wholeRefusal}
+use Rattle.dds_rules.specs.Files.{exportAfter, exportHead, exportLength, exportRefusal, fileLength, fileMade, fileRefusal, fileRules}
+use Rattle.dds_rules.specs.Files.{headAs, headMade, importAfter, importHead, importLength, importRefusal, lengthAs, sheetMade, wholeRefusal}
 use Rattle.dds_rules.specs.Promises.{ExportNeeds, Exports, ImportNeeds, Imports}
-use Rattle.dds_rules.proofs.Answering.{Taken, Whole, file-rules, room-rules, taken, taken-so, whole, whole-handed, whole-so}
+use Rattle.dds_rules.proofs.Refusing.{Taken, Whole, file-rules, room-rules, taken, taken-so, whole, whole-handed, whole-so}
 use Rattle.dds_rules.proofs.Making.{head-short}
 
 -- WHAT THE READERS ANSWER

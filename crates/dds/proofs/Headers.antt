@@ -1,9 +1,9 @@
 -- Numbers of four bytes, read and laid out.
 -- Assumes nothing.
-use mathlib.Core.Path.{_≡_, ap₂, sym}
+use mathlib.Core.Path.{_≡_, _∙_, ap, ap₂, sym}
 use mathlib.Core.List.{List, [], _∷_}
 use Prim.Native.Nat.{ℕ, _+_, _*_, _/_, _%_, _<_}
-use native.Mathlib.Nat.{add-zero}
+use native.Mathlib.Nat.{add-zero, div-one}
 use native.Mathlib.Omega.{arith}
 use lib.ListN.{getD}
 use Rattle.head_rules.specs.declared.Head.{Head}
@@ -30,3 +30,6 @@ byte-is numbers i j k l e =
     let at : k / 4 ≡ i = omega arith in
     let in-it : k % 4 ≡ j = omega arith in
     sym (ap₂ (λ (m n : ℕ). byteOf (getD numbers m 0) n) at in-it)
+
+pub low-byte-is : (numbers : List ℕ) (i : ℕ) → getD numbers i 0 % 256 ≡ bytesIn numbers (4 * i)
+low-byte-is numbers i = sym (ap (λ (n : ℕ). n % 256) (div-one (getD numbers i 0))) ∙ byte-is numbers i 0 (4 * i) (omega arith) (omega arith)

@@ -22,7 +22,7 @@ use Rattle.laws.proofs.Tests.{no-both}
 use Rattle.dds_rules.specs.Header.{Texture, bytesIn, canonicalHeader, fieldIn, headerLength, headerNumber, height, isTexture, width}
 use Rattle.dds_rules.specs.Files.{exportHead, fileLength, fileMade, headMade, importHead, sheetMade}
 use Rattle.dds_rules.specs.Promises.{Exports, Imports}
-use Rattle.dds_rules.proofs.Answering.{Taken}
+use Rattle.dds_rules.proofs.Refusing.{Taken}
 use Rattle.dds_rules.proofs.Numbers.{header-long}
 use Rattle.dds_rules.proofs.Textures.{a-texture}
 use Rattle.dds.proofs.Answers.{a-file, export-done, export-taken, import-done, import-sized, import-taken, no-file}

@@ -178,37 +178,37 @@ fn numbers_of(head: Head) -> [u32; NUMBERS]
         DDS, // magic
         124, // the header's size
         0x81007, // its flags: caps, height, width, pixel format, linear size
-        head.height,
-        head.width,
+        head.height, // height
+        head.width, // width
         16 * blocks_of(head), // linear size
         0, // depth
         1, // mip count
-        0,
-        0,
-        0,
-        0,
-        0,
-        0,
-        0,
-        0,
-        0,
-        0,
-        0,
+        0, // reserved
+        0, // reserved
+        0, // reserved
+        0, // reserved
+        0, // reserved
+        0, // reserved
+        0, // reserved
+        0, // reserved
+        0, // reserved
+        0, // reserved
+        0, // reserved
         32, // the pixel format's size
         4, // its flags: a code
-        DX10,
-        0,
-        0,
-        0,
-        0,
-        0, // bit count, masks
+        DX10, // the code
+        0, // bit count
+        0, // red mask
+        0, // green mask
+        0, // blue mask
+        0, // alpha mask
         0x1000, // caps: a texture
-        0,
-        0,
-        0,
-        0,
+        0, // caps 2
+        0, // caps 3
+        0, // caps 4
+        0, // reserved
         BC7, // format
-        TWO_DIMENSIONS,
+        TWO_DIMENSIONS, // dimension
         0, // misc
         1, // array size
         0, // misc 2

@@ -15,7 +15,7 @@ use Rattle.head_rules.proofs.Theorems.{head-one-form, head-read-back}
 use Rattle.head_rules.proofs.Writing.{few, one-byte}
 use Rattle.dds_rules.specs.Header.{Texture, canonicalHeader, entries, fieldIn, headerLength, headerNumber, height, width}
 use Rattle.dds_rules.specs.Files.{fileLength, fileMade, headMade, sheetMade}
-use Rattle.dds_rules.proofs.Answering.{Taken, Whole}
+use Rattle.dds_rules.proofs.Refusing.{Taken, Whole}
 use Rattle.dds_rules.proofs.Numbers.{header-long, number-back}
 
 -- a head has seven bytes at the most

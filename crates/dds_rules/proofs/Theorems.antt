@@ -20,8 +20,8 @@ use Rattle.dds_rules.specs.Header.{Another, canonicalHeader, headerLengt
 use Rattle.dds_rules.specs.Files.{exportAfter, exportLength, exportRefusal, exportRules, fileLength, fileMade, fileRefusal, fileRules, headMade}
 use Rattle.dds_rules.specs.Files.{importAfter, importLength, importRefusal, importRules, sheetMade, wholeRefusal, wholeRules}
 use Rattle.dds_rules.specs.Promises.{ExportNeeds, Exports, ImportNeeds, Imports}
-use Rattle.dds_rules.proofs.Answering.{export-rules, exported-when, fifteen, file-rules, import-rules, imported-when, taken, taken-so, whole}
-use Rattle.dds_rules.proofs.Answering.{whole-rules, whole-so}
+use Rattle.dds_rules.proofs.Refusing.{export-rules, exported-when, fifteen, file-rules, import-rules, imported-when, taken, taken-so, whole}
+use Rattle.dds_rules.proofs.Refusing.{whole-rules, whole-so}
 use Rattle.dds_rules.proofs.Making.{file-again, file-long, file-taken, head-again, sheet-again, sheet-blocks, sheet-head, sheet-whole}
 
 -- an accepted call leaves what the file or the sheet makes

@@ -334,12 +334,11 @@ fn dds_call_of(export: bool, given: &mut [u8], out: &mut [u8]) -> bool {
     if !filled(out) {
         return false;
     }
-    let refusal = if export {
-        rinchovek_dds_export(given, out)
-    } else {
-        rinchovek_dds_import(given, out)
-    };
-    write_refusal(refusal);
+    if export {
+        write_refusal(rinchovek_dds_export(given, out));
+        return io::write_all(STDOUT_FILENO, out);
+    }
+    write_refusal(rinchovek_dds_import(given, out));
     io::write_all(STDOUT_FILENO, out)
 }
 

@@ -1,12 +1,11 @@
 -- `bytes_of` meets its contract.
 -- Assumes nothing.
-use mathlib.Core.Path.{refl, _∙_, ap, sym}
-use Prim.Native.Nat.{ℕ, _*_, _-_, _%_, _≤_}
-use native.Mathlib.Nat.{div-one}
+use mathlib.Core.Path.{refl}
+use Prim.Native.Nat.{_*_, _-_, _≤_}
 use native.Mathlib.Omega.{arith}
 use Rattle.laws.proofs.Filled.{Filled, filled-all, filled-four, filled-none}
 use Rattle.dds_rules.specs.Header.{byteOf, bytesIn}
-use Rattle.dds.proofs.Headers.{byte-is}
+use Rattle.dds.proofs.Headers.{byte-is, low-byte-is}
 use Rattle.dds.proofs.bytes_of.Statement.{statement}
 use Rattle.dds.proofs.bytes_of.Tie as tie
 
@@ -79,10 +78,11 @@ loop-less c = omega arith
 loop-again : tie.Need-loop-again Inv-loop μ-loop
 loop-again c =
     let l = c .before .loop in
-    let b = byte-is (c .before .before .args .t1) (l .i) in (
+    let numbers = c .before .before .args .t1 in
+    let b = byte-is numbers (l .i) in (
       omega arith,
-      filled-four (l .i) (l .inv .1) (omega arith) (sym (ap (λ (n : ℕ). n % 256) (div-one _)) ∙ b 0 _ (omega arith) (omega arith)) (b 1 _ (omega arith) refl)
-          (b 2 _ (omega arith) refl) (b 3 _ (omega arith) refl),
+      filled-four (l .i) (l .inv .1) (omega arith) (low-byte-is numbers (l .i)) (b 1 _ (omega arith) refl) (b 2 _ (omega arith) refl)
+          (b 3 _ (omega arith) refl),
     )
 
 returns : tie.Need-returns Inv-loop μ-loop

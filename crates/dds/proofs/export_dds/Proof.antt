@@ -38,8 +38,9 @@ fill-requires c κs =
     let b = c .before .before .before in
     let e = b .before .before in
     let o = e .before .before in
-    export-fits _ (o .before .before .before .before .before .args .out .now) (o .before .before .read-sheet .ensures) (o .if1 .left) (b .before .numbers-of .ensures) (b .bytes-of .ensures)
-    (e .if2 .left ∙ e .before .file-length .ensures)
+    let r = o .before .before in
+    export-fits _ (r .before .before .before .args .out .now) (r .read-sheet .ensures) (o .if1 .left) (b .before .numbers-of .ensures)
+    (b .bytes-of .ensures) (e .if2 .left ∙ e .before .file-length .ensures)
 
 same-length : tie.Need-same-length
 same-length c = search needs

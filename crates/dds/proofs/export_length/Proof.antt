@@ -17,7 +17,9 @@ file-length-requires c κs = export-sized _ (c .before .before .read-sheet .ensu
 
 cast-t5 : tie.Need-cast-t5
 cast-t5 c =
-    let o = c .before in omega (arith, c .file-length .ensures, blocks-fit (o .before .before .read-sheet .result) (export-sized _ (o .before .before .read-sheet .ensures) (o .if1 .left)))
+    let o = c .before in
+    let r = o .before .before .read-sheet in
+    omega (arith, c .file-length .ensures, blocks-fit (r .result) (export-sized _ (r .ensures) (o .if1 .left)))
 
 returns-2 : tie.Need-returns-2
 returns-2 c = export-length-is _ (c .before .before .before .read-sheet .ensures) (c .before .if1 .left) (c .file-length .ensures)

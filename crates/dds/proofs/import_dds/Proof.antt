@@ -35,7 +35,9 @@ fill-requires c κs =
     let w = c .before .before .before .before in
     let n = w .before .before in
     let o = n .before in
-    import-fits _ (o .before .before .before .before .before .args .out .now) (o .before .before .read-file .ensures) (o .if1 .left) (w .write-head .ensures) (w .before .if2 .left ∙ n .whole-length .ensures)
+    let r = o .before .before in
+    import-fits _ (r .before .before .before .args .out .now) (r .read-file .ensures) (o .if1 .left) (w .write-head .ensures)
+    (w .before .if2 .left ∙ n .whole-length .ensures)
 
 same-length : tie.Need-same-length
 same-length c = search needs
@@ -46,8 +48,8 @@ returns-3 c =
     let w = f .before .before .before .before .before in
     let n = w .before .before in
     let o = n .before in
-    import-filled _ _ (o .before .before .read-file .ensures) (o .if1 .left) (w .write-head .ensures) (w .before .if2 .left ∙ n .whole-length .ensures)
-    (f .fill .ensures)
+    import-filled _ _ (o .before .before .read-file .ensures) (o .if1 .left) (w .write-head .ensures)
+    (w .before .if2 .left ∙ n .whole-length .ensures) (f .fill .ensures)
 
 pub import-dds-spec : {M : Type 1} → statement M
 import-dds-spec =

@@ -18,8 +18,9 @@ whole-length-requires c κs = import-sized _ (c .before .before .read-file .ensu
 cast-t5 : tie.Need-cast-t5
 cast-t5 c =
     let o = c .before in
-    let e = o .before .before .read-file .ensures in
-    omega (arith, c .whole-length .ensures, blocks-fit (o .before .before .read-file .result) (import-sized _ e (o .if1 .left)), import-start _ e (o .if1 .left))
+    let r = o .before .before .read-file in
+    let sized = import-sized _ (r .ensures) (o .if1 .left) in
+    omega (arith, c .whole-length .ensures, blocks-fit (r .result) sized, import-start _ (r .ensures) (o .if1 .left))
 
 returns-2 : tie.Need-returns-2
 returns-2 c = import-length-is _ (c .before .before .before .read-file .ensures) (c .before .if1 .left) (c .whole-length .ensures)
