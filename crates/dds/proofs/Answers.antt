@@ -10,10 +10,9 @@ use native.Mathlib.Omega.{arith}
 use borrow.Author.Tests.{eq-eqb, ne-eqb}
 use lib.Dec.{eqb}
 use lib.ListN.{length}
-use Rattle.dds_rules.specs.declared.Length.{Length}
 use Rattle.head_rules.specs.declared.Head.{Head}
-use Rattle.head_rules.specs.Geometry.{across, blocksOf, wholeLength}
-use Rattle.head_rules.specs.Heads.{Sized, headOf, limit, readHead}
+use Rattle.head_rules.specs.Geometry.{blocksOf, wholeLength}
+use Rattle.head_rules.specs.Heads.{Sized, headOf, readHead}
 use Rattle.head_rules.proofs.Blocks.{few-blocks}
 use Rattle.head_rules.proofs.Heading.{refusal-is, refused}
 use Rattle.head_rules.proofs.Theorems.{head-sized}
@@ -22,7 +21,7 @@ use Rattle.laws.specs.Tables.{pick}
 use Rattle.laws.proofs.Refusals.{exactly}
 use Rattle.dds_rules.specs.Files.{exportAfter, exportHead, exportLength, exportRefusal, fileLength, fileMade, fileRefusal, fileRules}
 use Rattle.dds_rules.specs.Files.{headAs, headMade, importAfter, importHead, importLength, importRefusal, lengthAs, sheetMade, wholeRefusal}
-use Rattle.dds_rules.specs.Promises.{ExportNeeds, Exports, ImportNeeds, Imports}
+use Rattle.dds_rules.specs.Promises.{Exports, Imports}
 use Rattle.dds_rules.proofs.Refusing.{Taken, Whole, file-rules, room-rules, taken, taken-so, whole, whole-handed, whole-so}
 use Rattle.dds_rules.proofs.Making.{head-short}
 

@@ -1,12 +1,12 @@
 -- An output filled by two copies.
 -- Assumes nothing.
-use mathlib.Core.Path.{_≡_, _∙_, ap, sym}
+use mathlib.Core.Path.{_≡_, _∙_, ap}
 use mathlib.Core.List.{List, [], _++_, append-nil}
 use Prim.Native.Nat.{ℕ, _+_, _-_, _≤_}
 use native.Mathlib.Nat.{le-of-eq}
 use native.Mathlib.Omega.{arith}
 use lib.ListN.{length, take, drop, drop-of-length-le, length-append, length-drop, length-take}
-use lib.Seq.{drop-at, length-take-le, take-all, take-at, take-length}
+use lib.Seq.{length-take-le, take-all, take-at, take-length}
 
 -- the first copy lays the first count bytes of a head, the second, behind them, the bytes of another list from start on: both as `copy` says
 module _ (head from out : List ℕ) (count start : ℕ) (h : count ≤ length head) (k : start ≤ length from)

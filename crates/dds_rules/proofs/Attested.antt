@@ -6,7 +6,6 @@ use mathlib.Core.List.{List, [], _∷_, _++_, map}
 use Prim.Native.Nat.{ℕ, _/_}
 use lib.ListN.{drop, replicate, set, take}
 use lib.Seq.{sets}
-use Rattle.dds_rules.specs.declared.Length.{Length}
 use Rattle.head_rules.specs.declared.Head.{Head}
 use Rattle.head_rules.specs.Geometry.{blocksOf}
 use Rattle.head_rules.specs.Heads.{formIn, headBytes, headRefusal, heightIn, readHead, sizeRefusal, widthIn}
@@ -14,7 +13,7 @@ use Rattle.head_rules.specs.Numbers.{groups, raised, readGroups, readNumber}
 use Rattle.laws.specs.Digits.{evenly}
 use Rattle.laws.specs.Refusals.{first}
 use Rattle.laws.specs.Tables.{table, tableFrom}
-use Rattle.dds_rules.specs.Header.{Field, alphaMask, arraySize, bitCount, blueMask, canonicalHeader, caps, caps2, caps3, caps4, depth}
+use Rattle.dds_rules.specs.Header.{alphaMask, arraySize, bitCount, blueMask, canonicalHeader, caps, caps2, caps3, caps4, depth}
 use Rattle.dds_rules.specs.Header.{dimension, entries, format, formatCode, formatFlags, formatSize, greenMask, headerFlags, headerNumber}
 use Rattle.dds_rules.specs.Header.{headerSize, height, isTexture, linearSize, magic, mipCount, misc, misc2, numberAt, offset, redMask, reserved}
 use Rattle.dds_rules.specs.Header.{reserved2, width}
@@ -168,8 +167,8 @@ pub record Files : Type 0 where
       record { refusal = 0; length = 180 } ∷ record { refusal = 7; length = 0 } ∷ []
 
 pub files-hold : Files
-unfolding evenly table tableFrom first numberAt entries headerNumber canonicalHeader isTexture headMade sheetMade fileRefusal importRefusal importAfter
-    wholeRefusal exportRefusal fileMade exportAfter importLength exportLength importHead exportHead blocksOf sizeRefusal headBytes groups readHead
+unfolding evenly table tableFrom first numberAt entries headerNumber canonicalHeader isTexture headMade sheetMade fileRefusal importRefusal
+    importAfter wholeRefusal exportRefusal fileMade exportAfter importLength exportLength importHead exportHead blocksOf sizeRefusal headBytes groups readHead
     headRefusal formIn widthIn heightIn readNumber readGroups raised
 files-hold = record {
   in-order = refl;

@@ -1,14 +1,14 @@
 -- The sheet that a file makes, and the file that a sheet makes: their heads, their lengths and their blocks; and the way back.
 -- Assumes nothing.
-use mathlib.Core.Path.{_≡_, refl, _∙_, ap, ap₂, sym}
+use mathlib.Core.Path.{_≡_, _∙_, ap, ap₂, sym}
 use mathlib.Core.List.{List, _++_}
-use Prim.Native.Nat.{ℕ, _+_, _*_, _-_, _^_, _<_, _≤_}
+use Prim.Native.Nat.{ℕ, _+_, _-_, _<_, _≤_}
 use native.Mathlib.Omega.{arith}
 use lib.Dec.{lit<}
 use lib.ListN.{length, drop, length-append, length-drop}
 use lib.Seq.{drop-append-seam, drop-at}
 use Rattle.head_rules.specs.declared.Head.{Head}
-use Rattle.head_rules.specs.Geometry.{blocksOf, wholeLength}
+use Rattle.head_rules.specs.Geometry.{wholeLength}
 use Rattle.head_rules.specs.Heads.{Sized, headBytes, headOf, readHead}
 use Rattle.head_rules.specs.Numbers.{Bytes}
 use Rattle.head_rules.proofs.Theorems.{head-one-form, head-read-back}

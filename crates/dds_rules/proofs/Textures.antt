@@ -4,14 +4,12 @@ use mathlib.Core.Path.{_≡_, sym}
 use mathlib.Core.Logic.{_⊎_, inl, inr, ⊎-elim, _≢_}
 use mathlib.Core.Bool.{not, true, false}
 use mathlib.Core.List.{List}
-use Prim.Native.Nat.{ℕ, _+_, _<_, _≤_}
+use Prim.Native.Nat.{ℕ, _+_, _≤_}
 use native.Mathlib.Decide.{ℕ-discrete}
 use native.Mathlib.Omega.{arith}
 use borrow.Author.Tests.{eq-eqb, eqb-true, le-leb, leb-true}
-use lib.Dec.{eqb, leb}
 use lib.ListN.{length}
 use Rattle.laws.specs.Refusals.{refuse}
-use Rattle.laws.specs.Tables.{both}
 use Rattle.laws.proofs.Cases.{lt-or}
 use Rattle.laws.proofs.Refusals.{Decided, by-not}
 use Rattle.laws.proofs.Tests.{both-true, not-so}

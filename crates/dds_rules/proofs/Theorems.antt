@@ -1,12 +1,11 @@
 -- IMPORT AND EXPORT, in one place: there and back, block by block, and each refusal exactly when. `Bytes s` says that s is a list of bytes,
 -- which each slice of the code is.
 -- Assumes nothing.
-use mathlib.Core.Path.{_≡_, _∙_, ap, ap₂, sym, subst}
+use mathlib.Core.Path.{_≡_, _∙_, ap, sym}
 use mathlib.Core.Logic.{_↔_, _≢_}
 use mathlib.Core.List.{List, _++_}
 use Prim.Native.Nat.{ℕ, _+_, _*_}
-use native.Mathlib.Omega.{arith}
-use borrow.Author.Tests.{eq-eqb, ne-eqb}
+use borrow.Author.Tests.{ne-eqb}
 use lib.ListN.{length, drop, take, take-append-drop}
 use lib.Seq.{drop-drop}
 use Rattle.dds_rules.specs.declared.Length.{Length}
@@ -17,12 +16,12 @@ use Rattle.head_rules.specs.Numbers.{Bytes}
 use Rattle.laws.specs.Refusals.{Given}
 use Rattle.laws.proofs.Refusals.{answer-0, exactly}
 use Rattle.dds_rules.specs.Header.{Another, canonicalHeader, headerLength}
-use Rattle.dds_rules.specs.Files.{exportAfter, exportLength, exportRefusal, exportRules, fileLength, fileMade, fileRefusal, fileRules, headMade}
-use Rattle.dds_rules.specs.Files.{importAfter, importLength, importRefusal, importRules, sheetMade, wholeRefusal, wholeRules}
+use Rattle.dds_rules.specs.Files.{exportAfter, exportLength, exportRefusal, exportRules, fileLength, fileMade, fileRules, headMade}
+use Rattle.dds_rules.specs.Files.{importAfter, importLength, importRefusal, importRules, sheetMade, wholeRules}
 use Rattle.dds_rules.specs.Promises.{ExportNeeds, Exports, ImportNeeds, Imports}
 use Rattle.dds_rules.proofs.Refusing.{export-rules, exported-when, fifteen, file-rules, import-rules, imported-when, taken, taken-so, whole}
 use Rattle.dds_rules.proofs.Refusing.{whole-rules, whole-so}
-use Rattle.dds_rules.proofs.Making.{file-again, file-long, file-taken, head-again, sheet-again, sheet-blocks, sheet-head, sheet-whole}
+use Rattle.dds_rules.proofs.Making.{file-again, file-taken, head-again, sheet-again, sheet-blocks, sheet-head, sheet-whole}
 
 -- an accepted call leaves what the file or the sheet makes
 imported-is : (dds out : List ℕ) → importRefusal dds (length out) ≡ 0 → importAfter dds out ≡ sheetMade dds
@@ -49,7 +48,7 @@ pub export-imported : (dds out back : List ℕ) → importRefusal dds (length ou
 export-imported dds out back e l =
     let t = taken dds (imported-when dds (length out) .0 e .0) in
     let again : exportRefusal (sheetMade dds) (length back) ≡ 0 = exported-when (sheetMade dds) (length back) .1
-    (whole-so (sheetMade dds) (sheet-whole dds t), l ∙ t .long ∙ ap (λ (h : Head). headerLength + 16 * blocksOf h) (sym (sheet-head dds (t .size)))) in
+    (whole-so (sheetMade dds) (sheet-whole dds t), l ∙ t .long ∙ ap fileLength (sym (sheet-head dds (t .size)))) in
     rw (imported-is dds out e) (again, exported-is (sheetMade dds) back again ∙ file-again dds (t .size))
 
 -- so byte for byte the file itself, where its header was as export writes it
@@ -91,7 +90,8 @@ unfolding exportLength
 export-length-refused-when s = exactly (whole-rules s)
 
 -- and an output is taken exactly when it has the length that they answer
-pub import-length-serves : (dds : List ℕ) (room : ℕ) → (importRefusal dds room ≡ 0) ↔ (importLength dds .refusal ≡ 0) × (room ≡ importLength dds .length)
+pub import-length-serves : (dds : List ℕ) (room : ℕ)
+    → (importRefusal dds room ≡ 0) ↔ (importLength dds .refusal ≡ 0) × (room ≡ importLength dds .length)
 unfolding importLength
 import-length-serves dds room =
     let a = imported-when dds room in (
@@ -99,7 +99,8 @@ import-length-serves dds room =
       λ m. a .1 (m .0, m .1 ∙ answer-0 _ 0 (m .0)),
     )
 
-pub export-length-serves : (s : List ℕ) (room : ℕ) → (exportRefusal s room ≡ 0) ↔ (exportLength s .refusal ≡ 0) × (room ≡ exportLength s .length)
+pub export-length-serves : (s : List ℕ) (room : ℕ)
+    → (exportRefusal s room ≡ 0) ↔ (exportLength s .refusal ≡ 0) × (room ≡ exportLength s .length)
 unfolding exportLength
 export-length-serves s room =
     let a = exported-when s room in (

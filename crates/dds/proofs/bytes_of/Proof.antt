@@ -4,7 +4,7 @@ use mathlib.Core.Path.{refl}
 use Prim.Native.Nat.{_*_, _-_, _≤_}
 use native.Mathlib.Omega.{arith}
 use Rattle.laws.proofs.Filled.{Filled, filled-all, filled-four, filled-none}
-use Rattle.dds_rules.specs.Header.{byteOf, bytesIn}
+use Rattle.dds_rules.specs.Header.{bytesIn}
 use Rattle.dds.proofs.Headers.{byte-is, low-byte-is}
 use Rattle.dds.proofs.bytes_of.Statement.{statement}
 use Rattle.dds.proofs.bytes_of.Tie as tie

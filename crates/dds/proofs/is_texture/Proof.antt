@@ -1,6 +1,6 @@
 -- `is_texture` meets its contract.
 -- Assumes nothing.
-use mathlib.Core.Path.{_≡_, _∙_, sym}
+use mathlib.Core.Path.{_∙_, sym}
 use native.Mathlib.Omega.{arith}
 use Rattle.dds_rules.proofs.Textures.{a-texture, no-texture}
 use borrow.Author.Needs.{needs}

@@ -1,6 +1,5 @@
 -- `number_at` meets its contract.
 -- Assumes nothing.
-use mathlib.Core.Path.{_≡_, _∙_, sym}
 use native.Mathlib.Omega.{arith}
 use Rattle.dds.proofs.Headers.{four-bytes}
 use borrow.Author.Needs.{needs}

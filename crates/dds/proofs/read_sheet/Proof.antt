@@ -1,7 +1,6 @@
 -- `read_sheet` meets its contract.
 -- Assumes nothing.
-use mathlib.Core.Path.{_∙_, ap, sym}
-use Rattle.head_rules.specs.declared.Head.{Head}
+use mathlib.Core.Path.{_∙_, sym}
 use Rattle.dds.proofs.Answers.{a-sheet, no-sheet, not-whole, sheet-sized}
 use borrow.Author.Needs.{needs}
 use Rattle.dds.proofs.read_sheet.Statement.{statement}
@@ -22,7 +21,8 @@ no-head-requires c κs = search needs
 returns-2 : tie.Need-returns-2
 returns-2 c =
     let e = c .before .before .before in
-    c .no-head .ensures ∙ not-whole _ (e .before .before .read-head .ensures) (e .if1 .left) (λ l. c .before .if2 .taken (l ∙ sym (c .before .before .whole-length .ensures)))
+    c .no-head .ensures ∙ not-whole _ (e .before .before .read-head .ensures) (e .if1 .left)
+    (λ l. c .before .if2 .taken (l ∙ sym (c .before .before .whole-length .ensures)))
 
 returns-3 : tie.Need-returns-3
 returns-3 c =
