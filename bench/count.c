@@ -352,6 +352,8 @@ typedef u32 tell_opaque(const u8 *block, u32 columns, u32 rows);
 typedef u32 read_head(const u8 *sheet, u64 length, u32 *head);
 typedef u32 write_head(u32 width, u32 height, u8 *head, u32 *count);
 typedef u32 version(void);
+typedef u32 convert(const u8 *from, u64 length, u8 *to, u64 room);
+typedef u32 convert_length(const u8 *from, u64 length, u32 *needed);
 
 two_buffers rinchovek_bc7_unpack, rinchovek_bc7_pack;
 read_one rinchovek_bc7_read_line;
@@ -359,6 +361,8 @@ replace_one rinchovek_bc7_replace_line;
 /* weak: an older archive hasn't got them */
 __attribute__((weak)) find_index rinchovek_bc7_nearest_index, rinchovek_bc7_exact_index;
 __attribute__((weak)) tell_opaque rinchovek_bc7_is_opaque;
+__attribute__((weak)) convert rinchovek_dds_import, rinchovek_dds_export;
+__attribute__((weak)) convert_length rinchovek_dds_import_length, rinchovek_dds_export_length;
 replace_in rinchovek_sheet_replace_line;
 read_head rinchovek_sheet_read_head;
 write_head rinchovek_sheet_write_head;
@@ -383,6 +387,8 @@ static tell_opaque *volatile tell_call;
 static read_head *volatile read_head_call;
 static write_head *volatile write_head_call;
 static version *volatile version_call;
+static convert *volatile convert_call;
+static convert_length *volatile convert_length_call;
 
 static u32 no_two_buffers(const u8 *from, u8 *to) {
     __asm__ volatile("" ::"r"(from), "r"(to) : "memory");
@@ -426,6 +432,16 @@ static u32 no_write_head(u32 width, u32 height, u8 *bytes, u32 *count) {
 
 static u32 no_version(void) { return 0; }
 
+static u32 no_convert(const u8 *from, u64 length, u8 *to, u64 room) {
+    __asm__ volatile("" ::"r"(from), "r"(length), "r"(to), "r"(room) : "memory");
+    return 0;
+}
+
+static u32 no_convert_length(const u8 *from, u64 length, u32 *needed) {
+    __asm__ volatile("" ::"r"(from), "r"(length), "r"(needed) : "memory");
+    return 0;
+}
+
 typedef u32 one_call(u32 i);
 
 static u32 unpack_one(u32 i) { return two_buffers_call(sheet_blocks + 16 * i, records + RECORD * i); }
@@ -458,7 +474,27 @@ static u32 ask_version(u32 i) {
     return 0;
 }
 
+/* what a file is made of, and what of a file: each call anew */
+enum { DDS_HEADER = 148 };
+static u8 file[DDS_HEADER + 16 * COUNTED], again[sizeof sheet];
+static convert *measured_convert;
+static convert_length *measured_length;
+static const u8 *given;
+static u64 given_length, room;
+
+static u32 convert_one(u32 i) {
+    (void)i;
+    return convert_call(given, given_length, measured_convert == rinchovek_dds_import ? again : file, room);
+}
+
+static u32 ask_length(u32 i) {
+    (void)i;
+    return convert_length_call(given, given_length, head_numbers);
+}
+
 static void point_at_calls(int at_none) {
+    convert_call = at_none ? no_convert : measured_convert;
+    convert_length_call = at_none ? no_convert_length : measured_length;
     version_call = at_none ? no_version : rinchovek_version;
     read_head_call = at_none ? no_read_head : rinchovek_sheet_read_head;
     write_head_call = at_none ? no_write_head : rinchovek_sheet_write_head;
@@ -569,6 +605,28 @@ static void make_opaque(void) {
     memcpy(kept_sheet, sheet, sizeof sheet);
 }
 
+static void say_file(const char *name, convert *call, convert_length *length, const u8 *from, u64 from_length, u64 to_length, u32 refusal) {
+    measured_convert = call, measured_length = length;
+    given = from, given_length = from_length, room = to_length;
+    point_at_calls(0);
+    say_call(name, call ? convert_one : ask_length, refusal);
+}
+
+/* A sheet of one block and the one of all blocks, as files and back: what the blocks cost beyond the header is copying them. */
+static void count_files(void) {
+    static u8 one[3 + 16] = {0x01, 0x04, 0x04};
+    enum { ONE = DDS_HEADER + 16, ALL = DDS_HEADER + 16 * COUNTED };
+    say_file("rinchovek_dds_export, one block", rinchovek_dds_export, 0, one, sizeof one, ONE, 0);
+    say_file("rinchovek_dds_import, one block", rinchovek_dds_import, 0, file, ONE, sizeof one, 0);
+    say_file("rinchovek_dds_export, 64 blocks", rinchovek_dds_export, 0, sheet, sizeof sheet, ALL, 0);
+    say_file("rinchovek_dds_import, 64 blocks", rinchovek_dds_import, 0, file, ALL, sizeof sheet, 0);
+    say_file("rinchovek_dds_export, refused with 11", rinchovek_dds_export, 0, sheet, sizeof sheet, ALL - 1, 11);
+    say_file("rinchovek_dds_import, refused with 15", rinchovek_dds_import, 0, sheet, sizeof sheet, sizeof sheet, 15);
+    say_file("rinchovek_dds_import, refused with 11", rinchovek_dds_import, 0, file, ALL, sizeof sheet - 1, 11);
+    say_file("rinchovek_dds_export_length", 0, rinchovek_dds_export_length, sheet, sizeof sheet, 0, 0);
+    say_file("rinchovek_dds_import_length", 0, rinchovek_dds_import_length, file, ALL, 0, 0);
+}
+
 static void count_writing(void) {
     make_sheet(MIXED);
     make_lines();
@@ -594,6 +652,7 @@ static void count_writing(void) {
     say_call("rinchovek_bc7_read_line", read_a_line, 0);
     if (rinchovek_bc7_nearest_index) count_finding();
     if (rinchovek_bc7_is_opaque) say_call("rinchovek_bc7_is_opaque", tell_a_block, 0);
+    if (rinchovek_dds_import) count_files();
     say_call("rinchovek_bc7_replace_line, kept", replace_a_line, 0);
     say_call("rinchovek_sheet_replace_line, kept", replace_in_sheet, 0);
     turn_lines();

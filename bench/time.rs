@@ -116,6 +116,14 @@ mod writing {
         #[cfg(opacity)]
         fn rinchovek_bc7_is_opaque(block: &Block, columns: u32, rows: u32) -> u32;
         fn rinchovek_sheet_replace_line(sheet: *mut u8, length: usize, block: u32, line: u32, replacement: &Line) -> u32;
+        #[cfg(files)]
+        fn rinchovek_dds_import(dds: *const u8, dds_length: usize, sheet: *mut u8, sheet_length: usize) -> u32;
+        #[cfg(files)]
+        fn rinchovek_dds_export(sheet: *const u8, sheet_length: usize, dds: *mut u8, dds_length: usize) -> u32;
+        #[cfg(files)]
+        fn rinchovek_dds_import_length(dds: *const u8, dds_length: usize, sheet_length: *mut u32) -> u32;
+        #[cfg(files)]
+        fn rinchovek_dds_export_length(sheet: *const u8, sheet_length: usize, dds_length: *mut u32) -> u32;
     }
 
     fn nanoseconds(name: &str, count: usize, mut every: impl FnMut() -> u32) {
@@ -144,6 +152,23 @@ mod writing {
         nanoseconds("rinchovek_bc7_exact_index", SMALL, || {
             let find = |(block, wanted)| unsafe { rinchovek_bc7_exact_index(block, 0, 0, wanted, &mut index) };
             blocks.iter().zip(&shown).map(find).fold(0, |refused, refusal| refused | refusal)
+        });
+    }
+
+    /// The sheet of all blocks as a DDS file and back; both lengths are asked for in the same round.
+    #[cfg(files)]
+    fn time_files(sheet: &[u8]) {
+        let (mut dds, mut again, mut needed) = (vec![0; 148 + sheet.len() - 4], vec![0; sheet.len()], 0);
+        nanoseconds("rinchovek_dds_export, all blocks", 1, || unsafe {
+            rinchovek_dds_export(sheet.as_ptr(), sheet.len(), dds.as_mut_ptr(), dds.len())
+        });
+        nanoseconds("rinchovek_dds_import, all blocks", 1, || unsafe {
+            rinchovek_dds_import(dds.as_ptr(), dds.len(), again.as_mut_ptr(), again.len())
+        });
+        assert!(again == sheet, "a sheet that was exported is imported as another");
+        nanoseconds("rinchovek_dds_export_length and import_length", 1, || unsafe {
+            rinchovek_dds_export_length(sheet.as_ptr(), sheet.len(), &mut needed)
+                | rinchovek_dds_import_length(dds.as_ptr(), dds.len(), &mut needed)
         });
     }
 
@@ -177,6 +202,8 @@ mod writing {
         nanoseconds("rinchovek_bc7_is_opaque", SMALL, || {
             every(&mut |i| unsafe { black_box(rinchovek_bc7_is_opaque(&blocks[i], 4, 4)); 0 })
         });
+        #[cfg(files)]
+        time_files(&sheet);
         let replaced = |lines: &[Line], out: &mut [Block]| {
             every(&mut |i| unsafe { rinchovek_bc7_replace_line(&mut out[i], 0, &lines[i]) })
         };

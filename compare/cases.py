@@ -287,3 +287,65 @@ def some_sheet_call(dice, largest=20):
         length = near(dice, len(blocks), 100)
         blocks = blocks[:length] + dice.bytes(max(0, length - len(blocks)))
     return head + blocks, block, line, new
+
+
+# ---------------------------------------------------------------------------------------------------------------------
+# DDS files.
+DDS_NUMBERS = tuple(range(0, model.DDS_HEADER, 4))  # where the 37 numbers of a header stand
+DDS_HEIGHT, DDS_WIDTH, DDS_MIPS, DDS_FORMAT, DDS_MISC, DDS_ARRAY = 12, 16, 28, 128, 136, 140
+DDS_LOOKED_AT = (0, 4, DDS_HEIGHT, DDS_WIDTH, DDS_MIPS, 76, 84, DDS_FORMAT, 132, DDS_MISC, DDS_ARRAY)
+DDS_IGNORED = tuple(at for at in DDS_NUMBERS if at not in DDS_LOOKED_AT)
+
+
+def with_number(data, at, value):
+    return data[:at] + protocol.number(value) + data[at + 4 :]
+
+
+def some_dds(dice, largest=20):
+    """A file: one that is accepted, with anything in the numbers that aren't looked at; or one that is wrong in one or two
+    places, or that is cut off or too long."""
+    head, blocks = some_sheet(dice, largest)
+    _, width, height, _ = model.read_head(head)
+    data = model.dds_header(width, height) + blocks
+    for _ in range(dice.below(4)):
+        data = with_number(data, dice.one_of(DDS_IGNORED), dice.number(32))
+    if dice.chance(30):
+        data = with_number(data, DDS_MIPS, 0)
+    if dice.chance(30):
+        data = with_number(data, DDS_FORMAT, 99)
+    if dice.chance(30):
+        data = with_number(data, DDS_MISC, dice.number(32) & ~4)
+    for _ in range(dice.below(3) if dice.chance(50) else 0):
+        sort = dice.below(8)
+        if sort < 3:
+            data = with_number(data, dice.one_of(DDS_LOOKED_AT), dice.one_of((0, 1, 2, 3, 4, 31, 97, 100, *LARGE)))
+        elif sort == 3:
+            data = with_number(data, dice.one_of((DDS_HEIGHT, DDS_WIDTH)), dice.one_of((0, 4096, 4097, *LARGE)))
+        elif sort == 4:
+            at = dice.below(model.DDS_HEADER)
+            data = data[:at] + dice.bytes(1) + data[at + 1 :]
+        elif sort == 5:
+            data = data[: dice.below(len(data) + 1)]
+        elif sort == 6:
+            data += dice.bytes(dice.within(1, 33))
+        else:
+            data = with_number(data, DDS_MISC, dice.number(32) | 4)
+        if len(data) < model.DDS_HEADER:
+            break
+    return data
+
+
+def some_output(dice, needed, wrong_percent=10):
+    return dice.bytes(min(near(dice, needed, wrong_percent), protocol.LARGEST_LENGTH))
+
+
+def some_import(dice, largest=20):
+    """The arguments of importing a DDS file."""
+    data = some_dds(dice, largest)
+    return data, some_output(dice, model.import_length(data)[1] or dice.below(60))
+
+
+def some_export(dice, largest=20):
+    """The arguments of exporting a sheet."""
+    sheet = some_listed(dice, largest)
+    return sheet, some_output(dice, model.export_length(sheet)[1] or dice.below(200))

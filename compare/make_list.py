@@ -17,12 +17,21 @@ import model
 import protocol
 import tools
 from cases import (
+    DDS_ARRAY,
+    DDS_FORMAT,
+    DDS_HEIGHT,
+    DDS_IGNORED,
+    DDS_MIPS,
+    DDS_MISC,
+    DDS_NUMBERS,
+    DDS_WIDTH,
     LARGE,
     bits_of_style,
     block_of,
     fitting_replacement,
     nearly_opaque,
     some_block,
+    some_dds,
     some_head,
     some_listed,
     some_opacity,
@@ -32,6 +41,7 @@ from cases import (
     some_sheet,
     some_sheet_call,
     some_wanted,
+    with_number,
 )
 from dice import Dice
 
@@ -494,6 +504,98 @@ def listing_sheets(dice, shared):
     return [("l", sheet) for sheet in sheets] + [("l", some_listed(dice)) for _ in range(80)]
 
 
+# ---------------------------------------------------------------------------------------------------------------------
+def dds_files(dice):
+    """Files to import. Every number of a header changed, alone; every length up to the first block; sides and what is refused
+    before and after them; and files by chance."""
+    sheet = model.write_head(5, 3)[1] + blocks_for(dice, 32)
+    right = model.dds_header(5, 3) + sheet[3:]
+    files = [right] + [right[:length] for length in range(150)]
+    files += [right[: len(right) + more] if more < 0 else right + dice.bytes(more) for more in (-17, -16, -1, 1, 15, 16, 17)]
+    for at in DDS_NUMBERS:
+        held = int.from_bytes(right[at : at + 4], "little")
+        files += [with_number(right, at, value) for value in (held + 1, held ^ 1 << 31, held ^ 1 << 8)]
+    for at, values in (
+        (DDS_FORMAT, (0, 71, 95, 96, 97, 98, 99, 100, 98 + (1 << 16), (1 << 32) - 1)),
+        (DDS_MIPS, (0, 1, 2, 3, 256, (1 << 32) - 1)),
+        (DDS_ARRAY, (0, 1, 2, 6, 257, (1 << 32) - 1)),
+        (DDS_MISC, (0, 1, 2, 3, 4, 5, 6, 7, 8, 12, 16, 1 << 31, (1 << 32) - 5, (1 << 32) - 1)),
+        (132, (0, 1, 2, 3, 4, 259)),
+    ):
+        files += [with_number(right, at, value) for value in values]
+    # As nvcompress writes it; and the others that aren't looked at, all at once.
+    files.append(with_number(with_number(right, 8, 0x1007), 20, 0))
+    other = right
+    for at in DDS_IGNORED:
+        other = with_number(other, at, dice.number(32))
+    files.append(other)
+    # Sides refused (9), beside an array of 0 (15), and with as many blocks as the others need or none (10).
+    sides = (0, 1, 4, 5, 128, 4095, 4096, 4097, 65535, 65536, 65537, 1 << 30, 1 << 31, (1 << 32) - 1)
+    for width in sides:
+        for height in (3, width):
+            sized = with_number(with_number(right, DDS_WIDTH, width), DDS_HEIGHT, height)
+            files += [sized, with_number(sized, DDS_ARRAY, 0), sized[: model.DDS_HEADER]]
+    # Width and height apart, and the widest and the tallest that are accepted.
+    for width, height in ((9, 2), (2, 9), (127, 5), (5, 128), (4096, 3), (3, 4093)):
+        count = model.in_blocks(width) * model.in_blocks(height)
+        files.append(model.dds_header(width, height) + blocks_for(dice, 16 * count))
+    return files + [some_dds(dice, 9) for _ in range(60)]
+
+
+def dds_sheets(dice):
+    """Sheets to export: every width and height from 1 to 9, cut off and too long, refused heads, the largest sides."""
+    sheets = []
+    for width in range(1, 10):
+        for height in range(1, 10):
+            count = model.in_blocks(width) * model.in_blocks(height)
+            sheets.append(model.write_head(width, height)[1] + blocks_for(dice, 16 * count))
+    right = model.write_head(5, 6)[1] + blocks_for(dice, 64)
+    sheets += [right[:length] for length in range(len(right))] + [right + dice.bytes(more) for more in (1, 15, 16, 17)]
+    heads = ["", "01", "0105", "018000", "8000", "81000504", "018080800004", "02", "020504", "000504", "020004", "8101"]
+    heads += ["0280", "010004", "010400", "01812004", "01048120", "0100", "01008000", "010080", "01812080", "01802080"]
+    for head in map(bytes.fromhex, heads):
+        sheets += [head + rest for rest in (b"", document_01.C, document_01.C + document_01.D)]
+    for width, height in ((127, 5), (5, 128), (4096, 3), (3, 4093), (4096, 4096)):
+        count = model.in_blocks(width) * model.in_blocks(height)
+        sheets.append(model.write_head(width, height)[1] + blocks_for(dice, 16 * (1 if count > 1024 else count)))
+    return sheets + [some_listed(dice, 9) for _ in range(80)]
+
+
+def outputs(dice, needed):
+    """What stands in the output before: exactly as long as needed; and now and then one that isn't (11), or none."""
+    lengths = [needed] if needed else [dice.one_of((0, 3, 35, 148, 180))]
+    if 0 < needed < 1000 and dice.chance(25):
+        lengths += [needed + more for more in (-1, 1)] + [0]
+    return [dice.bytes(length) for length in lengths]
+
+
+def importing(dice, shared):
+    calls = []
+    for data in dds_files(dice):
+        calls += [("I", data, out) for out in outputs(dice, model.import_length(data)[1])]
+    # The outside file whose header is not as export writes it.
+    data = (shared / "outside/bc7/nvtt_pil123rgba.dds").read_bytes()
+    return calls + [("I", data, dice.bytes(model.import_length(data)[1]))]
+
+
+def exporting(dice, shared):
+    del shared
+    calls = []
+    for sheet in dds_sheets(dice):
+        calls += [("X", sheet, out) for out in outputs(dice, model.export_length(sheet)[1])]
+    return calls
+
+
+def needing_for_import(dice, shared):
+    del shared
+    return [("d", data) for data in dds_files(dice)]
+
+
+def needing_for_export(dice, shared):
+    del shared
+    return [("s", sheet) for sheet in dds_sheets(dice)]
+
+
 MAKERS = {
     "D": decoding,
     "U": taking_apart,
@@ -508,6 +610,10 @@ MAKERS = {
     "N": finding_nearest,
     "E": finding_exact,
     "A": telling_opaque,
+    "I": importing,
+    "X": exporting,
+    "d": needing_for_import,
+    "s": needing_for_export,
 }
 
 

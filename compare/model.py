@@ -12,6 +12,7 @@ Values are plain integers and tuples:
   replacement  26 values: 8 endpoint values, 2 p bits, 16 indexes
   pixels       64 bytes, red green blue alpha of the pixels 0 to 15
 """
+import struct
 from collections import namedtuple
 from functools import lru_cache
 
@@ -450,6 +451,81 @@ def replace_in_sheet(sheet, block, line, new):
     at = start + 16 * block
     refusal, changed = replace(sheet[at : at + 16], line, new)
     return refusal, sheet[:at] + changed + sheet[at + 16 :]
+
+
+# ---------------------------------------------------------------------------------------------------------------------
+# M-103: DDS files with the DX10 extension, laid out as the structs of Microsoft's guide: the magic; DDS_HEADER up to the mip
+# count, and eleven reserved numbers; its DDS_PIXELFORMAT (size, flags, code; bit count and four masks); its four caps and
+# a reserved number; DDS_HEADER_DXT10 (format, dimension, misc, array size, misc 2).
+DDS_STRUCT = struct.Struct("<4s7I44x2I4s5I5I5I")
+DDS_HEADER = DDS_STRUCT.size
+BC7_UNORM, BC7_SRGB, TEXTURE_2D, CUBE = 98, 99, 3, 4
+
+
+def read_dds(data):
+    """refusal, width, height: whatever the output is, so without 11"""
+    if len(data) < DDS_HEADER:
+        return 15, 0, 0
+    numbers = DDS_STRUCT.unpack_from(data)
+    magic, size, _, height, width, _, _, mips, format_size, _, code = numbers[:11]
+    pixels, dimension, misc, array, _ = numbers[-5:]
+    right = magic == b"DDS " and size == 124 and format_size == 32 and code == b"DX10" and mips in (0, 1)
+    right = right and pixels in (BC7_UNORM, BC7_SRGB) and dimension == TEXTURE_2D and array == 1 and not misc & CUBE
+    if not right:
+        return 15, 0, 0
+    if not size_fits(width, height):
+        return 9, 0, 0
+    if len(data) - DDS_HEADER != 16 * in_blocks(width) * in_blocks(height):
+        return 10, 0, 0
+    return 0, width, height
+
+
+def import_length(data):
+    """refusal, the bytes of the sheet"""
+    refusal, width, height = read_dds(data)
+    return (refusal, 0) if refusal else (0, len(write_head(width, height)[1]) + len(data) - DDS_HEADER)
+
+
+def import_dds(data, out):
+    """refusal, the output afterwards"""
+    refusal, needed = import_length(data)
+    if refusal or len(out) != needed:
+        return refusal or 11, bytes(out)
+    _, width, height = read_dds(data)
+    return 0, write_head(width, height)[1] + bytes(data[DDS_HEADER:])
+
+
+def dds_header(width, height):
+    linear = 16 * in_blocks(width) * in_blocks(height)
+    return DDS_STRUCT.pack(
+        *(b"DDS ", 124, 0x81007, height, width, linear, 0, 1),
+        *(32, 4, b"DX10", 0, 0, 0, 0, 0),
+        *(0x1000, 0, 0, 0, 0),
+        *(BC7_UNORM, TEXTURE_2D, 0, 1, 0),
+    )
+
+
+def read_sheet(sheet):
+    """refusal, width, height, start: 10 among the refusals"""
+    refusal, width, height, start = read_head(sheet)
+    if refusal == 0 and len(sheet) - start != 16 * in_blocks(width) * in_blocks(height):
+        return 10, 0, 0, 0
+    return refusal, width, height, start
+
+
+def export_length(sheet):
+    """refusal, the bytes of the file"""
+    refusal, _, _, start = read_sheet(sheet)
+    return (refusal, 0) if refusal else (0, DDS_HEADER + len(sheet) - start)
+
+
+def export_dds(sheet, out):
+    """refusal, the output afterwards"""
+    refusal, needed = export_length(sheet)
+    if refusal or len(out) != needed:
+        return refusal or 11, bytes(out)
+    _, width, height, start = read_sheet(sheet)
+    return 0, dds_header(width, height) + bytes(sheet[start:])
 
 
 # ---------------------------------------------------------------------------------------------------------------------

@@ -15,10 +15,14 @@ A call is (letter, arguments..):
   N block line pixel wanted          nearest index; wanted is 4 bytes
   E block line pixel wanted          exact index
   A block columns rows               opacity of a block
+  I dds out          import a DDS file
+  X sheet out        export a sheet as a DDS file
+  d dds              the length that importing needs
+  s sheet            the length that exporting needs
 """
 import model
 
-LETTERS = "DUPRHWOSlrNEA"
+LETTERS = "DUPRHWOSlrNEA" + "IXds"
 KINDS = ("whole", "two", "three", "vector")
 RECORD, REPLACEMENT = 66, 26
 LARGEST_LENGTH = 65536  # a longer slice ends the run
@@ -66,7 +70,11 @@ def call_bytes(call):
         sheet, block, line, new = given
         assert len(sheet) <= LARGEST_LENGTH
         body = number(len(sheet)) + sheet + number(block) + number(line) + bytes(new)
-    elif letter == "l":
+    elif letter in "IX":
+        data, out = given
+        assert len(data) <= LARGEST_LENGTH and len(out) <= LARGEST_LENGTH
+        body = number(len(data)) + number(len(out)) + data + out
+    elif letter in "lds":
         assert len(given[0]) <= LARGEST_LENGTH
         body = number(len(given[0])) + given[0]
     else:  # D, U, P
@@ -106,6 +114,11 @@ def model_answer(call):
         rest = bytes([len(head)]) + head.ljust(7, b"\0")
     elif letter == "O":
         refusal, rest = model.decode_row(*given)
+    elif letter in "IX":
+        refusal, rest = (model.import_dds if letter == "I" else model.export_dds)(*given)
+    elif letter in "ds":
+        refusal, length = (model.import_length if letter == "d" else model.export_length)(*given)
+        rest = number(length)
     else:
         refusal, rest = model.replace_in_sheet(*given)
     return bytes([refusal]) + rest

@@ -1,6 +1,6 @@
 /* Every call of include/rinchovek.h, from C: a row of a small sheet is decoded, one of its blocks is corrected, and the row is
  * decoded again; the other way round, which index gives a red; the same correction on the block alone; what happens to calls that
- * are refused; records and heads; which blocks are opaque. */
+ * are refused; records and heads; which blocks are opaque; the sheet as a DDS file and back. */
 #include "rinchovek.h"
 
 int printf(const char *format, ...);
@@ -129,7 +129,20 @@ int main(void) {
     show_opaque(corner, 7, 4, 1);
     show_opaque(sheet + HEAD + RINCHOVEK_BLOCK_BYTES, WIDTH, HEIGHT, 1);
 
-    for (uint32_t number = RINCHOVEK_RESERVED_BLOCK; number <= RINCHOVEK_NO_EXACT_INDEX; number++)
+    /* The sheet as a DDS file, of which the sides are shown, height first; the file as a sheet again; and what is no such file. */
+    uint8_t file[RINCHOVEK_DDS_HEADER_BYTES + 2 * RINCHOVEK_BLOCK_BYTES] = {0}, again[sizeof sheet] = {0};
+    uint32_t needed = 0;
+    refusal = rinchovek_dds_export_length(sheet, sizeof sheet, &needed);
+    if (refusal == RINCHOVEK_ACCEPTED && needed <= sizeof file) refusal = rinchovek_dds_export(sheet, sizeof sheet, file, needed);
+    printf("exported: %u, %u bytes\n", refusal, needed);
+    show_bytes("sides", file + 12, 8);
+    refusal = rinchovek_dds_import_length(file, sizeof file, &needed);
+    if (refusal == RINCHOVEK_ACCEPTED && needed <= sizeof again) refusal = rinchovek_dds_import(file, sizeof file, again, needed);
+    printf("imported: %u, %u bytes\n", refusal, needed);
+    show_bytes("sheet", again, HEAD + RINCHOVEK_BLOCK_BYTES);
+    show_refusal("a sheet for a file", rinchovek_dds_import(sheet, sizeof sheet, again, sizeof again));
+
+    for (uint32_t number = RINCHOVEK_RESERVED_BLOCK; number <= RINCHOVEK_NOT_A_BC7_TEXTURE; number++)
         printf("%u: %s\n", number, rinchovek_refusal_text(number));
     return 0;
 }

@@ -90,6 +90,21 @@ uint32_t decode_row(const Head &head, uint32_t row, const std::vector<uint8_t> &
     return rinchovek_sheet_decode_row(head.width, head.height, row, sheet.data() + from, count, pixels.data(), pixels.size());
 }
 
+// A DDS file as a sheet, and a sheet as a DDS file; the output gets the length that it needs.
+uint32_t import_dds(const std::vector<uint8_t> &file, std::vector<uint8_t> &sheet) {
+    uint32_t needed = 0, refusal = rinchovek_dds_import_length(file.data(), file.size(), &needed);
+    if (refusal != RINCHOVEK_ACCEPTED) return refusal;
+    sheet.resize(needed);
+    return rinchovek_dds_import(file.data(), file.size(), sheet.data(), sheet.size());
+}
+
+uint32_t export_dds(const std::vector<uint8_t> &sheet, std::vector<uint8_t> &file) {
+    uint32_t needed = 0, refusal = rinchovek_dds_export_length(sheet.data(), sheet.size(), &needed);
+    if (refusal != RINCHOVEK_ACCEPTED) return refusal;
+    file.resize(needed);
+    return rinchovek_dds_export(sheet.data(), sheet.size(), file.data(), file.size());
+}
+
 } // namespace rinchovek
 
 using namespace rinchovek;
@@ -194,6 +209,15 @@ int main() {
     show_opaque(corner, 7, 4, BlockNumber(1));
     show_opaque(reserved, 8, 4, BlockNumber(1));
 
-    for (uint32_t number = RINCHOVEK_RESERVED_BLOCK; number <= RINCHOVEK_NO_EXACT_INDEX; number++)
+    std::vector<uint8_t> file, again;
+    refusal = export_dds(sheet, file);
+    std::printf("exported: %u, %zu bytes\n", refusal, file.size());
+    show_bytes("sides", file.data() + 12, 8);
+    refusal = import_dds(file, again);
+    std::printf("imported: %u, %zu bytes\n", refusal, again.size());
+    show_bytes("sheet", again.data(), start + RINCHOVEK_BLOCK_BYTES);
+    show_refusal("a sheet for a file", import_dds(sheet, again));
+
+    for (uint32_t number = RINCHOVEK_RESERVED_BLOCK; number <= RINCHOVEK_NOT_A_BC7_TEXTURE; number++)
         std::printf("%u: %s\n", number, rinchovek_refusal_text(number));
 }

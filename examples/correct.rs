@@ -113,6 +113,14 @@ fn main() -> Result<(), Refusal> {
     show_opaque(&corner, 7, 4, 1);
     show_opaque(&[0; 16], 8, 4, 1);
 
+    // the sheet as a DDS file, of which the sides are shown, height first; the file as a sheet again; and what is no such file
+    println!("exported: 0, {} bytes", export_length(&sheet)?);
+    let file = export_dds(&sheet)?;
+    show_bytes("sides", &file[12..20]);
+    println!("imported: 0, {} bytes", import_length(&file)?);
+    show_bytes("sheet", &import_dds(&file)?[..start + 16]);
+    show_refusal("a sheet for a file", &import_dds(&sheet));
+
     for refusal in Refusal::ALL {
         println!("{}: {refusal}", refusal.number());
     }

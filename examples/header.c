@@ -38,6 +38,29 @@ static void try_null(void) {
     expect("no sheet", rinchovek_sheet_replace_line(NULL, 0, 0, 0, replacement), RINCHOVEK_BAD_NUMBER);
     expect("no blocks", rinchovek_sheet_decode_row(4, 4, 0, NULL, 0, out, 64), RINCHOVEK_WRONG_BLOCK_BYTES);
     expect("no output", rinchovek_sheet_decode_row(4, 4, 0, blocks, 16, NULL, 0), RINCHOVEK_WRONG_OUTPUT_LENGTH);
+    expect("no file", rinchovek_dds_import(NULL, 0, NULL, 0), RINCHOVEK_NOT_A_BC7_TEXTURE);
+    expect("no file", rinchovek_dds_import_length(NULL, 0, head), RINCHOVEK_NOT_A_BC7_TEXTURE);
+    expect("no sheet", rinchovek_dds_export(NULL, 0, NULL, 0), RINCHOVEK_BAD_NUMBER);
+    expect("no sheet", rinchovek_dds_export_length(NULL, 0, head), RINCHOVEK_BAD_NUMBER);
+}
+
+/* A sheet is exported and imported with the lengths that the calls for them write, and with a byte less or more in neither. */
+static void try_files(void) {
+    static uint8_t sheet[RINCHOVEK_HEAD_BYTES + 2 * RINCHOVEK_BLOCK_BYTES] = {0x01, 5, 3}, file[256];
+    const size_t length = 3 + 2 * RINCHOVEK_BLOCK_BYTES;
+    uint32_t needed = 0;
+    expect("export's length", rinchovek_dds_export_length(sheet, length, &needed), RINCHOVEK_ACCEPTED);
+    expect("a file's bytes", needed, RINCHOVEK_DDS_HEADER_BYTES + 2 * RINCHOVEK_BLOCK_BYTES);
+    for (uint32_t off = 0; off <= 2; off++)
+        expect("export", rinchovek_dds_export(sheet, length, file, needed - 1 + off),
+               off == 1 ? RINCHOVEK_ACCEPTED : RINCHOVEK_WRONG_OUTPUT_LENGTH);
+    const size_t whole = needed;
+    expect("import's length", rinchovek_dds_import_length(file, whole, &needed), RINCHOVEK_ACCEPTED);
+    expect("a sheet's bytes", needed, (uint32_t)length);
+    for (uint32_t off = 0; off <= 2; off++)
+        expect("import", rinchovek_dds_import(file, whole, sheet, needed - 1 + off),
+               off == 1 ? RINCHOVEK_ACCEPTED : RINCHOVEK_WRONG_OUTPUT_LENGTH);
+    expect("a file cut off", rinchovek_dds_import(file, whole - 1, sheet, needed), RINCHOVEK_WRONG_BLOCK_BYTES);
 }
 
 /* ---- the stack */
@@ -63,6 +86,11 @@ static __attribute__((noinline)) void make_calls(uint8_t first, uint8_t others) 
     rinchovek_bc7_is_opaque(block, 4, 3);
     rinchovek_sheet_read_head(sheet, sizeof sheet, head);
     rinchovek_sheet_decode_row(4, 3, 0, block, RINCHOVEK_BLOCK_BYTES, out, 48);
+    uint8_t file[RINCHOVEK_DDS_HEADER_BYTES + RINCHOVEK_BLOCK_BYTES];
+    if (rinchovek_dds_export_length(sheet, count + RINCHOVEK_BLOCK_BYTES, &index) == RINCHOVEK_ACCEPTED && index == sizeof file)
+        rinchovek_dds_export(sheet, count + RINCHOVEK_BLOCK_BYTES, file, sizeof file);
+    if (rinchovek_dds_import_length(file, sizeof file, &index) == RINCHOVEK_ACCEPTED)
+        rinchovek_dds_import(file, sizeof file, sheet, count + RINCHOVEK_BLOCK_BYTES);
     rinchovek_version();
 }
 
@@ -84,6 +112,7 @@ int main(void) {
     expect("version", rinchovek_version(), RINCHOVEK_VERSION);
     try_rows();
     try_null();
+    try_files();
     const uint32_t deep = deepest();
     if (deep >= RINCHOVEK_STACK_BYTES) {
         printf("header: the calls took %u bytes of stack\n", deep);

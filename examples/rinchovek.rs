@@ -34,6 +34,10 @@ extern "C" {
         line: u32,
         replacement: *const u8,
     ) -> u32;
+    fn rinchovek_dds_import(dds: *const u8, dds_length: usize, sheet: *mut u8, sheet_length: usize) -> u32;
+    fn rinchovek_dds_export(sheet: *const u8, sheet_length: usize, dds: *mut u8, dds_length: usize) -> u32;
+    fn rinchovek_dds_import_length(dds: *const u8, dds_length: usize, sheet_length: *mut u32) -> u32;
+    fn rinchovek_dds_export_length(sheet: *const u8, sheet_length: usize, dds_length: *mut u32) -> u32;
 }
 
 /// Why a call was refused. It then has changed nothing.
@@ -54,10 +58,11 @@ pub enum Refusal {
     BeyondSheet = 12,
     PixelNotInLine = 13,
     NoExactIndex = 14,
+    NotABc7Texture = 15,
 }
 
 impl Refusal {
-    pub const ALL: [Refusal; 14] = [
+    pub const ALL: [Refusal; 15] = [
         Refusal::ReservedBlock,
         Refusal::NoSuchLine,
         Refusal::ValueTooWide,
@@ -72,6 +77,7 @@ impl Refusal {
         Refusal::BeyondSheet,
         Refusal::PixelNotInLine,
         Refusal::NoExactIndex,
+        Refusal::NotABc7Texture,
     ];
 
     pub fn number(self) -> u32 {
@@ -96,6 +102,7 @@ impl fmt::Display for Refusal {
             Refusal::BeyondSheet => "the row or the block is beyond the sheet",
             Refusal::PixelNotInLine => "the pixel is not in the line",
             Refusal::NoExactIndex => "no index of the line gives exactly this colour",
+            Refusal::NotABc7Texture => "the file is not a DDS file of one BC7 texture with one level",
         })
     }
 }
@@ -316,4 +323,32 @@ pub fn decode_row(head: Head, row: u32, blocks: &[u8], out: &mut [u8]) -> Result
 pub fn replace_in_sheet(sheet: &mut [u8], block: BlockNumber, line: LineNumber, new: &Line) -> Result<(), Refusal> {
     let (lent, length) = (sheet.as_mut_ptr(), sheet.len());
     answer(unsafe { rinchovek_sheet_replace_line(lent, length, block.0, line.0, new.bytes().as_ptr()) }, ())
+}
+
+/// The bytes of the sheet that a DDS file makes.
+pub fn import_length(dds: &[u8]) -> Result<usize, Refusal> {
+    let mut length = 0;
+    let refusal = unsafe { rinchovek_dds_import_length(dds.as_ptr(), dds.len(), &mut length) };
+    answer(refusal, length as usize)
+}
+
+/// The sheet of a DDS file.
+pub fn import_dds(dds: &[u8]) -> Result<Vec<u8>, Refusal> {
+    let mut sheet = vec![0; import_length(dds)?];
+    let refusal = unsafe { rinchovek_dds_import(dds.as_ptr(), dds.len(), sheet.as_mut_ptr(), sheet.len()) };
+    answer(refusal, sheet)
+}
+
+/// The bytes of the DDS file that a sheet makes.
+pub fn export_length(sheet: &[u8]) -> Result<usize, Refusal> {
+    let mut length = 0;
+    let refusal = unsafe { rinchovek_dds_export_length(sheet.as_ptr(), sheet.len(), &mut length) };
+    answer(refusal, length as usize)
+}
+
+/// The DDS file of a sheet.
+pub fn export_dds(sheet: &[u8]) -> Result<Vec<u8>, Refusal> {
+    let mut dds = vec![0; export_length(sheet)?];
+    let refusal = unsafe { rinchovek_dds_export(sheet.as_ptr(), sheet.len(), dds.as_mut_ptr(), dds.len()) };
+    answer(refusal, dds)
 }

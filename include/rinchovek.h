@@ -1,5 +1,5 @@
 /* rinchovek.h: BC7 blocks, and sheets of them, decoded, taken apart, packed and corrected; which index gives a wanted colour, and
- * which blocks are opaque.
+ * which blocks are opaque; DDS files in and out.
  *
  * WORDS
  * A block is 16 bytes that draw 4 by 4 pixels. A pixel is 4 bytes: red, green, blue, alpha. The pixel in column x and row y of a
@@ -41,7 +41,7 @@
 /* The version of this file. The major number is raised where a call goes, or answers otherwise what it accepted before; the minor
  * one where a call comes, or accepts what it refused before; the patch where neither is so. */
 #define RINCHOVEK_VERSION_MAJOR 1
-#define RINCHOVEK_VERSION_MINOR 2
+#define RINCHOVEK_VERSION_MINOR 3
 #define RINCHOVEK_VERSION_PATCH 0
 #define RINCHOVEK_VERSION (10000 * RINCHOVEK_VERSION_MAJOR + 100 * RINCHOVEK_VERSION_MINOR + RINCHOVEK_VERSION_PATCH)
 
@@ -55,6 +55,7 @@
 #define RINCHOVEK_HEAD_BYTES 7 /* the most that a head has */
 #define RINCHOVEK_HEAD_NUMBERS 3 /* uint32_t */
 #define RINCHOVEK_LARGEST_SIDE 4096 /* pixels, of a sheet */
+#define RINCHOVEK_DDS_HEADER_BYTES 148
 #define RINCHOVEK_STACK_BYTES 2048 /* found: 1,240 and the 128 below the stack pointer, in rinchovek_bc7_nearest_index */
 
 /* A channel in a pixel and in an endpoint. */
@@ -127,11 +128,12 @@ enum rinchovek_refusal {
     RINCHOVEK_BAD_NUMBER = 7,           /* a number of the head is cut off, not in its shortest form, or has over three groups */
     RINCHOVEK_UNKNOWN_FORM = 8,         /* the form isn't 1 */
     RINCHOVEK_BAD_SIDE = 9,             /* the width or the height is 0 or above RINCHOVEK_LARGEST_SIDE */
-    RINCHOVEK_WRONG_BLOCK_BYTES = 10,   /* there are not exactly as many bytes of blocks as the sheet or the row needs */
-    RINCHOVEK_WRONG_OUTPUT_LENGTH = 11, /* the output isn't exactly as long as the row needs */
+    RINCHOVEK_WRONG_BLOCK_BYTES = 10,   /* there are not exactly as many bytes of blocks as the sheet, the row or the file needs */
+    RINCHOVEK_WRONG_OUTPUT_LENGTH = 11, /* the output isn't exactly as long as needed */
     RINCHOVEK_BEYOND_SHEET = 12,        /* the row or the block number is beyond the sheet */
     RINCHOVEK_PIXEL_NOT_IN_LINE = 13,   /* the pixel is of another line's subset, or 16 and up */
-    RINCHOVEK_NO_EXACT_INDEX = 14       /* no index of the line gives the pixel exactly what is wanted */
+    RINCHOVEK_NO_EXACT_INDEX = 14,      /* no index of the line gives the pixel exactly what is wanted */
+    RINCHOVEK_NOT_A_BC7_TEXTURE = 15    /* the DDS file isn't one texture of two dimensions in BC7 with one level */
 };
 
 #ifdef __cplusplus
@@ -213,6 +215,37 @@ uint32_t rinchovek_sheet_decode_row(uint32_t width, uint32_t height, uint32_t ro
 uint32_t rinchovek_sheet_replace_line(uint8_t *sheet, size_t length, uint32_t block, uint32_t line,
                                       const uint8_t replacement[RINCHOVEK_LINE_BYTES]);
 
+/* DDS FILES, as office tools exchange them: RINCHOVEK_DDS_HEADER_BYTES of header with the DX10 extension, by Microsoft's guide, and behind
+ * it the blocks row by row. Both ways the blocks are copied as they stand, so a sheet that was exported and imported again is the same
+ * byte for byte. What stands in a file's header and has no place in a sheet is lost by importing; whether its colours are sRGB among it.
+ *
+ * Refusal 15 says that a file isn't what can be imported: there are fewer than 148 bytes; or at a byte of the header stands another number
+ * (32 bits, low byte first) than here. Nothing else in the header is looked at.
+ *
+ *   byte 0     "DDS "                        byte 128   98 or 99: BC7, linear or sRGB
+ *   byte 4     124, the header's size        byte 132   3: two dimensions
+ *   byte 28    0 or 1, levels                byte 136   the bit of value 4 is clear: no cube; other bits are not looked at
+ *   byte 76    32, the pixel format's size   byte 140   1, the array's size
+ *   byte 84    "DX10"
+ *
+ * Writes the sheet of a DDS file: its head, which has the file's sides (height at byte 12, width at byte 16), then its blocks.
+ * Both lengths are exact: the file has 148 bytes and 16 for each block, no more behind them (10 otherwise), and the sheet as many as
+ * rinchovek_dds_import_length writes (11 otherwise).
+ * Refusals: 15, 9, 10, 11. */
+uint32_t rinchovek_dds_import(const uint8_t *dds, size_t dds_length, uint8_t *sheet, size_t sheet_length);
+
+/* Writes the DDS file of a sheet: a header that says format 98 and has all that the table above asks for, then the sheet's blocks. Both
+ * lengths are exact: the sheet has its head and 16 bytes for each block (10 otherwise), and the file as many as
+ * rinchovek_dds_export_length writes, which is 148 and 16 for each block (11 otherwise).
+ * Refusals: 7 and 8 on the form, 7 on width and height, 9, 10, 11. */
+uint32_t rinchovek_dds_export(const uint8_t *sheet, size_t sheet_length, uint8_t *dds, size_t dds_length);
+
+/* How long the output has to be: of importing this file the sheet, of exporting this sheet the file. Refused for what the call itself is
+ * refused for, but for 11.
+ * Refusals: 15, 9, 10; and 7 and 8 on the form, 7 on width and height, 9, 10. */
+uint32_t rinchovek_dds_import_length(const uint8_t *dds, size_t dds_length, uint32_t *sheet_length);
+uint32_t rinchovek_dds_export_length(const uint8_t *sheet, size_t sheet_length, uint32_t *dds_length);
+
 #ifdef __cplusplus
 }
 #endif
@@ -248,6 +281,7 @@ static inline const char *rinchovek_refusal_text(uint32_t refusal) {
     case RINCHOVEK_BEYOND_SHEET: return "the row or the block is beyond the sheet";
     case RINCHOVEK_PIXEL_NOT_IN_LINE: return "the pixel is not in the line";
     case RINCHOVEK_NO_EXACT_INDEX: return "no index of the line gives exactly this colour";
+    case RINCHOVEK_NOT_A_BC7_TEXTURE: return "the file is not a DDS file of one BC7 texture with one level";
     default: return "no refusal of this version";
     }
 }

@@ -15,6 +15,10 @@ use rinchovek::rinchovek_bc7_pack;
 use rinchovek::rinchovek_bc7_read_line;
 use rinchovek::rinchovek_bc7_replace_line;
 use rinchovek::rinchovek_bc7_unpack;
+use rinchovek::rinchovek_dds_export;
+use rinchovek::rinchovek_dds_export_length;
+use rinchovek::rinchovek_dds_import;
+use rinchovek::rinchovek_dds_import_length;
 use rinchovek::rinchovek_sheet_decode_row;
 use rinchovek::rinchovek_sheet_read_head;
 use rinchovek::rinchovek_sheet_replace_line;
@@ -332,6 +336,77 @@ fn list_call() -> bool {
     list_call_of(&mut sheet[..end])
 }
 
+// A DDS file imported, or a sheet exported: both are asked for in the same bytes. What stands in the output before is read too.
+fn dds_call_of(export: bool, given: &mut [u8], out: &mut [u8]) -> bool {
+    if !filled(given) {
+        return false;
+    }
+    if !filled(out) {
+        return false;
+    }
+    if export {
+        write_small(rinchovek_dds_export(given, out));
+        return io::write_all(STDOUT_FILENO, out);
+    }
+    write_small(rinchovek_dds_import(given, out));
+    io::write_all(STDOUT_FILENO, out)
+}
+
+// What is given is n bytes, and the output m.
+fn dds_call_within(export: bool, n: usize, m: usize) -> bool
+    requires { ⌜ (n ≤ 65536) × (m ≤ 65536) ⌝ }
+{
+    let mut given = [0u8; 65536];
+    let mut out = [0u8; 65536];
+    dds_call_of(export, &mut given[..n], &mut out[..m])
+}
+
+fn dds_call(export: bool) -> bool {
+    let mut lengths = [0u8; 8];
+    if !filled(&mut lengths) {
+        return false;
+    }
+    let n = number(&lengths, 0);
+    if MOST < n {
+        return false;
+    }
+    let m = number(&lengths, 4);
+    if MOST < m {
+        return false;
+    }
+    dds_call_within(export, n as usize, m as usize)
+}
+
+// The length that importing needs, or exporting.
+fn length_call_of(export: bool, given: &mut [u8]) -> bool {
+    if !filled(given) {
+        return false;
+    }
+    let mut length: u32 = 0;
+    let refusal = if export {
+        rinchovek_dds_export_length(given, &mut length)
+    } else {
+        rinchovek_dds_import_length(given, &mut length)
+    };
+    write_small(refusal);
+    write_u32(length);
+    true
+}
+
+fn length_call(export: bool) -> bool {
+    let mut length = [0u8; 4];
+    if !filled(&mut length) {
+        return false;
+    }
+    let n = number(&length, 0);
+    if MOST < n {
+        return false;
+    }
+    let end = n as usize;
+    let mut given = [0u8; 65536];
+    length_call_of(export, &mut given[..end])
+}
+
 // One call: whether another may follow.
 fn call(letter: u8) -> bool {
     match letter {
@@ -348,6 +423,10 @@ fn call(letter: u8) -> bool {
         b'N' => index_call(false),
         b'E' => index_call(true),
         b'A' => opacity_call(),
+        b'I' => dds_call(false),
+        b'X' => dds_call(true),
+        b'd' => length_call(false),
+        b's' => length_call(true),
         _ => false,
     }
 }

@@ -3,8 +3,13 @@
 // C caller has to know; `rt staticlib rinchovek` writes the archive.
 ghost use Rattle.rinchovek_rules.specs.Promises.{Decodes, Packs, ReadsLine, Replaces, Unpacks, Versions, DecodesRow, ReadsHead, ReplacesIn};
 ghost use Rattle.rinchovek_rules.specs.Promises.{FindsExact, FindsNearest, TellsOpaque, WritesHead};
+ghost use Rattle.rinchovek_rules.specs.Promises.{ExportNeeds, ExportsDds, ImportNeeds, ImportsDds};
 use bc7::decode_bc7_block;
 use bc7_places::places::PLACES;
+use dds::export_dds;
+use dds::export_length;
+use dds::import_dds;
+use dds::import_length;
 use line::read_line;
 use line::replace_line;
 use nearest::exact_index;
@@ -22,7 +27,7 @@ use sheet_head::write_head;
 
 // Which version of the calls and their answers this is: 10000 times the major number, 100 times the minor one, and the patch. The
 // header has the same three.
-const VERSION: u32 = 10200;
+const VERSION: u32 = 10300;
 
 #[no_mangle]
 pub extern "C" fn rinchovek_version() -> u32
@@ -214,4 +219,46 @@ pub extern "C" fn rinchovek_sheet_replace_line(
     ensures { λ r. ⌜ ReplacesIn (now (sheet .entry)) block line (now (replacement .entry)) r (now (sheet .exit)) ⌝ }
 {
     replace_in_sheet(sheet, block, line, replacement_of(*replacement)) as u32
+}
+
+// A DDS file as a sheet.
+#[no_mangle]
+pub extern "C" fn rinchovek_dds_import(dds: &[u8], sheet: &mut [u8]) -> u32
+    ensures { λ r. ⌜ ImportsDds (now (dds .entry)) (now (sheet .entry)) r (now (sheet .exit)) ⌝ }
+{
+    import_dds(dds, sheet) as u32
+}
+
+// A sheet as a DDS file.
+#[no_mangle]
+pub extern "C" fn rinchovek_dds_export(sheet: &[u8], dds: &mut [u8]) -> u32
+    ensures { λ r. ⌜ ExportsDds (now (sheet .entry)) (now (dds .entry)) r (now (dds .exit)) ⌝ }
+{
+    export_dds(sheet, dds) as u32
+}
+
+// The length of the sheet that a DDS file makes.
+#[no_mangle]
+pub extern "C" fn rinchovek_dds_import_length(dds: &[u8], length: &mut u32) -> u32
+    ensures { λ r. ⌜ ImportNeeds (now (dds .entry)) (now (length .entry)) r (now (length .exit)) ⌝ }
+{
+    let needed = import_length(dds);
+    if needed.refusal != 0 {
+        return needed.refusal as u32;
+    }
+    *length = needed.length;
+    0
+}
+
+// The length of the DDS file that a sheet makes.
+#[no_mangle]
+pub extern "C" fn rinchovek_dds_export_length(sheet: &[u8], length: &mut u32) -> u32
+    ensures { λ r. ⌜ ExportNeeds (now (sheet .entry)) (now (length .entry)) r (now (length .exit)) ⌝ }
+{
+    let needed = export_length(sheet);
+    if needed.refusal != 0 {
+        return needed.refusal as u32;
+    }
+    *length = needed.length;
+    0
 }

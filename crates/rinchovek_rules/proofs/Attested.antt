@@ -33,6 +33,12 @@ use Rattle.sheet_rules.specs.Sheets.{blockIn, findRefusal, putBlock, replacedIn
 use Rattle.sheet_rules.proofs.Attested.{lower, lowerScanlines, small, smallReplaced}
 use Rattle.rinchovek_rules.specs.Promises.{Decodes, Gives, Packs, ReadsLine, Replaces, Unpacks, Versions, DecodesRow, ReadsHead, ReplacesIn}
 use Rattle.rinchovek_rules.specs.Promises.{FindsExact, FindsNearest, TellsOpaque, WritesHead}
+use Rattle.laws.specs.Digits.{evenly}
+use Rattle.dds_rules.specs.Header.{canonicalHeader, entries, headerNumber, isTexture, numberAt}
+use Rattle.dds_rules.specs.Files.{exportAfter, exportLength, exportRefusal, fileMade, fileRefusal, headMade, importAfter, importLength}
+use Rattle.dds_rules.specs.Files.{importRefusal, sheetMade, wholeRefusal}
+use Rattle.dds_rules.proofs.Attested.{file53, header53, sheet53}
+use Rattle.rinchovek_rules.specs.Promises.{ExportNeeds, ExportsDds, ImportNeeds, ImportsDds}
 
 abbrev zeros : ℕ → List ℕ
 zeros n = replicate n 0
@@ -70,7 +76,7 @@ computed : {A : Type 0} {refusal : ℕ} {left : A} → Gives refusal left refusa
 computed = record { answers = refl; leaves = refl }
 
 pub record Calls : Type 0 where
-  pub version : Versions (10000 * 1 + 100 * 2 + 0)
+  pub version : Versions (10000 * 1 + 100 * 3 + 0)
   pub decodes : Decodes block4 (half4 ++ half4)
   pub decodes-reserved : Decodes (zeros 16) (replicate 16 (rgba 0 0 0 0))
   pub unpacks : Unpacks block4 (nines 66) 0 (bytes4 3)
@@ -95,6 +101,14 @@ pub record Calls : Type 0 where
   pub decodes-row-not : DecodesRow 5 6 1 lower (nines 41) 11 (nines 41)
   pub replaces-in : ReplacesIn small 2 0 bytesGiven6 0 smallReplaced
   pub replaces-in-not : ReplacesIn small 0 2 bytesGiven6 2 small
+  pub imports-dds : ImportsDds file53 (nines 35) 0 sheet53
+  pub imports-dds-not : ImportsDds header53 (nines 35) 10 (nines 35)
+  pub exports-dds : ExportsDds sheet53 (nines 180) 0 file53
+  pub exports-dds-not : ExportsDds sheet53 (nines 35) 11 (nines 35)
+  pub import-needs : ImportNeeds file53 9 0 35
+  pub import-needs-not : ImportNeeds sheet53 9 15 9
+  pub export-needs : ExportNeeds sheet53 9 0 180
+  pub export-needs-not : ExportNeeds file53 9 8 9
 
 pub calls-hold : Calls
 unfolding padded first over table tableFrom weights weightOf drawn promoted eight modeRow kindOfMode endpointCount placeAt pos
@@ -107,6 +121,8 @@ unfolding padded first over table tableFrom weights weightOf drawn promoted eigh
     rowRefusal blockIn blocksOf findRefusal placeOf putBlock replacedIn sheetAfter sheetRefusal draws meansShown channelDistance
     distance drawnWith exactIndex exactRefusal inLine indexCount leastAt nearestIndex nearestRefusal squared withIndex zeroAt
     implies isVisible passes opaque
+    evenly numberAt entries headerNumber canonicalHeader isTexture headMade sheetMade fileRefusal importRefusal importAfter wholeRefusal
+    exportRefusal fileMade exportAfter importLength exportLength
 calls-hold = record {
   version = refl;
   decodes = refl;
@@ -133,4 +149,12 @@ calls-hold = record {
   decodes-row-not = computed;
   replaces-in = computed;
   replaces-in-not = computed;
+  imports-dds = computed;
+  imports-dds-not = computed;
+  exports-dds = computed;
+  exports-dds-not = computed;
+  import-needs = computed;
+  import-needs-not = computed;
+  export-needs = computed;
+  export-needs-not = computed;
 }

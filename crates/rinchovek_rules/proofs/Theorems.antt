@@ -9,8 +9,10 @@ use Rattle.line_rules.specs.Replace.{callOf, replaced}
 use Rattle.line_rules.proofs.Theorems.{refused-same}
 use Rattle.line_rules.specs.Read.{replacementOf}
 use Rattle.sheet_rules.proofs.Theorems.{refused-row-leaves, refused-sheet-leaves}
+use Rattle.dds_rules.proofs.Theorems.{refused-export-leaves, refused-import-leaves}
 use Rattle.rinchovek_rules.specs.Promises.{Decodes, Determined, Gives, Packs, ReadsLine, Replaces, Unpacks, Versions, Writes, DecodesRow}
 use Rattle.rinchovek_rules.specs.Promises.{ReadsHead, FindsExact, FindsNearest, ReplacesIn, TellsOpaque, WritesHead}
+use Rattle.rinchovek_rules.specs.Promises.{ExportNeeds, ExportsDds, ImportNeeds, ImportsDds}
 
 one-given : {A : Type 0} (refusal : ℕ) (left : A) → Determined (Gives refusal left)
 one-given refusal left a b x y p q = (p .answers ∙ sym (q .answers), p .leaves ∙ sym (q .leaves))
@@ -56,6 +58,18 @@ determined-sheet-decode-row width height row blocks before = one-given _ _
 pub determined-sheet-replace-line : (sheet : List ℕ) (block line : ℕ) (bytes : List ℕ) → Determined (ReplacesIn sheet block line bytes)
 determined-sheet-replace-line sheet block line bytes = one-given _ _
 
+pub determined-dds-import : (dds before : List ℕ) → Determined (ImportsDds dds before)
+determined-dds-import dds before = one-given _ _
+
+pub determined-dds-export : (sheet before : List ℕ) → Determined (ExportsDds sheet before)
+determined-dds-export sheet before = one-given _ _
+
+pub determined-dds-import-length : (dds : List ℕ) (before : ℕ) → Determined (ImportNeeds dds before)
+determined-dds-import-length dds before = one-given _ _
+
+pub determined-dds-export-length : (sheet : List ℕ) (before : ℕ) → Determined (ExportNeeds sheet before)
+determined-dds-export-length sheet before = one-given _ _
+
 -- where the answer is not 0, what is left is what was
 abbrev pub Leaves : {A : Type 0} → A → (ℕ → A → Type 0) → Type 0
 Leaves {A} before promise = (answer : ℕ) (after : A) → promise answer after → answer ≢ 0 → after ≡ before
@@ -98,3 +112,15 @@ refused-sheet-decode-row-leaves width height row blocks before answer after p ne
 pub refused-sheet-replace-line-leaves : (sheet : List ℕ) (block line : ℕ) (bytes : List ℕ) → Leaves sheet (ReplacesIn sheet block line bytes)
 refused-sheet-replace-line-leaves sheet block line bytes answer after p ne =
     refused-sheet-leaves sheet (record { block = block; line = line; given = replacementOf bytes }) answer after (p .answers, p .leaves) ne
+
+pub refused-dds-import-leaves : (dds before : List ℕ) → Leaves before (ImportsDds dds before)
+refused-dds-import-leaves dds before answer after p ne = refused-import-leaves dds before answer after (p .answers, p .leaves) ne
+
+pub refused-dds-export-leaves : (sheet before : List ℕ) → Leaves before (ExportsDds sheet before)
+refused-dds-export-leaves sheet before answer after p ne = refused-export-leaves sheet before answer after (p .answers, p .leaves) ne
+
+pub refused-dds-import-length-leaves : (dds : List ℕ) (before : ℕ) → Leaves before (ImportNeeds dds before)
+refused-dds-import-length-leaves dds before = refused-leaves _ _ before
+
+pub refused-dds-export-length-leaves : (sheet : List ℕ) (before : ℕ) → Leaves before (ExportNeeds sheet before)
+refused-dds-export-length-leaves sheet before = refused-leaves _ _ before

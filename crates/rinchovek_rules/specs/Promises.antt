@@ -19,6 +19,7 @@ use Rattle.sheet_rules.specs.Rows.{rowOut, rowRefusal}
 use Rattle.sheet_rules.specs.Sheets.{sheetAfter, sheetRefusal}
 use Rattle.nearest_rules.specs.Nearest.{exactIndex, nearestIndex}
 use Rattle.opacity_rules.specs.Opacity.{opaque}
+use Rattle.dds_rules.specs.Files.{exportAfter, exportLength, exportRefusal, importAfter, importLength, importRefusal}
 
 -- this number is answered, and this is left
 pub record Gives {A : Type 0} (refusal : ℕ) (left : A) (answer : ℕ) (after : A) : Type 0 where
@@ -29,9 +30,9 @@ pub record Gives {A : Type 0} (refusal : ℕ) (left : A) (answer : ℕ) (after :
 abbrev pub Writes : {A : Type 0} → ℕ → A → A → ℕ → A → Type 0
 Writes refusal value before = Gives refusal (pick (eqb refusal 0) value before)
 
--- version 1.2.0: major, minor and patch, with two digits for each of the last two
+-- version 1.3.0: major, minor and patch, with two digits for each of the last two
 abbrev pub Versions : ℕ → Type 0
-Versions answer = answer ≡ 10200
+Versions answer = answer ≡ 10300
 
 abbrev pub Decodes : List ℕ → List (List ℕ) → Type 0
 Decodes block after = after ≡ pixels block
@@ -82,6 +83,19 @@ DecodesRow width height row blocks before =
 
 abbrev pub ReplacesIn : List ℕ → ℕ → ℕ → List ℕ → ℕ → List ℕ → Type 0
 ReplacesIn sheet block line bytes = Gives (sheetRefusal sheet block line (replacementOf bytes)) (sheetAfter sheet block line (replacementOf bytes))
+
+-- a DDS file imported, a sheet exported, and how long the output of either has to be
+abbrev pub ImportsDds : List ℕ → List ℕ → ℕ → List ℕ → Type 0
+ImportsDds dds before = Gives (importRefusal dds (length before)) (importAfter dds before)
+
+abbrev pub ExportsDds : List ℕ → List ℕ → ℕ → List ℕ → Type 0
+ExportsDds sheet before = Gives (exportRefusal sheet (length before)) (exportAfter sheet before)
+
+abbrev pub ImportNeeds : List ℕ → ℕ → ℕ → ℕ → Type 0
+ImportNeeds dds before = Writes (importLength dds .refusal) (importLength dds .length) before
+
+abbrev pub ExportNeeds : List ℕ → ℕ → ℕ → ℕ → Type 0
+ExportNeeds sheet before = Writes (exportLength sheet .refusal) (exportLength sheet .length) before
 
 -- a promise admits one answer, and one state of what was lent
 abbrev pub Determined : {A : Type 0} → (ℕ → A → Type 0) → Type 0

@@ -1,0 +1,189 @@
+-- What is answered of a head that was read, and of the output's length: for both ways the same.
+-- Assumes nothing.
+use mathlib.Core.Path.{_≡_, refl, _∙_, ap, sym}
+use mathlib.Core.Logic.{_≢_}
+use mathlib.Core.Bool.{not}
+use mathlib.Core.List.{List, [], _∷_}
+use Prim.Native.Nat.{ℕ, _+_, _*_, _^_, _<_, _≤_}
+use native.Mathlib.Decide.{ℕ-discrete}
+use native.Mathlib.Omega.{arith}
+use borrow.Author.Tests.{eq-eqb, ne-eqb}
+use lib.Dec.{eqb}
+use lib.ListN.{length}
+use Rattle.head_rules.specs.declared.Head.{Head}
+use Rattle.head_rules.specs.Geometry.{blocksOf, wholeLength}
+use Rattle.head_rules.specs.Heads.{Sized, headOf, readHead}
+use Rattle.head_rules.proofs.Blocks.{few-blocks}
+use Rattle.head_rules.proofs.Heading.{refusal-is, refused}
+use Rattle.head_rules.proofs.Theorems.{head-sized}
+use Rattle.laws.specs.Refusals.{Given, accepted, first, here, refuse, then}
+use Rattle.laws.specs.Tables.{pick}
+use Rattle.laws.proofs.Refusals.{exactly}
+use Rattle.dds_rules.specs.Files.{exportAfter, exportHead, exportLength, exportRefusal, fileLength, fileMade, fileRefusal, fileRules}
+use Rattle.dds_rules.specs.Files.{headAs, headMade, importAfter, importHead, importLength, importRefusal, lengthAs, sheetMade, wholeRefusal}
+use Rattle.dds_rules.specs.Promises.{Exports, Imports}
+use Rattle.dds_rules.proofs.Refusing.{Taken, Whole, file-rules, room-rules, taken, taken-so, whole, whole-handed, whole-so}
+use Rattle.dds_rules.proofs.Making.{head-short}
+
+-- WHAT THE READERS ANSWER
+pub no-file : (dds : List ℕ) (n : ℕ) → Given (fileRules dds) n → n ≢ 0 → headOf n 0 0 0 ≡ importHead dds
+unfolding importHead
+no-file dds n g ne = rw (exactly (file-rules dds) n .1 g, ne-eqb n 0 ne)
+
+pub a-file : (dds : List ℕ) → Taken dds → headMade dds ≡ importHead dds
+unfolding importHead
+a-file dds t = rw (eq-eqb (fileRefusal dds) 0 (taken-so dds t))
+
+-- a sheet's head is x
+module _ (s : List ℕ) {x : Head} (is : x ≡ readHead s) where
+  pub no-sheet : x .refusal ≢ 0 → x ≡ exportHead s
+  unfolding exportHead
+  no-sheet n =
+      let r = readHead s .refusal in
+      let ne : r ≢ 0 = λ z. n (ap (λ (h : Head). h .refusal) is ∙ z) in
+      is ∙ sym (refused s r (sym (refusal-is s)) ne) ∙ sym (rw (exactly (whole-handed s) r .1 (here ne), ne-eqb r 0 ne))
+
+  pub sheet-sized : x .refusal ≡ 0 → Sized (x .width) (x .height)
+  sheet-sized z = rw is (head-sized s (sym (ap (λ (h : Head). h .refusal) is) ∙ z))
+
+  pub not-whole : x .refusal ≡ 0 → length s ≢ wholeLength x → headOf 10 0 0 0 ≡ exportHead s
+  unfolding exportHead
+  not-whole z ne =
+      rw (exactly (whole-handed s) 10 .1 (then (sym (ap (λ (h : Head). h .refusal) is) ∙ z)
+      (here (λ l. ne (l ∙ ap (λ (h : Head). h .start + 16 * blocksOf h) (sym is))))))
+
+  pub a-sheet : x .refusal ≡ 0 → length s ≡ wholeLength x → x ≡ exportHead s
+  unfolding exportHead
+  a-sheet z l =
+      is ∙ sym (rw (eq-eqb (wholeRefusal s) 0 (whole-so s (record {
+        told = sym (ap (λ (h : Head). h .refusal) is) ∙ z;
+        long = l ∙ ap (λ (h : Head). h .start + 16 * blocksOf h) is;
+      }))))
+
+-- WHAT A HEAD SAYS THAT WAS READ: the number, and where it is 0 the head
+module _ (r : ℕ) (h : Head) (same : r ≡ 0 → h .refusal ≡ 0) {x : Head} (e : x ≡ headAs r h) where
+  abbrev Told : Type 0
+  Told = (x .refusal ≡ r) × (r ≡ 0 → x ≡ h)
+
+  head-told : Told
+  head-told = go (ℕ-discrete r 0)
+    where
+      go : Dec (r ≡ 0) → Told
+      go (yes z) = let k : x ≡ h = e ∙ rw (eq-eqb r 0 z) in (ap (λ (y : Head). y .refusal) k ∙ same z ∙ sym z, λ q. k)
+      go (no n) = let k : x ≡ headOf r 0 0 0 = e ∙ rw (ne-eqb r 0 n) in (ap (λ (y : Head). y .refusal) k, λ q. absurd (n q))
+
+module _ (dds : List ℕ) {x : Head} (e : x ≡ importHead dds) where
+  pub file-told : (x .refusal ≡ fileRefusal dds) × (fileRefusal dds ≡ 0 → x ≡ headMade dds)
+  unfolding importHead headMade
+  file-told = head-told (fileRefusal dds) (headMade dds) (λ z. refl) e
+
+module _ (s : List ℕ) {x : Head} (e : x ≡ exportHead s) where
+  pub sheet-told : (x .refusal ≡ wholeRefusal s) × (wholeRefusal s ≡ 0 → x ≡ readHead s)
+  unfolding exportHead
+  sheet-told = head-told (wholeRefusal s) (readHead s) (λ z. whole s z .told) e
+
+-- WHAT A CALL ANSWERS: what was told before, or 11, or 0 with what is made
+module _ (r needed : ℕ) (made out : List ℕ) where
+  abbrev answer : ℕ
+  answer = first (r ∷ refuse 11 (not (eqb (length out) needed)) ∷ [])
+
+  abbrev Answered : ℕ → List ℕ → Type 0
+  Answered a after = (a ≡ answer) × (after ≡ pick (eqb answer 0) made out)
+
+  before-11 : {a : ℕ} → a ≡ r → a ≢ 0 → Answered a out
+  before-11 e ne =
+      let n : r ≢ 0 = λ z. ne (e ∙ z) in
+      let g : answer ≡ r = exactly (room-rules r needed (length out)) r .1 (here n) in
+      (e ∙ sym g, sym (rw (g, ne-eqb r 0 n)))
+
+  eleven : r ≡ 0 → length out ≢ needed → Answered 11 out
+  eleven z ne = let g : answer ≡ 11 = exactly (room-rules r needed (length out)) 11 .1 (then z (here ne)) in (sym g, sym (rw g))
+
+  done : r ≡ 0 → length out ≡ needed → {after : List ℕ} → after ≡ made → Answered 0 after
+  done z l e = let g : answer ≡ 0 = exactly (room-rules r needed (length out)) 0 .1 (then z (then l accepted)) in (sym g, e ∙ sym (rw g))
+
+module _ (dds out : List ℕ) {x : Head} (e : x ≡ importHead dds) where
+  pub import-refused : x .refusal ≢ 0 → Imports dds out (x .refusal) out
+  unfolding importRefusal importAfter
+  import-refused ne = before-11 (fileRefusal dds) (wholeLength (headMade dds)) (sheetMade dds) out (file-told dds e .0) ne
+
+  pub import-taken : x .refusal ≡ 0 → Taken dds × (x ≡ headMade dds)
+  import-taken z = let q = sym (file-told dds e .0) ∙ z in (taken dds q, file-told dds e .1 q)
+
+  pub import-11 : x .refusal ≡ 0 → length out ≢ wholeLength x → Imports dds out 11 out
+  unfolding importRefusal importAfter
+  import-11 z ne =
+      eleven (fileRefusal dds) (wholeLength (headMade dds)) (sheetMade dds) out (sym (file-told dds e .0) ∙ z)
+      (λ l. ne (l ∙ ap (λ (h : Head). h .start + 16 * blocksOf h) (sym (import-taken z .1))))
+
+  pub import-done : x .refusal ≡ 0 → length out ≡ wholeLength x → {after : List ℕ} → after ≡ sheetMade dds → Imports dds out 0 after
+  unfolding importRefusal importAfter
+  import-done z l =
+      done (fileRefusal dds) (wholeLength (headMade dds)) (sheetMade dds) out (sym (file-told dds e .0) ∙ z)
+      (l ∙ ap (λ (h : Head). h .start + 16 * blocksOf h) (import-taken z .1))
+
+module _ (s out : List ℕ) {x : Head} (e : x ≡ exportHead s) where
+  pub export-refused : x .refusal ≢ 0 → Exports s out (x .refusal) out
+  unfolding exportRefusal exportAfter
+  export-refused ne = before-11 (wholeRefusal s) (fileLength (readHead s)) (fileMade s) out (sheet-told s e .0) ne
+
+  pub export-taken : x .refusal ≡ 0 → Whole s × (x ≡ readHead s)
+  export-taken z = let q = sym (sheet-told s e .0) ∙ z in (whole s q, sheet-told s e .1 q)
+
+  pub export-11 : x .refusal ≡ 0 → length out ≢ fileLength x → Exports s out 11 out
+  unfolding exportRefusal exportAfter
+  export-11 z ne =
+      eleven (wholeRefusal s) (fileLength (readHead s)) (fileMade s) out (sym (sheet-told s e .0) ∙ z)
+      (λ l. ne (l ∙ ap fileLength (sym (export-taken z .1))))
+
+  pub export-done : x .refusal ≡ 0 → length out ≡ fileLength x → {after : List ℕ} → after ≡ fileMade s → Exports s out 0 after
+  unfolding exportRefusal exportAfter
+  export-done z l =
+      done (wholeRefusal s) (fileLength (readHead s)) (fileMade s) out (sym (sheet-told s e .0) ∙ z) (l ∙ ap fileLength (export-taken z .1))
+
+-- WHAT A CALL FOR THE LENGTH ANSWERS
+module _ (r needed : ℕ) where
+  length-refused : {a : ℕ} → a ≡ r → a ≢ 0 → record { refusal = a; length = 0 } ≡ lengthAs r needed
+  length-refused e ne = rw (← e, ne-eqb _ 0 ne)
+
+  length-is : r ≡ 0 → {n : ℕ} → n ≡ needed → record { refusal = 0; length = n } ≡ lengthAs r needed
+  length-is z e = rw (z, e)
+
+module _ (dds : List ℕ) {x : Head} (e : x ≡ importHead dds) where
+  pub import-length-refused : x .refusal ≢ 0 → record { refusal = x .refusal; length = 0 } ≡ importLength dds
+  unfolding importLength
+  import-length-refused ne = length-refused (fileRefusal dds) (wholeLength (headMade dds)) (file-told dds e .0) ne
+
+  module _ (z : x .refusal ≡ 0) where
+    pub import-sized : Sized (x .width) (x .height)
+    unfolding headMade
+    import-sized = rw (import-taken dds [] e z .1) (import-taken dds [] e z .0 .size)
+
+    pub import-start : x .start ≤ 7
+    unfolding headMade
+    import-start = rw (import-taken dds [] e z .1) (head-short _ _)
+
+    pub import-length-is : {n : ℕ} → n ≡ wholeLength x → record { refusal = 0; length = n } ≡ importLength dds
+    unfolding importLength
+    import-length-is l =
+        length-is (fileRefusal dds) (wholeLength (headMade dds)) (sym (file-told dds e .0) ∙ z)
+        (l ∙ ap (λ (h : Head). h .start + 16 * blocksOf h) (import-taken dds [] e z .1))
+
+module _ (s : List ℕ) {x : Head} (e : x ≡ exportHead s) where
+  pub export-length-refused : x .refusal ≢ 0 → record { refusal = x .refusal; length = 0 } ≡ exportLength s
+  unfolding exportLength
+  export-length-refused ne = length-refused (wholeRefusal s) (fileLength (readHead s)) (sheet-told s e .0) ne
+
+  module _ (z : x .refusal ≡ 0) where
+    pub export-sized : Sized (x .width) (x .height)
+    export-sized = sheet-sized s (export-taken s [] e z .1) z
+
+    pub export-length-is : {n : ℕ} → n ≡ fileLength x → record { refusal = 0; length = n } ≡ exportLength s
+    unfolding exportLength
+    export-length-is l =
+        length-is (wholeRefusal s) (fileLength (readHead s)) (sym (sheet-told s e .0) ∙ z) (l ∙ ap fileLength (export-taken s [] e z .1))
+
+-- a length fits 32 bits
+pub blocks-fit : (x : Head) → Sized (x .width) (x .height) → 16 * blocksOf x < 2 ^ 31
+unfolding blocksOf
+blocks-fit x z = omega (arith, few-blocks z)

@@ -1,0 +1,184 @@
+-- WHAT HOLDS THE DEFINITIONS OF IMPORT AND EXPORT: a sheet of 5 by 3 pixels and its file, byte by byte from Microsoft's guide and document
+-- 02; each field changed; each refusal together with those that come after it.
+-- Assumes nothing.
+use mathlib.Core.Path.{_≡_, refl}
+use mathlib.Core.List.{List, [], _∷_, _++_, map}
+use Prim.Native.Nat.{ℕ, _/_}
+use lib.ListN.{drop, replicate, set, take}
+use lib.Seq.{sets}
+use Rattle.head_rules.specs.declared.Head.{Head}
+use Rattle.head_rules.specs.Geometry.{blocksOf}
+use Rattle.head_rules.specs.Heads.{formIn, headBytes, headRefusal, heightIn, readHead, sizeRefusal, widthIn}
+use Rattle.head_rules.specs.Numbers.{groups, raised, readGroups, readNumber}
+use Rattle.laws.specs.Digits.{evenly}
+use Rattle.laws.specs.Refusals.{first}
+use Rattle.laws.specs.Tables.{table, tableFrom}
+use Rattle.dds_rules.specs.Header.{alphaMask, arraySize, bitCount, blueMask, canonicalHeader, caps, caps2, caps3, caps4, depth}
+use Rattle.dds_rules.specs.Header.{dimension, entries, format, formatCode, formatFlags, formatSize, greenMask, headerFlags, headerNumber}
+use Rattle.dds_rules.specs.Header.{headerSize, height, isTexture, linearSize, magic, mipCount, misc, misc2, numberAt, offset, redMask, reserved}
+use Rattle.dds_rules.specs.Header.{reserved2, width}
+use Rattle.dds_rules.specs.Files.{exportAfter, exportHead, exportLength, exportRefusal, fileMade, fileRefusal, headMade, importAfter}
+use Rattle.dds_rules.specs.Files.{importHead, importLength, importRefusal, sheetMade, wholeRefusal}
+
+abbrev zeros : ℕ → List ℕ
+zeros n = replicate n 0
+
+abbrev nines : ℕ → List ℕ
+nines n = replicate n 9
+
+abbrev head : ℕ → ℕ → ℕ → Head
+head w h start = record { refusal = 0; width = w; height = h; start = start }
+
+-- a number below 256
+abbrev small : ℕ → List ℕ
+small n = n ∷ 0 ∷ 0 ∷ 0 ∷ []
+
+-- the header of a sheet of 5 by 3 pixels: two blocks, 32 bytes; the height first
+abbrev pub header53 : List ℕ
+header53 =
+    (0x44 ∷ 0x44 ∷ 0x53 ∷ 0x20 ∷ []) ++ small 124 ++ (0x07 ∷ 0x10 ∷ 0x08 ∷ 0x00 ∷ []) ++ small 3 ++ small 5 ++ small 32 ++ small 0 ++ small 1 ++
+    zeros 44 ++
+    small 32 ++ small 4 ++ (0x44 ∷ 0x58 ∷ 0x31 ∷ 0x30 ∷ []) ++ zeros 20 ++
+    (0x00 ∷ 0x10 ∷ 0x00 ∷ 0x00 ∷ []) ++ zeros 16 ++
+    small 98 ++ small 3 ++ small 0 ++ small 1 ++ small 0
+
+-- the two blocks, no two bytes alike
+abbrev blocks : List ℕ
+blocks =
+    1 ∷ 2 ∷ 3 ∷ 4 ∷ 5 ∷ 6 ∷ 7 ∷ 8 ∷ 9 ∷ 10 ∷ 11 ∷ 12 ∷ 13 ∷ 14 ∷ 15 ∷ 16 ∷
+    17 ∷ 18 ∷ 19 ∷ 20 ∷ 21 ∷ 22 ∷ 23 ∷ 24 ∷ 25 ∷ 26 ∷ 27 ∷ 28 ∷ 29 ∷ 30 ∷ 31 ∷ 32 ∷
+    []
+
+abbrev pub sheet53 : List ℕ
+sheet53 = 0x01 ∷ 0x05 ∷ 0x03 ∷ blocks
+
+abbrev pub file53 : List ℕ
+file53 = header53 ++ blocks
+
+-- a byte of the file changed
+abbrev but : ℕ → ℕ → List ℕ
+but at byte = set file53 at byte
+
+-- width and height of eight bytes, in a file that has a byte too many
+abbrev sides : List ℕ → List ℕ
+sides bs = sets file53 12 bs ++ (0 ∷ [])
+
+-- a file or a sheet, the output's length, and the answer
+pub record Claim : Type 0 where
+  pub given : List ℕ
+  pub room : ℕ
+  pub answer : ℕ
+
+abbrev call : List ℕ → ℕ → ℕ → Claim
+call s room n = record { given = s; room = room; answer = n }
+
+abbrev pub imports : List Claim
+imports =
+    call file53 35 0 ∷
+    -- fewer than 148 bytes; 148, and no blocks
+    call [] 35 15 ∷
+    call (take 147 file53) 35 15 ∷
+    call header53 35 10 ∷
+    -- magic, both sizes, the code
+    call (but 0 0x45) 35 15 ∷
+    call (but 3 0x00) 35 15 ∷
+    call (but 4 125) 35 15 ∷
+    call (but 76 24) 35 15 ∷
+    call (but 87 0x35) 35 15 ∷
+    -- the format, from 97 to 100
+    call (but 128 97) 35 15 ∷
+    call (but 128 98) 35 0 ∷
+    call (but 128 99) 35 0 ∷
+    call (but 128 100) 35 15 ∷
+    call (but 129 1) 35 15 ∷
+    -- the dimension; the array size 0, 2, and 1 with a high byte
+    call (but 132 2) 35 15 ∷
+    call (but 132 4) 35 15 ∷
+    call (but 140 0) 35 15 ∷
+    call (but 140 2) 35 15 ∷
+    call (but 143 1) 35 15 ∷
+    -- the mip count 0, 2, 257
+    call (but 28 0) 35 0 ∷
+    call (but 28 2) 35 15 ∷
+    call (but 29 1) 35 15 ∷
+    -- the cube flag alone and among others, and all the others
+    call (but 136 4) 35 15 ∷
+    call (but 136 7) 35 15 ∷
+    call (sets file53 136 (0xFB ∷ 0xFF ∷ 0xFF ∷ 0xFF ∷ [])) 35 0 ∷
+    -- what is not looked at: flags 1007 and linear size 0, as nvcompress writes them; depth, reserved, flags of the pixel format, bit count,
+    -- caps, misc 2
+    call (set (but 10 0) 20 0) 35 0 ∷
+    call (but 24 1) 35 0 ∷
+    call (but 75 1) 35 0 ∷
+    call (but 80 0) 35 0 ∷
+    call (but 88 32) 35 0 ∷
+    call (but 109 0) 35 0 ∷
+    call (but 127 1) 35 0 ∷
+    call (but 144 1) 35 0 ∷
+    -- each is refused for what the next ones are refused for too
+    call (set (sides (small 0 ++ small 5)) 140 0) 34 15 ∷
+    call (sides (small 0 ++ small 5)) 34 9 ∷
+    call (sides (small 3 ++ small 0)) 34 9 ∷
+    call (sides (small 3 ++ (0x01 ∷ 0x10 ∷ 0 ∷ 0 ∷ []))) 34 9 ∷
+    call (sides ((0x01 ∷ 0x10 ∷ 0 ∷ 0 ∷ []) ++ small 5)) 34 9 ∷
+    call (sides (replicate 8 0xFF)) 34 9 ∷
+    call (sides (0 ∷ 0 ∷ 1 ∷ 0 ∷ 0 ∷ 0 ∷ 1 ∷ 0 ∷ [])) 34 9 ∷
+    call (sides ((0x00 ∷ 0x10 ∷ 0 ∷ 0 ∷ []) ++ (0x00 ∷ 0x10 ∷ 0 ∷ 0 ∷ []))) 34 10 ∷
+    call (sides (small 3 ++ small 5)) 34 10 ∷
+    call (take 179 file53) 34 10 ∷
+    call file53 34 11 ∷
+    call file53 36 11 ∷
+    []
+
+abbrev pub exports : List Claim
+exports =
+    call sheet53 180 0 ∷
+    -- each is refused for what the next ones are refused for too
+    call [] 181 7 ∷
+    call (0x02 ∷ 0x00 ∷ 0x03 ∷ []) 181 8 ∷
+    call (0x01 ∷ 0x00 ∷ 0x03 ∷ []) 181 9 ∷
+    call (sheet53 ++ (0 ∷ [])) 181 10 ∷
+    call (take 34 sheet53) 181 10 ∷
+    call sheet53 181 11 ∷
+    call sheet53 179 11 ∷
+    []
+
+pub record Files : Type 0 where
+  -- the fields by their numbers: those behind the eleven reserved ones start at 19
+  pub in-order : map (λ f. offset f / 4)
+      (magic ∷ headerSize ∷ headerFlags ∷ height ∷ width ∷ linearSize ∷ depth ∷ mipCount ∷ reserved ∷
+      formatSize ∷ formatFlags ∷ formatCode ∷ bitCount ∷ redMask ∷ greenMask ∷ blueMask ∷ alphaMask ∷
+      caps ∷ caps2 ∷ caps3 ∷ caps4 ∷ reserved2 ∷ format ∷ dimension ∷ misc ∷ arraySize ∷ misc2 ∷ [])
+      ≡ 0 ∷ 1 ∷ 2 ∷ 3 ∷ 4 ∷ 5 ∷ 6 ∷ 7 ∷ 8 ∷ 19 ∷ 20 ∷ 21 ∷ 22 ∷ 23 ∷ 24 ∷ 25 ∷ 26 ∷ 27 ∷ 28 ∷ 29 ∷ 30 ∷ 31 ∷ 32 ∷ 33 ∷ 34 ∷ 35 ∷ 36 ∷ []
+  pub header : canonicalHeader (head 5 3 3) ≡ header53
+  -- 300 by 4,096: 75 columns and 1,024 rows, 1,228,800 bytes
+  pub header-sides : take 12 (drop 12 (canonicalHeader (head 300 4096 5)))
+      ≡ 0x00 ∷ 0x10 ∷ 0x00 ∷ 0x00 ∷ 0x2C ∷ 0x01 ∷ 0x00 ∷ 0x00 ∷ 0x00 ∷ 0xC0 ∷ 0x12 ∷ 0x00 ∷ []
+  pub number-low-byte-first : numberAt (9 ∷ 0x04 ∷ 0x03 ∷ 0x02 ∷ 0x81 ∷ 9 ∷ []) 1 ≡ 0x81020304
+  pub imported : map (λ out. importAfter file53 out) (nines 35 ∷ nines 34 ∷ []) ≡ sheet53 ∷ nines 34 ∷ []
+  pub exported : map (λ out. exportAfter sheet53 out) (nines 180 ∷ nines 181 ∷ []) ≡ file53 ∷ nines 181 ∷ []
+  pub heads : importHead file53 ∷ exportHead sheet53 ∷ importHead [] ∷ exportHead [] ∷ []
+      ≡ head 5 3 3 ∷ head 5 3 3 ∷ record { refusal = 15; width = 0; height = 0; start = 0 } ∷
+      record { refusal = 7; width = 0; height = 0; start = 0 } ∷ []
+  pub import-answers : map (λ c. importRefusal (c .given) (c .room)) imports ≡ map (λ c. c .answer) imports
+  pub export-answers : map (λ c. exportRefusal (c .given) (c .room)) exports ≡ map (λ c. c .answer) exports
+  pub lengths : importLength file53 ∷ importLength header53 ∷ exportLength sheet53 ∷ exportLength [] ∷ []
+      ≡ record { refusal = 0; length = 35 } ∷ record { refusal = 10; length = 0 } ∷
+      record { refusal = 0; length = 180 } ∷ record { refusal = 7; length = 0 } ∷ []
+
+pub files-hold : Files
+unfolding evenly table tableFrom first numberAt entries headerNumber canonicalHeader isTexture headMade sheetMade fileRefusal importRefusal
+    importAfter wholeRefusal exportRefusal fileMade exportAfter importLength exportLength importHead exportHead blocksOf sizeRefusal headBytes groups readHead
+    headRefusal formIn widthIn heightIn readNumber readGroups raised
+files-hold = record {
+  in-order = refl;
+  header = refl;
+  header-sides = refl;
+  number-low-byte-first = refl;
+  imported = refl;
+  exported = refl;
+  heads = refl;
+  import-answers = refl;
+  export-answers = refl;
+  lengths = refl;
+}

@@ -1,0 +1,6 @@
+pub mod Attested
+pub mod Numbers
+pub mod Textures
+pub mod Refusing
+pub mod Making
+pub mod Theorems

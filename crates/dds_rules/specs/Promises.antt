@@ -1,0 +1,21 @@
+-- What the calls promise, under one name each: the contract and `determined-*` say the same. Import and export promise their answer and
+-- every byte of the output.
+-- Assumes nothing.
+use mathlib.Core.Path.{_≡_}
+use mathlib.Core.List.{List}
+use Prim.Native.Nat.{ℕ}
+use lib.ListN.{length}
+use Rattle.dds_rules.specs.declared.Length.{Length}
+use Rattle.dds_rules.specs.Files.{exportAfter, exportLength, exportRefusal, importAfter, importLength, importRefusal}
+
+abbrev pub Imports : List ℕ → List ℕ → ℕ → List ℕ → Type 0
+Imports dds before answer after = (answer ≡ importRefusal dds (length before)) × (after ≡ importAfter dds before)
+
+abbrev pub Exports : List ℕ → List ℕ → ℕ → List ℕ → Type 0
+Exports sheet before answer after = (answer ≡ exportRefusal sheet (length before)) × (after ≡ exportAfter sheet before)
+
+abbrev pub ImportNeeds : List ℕ → Length → Type 0
+ImportNeeds dds answer = answer ≡ importLength dds
+
+abbrev pub ExportNeeds : List ℕ → Length → Type 0
+ExportNeeds sheet answer = answer ≡ exportLength sheet

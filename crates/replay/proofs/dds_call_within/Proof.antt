@@ -1,0 +1,35 @@
+-- `dds_call_within`: the parts that are lent are as long as the call says.
+-- Assumes nothing.
+use Rattle.replay.proofs.Prefix.{lent-length}
+use borrow.Author.Needs.{needs}
+use Rattle.replay.proofs.dds_call_within.Statement.{statement}
+use Rattle.replay.proofs.dds_call_within.Tie as tie
+
+array-borrow-prefix-given : tie.Need-array-borrow-prefix-given
+array-borrow-prefix-given c = search needs
+
+slice-aggregate-dds-call-of : tie.Need-slice-aggregate-dds-call-of
+slice-aggregate-dds-call-of c = lent-length _ 65536 (search needs)
+
+array-borrow-prefix-out : tie.Need-array-borrow-prefix-out
+array-borrow-prefix-out c = search needs
+
+slice-aggregate-dds-call-of-2 : tie.Need-slice-aggregate-dds-call-of-2
+slice-aggregate-dds-call-of-2 c = lent-length _ 65536 (search needs)
+
+dds-call-of-requires : tie.Need-dds-call-of-requires
+dds-call-of-requires c κs = search needs
+
+returns : tie.Need-returns
+returns c = search needs
+
+pub dds-call-within-spec : {M : Type 1} → statement M
+dds-call-within-spec =
+    tie.close
+    (tie.spec
+    array-borrow-prefix-given
+    slice-aggregate-dds-call-of
+    array-borrow-prefix-out
+    slice-aggregate-dds-call-of-2
+    dds-call-of-requires
+    returns)
