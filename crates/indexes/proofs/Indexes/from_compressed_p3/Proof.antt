@@ -1,5 +1,6 @@
 -- `Indexes::from_compressed_p3` meets its contract.
 -- Assumes nothing.
+use Prim.Native.Nat.{_<_}
 use native.Mathlib.Omega.{arith}
 use Rattle.laws.specs.Refusals.{first}
 use Rattle.bcn_format.proofs.Expanding.{after-1, after-2, spare-bit, three-anchors}
@@ -9,7 +10,12 @@ use Rattle.indexes.proofs.Indexes.from_compressed_p3.Tie as tie
 decompress-single-index-requires : tie.Need-decompress-single-index-requires
 decompress-single-index-requires c κs =
     let s = c .pre in
-    record { least = s .least; most = s .most; pixel = omega arith; room = spare-bit (c .args .bits) 3 (c .args .compressed) (s .most) (omega arith) (s .enough) }
+    record {
+      least = s .least;
+      most = s .most;
+      pixel = omega arith;
+      room = spare-bit (c .args .bits) 3 (c .args .compressed) (s .most) (omega arith) (s .enough);
+    }
 
 decompress-single-index-requires-2 : tie.Need-decompress-single-index-requires-2
 decompress-single-index-requires-2 c κs =
@@ -31,7 +37,8 @@ decompress-single-index-requires-3 c κs =
     let x = c .before .decompress-single-index in
     let y = c .decompress-single-index2 in
     let first = after-2 w (s .pre .least) (s .args .compressed) (x .result) (s .pre .enough) (x .ensures) in
-    let below = after-1 w (s .pre .least) (x .result) (s .args .p2-fixup) (y .result) (omega (arith, s .pre .rising, s .pre .pixel)) first (y .ensures) in
+    let second : s .args .p2-fixup < 15 = omega (arith, s .pre .rising, s .pre .pixel) in
+    let below = after-1 w (s .pre .least) (x .result) (s .args .p2-fixup) (y .result) second first (y .ensures) in
     record { least = s .pre .least; most = s .pre .most; pixel = s .pre .pixel; room = spare-bit w 1 (y .result) (s .pre .most) (omega arith) below }
 
 returns : tie.Need-returns

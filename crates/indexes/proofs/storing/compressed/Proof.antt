@@ -15,11 +15,13 @@ compress-single-index-requires-2 c κs = search needs
 returns : tie.Need-returns
 returns c =
     let s = c .before .before .before in
-    store-2 _ _ (s .pre .least) (s .pre .small) (s .pre .rising) (s .pre .fits) (c .before .before .if1 .taken) (c .before .compress-single-index .ensures)
-    (c .compress-single-index2 .ensures)
+    store-2 _ _ (s .pre .least) (s .pre .small) (s .pre .rising) (s .pre .fits) (c .before .before .if1 .taken)
+    (c .before .compress-single-index .ensures) (c .compress-single-index2 .ensures)
 
 compress-single-index-requires-3 : tie.Need-compress-single-index-requires-3
-compress-single-index-requires-3 c κs = let s = c .before .before .pre in record { least = s .least; most = s .most; pixel = s .rising .three (c .if2 .taken) .2 }
+compress-single-index-requires-3 c κs =
+    let s = c .before .before .pre in
+    record { least = s .least; most = s .most; pixel = s .rising .three (c .if2 .taken) .2 }
 
 compress-single-index-requires-4 : tie.Need-compress-single-index-requires-4
 compress-single-index-requires-4 c κs =
