@@ -196,8 +196,8 @@ def some_opacity(dice):
 
 # ---------------------------------------------------------------------------------------------------------------------
 # Heads, rows and sheets.
-SIDES = (*range(1, 10), 127, 128, 129, 4092, 4093, 4094, 4095, 4096)
-WRONG_SIDES = (0, 4097, 4098, 8192, 16383, 16384, (1 << 21) - 1)
+SIDES = (*range(1, 10), 127, 128, 129, 4095, 4096, 4097, 8192, 16380, 16381, 16382, 16383, 16384)
+WRONG_SIDES = (0, 16385, 16386, 32768, 65535, (1 << 21) - 1)
 
 
 def some_number_bytes(dice, value):
@@ -219,7 +219,7 @@ def some_head(dice):
     form = 1 if dice.chance(92) else dice.one_of((0, 2, 3, 127, 128, 129, 257, 16385))
     sides = [dice.one_of(SIDES) if dice.chance(85) else dice.one_of(WRONG_SIDES) for _ in range(2)]
     if dice.chance(30):
-        sides = [dice.within(0, 4200) for _ in range(2)]
+        sides = [dice.within(0, 16500) for _ in range(2)]
     head = b"".join(some_number_bytes(dice, value) for value in (form, *sides))
     if dice.chance(8):
         head = head[: dice.below(len(head) + 1)]
@@ -246,9 +246,9 @@ def some_row(dice, largest=40):
     if dice.chance(6):
         row = dice.one_of((model.in_blocks(height), model.in_blocks(height) + 1, *LARGE))
     if dice.chance(4):
-        width = dice.one_of((0, 4097, *LARGE))
+        width = dice.one_of((0, 16385, *LARGE))
     if dice.chance(4):
-        height = dice.one_of((0, 4097, *LARGE))
+        height = dice.one_of((0, 16385, *LARGE))
     data = b"".join(some_block(dice) for _ in range(blocks // 16)) + dice.bytes(blocks % 16)
     return width, height, row, data, dice.bytes(min(out, protocol.LARGEST_LENGTH))
 
@@ -320,7 +320,7 @@ def some_dds(dice, largest=20):
         if sort < 3:
             data = with_number(data, dice.one_of(DDS_LOOKED_AT), dice.one_of((0, 1, 2, 3, 4, 31, 97, 100, *LARGE)))
         elif sort == 3:
-            data = with_number(data, dice.one_of((DDS_HEIGHT, DDS_WIDTH)), dice.one_of((0, 4096, 4097, *LARGE)))
+            data = with_number(data, dice.one_of((DDS_HEIGHT, DDS_WIDTH)), dice.one_of((0, 4097, 16384, 16385, *LARGE)))
         elif sort == 4:
             at = dice.below(model.DDS_HEADER)
             data = data[:at] + dice.bytes(1) + data[at + 1 :]

@@ -66,8 +66,9 @@ def calls():
         found.append((("H", head), 0, numbers))
         found.append((("W", width, 1), 0, bytes([len(head)]) + head.ljust(7, b"\0")))
     found.append((("H", bytes.fromhex("01800001")), 7, bytes(12)))
-    found.append((("W", 4097, 1), 9, bytes(8)))
-    found.append((("H", b"\x01" + model.write_number(4097) + b"\x01"), 9, bytes(12)))
+    # document 02, M-104: the limit that document 01 has at 4,096 is 16,384
+    found.append((("W", 16385, 1), 9, bytes(8)))
+    found.append((("H", b"\x01" + model.write_number(16385) + b"\x01"), 9, bytes(12)))
     found.append((("H", b""), 7, bytes(12)))
     found.append((("S", b"", 0, 0, bytes(26)), 7, b""))
     found.append((("l", SHEET), len(LISTING), bytes(3) + LISTING.encode()))

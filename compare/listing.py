@@ -49,7 +49,7 @@ def inputs(seed):
     yield "document 01's example", [document_01.SHEET]
     yield "an empty input", [b""]
     heads = ["01", "0105", "010580", "018000", "80", "8000", "81000504", "0180808001", "ffffff7f", "02", "020504"]
-    heads += ["000504", "8001", "8101", "0280", "010004", "010400", "01812004", "01048120", "01ffff7f04", "010080"]
+    heads += ["000504", "8001", "8101", "0280", "010004", "010400", "0181800104", "0104818001", "0184800101", "01ffff7f04", "010080"]
     refused = [bytes.fromhex(head) + rest for head in heads for rest in (b"", dice.bytes(7), dice.bytes(64))]
     assert {model.read_head(head)[0] for head in refused} >= {7, 8, 9}
     yield "refused heads", refused + [some_head(dice) for _ in range(100)]
@@ -59,17 +59,18 @@ def inputs(seed):
     surplus = [sheet + dice.bytes(more) for more in (*range(1, 34), 1000, 16384, 16385, 70000)]
     yield "bytes missing at each place, and surplus", cut + [sheet] + surplus
     sizes = [(width, height) for width in (1, 3, 4, 5, 8, 9, 17) for height in (1, 2, 4, 5, 7, 12, 13)]
-    sizes += [(4096, 1), (1, 4096), (4095, 6), (129, 127), (4093, 9)]
+    sizes += [(4096, 1), (1, 4096), (4095, 6), (129, 127), (4093, 9), (4097, 5), (16384, 4), (4, 16384), (16383, 6)]
     whole = []
     for width, height in sizes:
         count = model.in_blocks(width) * model.in_blocks(height)
         whole.append(model.write_head(width, height)[1] + b"".join(some_block(dice) for _ in range(count)))
     yield "odd sizes and several rows", whole
-    # A row of the widest sheet fills the buffer of 16,384 bytes: ends within, at and after a row.
-    wide = model.write_head(4096, 9)[1] + b"".join(some_block(dice) for _ in range(3 * 1024))
-    row = len(wide) - 3 * 16384
-    ends = [row + 16384 * rows + more for rows in (1, 2, 3) for more in (-17, -16, -1, 0, 1, 16)]
-    yield "the widest rows, cut and surplus", [(wide + bytes(16))[:end] for end in ends]
+    # A run of 1,024 blocks fills the buffer of 16,384 bytes, and the widest row has four: ends within, at and after each run.
+    for what, width, runs in (("rows of one run", 4096, 3), ("the widest rows, of four runs", 16384, 8), ("rows of a run and a block", 4100, 3)):
+        wide = model.write_head(width, 9)[1] + b"".join(some_block(dice) for _ in range(3 * model.in_blocks(width)))
+        head = len(wide) - 48 * model.in_blocks(width)
+        ends = [head + 16384 * run + more for run in range(1, runs + 1) for more in (-17, -16, -1, 0, 1, 16)]
+        yield what + ", cut and surplus", [(wide + bytes(16))[:end] for end in (*ends, len(wide), len(wide) + 1)]
     some = []
     for _ in range(60):
         head, blocks = some_sheet(dice, 30)

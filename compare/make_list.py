@@ -313,7 +313,7 @@ def telling_opaque(dice, shared):
 
 
 # ---------------------------------------------------------------------------------------------------------------------
-WIDE_SIDES = (0, *range(1, 10), 127, 128, 129, 4095, 4096, 4097, 16383, 16384, (1 << 21) - 1)
+WIDE_SIDES = (0, *range(1, 10), 127, 128, 129, 4095, 4096, 4097, 16383, 16384, 16385, (1 << 21) - 1)
 # Not numbers: a needless last group, a cut-off group, too many groups.
 NOT_NUMBERS = ("8000", "8100", "808000", "818000", "80", "8080", "ff", "80808000", "80808001", "ffffff7f", "81808000")
 
@@ -322,23 +322,23 @@ def reading_heads(dice, shared):
     del shared
     calls = document_calls("H")
     for width in WIDE_SIDES:
-        for height in (1, 4, 128, 4095, 4096, 4097, 0):
+        for height in (1, 4, 128, 4096, 4097, 16384, 16385, 0):
             calls.append(("H", b"\x01" + model.write_number(width) + model.write_number(height)))
     for height in WIDE_SIDES:
         calls.append(("H", b"\x01\x05" + model.write_number(height) + dice.bytes(16)))
     # Every beginning of a head, each number cut off among them.
-    for head in ("010504", "0180018001", "0180208020", "01ff7fff7f", "01ffff7fffff7f"):
+    for head in ("010504", "0180018001", "0180208020", "01808001808001", "01ff7fff7f", "01ffff7fffff7f"):
         head = bytes.fromhex(head)
         calls += [("H", head[:count]) for count in range(len(head) + 1)]
     # Forms: only 1, and 7 before 8 only on the form itself.
     for form in (0, 2, 3, 127, 128, 129, 257, 16384, 16385, (1 << 21) - 1):
         for rest in ("", "0504", "80", "0004", "05", "808080", "050480"):
             calls.append(("H", model.write_number(form) + bytes.fromhex(rest)))
-    # Wrong numbers at each place, alone and beside a side of 0 or above 4,096 (7 before 9).
+    # Wrong numbers at each place, alone and beside a side of 0 or above 16,384 (7 before 9).
     for wrong in map(bytes.fromhex, NOT_NUMBERS):
         for head in (wrong, wrong + b"\x05\x04", b"\x01" + wrong, b"\x01" + wrong + b"\x04", b"\x01\x05" + wrong):
             calls.append(("H", head))
-        for side in (0, 4097):
+        for side in (0, 16385):
             calls.append(("H", b"\x01" + model.write_number(side) + wrong))
             calls.append(("H", b"\x01" + wrong + model.write_number(side)))
     calls.append(("H", (b"\x01\x05\x04" + dice.bytes(252))))
@@ -349,7 +349,7 @@ def reading_heads(dice, shared):
 def writing_heads(dice, shared):
     del dice, shared
     calls = document_calls("W")
-    sides = (0, *range(1, 10), 127, 128, 129, 4095, 4096, 4097, 16384, 65536, 65537, 1 << 31, (1 << 32) - 1)
+    sides = (0, *range(1, 10), 127, 128, 129, 4096, 4097, 16383, 16384, 16385, 65536, 65537, 1 << 31, (1 << 32) - 1)
     return calls + [("W", width, height) for width in sides for height in sides]
 
 
@@ -388,17 +388,17 @@ def decoding_rows(dice, shared):
             add(width, height, row, blocks + more, out + more)
         add(width, height, row, 0, 0)
     # Sizes refused (9), with a row beyond, block bytes or an output that would be refused too.
-    for width, height in ((0, 1), (1, 0), (0, 0), (4097, 1), (1, 4097), (4097, 4097), (65536, 1), (1, 1 << 31)):
-        for row in (0, 2000):
+    for width, height in ((0, 1), (1, 0), (0, 0), (16385, 1), (1, 16385), (16385, 16385), (65536, 1), (1, 1 << 31)):
+        for row in (0, 5000):
             for blocks, out in ((16, 16), (0, 16), (16, 0), (0, 0)):
                 add(width, height, row, blocks, out)
     # Rows beyond the sheet (12), with block bytes or an output that would be refused too.
-    for height, rows in ((1, (1, 2)), (4, (1,)), (5, (2,)), (4096, (1024, 1025)), (4093, (1024,))):
+    for height, rows in ((1, (1, 2)), (4, (1,)), (5, (2,)), (4096, (1024, 1025)), (16384, (4096, 4097)), (16381, (4096,))):
         for row in (*rows, 65536, 1 << 30, (1 << 32) - 1):
             for blocks, out in ((16, 16), (0, 16), (16, 0), (0, 0)):
                 add(3, height, row, blocks, out)
     # Each pair in its order once more at the largest sizes; the last rows of the tallest sheets.
-    for height in (4095, 4096, 4094, 4093, 4092):
+    for height in (4096, 4097, 16383, 16384, 16382, 16381, 16380):
         row = model.in_blocks(height) - 1
         add(2, height, row, *right(2, height, row))
         add(2, height, row, right(2, height, row)[0], right(2, height, row)[1] + 8)
@@ -406,6 +406,9 @@ def decoding_rows(dice, shared):
     for width in (4095, 4096):
         add(width, 4093, 1023, *right(width, 4093, 1023))
         add(width, 1, 0, 16 * 1024 - 16, 4)
+    # The widest row, of which one scanline has room here; and the same without its last block.
+    add(16384, 16381, 4095, *right(16384, 16381, 4095))
+    add(16384, 1, 0, 16 * 4096 - 16, 4 * 16384)
     return calls + [("O", *some_row(dice, 12)) for _ in range(40)]
 
 
@@ -454,12 +457,16 @@ def replacing_in_sheets(dice, shared):
     # Heads refused (7, 8, 9) before too few block bytes and a number beyond.
     heads = ["", "01", "0105", "018000", "8000", "81000504", "018080800004", "02", "020504", "000504", "020004", "8101"]
     heads += ["0280", "010004", "010400", "01812004", "01048120", "0100", "01008000", "010080", "01812080"]
+    heads += ["0181800104", "0104818001", "0181800180"]
     for head in heads:
         head = bytes.fromhex(head)
         for rest in (b"", document_01.C, document_01.C + document_01.D):
             calls.append(("S", head + rest, 0, 0, document_01.C_NEW))
             calls.append(("S", head + rest, 9, 9, wrong_value))
-    # The largest sides: too few bytes for 4,096 by 4,096, a whole sheet one block high.
+    # The largest sides: too few bytes for 16,384 by 16,384 and for 4,096 by 4,096, whole sheets one block high.
+    calls.append(("S", model.write_head(16384, 16384)[1] + document_01.C, 0, 0, document_01.C_NEW))
+    wide = model.write_head(16380, 4)[1] + document_01.C * 4095
+    calls += [("S", wide, block, 0, document_01.C_NEW) for block in (4094, 4095)]
     calls.append(("S", model.write_head(4096, 4096)[1] + document_01.C, 0, 0, document_01.C_NEW))
     calls.append(("S", model.write_head(4096, 4)[1] + document_01.C * 1023, 0, 0, document_01.C_NEW))
     long = model.write_head(4095, 4)[1] + document_01.C * 1024
@@ -530,7 +537,7 @@ def dds_files(dice):
         other = with_number(other, at, dice.number(32))
     files.append(other)
     # Sides refused (9), beside an array of 0 (15), and with as many blocks as the others need or none (10).
-    sides = (0, 1, 4, 5, 128, 4095, 4096, 4097, 65535, 65536, 65537, 1 << 30, 1 << 31, (1 << 32) - 1)
+    sides = (0, 1, 4, 5, 128, 4096, 4097, 16383, 16384, 16385, 65535, 65536, 65537, 1 << 30, 1 << 31, (1 << 32) - 1)
     for width in sides:
         for height in (3, width):
             sized = with_number(with_number(right, DDS_WIDTH, width), DDS_HEIGHT, height)
@@ -553,11 +560,12 @@ def dds_sheets(dice):
     sheets += [right[:length] for length in range(len(right))] + [right + dice.bytes(more) for more in (1, 15, 16, 17)]
     heads = ["", "01", "0105", "018000", "8000", "81000504", "018080800004", "02", "020504", "000504", "020004", "8101"]
     heads += ["0280", "010004", "010400", "01812004", "01048120", "0100", "01008000", "010080", "01812080", "01802080"]
+    heads += ["0181800104", "0104818001", "0180800104"]
     for head in map(bytes.fromhex, heads):
         sheets += [head + rest for rest in (b"", document_01.C, document_01.C + document_01.D)]
-    for width, height in ((127, 5), (5, 128), (4096, 3), (3, 4093), (4096, 4096)):
+    for width, height in ((127, 5), (5, 128), (4096, 3), (3, 4093), (3, 16384), (4096, 4096), (16384, 16384)):
         count = model.in_blocks(width) * model.in_blocks(height)
-        sheets.append(model.write_head(width, height)[1] + blocks_for(dice, 16 * (1 if count > 1024 else count)))
+        sheets.append(model.write_head(width, height)[1] + blocks_for(dice, 16 * (1 if count > 4080 else count)))
     return sheets + [some_listed(dice, 9) for _ in range(80)]
 
 

@@ -361,7 +361,7 @@ def is_opaque(block, columns, rows):
 
 # ---------------------------------------------------------------------------------------------------------------------
 # The sheet.
-FORM, LARGEST_SIDE, GROUPS = 1, 4096, 3
+FORM, LARGEST_SIDE, GROUPS = 1, 16384, 3
 
 
 def write_number(value):

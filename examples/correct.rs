@@ -102,10 +102,10 @@ fn main() -> Result<(), Refusal> {
     show_refusal("index 3", &replace_line(&mut alone, LineNumber(0), &line));
     show_pixel(&alone);
 
-    let head = write_head(4096, 5);
+    let head = write_head(16384, 5);
     show_refusal("head", &head);
     show_bytes("head", &head?);
-    show_refusal("head", &write_head(4097, 5));
+    show_refusal("head", &write_head(16385, 5));
 
     // mode 6 from alpha 255 to 0: every pixel has index 0 but the last one, in column 3 and row 3, which has 15
     let corner = [0x40, 0, 0, 0, 0, 0, 0xFE, 0x80, 0, 0, 0, 0, 0, 0, 0, 0xF0];

@@ -11,7 +11,7 @@
  * A sheet is a head and behind it the blocks of a picture, row by row from 0. There are (width + 3) / 4 columns and (height + 3) / 4
  * rows of blocks; what they draw beyond the edge of the picture is not shown. The head has three numbers: the form, which is 1, the
  * width and the height in pixels. A number is written in groups of seven bits, the low group first, a byte each, whose high bit is
- * set in all but the last; in its shortest form, and in at most three groups: 127 is 7F, 128 is 80 01, 4,096 is 80 20.
+ * set in all but the last; in its shortest form, and in at most three groups: 127 is 7F, 128 is 80 01, 16,384 is 80 80 01.
  *
  * HOW TO LINK
  * librinchovek.a is for x86-64 with the System V calling convention (Linux) and needs no processor extension. It wants memcpy, and
@@ -41,7 +41,7 @@
 /* The version of this file. The major number is raised where a call goes, or answers otherwise what it accepted before; the minor
  * one where a call comes, or accepts what it refused before; the patch where neither is so. */
 #define RINCHOVEK_VERSION_MAJOR 1
-#define RINCHOVEK_VERSION_MINOR 3
+#define RINCHOVEK_VERSION_MINOR 4
 #define RINCHOVEK_VERSION_PATCH 0
 #define RINCHOVEK_VERSION (10000 * RINCHOVEK_VERSION_MAJOR + 100 * RINCHOVEK_VERSION_MINOR + RINCHOVEK_VERSION_PATCH)
 
@@ -54,7 +54,7 @@
 #define RINCHOVEK_LINE_BYTES 26
 #define RINCHOVEK_HEAD_BYTES 7 /* the most that a head has */
 #define RINCHOVEK_HEAD_NUMBERS 3 /* uint32_t */
-#define RINCHOVEK_LARGEST_SIDE 4096 /* pixels, of a sheet */
+#define RINCHOVEK_LARGEST_SIDE 16384 /* pixels, of a sheet; 4,096 before version 1.4.0 */
 #define RINCHOVEK_DDS_HEADER_BYTES 148
 #define RINCHOVEK_STACK_BYTES 2048 /* found: 1,240 and the 128 below the stack pointer, in rinchovek_bc7_nearest_index */
 

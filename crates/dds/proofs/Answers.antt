@@ -12,15 +12,15 @@ use lib.Dec.{eqb}
 use lib.ListN.{length}
 use Rattle.head_rules.specs.declared.Head.{Head}
 use Rattle.head_rules.specs.Geometry.{blocksOf, wholeLength}
-use Rattle.head_rules.specs.Heads.{Sized, headOf, readHead}
+use Rattle.head_rules.specs.Heads.{Sized, headOf, limit, readHead}
 use Rattle.head_rules.proofs.Blocks.{few-blocks}
 use Rattle.head_rules.proofs.Heading.{refusal-is, refused}
 use Rattle.head_rules.proofs.Theorems.{head-sized}
 use Rattle.laws.specs.Refusals.{Given, accepted, first, here, refuse, then}
 use Rattle.laws.specs.Tables.{pick}
 use Rattle.laws.proofs.Refusals.{exactly}
-use Rattle.dds_rules.specs.Files.{exportAfter, exportHead, exportLength, exportRefusal, fileLength, fileMade, fileRefusal, fileRules}
-use Rattle.dds_rules.specs.Files.{headAs, headMade, importAfter, importHead, importLength, importRefusal, lengthAs, sheetMade, wholeRefusal}
+use Rattle.dds_rules.specs.Files.{exportAfterBy, exportHead, exportLength, exportRefusalBy, fileLength, fileMade, fileRefusal, fileRules}
+use Rattle.dds_rules.specs.Files.{headAs, headMade, importAfterUpTo, importHead, importLength, importRefusalUpTo, lengthAs, sheetMade, wholeRefusal}
 use Rattle.dds_rules.specs.Promises.{Exports, Imports}
 use Rattle.dds_rules.proofs.Refusing.{Taken, Whole, file-rules, room-rules, taken, taken-so, whole, whole-handed, whole-so}
 use Rattle.dds_rules.proofs.Making.{head-short}
@@ -41,7 +41,7 @@ module _ (s : List ℕ) {x : Head} (is : x ≡ readHead s) where
   no-sheet n =
       let r = readHead s .refusal in
       let ne : r ≢ 0 = λ z. n (ap (λ (h : Head). h .refusal) is ∙ z) in
-      is ∙ sym (refused s r (sym (refusal-is s)) ne) ∙ sym (rw (exactly (whole-handed s) r .1 (here ne), ne-eqb r 0 ne))
+      is ∙ sym (refused limit s r (sym (refusal-is limit s)) ne) ∙ sym (rw (exactly (whole-handed s) r .1 (here ne), ne-eqb r 0 ne))
 
   pub sheet-sized : x .refusal ≡ 0 → Sized (x .width) (x .height)
   sheet-sized z = rw is (head-sized s (sym (ap (λ (h : Head). h .refusal) is) ∙ z))
@@ -104,40 +104,40 @@ module _ (r needed : ℕ) (made out : List ℕ) where
 
 module _ (dds out : List ℕ) {x : Head} (e : x ≡ importHead dds) where
   pub import-refused : x .refusal ≢ 0 → Imports dds out (x .refusal) out
-  unfolding importRefusal importAfter
+  unfolding importRefusalUpTo importAfterUpTo
   import-refused ne = before-11 (fileRefusal dds) (wholeLength (headMade dds)) (sheetMade dds) out (file-told dds e .0) ne
 
   pub import-taken : x .refusal ≡ 0 → Taken dds × (x ≡ headMade dds)
   import-taken z = let q = sym (file-told dds e .0) ∙ z in (taken dds q, file-told dds e .1 q)
 
   pub import-11 : x .refusal ≡ 0 → length out ≢ wholeLength x → Imports dds out 11 out
-  unfolding importRefusal importAfter
+  unfolding importRefusalUpTo importAfterUpTo
   import-11 z ne =
       eleven (fileRefusal dds) (wholeLength (headMade dds)) (sheetMade dds) out (sym (file-told dds e .0) ∙ z)
       (λ l. ne (l ∙ ap (λ (h : Head). h .start + 16 * blocksOf h) (sym (import-taken z .1))))
 
   pub import-done : x .refusal ≡ 0 → length out ≡ wholeLength x → {after : List ℕ} → after ≡ sheetMade dds → Imports dds out 0 after
-  unfolding importRefusal importAfter
+  unfolding importRefusalUpTo importAfterUpTo
   import-done z l =
       done (fileRefusal dds) (wholeLength (headMade dds)) (sheetMade dds) out (sym (file-told dds e .0) ∙ z)
       (l ∙ ap (λ (h : Head). h .start + 16 * blocksOf h) (import-taken z .1))
 
 module _ (s out : List ℕ) {x : Head} (e : x ≡ exportHead s) where
   pub export-refused : x .refusal ≢ 0 → Exports s out (x .refusal) out
-  unfolding exportRefusal exportAfter
+  unfolding exportRefusalBy exportAfterBy
   export-refused ne = before-11 (wholeRefusal s) (fileLength (readHead s)) (fileMade s) out (sheet-told s e .0) ne
 
   pub export-taken : x .refusal ≡ 0 → Whole s × (x ≡ readHead s)
   export-taken z = let q = sym (sheet-told s e .0) ∙ z in (whole s q, sheet-told s e .1 q)
 
   pub export-11 : x .refusal ≡ 0 → length out ≢ fileLength x → Exports s out 11 out
-  unfolding exportRefusal exportAfter
+  unfolding exportRefusalBy exportAfterBy
   export-11 z ne =
       eleven (wholeRefusal s) (fileLength (readHead s)) (fileMade s) out (sym (sheet-told s e .0) ∙ z)
       (λ l. ne (l ∙ ap fileLength (sym (export-taken z .1))))
 
   pub export-done : x .refusal ≡ 0 → length out ≡ fileLength x → {after : List ℕ} → after ≡ fileMade s → Exports s out 0 after
-  unfolding exportRefusal exportAfter
+  unfolding exportRefusalBy exportAfterBy
   export-done z l =
       done (wholeRefusal s) (fileLength (readHead s)) (fileMade s) out (sym (sheet-told s e .0) ∙ z) (l ∙ ap fileLength (export-taken z .1))
 

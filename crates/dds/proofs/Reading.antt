@@ -12,7 +12,7 @@ use lib.Seq.{take-all, take-append-seam}
 use Rattle.head_rules.specs.declared.Head.{Head}
 use Rattle.head_rules.specs.declared.HeadBytes.{HeadBytes}
 use Rattle.head_rules.specs.Geometry.{blocksOf, wholeLength}
-use Rattle.head_rules.specs.Heads.{Sized, headBytes, headOf, readHead, sevenOf, sizeRefusal, writeHead}
+use Rattle.head_rules.specs.Heads.{Sized, headBytes, headOf, limit, readHead, sevenOf, sizeRefusal, writeHead}
 use Rattle.head_rules.proofs.Heading.{size-0}
 use Rattle.head_rules.proofs.Theorems.{head-not-written-when}
 use Rattle.laws.specs.Padding.{padded}
@@ -20,7 +20,7 @@ use Rattle.laws.specs.Refusals.{Given, Rule, accepted, here, then, unless}
 use Rattle.laws.specs.Tables.{table}
 use Rattle.laws.proofs.Tests.{no-both}
 use Rattle.dds_rules.specs.Header.{Texture, bytesIn, canonicalHeader, fieldIn, headerLength, headerNumber, height, isTexture, width}
-use Rattle.dds_rules.specs.Files.{exportHead, fileLength, fileMade, headMade, importHead, sheetMade}
+use Rattle.dds_rules.specs.Files.{exportHead, fileLength, fileMadeBy, headMade, importHead, sheetMade}
 use Rattle.dds_rules.specs.Promises.{Exports, Imports}
 use Rattle.dds_rules.proofs.Refusing.{Taken}
 use Rattle.dds_rules.proofs.Numbers.{header-long}
@@ -52,7 +52,7 @@ module _ (w h : ℕ) {b : HeadBytes} (e : b ≡ writeHead w h) where
 
   seven : Sized w h → b ≡ sevenOf (headBytes w h)
   unfolding writeHead
-  seven z = e ∙ rw (eq-eqb (sizeRefusal w h) 0 (size-0 w h z))
+  seven z = e ∙ rw (eq-eqb (sizeRefusal w h) 0 (size-0 limit w h z))
 
   pub counted : b .refusal ≡ 0 → b .count ≡ length (headBytes w h)
   counted z = ap (λ (x : HeadBytes). x .count) (seven (sides z))
@@ -140,7 +140,7 @@ module _ (s out : List ℕ) {x : Head} (e : x ≡ exportHead s) (z : x .refusal 
       )
 
   pub export-filled : {after : List ℕ} → after ≡ take headerLength header ++ drop (x .start) s → Exports s out 0 after
-  unfolding fileMade
+  unfolding fileMadeBy
   export-filled f =
       export-done s out e z l
       (f ∙ ap (λ (t : List ℕ). t ++ drop (x .start) s)

@@ -8,7 +8,7 @@ use lib.ListN.{drop, replicate, set, take}
 use lib.Seq.{sets}
 use Rattle.head_rules.specs.declared.Head.{Head}
 use Rattle.head_rules.specs.Geometry.{blocksOf}
-use Rattle.head_rules.specs.Heads.{formIn, headBytes, headRefusal, heightIn, readHead, sizeRefusal, widthIn}
+use Rattle.head_rules.specs.Heads.{formIn, headBytes, headRefusalUpTo, heightIn, readHeadUpTo, sizeRefusalUpTo, widthIn}
 use Rattle.head_rules.specs.Numbers.{groups, raised, readGroups, readNumber}
 use Rattle.laws.specs.Digits.{evenly}
 use Rattle.laws.specs.Refusals.{first}
@@ -17,8 +17,8 @@ use Rattle.dds_rules.specs.Header.{alphaMask, arraySize, bitCount, blueM
 use Rattle.dds_rules.specs.Header.{dimension, entries, format, formatCode, formatFlags, formatSize, greenMask, headerFlags, headerNumber}
 use Rattle.dds_rules.specs.Header.{headerSize, height, isTexture, linearSize, magic, mipCount, misc, misc2, numberAt, offset, redMask, reserved}
 use Rattle.dds_rules.specs.Header.{reserved2, width}
-use Rattle.dds_rules.specs.Files.{exportAfter, exportHead, exportLength, exportRefusal, fileMade, fileRefusal, headMade, importAfter}
-use Rattle.dds_rules.specs.Files.{importHead, importLength, importRefusal, sheetMade, wholeRefusal}
+use Rattle.dds_rules.specs.Files.{exportAfter, exportAfterBy, exportHead, exportLength, exportRefusal, exportRefusalBy, fileMadeBy, fileRefusalUpTo, headMade, importAfter, importAfterUpTo}
+use Rattle.dds_rules.specs.Files.{importHead, importLength, importRefusal, importRefusalUpTo, sheetMade, wholeRefusalBy}
 
 abbrev zeros : ℕ → List ℕ
 zeros n = replicate n 0
@@ -119,11 +119,11 @@ imports =
     call (set (sides (small 0 ++ small 5)) 140 0) 34 15 ∷
     call (sides (small 0 ++ small 5)) 34 9 ∷
     call (sides (small 3 ++ small 0)) 34 9 ∷
-    call (sides (small 3 ++ (0x01 ∷ 0x10 ∷ 0 ∷ 0 ∷ []))) 34 9 ∷
-    call (sides ((0x01 ∷ 0x10 ∷ 0 ∷ 0 ∷ []) ++ small 5)) 34 9 ∷
+    call (sides (small 3 ++ (0x01 ∷ 0x40 ∷ 0 ∷ 0 ∷ []))) 34 9 ∷
+    call (sides ((0x01 ∷ 0x40 ∷ 0 ∷ 0 ∷ []) ++ small 5)) 34 9 ∷
     call (sides (replicate 8 0xFF)) 34 9 ∷
     call (sides (0 ∷ 0 ∷ 1 ∷ 0 ∷ 0 ∷ 0 ∷ 1 ∷ 0 ∷ [])) 34 9 ∷
-    call (sides ((0x00 ∷ 0x10 ∷ 0 ∷ 0 ∷ []) ++ (0x00 ∷ 0x10 ∷ 0 ∷ 0 ∷ []))) 34 10 ∷
+    call (sides ((0x00 ∷ 0x40 ∷ 0 ∷ 0 ∷ []) ++ (0x00 ∷ 0x40 ∷ 0 ∷ 0 ∷ []))) 34 10 ∷
     call (sides (small 3 ++ small 5)) 34 10 ∷
     call (take 179 file53) 34 10 ∷
     call file53 34 11 ∷
@@ -167,9 +167,9 @@ pub record Files : Type 0 where
       record { refusal = 0; length = 180 } ∷ record { refusal = 7; length = 0 } ∷ []
 
 pub files-hold : Files
-unfolding evenly table tableFrom first numberAt entries headerNumber canonicalHeader isTexture headMade sheetMade fileRefusal importRefusal
-    importAfter wholeRefusal exportRefusal fileMade exportAfter importLength exportLength importHead exportHead blocksOf sizeRefusal headBytes groups readHead
-    headRefusal formIn widthIn heightIn readNumber readGroups raised
+unfolding evenly table tableFrom first numberAt entries headerNumber canonicalHeader isTexture headMade sheetMade fileRefusalUpTo importRefusalUpTo
+    importAfterUpTo wholeRefusalBy exportRefusalBy fileMadeBy exportAfterBy importLength exportLength importHead exportHead blocksOf sizeRefusalUpTo headBytes groups readHeadUpTo
+    headRefusalUpTo formIn widthIn heightIn readNumber readGroups raised
 files-hold = record {
   in-order = refl;
   header = refl;

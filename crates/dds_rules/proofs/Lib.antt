@@ -3,4 +3,5 @@ pub mod Numbers
 pub mod Textures
 pub mod Refusing
 pub mod Making
+pub mod Limits
 pub mod Theorems

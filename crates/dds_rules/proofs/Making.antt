@@ -14,7 +14,7 @@ use Rattle.head_rules.specs.Numbers.{Bytes}
 use Rattle.head_rules.proofs.Theorems.{head-one-form, head-read-back}
 use Rattle.head_rules.proofs.Writing.{few, one-byte}
 use Rattle.dds_rules.specs.Header.{Texture, canonicalHeader, entries, fieldIn, headerLength, headerNumber, height, width}
-use Rattle.dds_rules.specs.Files.{fileLength, fileMade, headMade, sheetMade}
+use Rattle.dds_rules.specs.Files.{fileLength, fileMade, fileMadeBy, headMade, sheetMade}
 use Rattle.dds_rules.proofs.Refusing.{Taken, Whole}
 use Rattle.dds_rules.proofs.Numbers.{header-long, number-back}
 
@@ -53,7 +53,7 @@ module _ (dds : List ℕ) where
 
   -- and its file has the header of its head, and the blocks of the first file
   pub file-again : Sized wide high → fileMade (sheetMade dds) ≡ canonicalHeader (headMade dds) ++ drop headerLength dds
-  unfolding fileMade
+  unfolding fileMadeBy
   file-again z =
       ap (λ (x : Head). canonicalHeader x ++ drop (x .start) (sheetMade dds)) (sheet-head z)
       ∙ ap (λ (l : List ℕ). canonicalHeader (headMade dds) ++ l) sheet-blocks
@@ -75,20 +75,20 @@ module _ (s : List ℕ) (y : Bytes s) (w : Whole s) where
       omega (arith, e, length-drop (head .start) s, w .long)
 
   pub file-long : length (fileMade s) ≡ fileLength head
-  unfolding fileMade
+  unfolding fileMadeBy
   file-long = length-append (canonicalHeader head) (drop (head .start) s) ∙ omega (arith, header-long head, length-drop (head .start) s, w .long)
 
   -- the file's fields
   width-back : fieldIn (fileMade s) width ≡ head .width
-  unfolding fileMade headerNumber entries
+  unfolding fileMadeBy headerNumber entries
   width-back = number-back head (drop (head .start) s) 4 (lit< tt) (omega (arith, size .within-wide))
 
   height-back : fieldIn (fileMade s) height ≡ head .height
-  unfolding fileMade headerNumber entries
+  unfolding fileMadeBy headerNumber entries
   height-back = number-back head (drop (head .start) s) 3 (lit< tt) (omega (arith, size .within-high))
 
   file-texture : Texture (fileMade s)
-  unfolding fileMade headerNumber entries
+  unfolding fileMadeBy headerNumber entries
   file-texture =
       let back = number-back head (drop (head .start) s) in
       record {
@@ -120,7 +120,7 @@ module _ (s : List ℕ) (y : Bytes s) (w : Whole s) where
   }
 
   pub sheet-again : sheetMade (fileMade s) ≡ s
-  unfolding sheetMade fileMade
+  unfolding sheetMade fileMadeBy
   sheet-again =
       ap₂ (λ (b l : List ℕ). b ++ l) (ap₂ headBytes width-back height-back)
       (drop-at (canonicalHeader head) (drop (head .start) s) headerLength (header-long head))

@@ -9,38 +9,38 @@ use native.Mathlib.Omega.{arith}
 use lib.Dec.{eqb, lit<}
 use lib.ListN.{length}
 use Rattle.head_rules.specs.Geometry.{wholeLength}
-use Rattle.head_rules.specs.Heads.{Sized, readHead}
+use Rattle.head_rules.specs.Heads.{Sized, limit, readHead}
 use Rattle.head_rules.proofs.Heading.{size-test}
 use Rattle.head_rules.proofs.Theorems.{head-answers}
 use Rattle.laws.specs.Refusals.{Given, Rule, accepted, first, handed, here, refuse, then, unless}
 use Rattle.laws.proofs.Refusals.{Answers, accepted-when, answers, by-answer, by-not-eqb, exactly, none, rule, rules}
 use Rattle.dds_rules.specs.Header.{Another, Texture, fieldIn, height, width}
-use Rattle.dds_rules.specs.Files.{exportRefusal, exportRules, fileLength, fileRefusal, fileRules, headMade, importRefusal, importRules}
-use Rattle.dds_rules.specs.Files.{wholeRefusal, wholeRules}
+use Rattle.dds_rules.specs.Files.{exportRefusal, exportRefusalBy, exportRules, fileLength, fileRefusal, fileRefusalUpTo, fileRules, headMade, importRefusal, importRefusalUpTo, importRules}
+use Rattle.dds_rules.specs.Files.{wholeRefusal, wholeRefusalBy, wholeRules}
 use Rattle.dds_rules.proofs.Textures.{not-both, texture-test, whether}
 
 -- each test and its rule
 pub file-rules : (dds : List ℕ) → Answers (fileRefusal dds) (fileRules dds)
-unfolding fileRefusal
+unfolding fileRefusalUpTo
 file-rules dds =
-    answers (rule (texture-test dds) λ t. rule (size-test (fieldIn dds width) (fieldIn dds height)) λ z. rule
+    answers (rule (texture-test dds) λ t. rule (size-test limit (fieldIn dds width) (fieldIn dds height)) λ z. rule
     (by-not-eqb tt (length dds) (fileLength (headMade dds))) λ l. none)
 
 pub import-rules : (dds : List ℕ) (room : ℕ) → Answers (importRefusal dds room) (importRules dds room)
-unfolding importRefusal
+unfolding importRefusalUpTo
 import-rules dds room = answers (rules (file-rules dds) λ m. rule (by-not-eqb tt room (wholeLength (headMade dds))) λ r. none)
 
 pub whole-rules : (s : List ℕ) → Answers (wholeRefusal s) (wholeRules s)
-unfolding wholeRefusal
+unfolding wholeRefusalBy
 whole-rules s = answers (rules (head-answers s) λ m. rule (by-not-eqb tt (length s) (wholeLength (readHead s))) λ l. none)
 
 pub export-rules : (s : List ℕ) (room : ℕ) → Answers (exportRefusal s room) (exportRules s room)
-unfolding exportRefusal
+unfolding exportRefusalBy
 export-rules s room = answers (rules (whole-rules s) λ m. rule (by-not-eqb tt room (fileLength (readHead s))) λ r. none)
 
 -- the same with the head's refusal as it was answered
 pub whole-handed : (s : List ℕ) → Answers (wholeRefusal s) (handed (readHead s .refusal) ∷ unless 10 (length s ≡ wholeLength (readHead s)) ∷ [])
-unfolding wholeRefusal
+unfolding wholeRefusalBy
 whole-handed s = answers (rule by-answer λ h. rule (by-not-eqb tt (length s) (wholeLength (readHead s))) λ l. none)
 
 -- 11 stands behind whatever was answered before
@@ -72,14 +72,14 @@ whole-so s w = accepted-when (whole-handed s) .1 (w .told, (w .long, tt))
 -- both calls with room: accepted, with an output as long as needed
 module _ (dds : List ℕ) (room : ℕ) where
   pub imported-when : (importRefusal dds room ≡ 0) ↔ (fileRefusal dds ≡ 0) × (room ≡ wholeLength (headMade dds))
-  unfolding importRefusal
+  unfolding importRefusalUpTo
   imported-when =
       let a = accepted-when (room-rules (fileRefusal dds) (wholeLength (headMade dds)) room) in
       (λ e. (a .0 e .0, a .0 e .1 .0), λ m. a .1 (m .0, (m .1, tt)))
 
 module _ (s : List ℕ) (room : ℕ) where
   pub exported-when : (exportRefusal s room ≡ 0) ↔ (wholeRefusal s ≡ 0) × (room ≡ fileLength (readHead s))
-  unfolding exportRefusal
+  unfolding exportRefusalBy
   exported-when =
       let a = accepted-when (room-rules (wholeRefusal s) (fileLength (readHead s)) room) in
       (λ e. (a .0 e .0, a .0 e .1 .0), λ m. a .1 (m .0, (m .1, tt)))

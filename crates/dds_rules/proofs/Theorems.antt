@@ -16,8 +16,8 @@ use Rattle.head_rules.specs.Numbers.{Bytes}
 use Rattle.laws.specs.Refusals.{Given}
 use Rattle.laws.proofs.Refusals.{answer-0, exactly}
 use Rattle.dds_rules.specs.Header.{Another, canonicalHeader, headerLength}
-use Rattle.dds_rules.specs.Files.{exportAfter, exportLength, exportRefusal, exportRules, fileLength, fileMade, fileRules, headMade}
-use Rattle.dds_rules.specs.Files.{importAfter, importLength, importRefusal, importRules, sheetMade, wholeRules}
+use Rattle.dds_rules.specs.Files.{exportAfter, exportAfterBy, exportLength, exportRefusal, exportRules, fileLength, fileMade, fileRules, headMade}
+use Rattle.dds_rules.specs.Files.{importAfter, importAfterUpTo, importLength, importRefusal, importRules, sheetMade, wholeRules}
 use Rattle.dds_rules.specs.Promises.{ExportNeeds, Exports, ImportNeeds, Imports}
 use Rattle.dds_rules.proofs.Refusing.{export-rules, exported-when, fifteen, file-rules, import-rules, imported-when, taken, taken-so, whole}
 use Rattle.dds_rules.proofs.Refusing.{whole-rules, whole-so}
@@ -25,11 +25,11 @@ use Rattle.dds_rules.proofs.Making.{file-again, file-taken, head-again,
 
 -- an accepted call leaves what the file or the sheet makes
 imported-is : (dds out : List ℕ) → importRefusal dds (length out) ≡ 0 → importAfter dds out ≡ sheetMade dds
-unfolding importAfter
+unfolding importAfterUpTo
 imported-is dds out e = answer-0 (sheetMade dds) out e
 
 exported-is : (s out : List ℕ) → exportRefusal s (length out) ≡ 0 → exportAfter s out ≡ fileMade s
-unfolding exportAfter
+unfolding exportAfterBy
 exported-is s out e = answer-0 (fileMade s) out e
 
 -- THERE AND BACK: a sheet that was exported is imported again, and restored byte for byte, whatever stood in the outputs
@@ -110,11 +110,11 @@ export-length-serves s room =
 
 -- a refused call leaves the output as it was
 pub refused-import-leaves : (dds before : List ℕ) (answer : ℕ) (after : List ℕ) → Imports dds before answer after → answer ≢ 0 → after ≡ before
-unfolding importAfter
+unfolding importAfterUpTo
 refused-import-leaves dds before answer after p ne = p .1 ∙ rw (ne-eqb (importRefusal dds (length before)) 0 (λ e. ne (p .0 ∙ e)))
 
 pub refused-export-leaves : (s before : List ℕ) (answer : ℕ) (after : List ℕ) → Exports s before answer after → answer ≢ 0 → after ≡ before
-unfolding exportAfter
+unfolding exportAfterBy
 refused-export-leaves s before answer after p ne = p .1 ∙ rw (ne-eqb (exportRefusal s (length before)) 0 (λ e. ne (p .0 ∙ e)))
 
 -- any two results that a promise admits coincide

@@ -9,7 +9,7 @@ use lib.ListN.{length, drop}
 use Rattle.dds_rules.specs.declared.Length.{Length}
 use Rattle.head_rules.specs.declared.Head.{Head}
 use Rattle.head_rules.specs.Geometry.{blocksOf, wholeLength}
-use Rattle.head_rules.specs.Heads.{Sized, formIn, headBytes, headOf, headRules, heightIn, readHead, sizeRefusal, widthIn}
+use Rattle.head_rules.specs.Heads.{Sized, formIn, headBytes, headOf, headRules, heightIn, limit, readHead, sizeRefusalUpTo, widthIn}
 use Rattle.laws.specs.Refusals.{Rule, first, refuse, unless}
 use Rattle.laws.specs.Tables.{pick}
 use Rattle.dds_rules.specs.Header.{Texture, canonicalHeader, fieldIn, headerLength, height, isTexture, width}
@@ -29,36 +29,58 @@ headMade dds =
 unfoldable pub sheetMade : List ℕ → List ℕ
 sheetMade dds = headBytes (fieldIn dds width) (fieldIn dds height) ++ drop headerLength dds
 
--- 15, 9, 10, whatever the output; then 11, by the output's length
-unfoldable pub fileRefusal : List ℕ → ℕ
-fileRefusal dds =
+-- 15, 9 above the limit `top`, 10, whatever the output; then 11, by the output's length
+unfoldable pub fileRefusalUpTo : ℕ → List ℕ → ℕ
+fileRefusalUpTo top dds =
     first
     (refuse 15 (not (isTexture dds))
-    ∷ sizeRefusal (fieldIn dds width) (fieldIn dds height)
+    ∷ sizeRefusalUpTo top (fieldIn dds width) (fieldIn dds height)
     ∷ refuse 10 (not (eqb (length dds) (fileLength (headMade dds))))
     ∷ [])
 
-unfoldable pub importRefusal : List ℕ → ℕ → ℕ
-importRefusal dds room = first (fileRefusal dds ∷ refuse 11 (not (eqb room (wholeLength (headMade dds)))) ∷ [])
+abbrev pub fileRefusal : List ℕ → ℕ
+fileRefusal dds = fileRefusalUpTo limit dds
+
+unfoldable pub importRefusalUpTo : ℕ → List ℕ → ℕ → ℕ
+importRefusalUpTo top dds room = first (fileRefusalUpTo top dds ∷ refuse 11 (not (eqb room (wholeLength (headMade dds)))) ∷ [])
+
+abbrev pub importRefusal : List ℕ → ℕ → ℕ
+importRefusal dds room = importRefusalUpTo limit dds room
 
 -- the output afterwards
-unfoldable pub importAfter : List ℕ → List ℕ → List ℕ
-importAfter dds out = pick (eqb (importRefusal dds (length out)) 0) (sheetMade dds) out
+unfoldable pub importAfterUpTo : ℕ → List ℕ → List ℕ → List ℕ
+importAfterUpTo top dds out = pick (eqb (importRefusalUpTo top dds (length out)) 0) (sheetMade dds) out
 
--- EXPORT. 7, 8, 9 of the head, then 10, whatever the output; then 11, by the output's length
-unfoldable pub wholeRefusal : List ℕ → ℕ
-wholeRefusal s = first (readHead s .refusal ∷ refuse 10 (not (eqb (length s) (wholeLength (readHead s)))) ∷ [])
+abbrev pub importAfter : List ℕ → List ℕ → List ℕ
+importAfter dds out = importAfterUpTo limit dds out
 
-unfoldable pub exportRefusal : List ℕ → ℕ → ℕ
-exportRefusal s room = first (wholeRefusal s ∷ refuse 11 (not (eqb room (fileLength (readHead s)))) ∷ [])
+-- EXPORT of a sheet whose head was read as h, by whatever limit. 7, 8, 9 of the head, then 10, whatever the output; then 11, by the
+-- output's length
+unfoldable pub wholeRefusalBy : Head → List ℕ → ℕ
+wholeRefusalBy h s = first (h .refusal ∷ refuse 10 (not (eqb (length s) (wholeLength h))) ∷ [])
+
+abbrev pub wholeRefusal : List ℕ → ℕ
+wholeRefusal s = wholeRefusalBy (readHead s) s
+
+unfoldable pub exportRefusalBy : Head → List ℕ → ℕ → ℕ
+exportRefusalBy h s room = first (wholeRefusalBy h s ∷ refuse 11 (not (eqb room (fileLength h))) ∷ [])
+
+abbrev pub exportRefusal : List ℕ → ℕ → ℕ
+exportRefusal s room = exportRefusalBy (readHead s) s room
 
 -- the file: the header, then the blocks as they stand in the sheet
-unfoldable pub fileMade : List ℕ → List ℕ
-fileMade s = canonicalHeader (readHead s) ++ drop (readHead s .start) s
+unfoldable pub fileMadeBy : Head → List ℕ → List ℕ
+fileMadeBy h s = canonicalHeader h ++ drop (h .start) s
+
+abbrev pub fileMade : List ℕ → List ℕ
+fileMade s = fileMadeBy (readHead s) s
 
 -- the output afterwards
-unfoldable pub exportAfter : List ℕ → List ℕ → List ℕ
-exportAfter s out = pick (eqb (exportRefusal s (length out)) 0) (fileMade s) out
+unfoldable pub exportAfterBy : Head → List ℕ → List ℕ → List ℕ
+exportAfterBy h s out = pick (eqb (exportRefusalBy h s (length out)) 0) (fileMadeBy h s) out
+
+abbrev pub exportAfter : List ℕ → List ℕ → List ℕ
+exportAfter s out = exportAfterBy (readHead s) s out
 
 -- HOW LONG THE OUTPUT HAS TO BE: refused as the call itself is, but for 11
 abbrev pub lengthAs : ℕ → ℕ → Length

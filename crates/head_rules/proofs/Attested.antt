@@ -8,7 +8,8 @@ use Rattle.head_rules.specs.declared.Head.{Head}
 use Rattle.head_rules.specs.declared.HeadBytes.{HeadBytes}
 use Rattle.laws.specs.Padding.{padded}
 use Rattle.laws.specs.Refusals.{first}
-use Rattle.head_rules.specs.Heads.{formIn, headBytes, headRefusal, heightIn, readHead, sizeRefusal, widthIn, writeHead}
+use Rattle.head_rules.specs.Heads.{formIn, headBytes, headRefusalUpTo, heightIn, oldLimit, readHead, readHeadUpTo, sizeRefusalUpTo}
+use Rattle.head_rules.specs.Heads.{widthIn, writeHead}
 use Rattle.head_rules.specs.declared.Stage.the-variants.{Width}
 use Rattle.head_rules.specs.Geometry.{across, blocksOf, outLength, placeOf, rowLength, sideShown, wholeLength}
 use Rattle.head_rules.specs.Reader.{Reading, atForm, byteTaken, formTaken, groupTaken, heightTaken, lastTaken, readBy}
@@ -44,12 +45,16 @@ pub record Heads : Type 0 where
       (9 ∷ []) ∷ (9 ∷ 0x80 ∷ []) ∷ (9 ∷ 0x81 ∷ 0x00 ∷ []) ∷ (9 ∷ 0x80 ∷ 0x80 ∷ 0x80 ∷ 0x01 ∷ []) ∷ [])
       ≡ number 0 2 ∷ number 128 3 ∷ number 2097151 4 ∷ none ∷ none ∷ none ∷ none ∷ []
   pub heads-read : map readHead
-      ((0x01 ∷ 0x05 ∷ 0x06 ∷ 0x60 ∷ []) ∷ (0x01 ∷ 0x01 ∷ 0x01 ∷ []) ∷ (0x01 ∷ 0x80 ∷ 0x20 ∷ 0x80 ∷ 0x20 ∷ []) ∷
+      ((0x01 ∷ 0x05 ∷ 0x06 ∷ 0x60 ∷ []) ∷ (0x01 ∷ 0x01 ∷ 0x01 ∷ []) ∷ (0x01 ∷ 0x80 ∷ 0x80 ∷ 0x01 ∷ 0x80 ∷ 0x80 ∷ 0x01 ∷ []) ∷
       (0x80 ∷ []) ∷ (0x02 ∷ 0x80 ∷ []) ∷ (0x01 ∷ 0x00 ∷ 0x80 ∷ []) ∷
-      (0x01 ∷ 0x00 ∷ 0x01 ∷ []) ∷ (0x01 ∷ 0x81 ∷ 0x20 ∷ 0x01 ∷ []) ∷ (0x01 ∷ 0x01 ∷ 0x81 ∷ 0x20 ∷ []) ∷ [])
-      ≡ head 5 6 3 ∷ head 1 1 3 ∷ head 4096 4096 5 ∷ noHead 7 ∷ noHead 8 ∷ noHead 7 ∷ noHead 9 ∷ noHead 9 ∷ noHead 9 ∷ []
-  pub heads-written : writeHead 5 6 ∷ writeHead 4096 4096 ∷ writeHead 0 1 ∷ writeHead 4097 1 ∷ writeHead 1 4097 ∷ []
-      ≡ written 0 (0x01 ∷ 0x05 ∷ 0x06 ∷ 0 ∷ 0 ∷ 0 ∷ 0 ∷ []) 3 ∷ written 0 (0x01 ∷ 0x80 ∷ 0x20 ∷ 0x80 ∷ 0x20 ∷ 0 ∷ 0 ∷ []) 5 ∷
+      (0x01 ∷ 0x00 ∷ 0x01 ∷ []) ∷ (0x01 ∷ 0x81 ∷ 0x80 ∷ 0x01 ∷ 0x01 ∷ []) ∷ (0x01 ∷ 0x01 ∷ 0x81 ∷ 0x80 ∷ 0x01 ∷ []) ∷ [])
+      ≡ head 5 6 3 ∷ head 1 1 3 ∷ head 16384 16384 7 ∷ noHead 7 ∷ noHead 8 ∷ noHead 7 ∷ noHead 9 ∷ noHead 9 ∷ noHead 9 ∷ []
+  -- 4,096 by 4,096, 4,097 by 1 and 1 by 4,097, by a console of before
+  pub heads-read-before : map (readHeadUpTo oldLimit)
+      ((0x01 ∷ 0x80 ∷ 0x20 ∷ 0x80 ∷ 0x20 ∷ []) ∷ (0x01 ∷ 0x81 ∷ 0x20 ∷ 0x01 ∷ []) ∷ (0x01 ∷ 0x01 ∷ 0x81 ∷ 0x20 ∷ []) ∷ [])
+      ≡ head 4096 4096 5 ∷ noHead 9 ∷ noHead 9 ∷ []
+  pub heads-written : writeHead 5 6 ∷ writeHead 16384 16384 ∷ writeHead 0 1 ∷ writeHead 16385 1 ∷ writeHead 1 16385 ∷ []
+      ≡ written 0 (0x01 ∷ 0x05 ∷ 0x06 ∷ 0 ∷ 0 ∷ 0 ∷ 0 ∷ []) 3 ∷ written 0 (0x01 ∷ 0x80 ∷ 0x80 ∷ 0x01 ∷ 0x80 ∷ 0x80 ∷ 0x01 ∷ []) 7 ∷
       written 9 (0 ∷ 0 ∷ 0 ∷ 0 ∷ 0 ∷ 0 ∷ 0 ∷ []) 0 ∷ written 9 (0 ∷ 0 ∷ 0 ∷ 0 ∷ 0 ∷ 0 ∷ 0 ∷ []) 0 ∷ written 9 (0 ∷ 0 ∷ 0 ∷ 0 ∷ 0 ∷ 0 ∷ 0 ∷ []) 0 ∷
       []
   -- behind 01 and 85: the width is to come, 5 is its low group, and the form ended at 1
@@ -60,18 +65,19 @@ pub record Heads : Type 0 where
       ≡ reading (head 5 6 3) (0x60 ∷ []) ∷ reading (head 4096 257 5) [] ∷ reading (noHead 8) (0x05 ∷ []) ∷ reading (noHead 7) (0x60 ∷ []) ∷
       reading (noHead 7) [] ∷ reading (noHead 7) [] ∷ reading (noHead 9) [] ∷ []
   -- columns and rows of blocks, shown scanlines, and of a sheet of 5 by 9 pixels the blocks, the place of block 3, and its length
-  pub rounded-up : map across (1 ∷ 4 ∷ 5 ∷ 4095 ∷ 4096 ∷ []) ≡ 1 ∷ 1 ∷ 2 ∷ 1024 ∷ 1024 ∷ []
+  pub rounded-up : map across (1 ∷ 4 ∷ 5 ∷ 16383 ∷ 16384 ∷ []) ≡ 1 ∷ 1 ∷ 2 ∷ 4096 ∷ 4096 ∷ []
   pub scanlines-shown : map (sideShown 9) (0 ∷ 1 ∷ 2 ∷ []) ≡ 4 ∷ 4 ∷ 1 ∷ []
   pub blocks-placed : blocksOf (head 5 9 3) ∷ placeOf (head 5 9 3) 3 ∷ wholeLength (head 5 9 3) ∷ rowLength 5 ∷ outLength 5 3 ∷ []
       ≡ 6 ∷ 51 ∷ 99 ∷ 32 ∷ 60 ∷ []
 
 pub heads-hold : Heads
-unfolding groups readGroups readNumber raised readHead headRefusal formIn widthIn heightIn first sizeRefusal writeHead headBytes padded formTaken
+unfolding groups readGroups readNumber raised readHeadUpTo headRefusalUpTo formIn widthIn heightIn first sizeRefusalUpTo writeHead headBytes padded formTaken
     heightTaken lastTaken groupTaken readBy blocksOf placeOf
 heads-hold = record {
   numbers-written = refl;
   numbers-read = refl;
   heads-read = refl;
+  heads-read-before = refl;
   heads-written = refl;
   a-state = refl;
   heads-by-bytes = refl;

@@ -3,8 +3,8 @@
 use Prim.Native.Nat.{ℕ, _*_, _≤_}
 use native.Mathlib.Nat.{mul-le-mul}
 use native.Mathlib.Omega.{arith}
-use Rattle.head_rules.specs.Geometry.{across}
+use Rattle.head_rules.specs.Geometry.{across, mostBlocks}
 use Rattle.head_rules.specs.Heads.{Sized, limit}
 
-pub few-blocks : {w h : ℕ} → Sized w h → across h * across w ≤ across limit * across limit
+pub few-blocks : {w h : ℕ} → Sized w h → across h * across w ≤ mostBlocks
 few-blocks z = mul-le-mul {n₂ = across limit} {m₂ = across limit} (omega (arith, z .within-high)) (omega (arith, z .within-wide))

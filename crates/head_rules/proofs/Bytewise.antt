@@ -23,7 +23,7 @@ use Rattle.laws.specs.Tables.{pick}
 use Rattle.laws.proofs.Cases.{lt-or, pick-either}
 use Rattle.laws.proofs.Refusals.{accepted-when, exactly}
 use Rattle.laws.proofs.Tests.{no-both}
-use Rattle.head_rules.specs.Heads.{Sized, form, formIn, headOf, headRules, heightIn, readHead, sizeRefusal, widthIn}
+use Rattle.head_rules.specs.Heads.{Sized, form, formIn, headOf, headRules, heightIn, limit, readHead, sizeRefusal, widthIn}
 use Rattle.head_rules.specs.Numbers.{found, noNumber, raised, readGroups, readNumber}
 use Rattle.head_rules.specs.Reader.{Going, Reading, atForm, awaiting, before, byteTaken, emptyAbove, endedIn, formTaken, groupTaken, hasEnded}
 use Rattle.head_rules.specs.Reader.{heightTaken, lastTaken, nextNumber, numberIn, readBy, refusedWith}
@@ -362,7 +362,7 @@ module _ (s : List ℕ) where
             )
 
   told : {n : ℕ} → Given (headRules (formIn s) (widthIn s) (heightIn s)) n → n ≢ 0 → headOf n 0 0 0 ≡ readHead s
-  told {n} g ne = refused s n (exactly (head-rules s) n .1 g) ne
+  told {n} g ne = refused limit s n (exactly (head-rules limit s) n .1 g) ne
 
   reads : Reads (readHead s)
   reads = ⊎-elim form-told (λ l. let ne : formIn s .refusal ≢ 0 = λ q. omega arith in subst Reads (told (here ne) ne) (no-form ne))
@@ -371,12 +371,12 @@ module _ (s : List ℕ) where
       size-told : (z : formIn s .refusal ≡ 0) (e : formIn s .value ≡ form) (y : widthIn s .refusal ≡ 0) (x : heightIn s .refusal ≡ 0)
           → (sizeRefusal (widthIn s .value) (heightIn s .value) ≡ 0) ⊎ (0 < sizeRefusal (widthIn s .value) (heightIn s .value)) → Reads (readHead s)
       size-told z e y x (inl q) =
-          let t = accepted s (accepted-when (head-rules s) .1 (z, (e, (y, (x, (sized _ _ q, tt)))))) in
+          let t = accepted limit s (accepted-when (head-rules limit s) .1 (z, (e, (y, (x, (sized _ _ _ q, tt)))))) in
           let w = read-whole z e y x q in
           record { by-numbers = ap (λ (r : HeadReader). r .head) (w .0) ∙ t; by-bytes = ap (λ (r : Reading). r .head) (w .1) ∙ t }
       size-told z e y x (inr l) =
           let ne : sizeRefusal (widthIn s .value) (heightIn s .value) ≢ 0 = λ q. omega arith in
-          let n = size-refused _ _ refl ne in
+          let n = size-refused _ _ _ refl ne in
           subst Reads (ap (λ (m : ℕ). headOf m 0 0 0) (n .0) ∙ told (then z (then e (then y (then x (here (n .1)))))) (λ q. omega arith))
           (no-size z e y x ne)
 
@@ -406,9 +406,9 @@ module _ (s : List ℕ) where
 
   pub bytes-behind-head : readHead s .refusal ≡ 0 → readBy atForm s .rest ≡ drop (readHead s .start) s
   bytes-behind-head z =
-      let o = sym (refusal-is s) ∙ z in
-      let (a, (b, (c, (d, (y, u))))) = head-rules s .met o in
-      ap (λ (x : Reading). x .rest) (read-whole a b c d (size-0 _ _ y) .1) ∙ ap (λ (h : Head). drop (h .start) s) (accepted s o)
+      let o = sym (refusal-is limit s) ∙ z in
+      let (a, (b, (c, (d, (y, u))))) = head-rules limit s .met o in
+      ap (λ (x : Reading). x .rest) (read-whole a b c d (size-0 _ _ _ y) .1) ∙ ap (λ (h : Head). drop (h .start) s) (accepted limit s o)
 
 -- a reader between two bytes holds a small number, and has not come far
 module _ {r : HeadReader} (g : Going r) where
@@ -455,7 +455,7 @@ module _ {r : HeadReader} (g : Going r) where
       height-in : (t : Bool) → eqb (sizeRefusal (r .head .width) n) 0 ≡ t
           → Stepped r (pick t (awaiting Ended (headOf 0 (r .head .width) n next)) (refusedWith (sizeRefusal (r .head .width) n)))
       height-in true e =
-          record { going = λ u. absurd (no-both refl u); on = λ u. absurd (no-both refl u); sized-head = λ u z. sized _ _ (eqb-true _ 0 e) }
+          record { going = λ u. absurd (no-both refl u); on = λ u. absurd (no-both refl u); sized-head = λ u z. sized _ _ _ (eqb-true _ 0 e) }
       height-in false e = stepped-refused r _ (eqb-false _ 0 e)
 
       go : (p : Stage) → endedIn p ≡ false → next ≤ before p + 3 → Stepped r (numberIn p (r .head) n next)

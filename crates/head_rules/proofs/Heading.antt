@@ -13,52 +13,53 @@ use Rattle.head_rules.specs.declared.Head.{Head}
 use Rattle.laws.specs.Tables.{both}
 use Rattle.laws.proofs.Refusals.{Answers, Decided, answers, by-answer, by-not, by-not-eqb, decided-is, decided-not, decided-so, none, rule}
 use Rattle.laws.proofs.Tests.{both-true}
-use Rattle.head_rules.specs.Heads.{Sized, form, formIn, headOf, headRefusal, headRules, heightIn, limit, readHead, side, sizeRefusal, widthIn}
+use Rattle.head_rules.specs.Heads.{SizedUpTo, form, formIn, headOf, headRefusalUpTo, headRulesUpTo, heightIn, readHeadUpTo, sideUpTo}
+use Rattle.head_rules.specs.Heads.{sizeRefusalUpTo, widthIn}
 
 -- refusal 9
-module _ (w h : ℕ) where
-  sized-test : both (side w) (side h) ≡ true → Sized w h
+module _ (top w h : ℕ) where
+  sized-test : both (sideUpTo top w) (sideUpTo top h) ≡ true → SizedUpTo top w h
   sized-test e =
-      let a = both-true (side w) (side h) e in
-      let b = both-true (leb 1 w) (leb w limit) (a .0) in
-      let c = both-true (leb 1 h) (leb h limit) (a .1) in
+      let a = both-true (sideUpTo top w) (sideUpTo top h) e in
+      let b = both-true (leb 1 w) (leb w top) (a .0) in
+      let c = both-true (leb 1 h) (leb h top) (a .1) in
       record { wide = leb-true _ _ (b .0); within-wide = leb-true _ _ (b .1); high = leb-true _ _ (c .0); within-high = leb-true _ _ (c .1) }
 
-  pub size-test : Decided (sizeRefusal w h) 9 (Sized w h)
-  unfolding sizeRefusal
+  pub size-test : Decided (sizeRefusalUpTo top w h) 9 (SizedUpTo top w h)
+  unfolding sizeRefusalUpTo
   size-test =
-      by-not tt (both (side w) (side h)) sized-test
-      (λ s. rw (le-leb 1 w (s .wide), le-leb w limit (s .within-wide), le-leb 1 h (s .high), le-leb h limit (s .within-high)))
+      by-not tt (both (sideUpTo top w) (sideUpTo top h)) sized-test
+      (λ s. rw (le-leb 1 w (s .wide), le-leb w top (s .within-wide), le-leb 1 h (s .high), le-leb h top (s .within-high)))
 
-  pub size-0 : Sized w h → sizeRefusal w h ≡ 0
+  pub size-0 : SizedUpTo top w h → sizeRefusalUpTo top w h ≡ 0
   size-0 = decided-so size-test
 
-  pub size-9 : (Sized w h → ⊥) → sizeRefusal w h ≡ 9
+  pub size-9 : (SizedUpTo top w h → ⊥) → sizeRefusalUpTo top w h ≡ 9
   size-9 = decided-not size-test
 
-  pub size-refused : {r : ℕ} → r ≡ sizeRefusal w h → r ≢ 0 → (r ≡ 9) × (Sized w h → ⊥)
-  size-refused e ne = let x : Sized w h → ⊥ = λ s. ne (e ∙ size-0 s) in (e ∙ size-9 x, x)
+  pub size-refused : {r : ℕ} → r ≡ sizeRefusalUpTo top w h → r ≢ 0 → (r ≡ 9) × (SizedUpTo top w h → ⊥)
+  size-refused e ne = let x : SizedUpTo top w h → ⊥ = λ s. ne (e ∙ size-0 s) in (e ∙ size-9 x, x)
 
-  pub sized : sizeRefusal w h ≡ 0 → Sized w h
+  pub sized : sizeRefusalUpTo top w h ≡ 0 → SizedUpTo top w h
   sized = decided-is size-test
 
-module _ (s : List ℕ) where
-  pub head-rules : Answers (headRefusal s) (headRules (formIn s) (widthIn s) (heightIn s))
-  unfolding headRefusal
+module _ (top : ℕ) (s : List ℕ) where
+  pub head-rules : Answers (headRefusalUpTo top s) (headRulesUpTo top (formIn s) (widthIn s) (heightIn s))
+  unfolding headRefusalUpTo
   head-rules =
       answers (rule by-answer λ a. rule (by-not-eqb tt (formIn s .value) form) λ b. rule by-answer λ c. rule by-answer λ d. rule
-      (size-test _ _) λ z. none)
+      (size-test _ _ _) λ z. none)
 
-  pub refused : (r : ℕ) → headRefusal s ≡ r → r ≢ 0 → headOf r 0 0 0 ≡ readHead s
-  unfolding readHead
+  pub refused : (r : ℕ) → headRefusalUpTo top s ≡ r → r ≢ 0 → headOf r 0 0 0 ≡ readHeadUpTo top s
+  unfolding readHeadUpTo
   refused r e ne = rw (e, ne-eqb r 0 ne)
 
-  pub accepted : headRefusal s ≡ 0 → headOf 0 (widthIn s .value) (heightIn s .value) (heightIn s .next) ≡ readHead s
-  unfolding readHead
-  accepted e = rw (eq-eqb (headRefusal s) 0 e)
+  pub accepted : headRefusalUpTo top s ≡ 0 → headOf 0 (widthIn s .value) (heightIn s .value) (heightIn s .next) ≡ readHeadUpTo top s
+  unfolding readHeadUpTo
+  accepted e = rw (eq-eqb (headRefusalUpTo top s) 0 e)
 
-  pub refusal-is : (readHead s) .refusal ≡ headRefusal s
+  pub refusal-is : (readHeadUpTo top s) .refusal ≡ headRefusalUpTo top s
   refusal-is =
       ⊎-elim (λ z. sym (ap (λ (h : Head). h .refusal) (accepted z)) ∙ sym z)
-      (λ p. sym (ap (λ (h : Head). h .refusal) (refused (headRefusal s) refl (λ q. omega arith))))
-      (eq-zero-or-pos (headRefusal s))
+      (λ p. sym (ap (λ (h : Head). h .refusal) (refused (headRefusalUpTo top s) refl (λ q. omega arith))))
+      (eq-zero-or-pos (headRefusalUpTo top s))

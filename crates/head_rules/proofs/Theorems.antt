@@ -15,13 +15,14 @@ use Rattle.head_rules.specs.declared.HeadBytes.{HeadBytes}
 use Rattle.laws.specs.Refusals.{Given}
 use Rattle.laws.proofs.Cases.{lt-or}
 use Rattle.laws.proofs.Refusals.{Answers, accepted-when, alone, exactly}
-use Rattle.head_rules.specs.Heads.{ReadsHead, Sized, WritesHead, form, formIn, headBytes, headOf, headRefusal, headRules, heightIn, readHead}
-use Rattle.head_rules.specs.Heads.{sizeRefusal, sizeRules, widthIn, writeHead}
+use Rattle.head_rules.specs.Heads.{ReadsHead, Sized, WritesHead, form, formIn, headBytes, headOf, headRefusal, headRules, heightIn, limit, oldLimit, readHead}
+use Rattle.head_rules.specs.Heads.{readHeadUpTo, sizeRefusal, sizeRules, widthIn, writeHead}
 use Rattle.head_rules.specs.Numbers.{Bytes, found, groups, noNumber, numberBytes, numbersEnd, raised, readGroups, readNumber}
 use Rattle.head_rules.specs.Geometry.{across, blocksOf, placeOf, wholeLength}
 use Rattle.head_rules.specs.Reader.{atForm, readBy}
 use Rattle.head_rules.proofs.Bytewise.{bytes-behind-head, bytes-read-head}
 use Rattle.head_rules.proofs.Heading.{accepted, head-rules, refusal-is, size-test}
+use Rattle.head_rules.proofs.Limits.{head-kept, head-refused-before}
 use Rattle.head_rules.proofs.Reading.{every-number, raised-some, read-last, read-more, value-small}
 use Rattle.head_rules.proofs.Writing.{groups-last, groups-more, nothing, one-byte, written}
 
@@ -161,7 +162,7 @@ module _ (w h : ℕ) (z : Sized w h) (rest : List ℕ) where
   pub head-read-back : readHead (headBytes w h ++ rest) ≡ headOf 0 w h (length (headBytes w h))
   unfolding sheet
   head-read-back =
-      sym (accepted sheet (accepted-when (head-rules sheet) .1 (rw (form-part, width-part, height-part) (refl, (refl, (refl, (refl, (z, tt))))))))
+      sym (accepted limit sheet (accepted-when (head-rules limit sheet) .1 (rw (form-part, width-part, height-part) (refl, (refl, (refl, (refl, (z, tt))))))))
       ∙ ap₂ (λ (x y : Number). headOf 0 (x .value) (y .value) (y .next)) width-part height-part
 
 -- an accepted head has exactly one form
@@ -198,27 +199,43 @@ module _ (s : List ℕ) (p : Parts s) (y : Bytes s) where
 module _ (s : List ℕ) where
   -- each refusal number of a head is given exactly when document 01 says (`headRules` has the words)
   pub head-answers : Answers (readHead s .refusal) (headRules (formIn s) (widthIn s) (heightIn s))
-  head-answers = rw (refusal-is s) (head-rules s)
+  head-answers = rw (refusal-is limit s) (head-rules limit s)
 
   pub head-refused-when : (n : ℕ) → (readHead s .refusal ≡ n) ↔ Given (headRules (formIn s) (widthIn s) (heightIn s)) n
   head-refused-when = exactly head-answers
 
   pub parts : headRefusal s ≡ 0 → Parts s
   parts e =
-      let (a, (b, (c, (d, (z, u))))) = head-rules s .met e in
+      let (a, (b, (c, (d, (z, u))))) = head-rules limit s .met e in
       record { form-told = a; form-one = b; width-told = c; height-told = d; size = z }
 
   pub head-sized : (readHead s) .refusal ≡ 0 → Sized ((readHead s) .width) ((readHead s) .height)
-  head-sized e = let z = sym (refusal-is s) ∙ e in subst (λ (r : Head). Sized (r .width) (r .height)) (accepted s z) ((parts z) .size)
+  head-sized e = let z = sym (refusal-is limit s) ∙ e in subst (λ (r : Head). Sized (r .width) (r .height)) (accepted limit s z) ((parts z) .size)
 
   pub head-one-form : Bytes s → (readHead s) .refusal ≡ 0
       → Sized ((readHead s) .width) ((readHead s) .height) × (s ≡ headBytes ((readHead s) .width)
       ((readHead s) .height) ++ drop ((readHead s) .start) s)
   head-one-form y e =
-      let z = sym (refusal-is s) ∙ e in
+      let z = sym (refusal-is limit s) ∙ e in
       let p = parts z in
-      subst (λ (r : Head). Sized (r .width) (r .height) × (s ≡ headBytes (r .width) (r .height) ++ drop (r .start) s)) (accepted s z)
+      subst (λ (r : Head). Sized (r .width) (r .height) × (s ≡ headBytes (r .width) (r .height) ++ drop (r .start) s)) (accepted limit s z)
       (p .size, spelt s p y)
+
+-- MAPS UP TO 16,384: a head that the old limit accepted is read as it was; of any other that is accepted now, a console with the old
+-- limit answers 9; and the largest side has three groups
+pub stored-heads-keep : (s : List ℕ) → readHeadUpTo oldLimit s .refusal ≡ 0 → readHead s ≡ readHeadUpTo oldLimit s
+stored-heads-keep s = head-kept oldLimit limit s (omega arith)
+
+pub old-console-refuses : (s : List ℕ) → readHead s .refusal ≡ 0 → (oldLimit < readHead s .width) ⊎ (oldLimit < readHead s .height)
+    → readHeadUpTo oldLimit s ≡ headOf 9 0 0 0
+old-console-refuses s e above = head-refused-before oldLimit limit s e (λ z. larger (z .within-wide) (z .within-high) above)
+  where
+    larger : {w h : ℕ} → w ≤ oldLimit → h ≤ oldLimit → (oldLimit < w) ⊎ (oldLimit < h) → ⊥
+    larger a b = ⊎-elim (λ l. omega (arith, a, l)) (λ l. omega (arith, b, l))
+
+pub largest-side : numberBytes limit ≡ 0x80 ∷ 0x80 ∷ 0x01 ∷ []
+unfolding groups
+largest-side = refl
 
 -- ONE READER: the machine that takes the bytes one by one reads the head of every sheet as `readHead` says, and where it is accepted
 -- the bytes that it leaves are the blocks
@@ -230,7 +247,7 @@ fold-leaves-the-blocks = bytes-behind-head
 
 -- writing a head gives 9 exactly when the size is not a sheet's, and no other number
 pub head-not-written-when : (w h n : ℕ) → (writeHead w h .refusal ≡ n) ↔ Given (sizeRules w h) n
-head-not-written-when w h = exactly (rw same (alone (size-test w h)))
+head-not-written-when w h = exactly (rw same (alone (size-test limit w h)))
   where
     same : writeHead w h .refusal ≡ sizeRefusal w h
     same = ⊎-elim (λ z. sym (ap (λ (b : HeadBytes). b .refusal) (written w h refl z)) ∙ sym z)

@@ -3,6 +3,7 @@
 -- Assumes nothing.
 use Prim.Native.Nat.{ℕ, _+_, _-_, _*_, _/_, min}
 use Rattle.head_rules.specs.declared.Head.{Head}
+use Rattle.head_rules.specs.Heads.{limit}
 
 -- columns of blocks in a width, rows of blocks in a height
 abbrev pub across : ℕ → ℕ
@@ -22,6 +23,10 @@ outLength w scanlines = scanlines * (4 * w)
 -- how many blocks a sheet has
 unfoldable pub blocksOf : Head → ℕ
 blocksOf h = across (h .height) * across (h .width)
+
+-- and how many at the most
+abbrev pub mostBlocks : ℕ
+mostBlocks = across limit * across limit
 
 -- where block b stands: THE place of a block in a sheet
 unfoldable pub placeOf : Head → ℕ → ℕ

@@ -14,35 +14,47 @@ use Rattle.laws.specs.Refusals.{Rule, first, handed, refuse, unless}
 use Rattle.laws.specs.Tables.{both, pick}
 use Rattle.head_rules.specs.Numbers.{numberBytes, readNumber}
 
--- the form of a sheet, and the largest width and height
+-- the form of a sheet, and the largest width and height; the largest that consoles took before
 abbrev pub form : ℕ
 form = 1
 
 abbrev pub limit : ℕ
-limit = 4096
+limit = 16384
 
--- is n a width or a height
-abbrev pub side : ℕ → Bool
-side n = both (leb 1 n) (leb n limit)
+abbrev pub oldLimit : ℕ
+oldLimit = 4096
 
-unfoldable pub sizeRefusal : ℕ → ℕ → ℕ
-sizeRefusal w h = refuse 9 (not (both (side w) (side h)))
+-- is n a width or a height, where the largest is `top`
+abbrev pub sideUpTo : ℕ → ℕ → Bool
+sideUpTo top n = both (leb 1 n) (leb n top)
 
-pub record Sized (w h : ℕ) : Type 0 where
+unfoldable pub sizeRefusalUpTo : ℕ → ℕ → ℕ → ℕ
+sizeRefusalUpTo top w h = refuse 9 (not (both (sideUpTo top w) (sideUpTo top h)))
+
+abbrev pub sizeRefusal : ℕ → ℕ → ℕ
+sizeRefusal w h = sizeRefusalUpTo limit w h
+
+pub record SizedUpTo (top w h : ℕ) : Type 0 where
   pub wide : 1 ≤ w
-  pub within-wide : w ≤ limit
+  pub within-wide : w ≤ top
   pub high : 1 ≤ h
-  pub within-high : h ≤ limit
+  pub within-high : h ≤ top
+
+abbrev pub Sized : ℕ → ℕ → Type 0
+Sized w h = SizedUpTo limit w h
 
 -- the rules of a head whose three numbers were read as f, w, h: 7 and 8 on the form, 7 on width and height, then 9
-abbrev pub headRules : Number → Number → Number → List Rule
-headRules f w h =
+abbrev pub headRulesUpTo : ℕ → Number → Number → Number → List Rule
+headRulesUpTo top f w h =
     handed (f .refusal) ∷
     unless 8 (f .value ≡ form) ∷
     handed (w .refusal) ∷
     handed (h .refusal) ∷
-    unless 9 (Sized (w .value) (h .value)) ∷
+    unless 9 (SizedUpTo top (w .value) (h .value)) ∷
     []
+
+abbrev pub headRules : Number → Number → Number → List Rule
+headRules f w h = headRulesUpTo limit f w h
 
 -- the one rule of writing a head
 abbrev pub sizeRules : ℕ → ℕ → List Rule
@@ -59,24 +71,30 @@ unfoldable pub heightIn : List ℕ → Number
 heightIn s = readNumber s (widthIn s .next)
 
 -- 7 and 8 on the form, 7 on width and height, then 9
-unfoldable pub headRefusal : List ℕ → ℕ
-headRefusal s =
+unfoldable pub headRefusalUpTo : ℕ → List ℕ → ℕ
+headRefusalUpTo top s =
     first
     (formIn s .refusal
     ∷ refuse 8 (not (eqb (formIn s .value) form))
     ∷ widthIn s .refusal
     ∷ heightIn s .refusal
-    ∷ sizeRefusal (widthIn s .value) (heightIn s .value) ∷ [])
+    ∷ sizeRefusalUpTo top (widthIn s .value) (heightIn s .value) ∷ [])
+
+abbrev pub headRefusal : List ℕ → ℕ
+headRefusal s = headRefusalUpTo limit s
 
 abbrev pub headOf : ℕ → ℕ → ℕ → ℕ → Head
 headOf r w h start = record { refusal = r; width = w; height = h; start = start }
 
--- reading a head
-unfoldable pub readHead : List ℕ → Head
-readHead s =
-    pick (eqb (headRefusal s) 0)
+-- reading a head, where the largest side is `top`: a console of before reads with `oldLimit`
+unfoldable pub readHeadUpTo : ℕ → List ℕ → Head
+readHeadUpTo top s =
+    pick (eqb (headRefusalUpTo top s) 0)
     (headOf 0 (widthIn s .value) (heightIn s .value) (heightIn s .next))
-    (headOf (headRefusal s) 0 0 0)
+    (headOf (headRefusalUpTo top s) 0 0 0)
+
+abbrev pub readHead : List ℕ → Head
+readHead s = readHeadUpTo limit s
 
 -- the bytes of a head
 unfoldable pub headBytes : ℕ → ℕ → List ℕ

@@ -7,15 +7,15 @@ ghost use Prim.Native.Nat.{_+_, _-_, _*_, _/_, _^_, _≤_, _<_};
 ghost use lib.Dec.{eqb};
 ghost use lib.ListN.{length};
 ghost use Rattle.laws.specs.Tables.{pick};
-ghost use Rattle.head_rules.specs.Geometry.{rowLength};
+ghost use Rattle.head_rules.specs.Geometry.{blocksOf};
 ghost use Rattle.head_rules.specs.Heads.{Sized};
 ghost use Rattle.head_rules.specs.Reader.{Going, hasEnded};
 ghost use Rattle.laws.specs.Padding.{Written};
 ghost use Rattle.listing_rules.specs.Listing.{blockListed, listed, unlessExact};
 ghost use Rattle.listing_rules.specs.Promises.{GoesOn, SaysListing, SaysNext, Wants};
 ghost use Rattle.listing.specs.Asked.{BlockAsked, BlocksAsked};
-ghost use Rattle.listing_rules.specs.Machine.{InRows, NextEnd, Ready, atHead, atStart, begun, ended, headText, inRows, nextAtHead, nextInRows};
-ghost use Rattle.listing_rules.specs.Machine.{nextOf, spareOf, takenOf, textAtHead, textInRows, roundsOf, wantedOf};
+ghost use Rattle.listing_rules.specs.Machine.{InBlocks, NextEnd, Ready, atHead, atStart, begun, ended, headText, inBlocks, mostInRun, nextAtHead};
+ghost use Rattle.listing_rules.specs.Machine.{nextInBlocks, nextOf, runOf, spareOf, takenOf, textAtHead, textInBlocks, roundsOf, wantedOf};
 use bc7::decode_bc7_block;
 use bc7_places::modes::mode_of;
 use head_rules::Head;
@@ -25,12 +25,15 @@ use listing_rules::Phase;
 use opacity::is_opaque_in;
 use sheet::blocks::load;
 use sheet_head::geometry::blocks_across;
-use sheet_head::geometry::row_length;
+use sheet_head::geometry::blocks_of;
 use sheet_head::reader::has_ended;
 use sheet_head::reader::refused_with;
 use sheet_head::reader::take_byte;
 
 pub mod text;
+
+// A row of blocks is taken in runs of so many blocks at the most, and a program needs a buffer for one run.
+const MOST_IN_RUN: u32 = 1024;
 
 // The reader of the head after what came of its next byte; the head is cut off where none came. An accepted head has a size.
 fn take_next(reader: HeadReader, came: &[u8]) -> HeadReader
@@ -77,7 +80,6 @@ fn at_head(reader: HeadReader) -> Machine
     Machine {
         phase: Phase::Head,
         reader: reader,
-        rows: 0,
         from: 0,
     }
 }
@@ -90,22 +92,22 @@ pub fn start() -> Machine
     at_head(sheet_head::reader::start())
 }
 
-// Before so many rows.
-fn in_rows(reader: HeadReader, rows: u32, from: u32) -> Machine
-    ensures { λ r. ⌜ r ≡ inRows reader rows from ⌝ }
+// Before a block of the sheet, or behind its last.
+fn in_blocks(reader: HeadReader, from: u32) -> Machine
+    requires { ⌜ Sized (reader .head .width) (reader .head .height) × (from ≤ blocksOf (reader .head)) ⌝ }
+    ensures { λ r. ⌜ r ≡ inBlocks reader from ⌝ }
 {
-    if rows == 0 {
+    let head = reader.head;
+    if from == blocks_of(head) {
         return Machine {
             phase: Phase::End,
             reader: reader,
-            rows: rows,
             from: from,
         };
     }
     Machine {
-        phase: Phase::Row,
+        phase: Phase::Blocks,
         reader: reader,
-        rows: rows,
         from: from,
     }
 }
@@ -119,14 +121,12 @@ fn stopped(exact: bool) -> Machine
         return Machine {
             phase: Phase::Listed,
             reader: reader,
-            rows: 0,
             from: 0,
         };
     }
     Machine {
         phase: Phase::Refused,
         reader: reader,
-        rows: 0,
         from: 0,
     }
 }
@@ -140,7 +140,7 @@ fn behind_head(reader: HeadReader) -> Machine
     if head.refusal != 0 {
         return stopped(false);
     }
-    in_rows(reader, blocks_across(head.height), 0)
+    in_blocks(reader, 0)
 }
 
 fn next_at_head(reader: HeadReader, came: &[u8]) -> Machine
@@ -154,15 +154,31 @@ fn next_at_head(reader: HeadReader, came: &[u8]) -> Machine
     at_head(taken)
 }
 
-fn next_in_rows(reader: HeadReader, rows: u32, from: u32, got: usize) -> Machine
-    requires { ⌜ InRows (reader .head) rows from ⌝ }
-    ensures { λ r. ⌜ r ≡ nextInRows reader rows from got ⌝ }
+// How many blocks the next run has: the rest of its row, or as many as the buffer holds. So no row is too long for it.
+fn run_of(head: Head, from: u32) -> u32
+    requires { ⌜ InBlocks head from ⌝ }
+    ensures { λ r. ⌜ r ≡ runOf head from ⌝ }
+    ensures { λ r. ⌜ (r ≤ mostInRun) × (from + r ≤ blocksOf head) ⌝ }
+{
+    let columns = blocks_across(head.width);
+    let left = columns - from % columns;
+    if left < MOST_IN_RUN {
+        left
+    } else {
+        MOST_IN_RUN
+    }
+}
+
+fn next_in_blocks(reader: HeadReader, from: u32, got: usize) -> Machine
+    requires { ⌜ InBlocks (reader .head) from ⌝ }
+    ensures { λ r. ⌜ r ≡ nextInBlocks reader from got ⌝ }
 {
     let head = reader.head;
-    if got != row_length(head.width) {
+    let run = run_of(head, from);
+    if got != 16 * run as usize {
         return stopped(false);
     }
-    in_rows(reader, rows - 1, from + blocks_across(head.width))
+    in_blocks(reader, from + run)
 }
 
 // The next state, after what came.
@@ -174,24 +190,24 @@ pub fn next(machine: Machine, came: &[u8]) -> Machine
     let phase = machine.phase;
     match phase {
         Phase::Head => next_at_head(machine.reader, came),
-        Phase::Row => next_in_rows(machine.reader, machine.rows, machine.from, came.len()),
+        Phase::Blocks => next_in_blocks(machine.reader, machine.from, came.len()),
         Phase::End => stopped(came.len() == 0),
         Phase::Listed => stopped(true),
         Phase::Refused => stopped(false),
     }
 }
 
-// How many bytes the machine wants next: never more than 16,384, and none at its end.
+// How many bytes the machine wants next: never more than those of a run, and none at its end.
 pub fn wanted(machine: Machine) -> usize
     requires { ⌜ Ready machine ⌝ }
     ensures { λ r. ⌜ Wants machine r ⌝ }
-    ensures { λ r. ⌜ (r ≤ 16384) × (r ≤ 16384 * roundsOf machine) ⌝ }
+    ensures { λ r. ⌜ (r ≤ 16 * mostInRun) × (r ≤ 16 * mostInRun * roundsOf machine) ⌝ }
 {
     let phase = machine.phase;
     let head = machine.reader.head;
     match phase {
         Phase::Head => 1,
-        Phase::Row => row_length(head.width),
+        Phase::Blocks => 16 * run_of(head, machine.from) as usize,
         Phase::End => 1,
         Phase::Listed => 0,
         Phase::Refused => 0,
@@ -235,14 +251,14 @@ fn list_at_head(reader: HeadReader, came: &[u8], at: usize, out: &mut [u8]) -> u
     at
 }
 
-// What is said of the bytes of a row that came.
-fn list_row(head: Head, from: u32, came: &[u8], at: usize, out: &mut [u8]) -> usize
-    requires { ⌜ BlocksAsked head from (length (now came)) (at + 40) (length (now out)) ⌝ }
-    ensures { λ r. ⌜ Written (now (out .entry)) at (textInRows head from (now (came .entry))) (now (out .exit)) r ⌝ }
-    ensures { λ r. ⌜ r + pick (eqb (length (now (came .entry))) (rowLength (head .width))) 40 0 ≤ at + 40 * (length (now (came .entry)) / 16) + 40 ⌝ }
+// What is said of the bytes of a run that came.
+fn list_run(head: Head, from: u32, came: &[u8], at: usize, out: &mut [u8]) -> usize
+    requires { ⌜ InBlocks head from × BlocksAsked head from (length (now came)) (at + 40) (length (now out)) ⌝ }
+    ensures { λ r. ⌜ Written (now (out .entry)) at (textInBlocks head from (now (came .entry))) (now (out .exit)) r ⌝ }
+    ensures { λ r. ⌜ r + pick (eqb (length (now (came .entry))) (16 * runOf head from)) 40 0 ≤ at + 40 * (length (now (came .entry)) / 16) + 40 ⌝ }
 {
     let lines = list_blocks(head, from, came, at, out);
-    refuse_unless(came.len() == row_length(head.width), lines, out)
+    refuse_unless(came.len() == 16 * run_of(head, from) as usize, lines, out)
 }
 
 // What is said of what came, to a place of the output; the place behind it.
@@ -255,7 +271,7 @@ pub fn list(machine: Machine, came: &[u8], at: usize, out: &mut [u8]) -> usize
     let head = machine.reader.head;
     match phase {
         Phase::Head => list_at_head(machine.reader, came, at, out),
-        Phase::Row => list_row(head, machine.from, came, at, out),
+        Phase::Blocks => list_run(head, machine.from, came, at, out),
         Phase::End => refuse_unless(came.len() == 0, at, out),
         Phase::Listed => at,
         Phase::Refused => at,

@@ -18,12 +18,12 @@ use Rattle.bc7_format.specs.Places.{atPlace, opened, placeAt, pos, width, width
 use Rattle.bc7_format.specs.Splits.{splitAt, splitOf}
 use Rattle.bc7_format.proofs.Examples.{block3, block4}
 use Rattle.head_rules.specs.Geometry.{blocksOf}
-use Rattle.head_rules.specs.Heads.{formIn, headRefusal, heightIn, readHead, sizeRefusal, widthIn}
+use Rattle.head_rules.specs.Heads.{formIn, headRefusalUpTo, heightIn, readHeadUpTo, sizeRefusalUpTo, widthIn}
 use Rattle.head_rules.specs.Numbers.{raised, readGroups, readNumber}
 use Rattle.listing_rules.specs.Text.{ascii, blockText, channels, decimal, digitsIn, opacityMark, refusedText, sheetText}
 use Rattle.opacity_rules.specs.Opacity.{isVisible, opaque, opaqueIn, passes}
 use Rattle.sheet_rules.specs.Rows.{blockAt}
-use Rattle.listing_rules.specs.Listing.{blockListed, blocksListing, blocksText, listed, listing}
+use Rattle.listing_rules.specs.Listing.{blockListed, blocksListing, blocksText, listed, listing, listingBy}
 
 -- texts; 10 ends each
 pub text : List String → List ℕ
@@ -46,8 +46,8 @@ pub listings-hold : map listing (sheet (replicate 16 0) ∷ sheet (replicate 17 
     ("sheet 5 6" ∷ "0 3 3 5 7 255 o" ∷ "1 6 1 1 1 255 o" ∷ "2 4 11 29 44 28 -" ∷ "refused 10" ∷ []) ∷
     ("refused 8" ∷ []) ∷
     [])
-unfolding text listing blocksListing listed blocksText blockListed readHead headRefusal formIn widthIn heightIn readNumber readGroups raised first
-    sizeRefusal blocksOf blockAt sheetText refusedText blockText channels opacityMark decimal digitsIn ascii table tableFrom digits marks strings2
+unfolding text listingBy blocksListing listed blocksText blockListed readHeadUpTo headRefusalUpTo formIn widthIn heightIn readNumber readGroups raised first
+    sizeRefusalUpTo blocksOf blockAt sheetText refusedText blockText channels opacityMark decimal digitsIn ascii table tableFrom digits marks strings2
     strings3 subset2 subset3 anchors2 anchors3 weights weightOf drawn promoted eight modeRow kindOfMode endpointCount placeAt pos width widths
     trailing number modeOf splitAt splitOf atPlace opened has valuePlace pPlace indexSetOf indexPlace own lineOf lineBits meansStored rotated lineAt
     shown pixel pixels implies isVisible passes opaque opaqueIn

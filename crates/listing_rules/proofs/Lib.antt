@@ -1,6 +1,6 @@
 -- The laws that the proofs cite, and the theorems.
 pub mod Attested
-pub mod Rows
+pub mod Runs
 pub mod Rounds
 pub mod Room
 pub mod Theorems

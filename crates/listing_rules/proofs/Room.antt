@@ -3,24 +3,28 @@
 use mathlib.Core.Path.{_≡_, refl, sym, subst}
 use mathlib.Core.Bool.{Bool, true, false}
 use mathlib.Core.List.{List}
-use Prim.Native.Nat.{ℕ, zero, suc, _+_, _*_, _/_, _≤_}
+use Prim.Native.Nat.{ℕ, zero, suc, _+_, _-_, _*_, _/_, _≤_}
 use native.Mathlib.Omega.{arith}
 use lib.Dec.{eqb}
 use lib.ListN.{length}
 use Rattle.listing_rules.specs.declared.Machine.{Machine}
 use Rattle.listing_rules.specs.declared.Phase.{Phase}
-use Rattle.listing_rules.specs.declared.Phase.the-variants.{Head, Row, End, Listed, Refused}
-use Rattle.head_rules.specs.Geometry.{across, rowLength}
+use Rattle.listing_rules.specs.declared.Phase.the-variants.{Head, Blocks, End, Listed, Refused}
+use Rattle.head_rules.specs.Geometry.{blocksOf}
 use Rattle.head_rules.specs.declared.HeadReader.{HeadReader}
 use Rattle.laws.specs.Padding.{Written}
 use Rattle.laws.specs.Tables.{pick}
 use Rattle.laws.proofs.Cases.{pick-either}
-use Rattle.listing_rules.specs.Machine.{ReadyIn, begun, ended, inRows, nextIn, nextInRows, nextOf, spareIn, spareOf, textIn, textOf, wantedIn}
+use Rattle.listing_rules.specs.Machine.{ReadyIn, begun, blocksPhase, ended, inBlocks, nextIn, nextInBlocks, nextOf, runOf, spareIn, spareOf}
+use Rattle.listing_rules.specs.Machine.{textIn, textOf, wantedIn}
 
-spare-rows : (r : HeadReader) (k from : ℕ) → spareOf (inRows r k from) ≡ 40
-unfolding inRows
-spare-rows r zero from = refl
-spare-rows r (suc k) from = refl
+spare-blocks : (r : HeadReader) (from : ℕ) → spareOf (inBlocks r from) ≡ 40
+unfolding inBlocks
+spare-blocks r from = go (blocksOf (r .head) - from)
+  where
+    go : (k : ℕ) → spareIn (blocksPhase k) ≡ 40
+    go zero = refl
+    go (suc k) = refl
 
 pub spare-ended : (exact : Bool) → spareOf (ended exact) ≡ 0
 unfolding ended
@@ -29,7 +33,7 @@ spare-ended false = refl
 
 spare-in : (p : Phase) → spareIn p ≤ 80
 spare-in Head = omega arith
-spare-in Row = omega arith
+spare-in Blocks = omega arith
 spare-in End = omega arith
 spare-in Listed = omega arith
 spare-in Refused = omega arith
@@ -38,14 +42,14 @@ spare-in Refused = omega arith
 pub spare-most : (m : Machine) → spareOf m ≤ 80
 spare-most m = spare-in (m .phase)
 
--- behind a head, and behind a row
+-- behind a head, and behind a run
 pub spare-begun : (r : HeadReader) → spareOf (begun r) ≤ 40
 unfolding begun
 spare-begun r = pick-either (λ m. spareOf m ≤ 40) (eqb (r .head .refusal) 0)
-    (omega (arith, spare-rows r (across (r .head .height)) 0)) (omega (arith, spare-ended false))
+    (omega (arith, spare-blocks r 0)) (omega (arith, spare-ended false))
 
-pub spare-next : (r : HeadReader) (k from got : ℕ) → spareOf (nextInRows r k from got) ≡ pick (eqb got (rowLength (r .head .width))) 40 0
-spare-next r k from got = go (eqb got (rowLength (r .head .width))) _ (spare-rows _ _ _)
+pub spare-next : (r : HeadReader) (from got : ℕ) → spareOf (nextInBlocks r from got) ≡ pick (eqb got (16 * runOf (r .head) from)) 40 0
+spare-next r from got = go (eqb got (16 * runOf (r .head) from)) _ (spare-blocks _ _)
   where
     go : (t : Bool) (m : Machine) → spareOf m ≡ 40 → spareOf (pick t m (ended false)) ≡ pick t 40 0
     go true m e = e
@@ -54,7 +58,7 @@ spare-next r k from got = go (eqb got (rowLength (r .head .width))) _ (spare-row
 -- what is asked and said at a phase is what is asked and said
 module _ (m : Machine) (came : List ℕ) where
   abbrev Asked : Phase → ℕ → ℕ → Type 0
-  Asked p at room = ReadyIn p m × (length came ≤ wantedIn p (m .reader .head)) × (at + 40 * (length came / 16) + spareIn p ≤ room)
+  Asked p at room = ReadyIn p m × (length came ≤ wantedIn p m) × (at + 40 * (length came / 16) + spareIn p ≤ room)
 
   pub asked : (at room : ℕ) {p : Phase} → m .phase ≡ p → Asked (m .phase) at room → Asked p at room
   asked at room e h = subst (λ (p : Phase). Asked p at room) e h

@@ -4,17 +4,16 @@ use mathlib.Core.Path.{_≡_, refl, _∙_, ap, sym, subst}
 use mathlib.Core.Bool.{Bool, true, false}
 use mathlib.Core.List.{List, [], _∷_, _++_, append-nil}
 use Prim.Native.Nat.{ℕ, zero, suc, _+_, _-_, _*_, _≤_}
-use native.Mathlib.Nat.{not-suc-le-zero, suc-mul, zero-add}
 use native.Mathlib.Omega.{arith}
 use lib.Dec.{eqb, leb}
 use lib.ListN.{length, getD, take, drop}
 use lib.Seq.{length-take-le, take-all}
 use borrow.Author.Tests.{eq-eqb, eqb-false, eqb-true, leb-false, leb-true, ne-eqb}
-use Rattle.head_rules.specs.Geometry.{across, blocksOf, rowLength}
+use Rattle.head_rules.specs.Geometry.{blocksOf, mostBlocks}
 use Rattle.head_rules.specs.declared.HeadReader.{HeadReader}
 use Rattle.listing_rules.specs.declared.Machine.{Machine}
 use Rattle.listing_rules.specs.declared.Phase.{Phase}
-use Rattle.listing_rules.specs.declared.Phase.the-variants.{Head, Row, End, Listed, Refused}
+use Rattle.listing_rules.specs.declared.Phase.the-variants.{Head, Blocks, End, Listed, Refused}
 use Rattle.head_rules.specs.declared.Head.{Head as SheetHead}
 use Rattle.laws.specs.Tables.{pick}
 use Rattle.laws.proofs.Cases.{pick-either}
@@ -24,12 +23,11 @@ use Rattle.head_rules.specs.Reader.{Going, Reading, atForm, byteTaken, hasEnded
 use Rattle.head_rules.proofs.Bytewise.{Stepped, going-start, not-far, read-byte, read-cut, read-ended, stepped, stepped-refused}
 use Rattle.head_rules.proofs.Theorems.{fold-leaves-the-blocks, read-head-is-the-fold}
 use Rattle.listing_rules.specs.Text.{refusedText, sheetText}
-use Rattle.listing_rules.specs.Listing.{listed, listing, rowsListing, unlessExact}
-use Rattle.listing_rules.specs.Machine.{InRows, Ready, ReadyIn, Run, atHead, atStart, begun, ended, headText, inRows, nextAtHead, nextIn}
-use Rattle.listing_rules.specs.Machine.{nextInRows, nextOf, over, rowsPhase, takenOf, textAtHead, textIn, textInRows, textOf, round}
-use Rattle.listing_rules.specs.Machine.{roundsIn, roundsOf, wantedIn}
-use Rattle.listing_rules.specs.Machine.{wantedOf}
-use Rattle.listing_rules.proofs.Rows.{listing-by-rows, listing-refused}
+use Rattle.listing_rules.specs.Listing.{blocksListing, blocksText, listed, listing, unlessExact}
+use Rattle.listing_rules.specs.Machine.{InBlocks, Ready, ReadyIn, Run, atHead, atStart, begun, blocksPhase, ended, headText, inBlocks}
+use Rattle.listing_rules.specs.Machine.{nextAtHead, nextIn, nextInBlocks, nextOf, over, takenOf, textAtHead, textIn, textInBlocks, textOf}
+use Rattle.listing_rules.specs.Machine.{mostInRun, round, roundsIn, roundsOf, runOf, wantedIn, wantedOf}
+use Rattle.listing_rules.proofs.Runs.{listing-accepted, listing-refused, run-and-rest, run-cut, run-inside, run-some, run-whole, run-within}
 
 -- what comes of the head's next byte
 module _ (r : HeadReader) (came : List ℕ) where
@@ -58,33 +56,33 @@ pub head-sized : {r x : HeadReader} (came : List ℕ) → Going r → x ≡ take
     → (x ≡ takenOf r came) × (hasEnded x ≡ true → x .head .refusal ≡ 0 → Sized (x .head .width) (x .head .height))
 head-sized {r} {x} came g e = (e, subst (Stepped r) (sym e) (taken-stepped r came g) .sized-head)
 
--- before rows: at one of them, or at the end of the input
-pub some-rows : (k : ℕ) → (k ≡ 0 → ⊥) → rowsPhase k ≡ Row
-some-rows zero n = absurd (n refl)
-some-rows (suc k) n = refl
+-- before blocks: at one of them, or at the end of the input
+pub no-blocks : (n from : ℕ) → from ≡ n → blocksPhase (n - from) ≡ End
+no-blocks n from e = let none : n - from ≡ 0 = omega (arith, e) in ap blocksPhase none
 
-ready-rows : (r : HeadReader) (k from : ℕ) → Sized (r .head .width) (r .head .height) → from + k * across (r .head .width) ≡ blocksOf (r .head)
-    → Ready (inRows r k from)
-unfolding inRows
-ready-rows r zero from z e = tt
-ready-rows r (suc k) from z e = record { sized = z; more = omega arith; numbers = e }
+pub some-blocks : (k : ℕ) → (k ≡ 0 → ⊥) → blocksPhase k ≡ Blocks
+some-blocks zero n = absurd (n refl)
+some-blocks (suc k) n = refl
 
-rounds-rows : (r : HeadReader) (k from n : ℕ) → k + 1 ≤ n → roundsOf (inRows r k from) ≤ n
-unfolding inRows
-rounds-rows r zero from n h = omega arith
-rounds-rows r (suc k) from n h = omega arith
+ready-blocks : (r : HeadReader) (from : ℕ) → Sized (r .head .width) (r .head .height) → Ready (inBlocks r from)
+unfolding inBlocks
+ready-blocks r from z = go (blocksOf (r .head) - from) refl
+  where
+    go : (k : ℕ) → blocksOf (r .head) - from ≡ k → ReadyIn (blocksPhase k) (record { phase = blocksPhase k; reader = r; from = from })
+    go zero e = tt
+    go (suc k) e = record { sized = z; more = omega (arith, e) }
 
--- at a row its blocks, and behind it those of the rows that are left, make up the sheet
-one-row : (k c from n : ℕ) → 1 ≤ k → from + k * c ≡ n → (from + c) + (k - 1) * c ≡ n
-one-row zero c from n h e = absurd (not-suc-le-zero h)
-one-row (suc k) c from n h e = let less : suc k - 1 ≡ k = omega arith in rw less (omega (arith, e, suc-mul k c))
+rounds-blocks : (r : HeadReader) (from n : ℕ) → blocksOf (r .head) - from + 1 ≤ n → roundsOf (inBlocks r from) ≤ n
+unfolding inBlocks
+rounds-blocks r from n h = go (blocksOf (r .head) - from) refl
+  where
+    go : (k : ℕ) → blocksOf (r .head) - from ≡ k → roundsIn (blocksPhase k) (record { phase = blocksPhase k; reader = r; from = from }) ≤ n
+    go zero e = omega arith
+    go (suc k) e = h
 
-pub row-there : {h : SheetHead} {k from : ℕ} → InRows h k from → from + across (h .width) ≤ blocksOf h
-row-there {h} {k} {from} i = omega (arith, one-row k _ from _ (i .more) (i .numbers))
-
-pub few-in-all : (h : SheetHead) → Sized (h .width) (h .height) → blocksOf h ≤ 1048576
+pub few-in-all : (h : SheetHead) → Sized (h .width) (h .height) → blocksOf h ≤ mostBlocks
 unfolding blocksOf
-few-in-all h z = omega (arith, few-blocks z)
+few-in-all h z = few-blocks z
 
 -- at the end
 ready-ended : (exact : Bool) → Ready (ended exact)
@@ -97,14 +95,14 @@ unfolding ended
 rounds-ended true = refl
 rounds-ended false = refl
 
--- what holds before rows that a head declares, and at the end, holds behind the head
+-- what holds before the first block, and at the end, holds behind the head
 behind-head : (P : Machine → Type 0) (r : HeadReader) → (r .head .refusal ≡ 0 → Sized (r .head .width) (r .head .height))
-    → (Sized (r .head .width) (r .head .height) → P (inRows r (across (r .head .height)) 0)) → P (ended false) → P (begun r)
+    → (Sized (r .head .width) (r .head .height) → P (inBlocks r 0)) → P (ended false) → P (begun r)
 unfolding begun
-behind-head P r sized rows end = go (eqb (r .head .refusal) 0) refl
+behind-head P r sized blocks end = go (eqb (r .head .refusal) 0) refl
   where
-    go : (t : Bool) → eqb (r .head .refusal) 0 ≡ t → P (pick t (inRows r (across (r .head .height)) 0) (ended false))
-    go true e = rows (sized (eqb-true _ 0 e))
+    go : (t : Bool) → eqb (r .head .refusal) 0 ≡ t → P (pick t (inBlocks r 0) (ended false))
+    go true e = blocks (sized (eqb-true _ 0 e))
     go false e = end
 
 -- and what holds there and at the head with a byte more holds after each byte of the head
@@ -117,17 +115,12 @@ after-byte P r g behind more came = go (takenOf r came) (taken-stepped r came g)
     go x s true e = behind x (s .sized-head e)
     go x s false e = more x s e
 
-all-to-come : (h : SheetHead) → 0 + across (h .height) * across (h .width) ≡ blocksOf h
-unfolding blocksOf
-all-to-come h = zero-add _
-
 -- the next state is ready
 ready-next : (p : Phase) (m : Machine) (came : List ℕ) → ReadyIn p m → Ready (nextIn p m came)
 ready-next Head m came h =
     after-byte Ready (m .reader) h
-    (λ x z. behind-head Ready x z (λ s. ready-rows x _ 0 s (all-to-come (x .head))) (ready-ended false)) (λ x s e. s .going e) came
-ready-next Row m came h = pick-either Ready (eqb (length came) _)
-    (ready-rows (m .reader) _ _ (h .sized) (one-row (m .rows) _ (m .from) _ (h .more) (h .numbers))) (ready-ended false)
+    (λ x z. behind-head Ready x z (λ s. ready-blocks x 0 s) (ready-ended false)) (λ x s e. s .going e) came
+ready-next Blocks m came h = pick-either Ready (eqb (length came) _) (ready-blocks (m .reader) _ (h .sized)) (ready-ended false)
 ready-next End m came h = ready-ended (eqb (length came) 0)
 ready-next Listed m came h = ready-ended true
 ready-next Refused m came h = ready-ended false
@@ -136,11 +129,11 @@ ready-next Refused m came h = ready-ended false
 rounds-next : (p : Phase) (m : Machine) (came : List ℕ) → ReadyIn p m → roundsOf (nextIn p m came) ≤ roundsIn p m - 1
 rounds-next Head m came h =
     after-byte (λ n. roundsOf n ≤ roundsIn Head m - 1) (m .reader) h
-    (λ x z. behind-head (λ n. roundsOf n ≤ roundsIn Head m - 1) x z (λ s. rounds-rows _ _ _ _ (omega (arith, s .within-high)))
+    (λ x z. behind-head (λ n. roundsOf n ≤ roundsIn Head m - 1) x z (λ s. rounds-blocks x 0 _ (omega (arith, few-in-all (x .head) s)))
     (omega (arith, rounds-ended false)))
     (λ x s e. omega (arith, s .on e, not-far h, h .few)) came
-rounds-next Row m came h = pick-either (λ n. roundsOf n ≤ roundsIn Row m - 1) (eqb (length came) _) (rounds-rows _ _ _ _ (omega (arith, h .more)))
-    (omega (arith, rounds-ended false))
+rounds-next Blocks m came h = pick-either (λ n. roundsOf n ≤ roundsIn Blocks m - 1) (eqb (length came) _)
+    (rounds-blocks (m .reader) _ _ (omega (arith, run-some h, run-inside h))) (omega (arith, rounds-ended false))
 rounds-next End m came h = omega (arith, rounds-ended (eqb (length came) 0))
 rounds-next Listed m came h = omega (arith, rounds-ended true)
 rounds-next Refused m came h = omega (arith, rounds-ended false)
@@ -157,43 +150,47 @@ nexts m came h e = (
 )
 
 -- it never wants more than the buffer holds, and at the end nothing
-wanted-in : (p : Phase) (m : Machine) → ReadyIn p m → (wantedIn p (m .reader .head) ≤ 16384) × (wantedIn p (m .reader .head) ≤ 16384 * roundsIn p m)
+wanted-in : (p : Phase) (m : Machine) → ReadyIn p m → (wantedIn p m ≤ 16 * mostInRun) × (wantedIn p m ≤ 16 * mostInRun * roundsIn p m)
 wanted-in Head m h = (omega arith, omega arith)
-wanted-in Row m h = (omega (arith, h .sized .within-wide), omega (arith, h .sized .within-wide))
+wanted-in Blocks m h = (omega (arith, run-within h), omega (arith, run-within h))
 wanted-in End m h = (omega arith, omega arith)
 wanted-in Listed m h = (omega arith, omega arith)
 wanted-in Refused m h = (omega arith, omega arith)
 
-wanted-within : (m : Machine) → Ready m → (wantedOf m ≤ 16384) × (wantedOf m ≤ 16384 * roundsOf m)
+wanted-within : (m : Machine) → Ready m → (wantedOf m ≤ 16 * mostInRun) × (wantedOf m ≤ 16 * mostInRun * roundsOf m)
 wanted-within m h = wanted-in (m .phase) m h
 
-pub wants : (m : Machine) → Ready m → {p : Phase} {n : ℕ} → m .phase ≡ p → n ≡ wantedIn p (m .reader .head)
-    → (n ≡ wantedOf m) × ((n ≤ 16384) × (n ≤ 16384 * roundsOf m))
+pub wants : (m : Machine) → Ready m → {p : Phase} {n : ℕ} → m .phase ≡ p → n ≡ wantedIn p m
+    → (n ≡ wantedOf m) × ((n ≤ 16 * mostInRun) × (n ≤ 16 * mostInRun * roundsOf m))
 wants m h {p} {n} at e =
-    let q : n ≡ wantedOf m = e ∙ sym (ap (λ (p : Phase). wantedIn p (m .reader .head)) at) in
+    let q : n ≡ wantedOf m = e ∙ sym (ap (λ (p : Phase). wantedIn p m) at) in
     (q, (omega (arith, q, wanted-within m h .0), omega (arith, q, wanted-within m h .1)))
 
 -- what is still said of an input: from a head on, and from a byte of the head on
 behind : SheetHead → List ℕ → List ℕ
-behind h s = pick (eqb (h .refusal) 0) (rowsListing h 0 (across (h .height)) s) []
+behind h s = pick (eqb (h .refusal) 0) (blocksListing h 0 (blocksOf h) s) []
 
 fromHead : Reading → List ℕ
 fromHead t = headText (t .head) ++ behind (t .head) (t .rest)
 
 restIn : Phase → Machine → List ℕ → List ℕ
 restIn Head m s = fromHead (readBy (m .reader) s)
-restIn Row m s = rowsListing (m .reader .head) (m .from) (m .rows) s
-restIn End m s = rowsListing (m .reader .head) (m .from) 0 s
+restIn Blocks m s = blocksListing (m .reader .head) (m .from) (blocksOf (m .reader .head) - m .from) s
+restIn End m s = blocksListing (m .reader .head) (m .from) 0 s
 restIn Listed m s = []
 restIn Refused m s = []
 
 pub restOf : Machine → List ℕ → List ℕ
 restOf m s = restIn (m .phase) m s
 
-rest-rows : (r : HeadReader) (k from : ℕ) (s : List ℕ) → restOf (inRows r k from) s ≡ rowsListing (r .head) from k s
-unfolding inRows restOf restIn
-rest-rows r zero from s = refl
-rest-rows r (suc k) from s = refl
+rest-blocks : (r : HeadReader) (from : ℕ) (s : List ℕ) → restOf (inBlocks r from) s ≡ blocksListing (r .head) from (blocksOf (r .head) - from) s
+unfolding inBlocks restOf restIn
+rest-blocks r from s = go (blocksOf (r .head) - from) refl
+  where
+    go : (k : ℕ) → blocksOf (r .head) - from ≡ k
+        → restIn (blocksPhase k) (record { phase = blocksPhase k; reader = r; from = from }) s ≡ blocksListing (r .head) from k s
+    go zero e = refl
+    go (suc k) e = ap (λ (n : ℕ). blocksListing (r .head) from n s) e
 
 rest-ended : (exact : Bool) (s : List ℕ) → restOf (ended exact) s ≡ []
 unfolding ended restOf restIn
@@ -204,9 +201,8 @@ rest-begun : (r : HeadReader) (s : List ℕ) → restOf (begun r) s ≡ behind (
 unfolding begun behind
 rest-begun r s = go (eqb (r .head .refusal) 0)
   where
-    go : (t : Bool) → restOf (pick t (inRows r (across (r .head .height)) 0) (ended false)) s
-        ≡ pick t (rowsListing (r .head) 0 (across (r .head .height)) s) []
-    go true = rest-rows r _ 0 s
+    go : (t : Bool) → restOf (pick t (inBlocks r 0) (ended false)) s ≡ pick t (blocksListing (r .head) 0 (blocksOf (r .head)) s) []
+    go true = let all : blocksOf (r .head) - 0 ≡ blocksOf (r .head) = omega arith in rest-blocks r 0 s ∙ ap (λ (n : ℕ). blocksListing (r .head) 0 n s) all
     go false = rest-ended false s
 
 -- a byte of the head, or none
@@ -229,27 +225,29 @@ all-came n s = go (leb n (length s)) refl
     go true e = eq-eqb _ n (length-take-le n s (leb-true n (length s) e))
     go false e = ne-eqb _ n (λ q. omega (arith, leb-false n (length s) e, ap length (take-all n s (omega (arith, leb-false n (length s) e)))))
 
-row-step : (r : HeadReader) (k from : ℕ) (s : List ℕ) → 1 ≤ k
-    → let n = rowLength (r .head .width) in
-    rowsListing (r .head) from k s ≡ textInRows (r .head) from (take n s) ++ restOf (nextInRows r k from (length (take n s))) (drop n s)
-unfolding rowsListing
-row-step r zero from s h = absurd (not-suc-le-zero h)
-row-step r (suc k) from s h = rw (all-came n s) (go (leb n (length s)))
+run-step : (r : HeadReader) (from : ℕ) (s : List ℕ) → InBlocks (r .head) from
+    → let n = 16 * runOf (r .head) from in
+    blocksListing (r .head) from (blocksOf (r .head) - from) s
+    ≡ textInBlocks (r .head) from (take n s) ++ restOf (nextInBlocks r from (length (take n s))) (drop n s)
+run-step r from s i =
+    ap (λ (k : ℕ). blocksListing (r .head) from k s) (sym (run-and-rest i)) ∙ rw (all-came n s) (go (leb n (length s)) refl)
   where
+    run : ℕ
+    run = runOf (r .head) from
+
     n : ℕ
-    n = rowLength (r .head .width)
+    n = 16 * run
 
-    c : ℕ
-    c = across (r .head .width)
+    left : ℕ
+    left = blocksOf (r .head) - (from + run)
 
-    less : suc k - 1 ≡ k
-    less = omega arith
-
-    go : (t : Bool)
-        → listed (r .head) from (take n s) ++ pick t (rowsListing (r .head) (from + c) k (drop n s)) (refusedText 10)
-        ≡ (listed (r .head) from (take n s) ++ unlessExact t) ++ restOf (pick t (inRows r (suc k - 1) (from + c)) (ended false)) (drop n s)
-    go true = rw (append-nil, less) (ap (λ (t : List ℕ). listed (r .head) from (take n s) ++ t) (sym (rest-rows r k (from + c) (drop n s))))
-    go false = rw (rest-ended, append-nil)
+    go : (t : Bool) → leb n (length s) ≡ t
+        → blocksListing (r .head) from (run + left) s
+        ≡ (listed (r .head) from (take n s) ++ unlessExact t) ++ restOf (pick t (inBlocks r (from + run)) (ended false)) (drop n s)
+    go true e =
+        run-whole (r .head) from run left s (leb-true n (length s) e)
+        ∙ rw append-nil (ap (λ (t : List ℕ). listed (r .head) from (take n s) ++ t) (sym (rest-blocks r (from + run) (drop n s))))
+    go false e = run-cut (r .head) from run left s (leb-false n (length s) e) ∙ sym (rw (rest-ended, append-nil))
 
 -- a byte came exactly when the input has one
 none-came : (s : List ℕ) → eqb (length (take 1 s)) 0 ≡ eqb (length s) 0
@@ -257,16 +255,16 @@ none-came [] = refl
 none-came (b ∷ bs) = ne-eqb (suc (length (take 0 bs))) 0 (λ q. omega (arith, q)) ∙ sym (ne-eqb (suc (length bs)) 0 (λ q. omega (arith, q)))
 
 end-step : (h : SheetHead) (from : ℕ) (s : List ℕ)
-    → rowsListing h from 0 s ≡ unlessExact (eqb (length (take 1 s)) 0) ++ restOf (ended (eqb (length (take 1 s)) 0)) (drop 1 s)
-unfolding rowsListing
+    → blocksListing h from 0 s ≡ unlessExact (eqb (length (take 1 s)) 0) ++ restOf (ended (eqb (length (take 1 s)) 0)) (drop 1 s)
+unfolding blocksListing listed blocksText
 end-step h from s = rw (rest-ended, append-nil, none-came s)
 
 -- what is still said is what is said of the next bytes, and what is still said behind them
 step-in : (p : Phase) (m : Machine) (s : List ℕ) → ReadyIn p m
-    → let n = wantedIn p (m .reader .head) in restIn p m s ≡ textIn p m (take n s) ++ restOf (nextIn p m (take n s)) (drop n s)
+    → let n = wantedIn p m in restIn p m s ≡ textIn p m (take n s) ++ restOf (nextIn p m (take n s)) (drop n s)
 unfolding restIn
 step-in Head m s h = head-step (m .reader) (h .unended) s
-step-in Row m s h = row-step (m .reader) (m .rows) (m .from) s (h .more)
+step-in Blocks m s h = run-step (m .reader) (m .from) s h
 step-in End m s h = end-step (m .reader .head) (m .from) s
 step-in Listed m s h = sym (rest-ended true s)
 step-in Refused m s h = sym (rest-ended false s)
@@ -277,10 +275,10 @@ unfolding restOf
 step m s h = step-in (m .phase) m s h
 
 -- where nothing is wanted nothing is left to say; that is so at the end alone
-done-in : (p : Phase) (m : Machine) (s : List ℕ) → ReadyIn p m → wantedIn p (m .reader .head) ≡ 0 → restIn p m s ≡ []
+done-in : (p : Phase) (m : Machine) (s : List ℕ) → ReadyIn p m → wantedIn p m ≡ 0 → restIn p m s ≡ []
 unfolding restIn
 done-in Head m s h e = absurd (let q : ⊥ = omega (arith, e) in q)
-done-in Row m s h e = absurd (let q : ⊥ = omega (arith, e, h .sized .wide) in q)
+done-in Blocks m s h e = absurd (let q : ⊥ = omega (arith, e, run-some h) in q)
 done-in End m s h e = absurd (let q : ⊥ = omega (arith, e) in q)
 done-in Listed m s h e = refl
 done-in Refused m s h e = refl
@@ -315,10 +313,10 @@ rest-start s =
   where
     go : (t : Bool) → eqb (readHead s .refusal) 0 ≡ t
         → pick t (sheetText (readHead s .width) (readHead s .height)) (refusedText (readHead s .refusal))
-        ++ pick t (rowsListing (readHead s) 0 (across (readHead s .height)) (readBy atForm s .rest)) [] ≡ listing s
+        ++ pick t (blocksListing (readHead s) 0 (blocksOf (readHead s)) (readBy atForm s .rest)) [] ≡ listing s
     go true e =
         let z = eqb-true _ 0 e in
         ap (λ (bs : List ℕ). sheetText (readHead s .width)
-        (readHead s .height) ++ rowsListing (readHead s) 0 (across (readHead s .height)) bs)
-        (fold-leaves-the-blocks s z) ∙ sym (listing-by-rows s z)
+        (readHead s .height) ++ blocksListing (readHead s) 0 (blocksOf (readHead s)) bs)
+        (fold-leaves-the-blocks s z) ∙ sym (listing-accepted s z)
     go false e = append-nil _ ∙ sym (listing-refused s (eqb-false _ 0 e))

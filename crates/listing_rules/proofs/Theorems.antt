@@ -3,7 +3,8 @@
 use mathlib.Core.Path.{_≡_, refl, _∙_, ap, sym, subst}
 use mathlib.Core.Bool.{Bool}
 use mathlib.Core.List.{List, [], _∷_, _++_}
-use Prim.Native.Nat.{ℕ}
+use mathlib.Core.Logic.{_⊎_}
+use Prim.Native.Nat.{ℕ, _<_}
 use native.Mathlib.Nat.{le-refl}
 use lib.ListN.{replicate, take}
 use Rattle.laws.specs.Refusals.{first}
@@ -16,14 +17,16 @@ use Rattle.bc7_format.specs.Lines.{shown, valuePlace}
 use Rattle.bcn_format.specs.Partitions.{anchors2, anchors3, digits, marks, strings2, strings3, subset2, subset3}
 use Rattle.bc7_format.specs.Places.{atPlace, opened, placeAt, pos, width, widths}
 use Rattle.bc7_format.specs.Splits.{splitAt, splitOf}
+use Rattle.head_rules.specs.declared.Head.{Head}
 use Rattle.head_rules.specs.Geometry.{blocksOf}
-use Rattle.head_rules.specs.Heads.{formIn, headRefusal, heightIn, readHead, sizeRefusal, widthIn}
+use Rattle.head_rules.specs.Heads.{formIn, headRefusalUpTo, heightIn, oldLimit, readHead, readHeadUpTo, sizeRefusalUpTo, widthIn}
+use Rattle.head_rules.proofs.Theorems.{old-console-refuses, stored-heads-keep}
 use Rattle.head_rules.specs.Numbers.{raised, readGroups, readNumber}
-use Rattle.listing_rules.specs.Text.{ascii, blockText, channels, decimal, digitsIn, newline, opacityMark, sheetText}
+use Rattle.listing_rules.specs.Text.{ascii, blockText, channels, decimal, digitsIn, newline, opacityMark, refusedText, sheetText}
 use Rattle.opacity_rules.specs.Opacity.{isVisible, opaque, opaqueIn, passes}
 use Rattle.sheet_rules.specs.Rows.{blockAt}
 use Rattle.listing_rules.specs.declared.Machine.{Machine}
-use Rattle.listing_rules.specs.Listing.{blockListed, blocksListing, blocksText, listed, listing}
+use Rattle.listing_rules.specs.Listing.{blockListed, blocksListing, blocksText, listed, listing, listingBy}
 use Rattle.listing_rules.specs.Promises.{GoesOn, Says, SaysBlock, SaysListing, SaysNext, SaysRefused, SaysSheet, Wants}
 use Rattle.listing_rules.specs.Machine.{Run, atStart, over, textOf, round, roundsOf, wantedOf}
 use Rattle.listing_rules.proofs.Rounds.{ready-start, rest-start, runs}
@@ -38,6 +41,16 @@ one-run (over e) (over f) = refl
 one-run (over e) (round n r) = absurd (n e)
 one-run (round n r) (over e) = absurd (n e)
 one-run {m} {s} (round n r) (round o q) = ap (λ (t : List ℕ). textOf m (take (wantedOf m) s) ++ t) (one-run r q)
+
+-- MAPS UP TO 16,384: what the old limit accepted is listed as it was, and of anything else that is accepted now a console with the old
+-- limit prints `refused 9` and nothing more
+pub stored-sheets-list : (s : List ℕ) → readHeadUpTo oldLimit s .refusal ≡ 0 → listing s ≡ listingBy (readHeadUpTo oldLimit s) s
+stored-sheets-list s e = ap (λ (h : Head). listingBy h s) (stored-heads-keep s e)
+
+pub old-console-lists-nothing : (s : List ℕ) → readHead s .refusal ≡ 0 → (oldLimit < readHead s .width) ⊎ (oldLimit < readHead s .height)
+    → listingBy (readHeadUpTo oldLimit s) s ≡ refusedText 9
+unfolding listingBy
+old-console-lists-nothing s e above = rw (old-console-refuses s e above)
 
 -- any two results that a promise admits coincide: the output whole, and the place behind the text
 says-one : {text before after after' : List ℕ} {at next next' : ℕ} → Says text before at after next → Says text before at after' next'
@@ -74,8 +87,8 @@ determined-wanted m a b p q = p ∙ sym q
 -- document 01's example: block D and a reserved block
 pub document-lists : listing (0x01 ∷ 0x05 ∷ 0x04 ∷ (0x60 ∷ (replicate 5 0 ++ (0xFC ∷ 0x03 ∷ replicate 24 0))))
     ≡ (ascii "sheet 5 4" ++ (newline ∷ [])) ++ ((ascii "0 5 255 0 0 0 -" ++ (newline ∷ [])) ++ (ascii "1 8 0 0 0 0 -" ++ (newline ∷ [])))
-unfolding listing blocksListing listed blocksText blockListed readHead headRefusal formIn widthIn heightIn readNumber readGroups raised first
-    sizeRefusal blocksOf blockAt sheetText blockText channels opacityMark decimal digitsIn ascii table tableFrom digits marks strings2 strings3
+unfolding listingBy blocksListing listed blocksText blockListed readHeadUpTo headRefusalUpTo formIn widthIn heightIn readNumber readGroups raised first
+    sizeRefusalUpTo blocksOf blockAt sheetText blockText channels opacityMark decimal digitsIn ascii table tableFrom digits marks strings2 strings3
     subset2 subset3 anchors2 anchors3 weights weightOf drawn promoted eight modeRow kindOfMode endpointCount placeAt pos width widths trailing number
     modeOf splitAt splitOf atPlace opened has valuePlace pPlace indexSetOf indexPlace own lineOf lineBits meansStored rotated lineAt shown pixel
     pixels implies isVisible passes opaque opaqueIn

@@ -1,15 +1,15 @@
--- What is printed of an input: the whole of it, and row by row of blocks.
+-- What is printed of an input.
 -- Assumes nothing.
 use Prim.Native.Nat.{ℕ, zero, suc, _+_, _*_, _/_}
 use mathlib.Core.Bool.{Bool}
 use mathlib.Core.List.{List, [], _++_}
-use lib.Dec.{eqb, leb}
+use lib.Dec.{eqb}
 use lib.ListN.{length, getD, take, drop}
 use Rattle.laws.specs.Tables.{pick}
 use Rattle.bc7_format.specs.Modes.{modeOf}
 use Rattle.bc7_format.specs.Lines.{pixels}
 use Rattle.head_rules.specs.declared.Head.{Head}
-use Rattle.head_rules.specs.Geometry.{across, blocksOf, rowLength}
+use Rattle.head_rules.specs.Geometry.{blocksOf}
 use Rattle.head_rules.specs.Heads.{readHead}
 use Rattle.listing_rules.specs.Text.{blockText, refusedText, sheetText}
 use Rattle.opacity_rules.specs.Opacity.{opaqueIn}
@@ -32,22 +32,17 @@ listed h from bs = blocksText h from (length bs / 16) bs
 abbrev pub unlessExact : Bool → List ℕ
 unlessExact exact = pick exact [] (refusedText 10)
 
--- n blocks are declared: the texts of those that are there, and a refusal unless the bytes are exactly as many as needed
-unfoldable pub blocksListing : Head → ℕ → List ℕ → List ℕ
-blocksListing h n bs = listed h 0 (take (16 * n) bs) ++ unlessExact (eqb (length bs) (16 * n))
+-- n blocks are to come, numbered from `from` on: the texts of those that are there, and a refusal unless the bytes are exactly as many as
+-- needed
+unfoldable pub blocksListing : Head → ℕ → ℕ → List ℕ → List ℕ
+blocksListing h from n bs = listed h from (take (16 * n) bs) ++ unlessExact (eqb (length bs) (16 * n))
 
--- what is printed of an input
-unfoldable pub listing : List ℕ → List ℕ
-listing s =
-    let h = readHead s in
+-- what is printed of an input whose head was read as h
+unfoldable pub listingBy : Head → List ℕ → List ℕ
+listingBy h s =
     pick (eqb (h .refusal) 0)
-    (sheetText (h .width) (h .height) ++ blocksListing h (blocksOf h) (drop (h .start) s))
+    (sheetText (h .width) (h .height) ++ blocksListing h 0 (blocksOf h) (drop (h .start) s))
     (refusedText (h .refusal))
 
--- the same of k rows of blocks, one row at a time; it ends with the first row that is cut off, and a byte behind the last row is
--- refused
-unfoldable pub rowsListing : Head → ℕ → ℕ → List ℕ → List ℕ
-rowsListing h from zero bs = unlessExact (eqb (length bs) 0)
-rowsListing h from (suc k) bs =
-    let n = rowLength (h .width) in
-    listed h from (take n bs) ++ pick (leb n (length bs)) (rowsListing h (from + across (h .width)) k (drop n bs)) (refusedText 10)
+abbrev pub listing : List ℕ → List ℕ
+listing s = listingBy (readHead s) s

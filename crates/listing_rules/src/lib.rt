@@ -3,20 +3,19 @@
 
 use head_rules::HeadReader;
 
-// What the machine is at: the head, a row of blocks, the end of the input behind the last row; or it has listed the sheet, or
+// What the machine is at: the head, a run of blocks, the end of the input behind the last one; or it has listed the sheet, or
 // refused it, and wants nothing more.
 pub enum Phase {
     Head,
-    Row,
+    Blocks,
     End,
     Listed,
     Refused,
 }
 
-// The reader of the head, which keeps it while rows come; the rows that have still to come, and the number of the next block.
+// The reader of the head, which keeps it while blocks come, and the number of the next block.
 pub struct Machine {
     pub phase: Phase,
     pub reader: HeadReader,
-    pub rows: u32,
     pub from: u32,
 }

@@ -27,7 +27,7 @@ use sheet_head::write_head;
 
 // Which version of the calls and their answers this is: 10000 times the major number, 100 times the minor one, and the patch. The
 // header has the same three.
-const VERSION: u32 = 10300;
+const VERSION: u32 = 10400;
 
 #[no_mangle]
 pub extern "C" fn rinchovek_version() -> u32

@@ -26,17 +26,17 @@ use Rattle.nearest_rules.specs.Nearest.{channelDistance, distance, drawnWith, e
 use Rattle.nearest_rules.specs.Nearest.{nearestRefusal, squared, withIndex, zeroAt}
 use Rattle.opacity_rules.specs.Opacity.{isVisible, opaque, passes}
 use Rattle.head_rules.specs.Geometry.{blocksOf, placeOf}
-use Rattle.head_rules.specs.Heads.{formIn, headBytes, headRefusal, heightIn, readHead, sizeRefusal, widthIn, writeHead}
+use Rattle.head_rules.specs.Heads.{formIn, headBytes, headRefusalUpTo, heightIn, readHeadUpTo, sizeRefusalUpTo, widthIn, writeHead}
 use Rattle.head_rules.specs.Numbers.{groups, raised, readGroups, readNumber}
-use Rattle.sheet_rules.specs.Rows.{blockAt, channel, rowByte, rowBytes, rowOut, rowRefusal}
-use Rattle.sheet_rules.specs.Sheets.{blockIn, findRefusal, putBlock, replacedIn, sheetAfter, sheetRefusal}
+use Rattle.sheet_rules.specs.Rows.{blockAt, channel, rowByte, rowBytes, rowOutUpTo, rowRefusalUpTo}
+use Rattle.sheet_rules.specs.Sheets.{blockBy, findRefusalBy, putBlock, replacedBy, sheetAfterBy, sheetRefusalBy}
 use Rattle.sheet_rules.proofs.Attested.{lower, lowerScanlines, small, smallReplaced}
 use Rattle.rinchovek_rules.specs.Promises.{Decodes, Gives, Packs, ReadsLine, Replaces, Unpacks, Versions, DecodesRow, ReadsHead, ReplacesIn}
 use Rattle.rinchovek_rules.specs.Promises.{FindsExact, FindsNearest, TellsOpaque, WritesHead}
 use Rattle.laws.specs.Digits.{evenly}
 use Rattle.dds_rules.specs.Header.{canonicalHeader, entries, headerNumber, isTexture, numberAt}
-use Rattle.dds_rules.specs.Files.{exportAfter, exportLength, exportRefusal, fileMade, fileRefusal, headMade, importAfter, importLength}
-use Rattle.dds_rules.specs.Files.{importRefusal, sheetMade, wholeRefusal}
+use Rattle.dds_rules.specs.Files.{exportAfterBy, exportLength, exportRefusalBy, fileMadeBy, fileRefusalUpTo, headMade, importAfterUpTo, importLength}
+use Rattle.dds_rules.specs.Files.{importRefusalUpTo, sheetMade, wholeRefusalBy}
 use Rattle.dds_rules.proofs.Attested.{file53, header53, sheet53}
 use Rattle.rinchovek_rules.specs.Promises.{ExportNeeds, ExportsDds, ImportNeeds, ImportsDds}
 
@@ -76,7 +76,7 @@ computed : {A : Type 0} {refusal : ℕ} {left : A} → Gives refusal left refusa
 computed = record { answers = refl; leaves = refl }
 
 pub record Calls : Type 0 where
-  pub version : Versions (10000 * 1 + 100 * 3 + 0)
+  pub version : Versions (10000 * 1 + 100 * 4 + 0)
   pub decodes : Decodes block4 (half4 ++ half4)
   pub decodes-reserved : Decodes (zeros 16) (replicate 16 (rgba 0 0 0 0))
   pub unpacks : Unpacks block4 (nines 66) 0 (bytes4 3)
@@ -96,7 +96,7 @@ pub record Calls : Type 0 where
   pub reads-head : ReadsHead small (nines 3) 0 (5 ∷ 6 ∷ 3 ∷ [])
   pub reads-head-not : ReadsHead (0x02 ∷ []) (nines 3) 8 (nines 3)
   pub writes-head : WritesHead 5 6 (nines 7, 9) 0 (0x01 ∷ 0x05 ∷ 0x06 ∷ zeros 4, 3)
-  pub writes-head-not : WritesHead 5 4097 (nines 7, 9) 9 (nines 7, 9)
+  pub writes-head-not : WritesHead 5 16385 (nines 7, 9) 9 (nines 7, 9)
   pub decodes-row : DecodesRow 5 6 1 lower (nines 40) 0 lowerScanlines
   pub decodes-row-not : DecodesRow 5 6 1 lower (nines 41) 11 (nines 41)
   pub replaces-in : ReplacesIn small 2 0 bytesGiven6 0 smallReplaced
@@ -116,13 +116,13 @@ unfolding padded first over table tableFrom weights weightOf drawn promoted eigh
     lineBits meansStored rotated lineAt shown pixel pixels digits marks strings2 strings3 subset2 subset3 anchors2 anchors3 takenApart
     recordOf made packed packRefusal fits says blockOf listOf bytesOf replaced after refusal refusalIn lineFits valueFits pFits
     indexFits ownWidth lineGiven put oriented withLine laid turned anchorOf lineRead readRefusal givenAs widthsOf valueAt
-    recordByte recordBytes recordOfBytes replacementOf replacementBytes packedBytes bytesRefusal spelt readHead headRefusal formIn
-    widthIn heightIn readNumber readGroups raised sizeRefusal writeHead headBytes groups blockAt channel rowByte rowBytes rowOut
-    rowRefusal blockIn blocksOf findRefusal placeOf putBlock replacedIn sheetAfter sheetRefusal draws meansShown channelDistance
+    recordByte recordBytes recordOfBytes replacementOf replacementBytes packedBytes bytesRefusal spelt readHeadUpTo headRefusalUpTo formIn
+    widthIn heightIn readNumber readGroups raised sizeRefusalUpTo writeHead headBytes groups blockAt channel rowByte rowBytes rowOutUpTo
+    rowRefusalUpTo blockBy blocksOf findRefusalBy placeOf putBlock replacedBy sheetAfterBy sheetRefusalBy draws meansShown channelDistance
     distance drawnWith exactIndex exactRefusal inLine indexCount leastAt nearestIndex nearestRefusal squared withIndex zeroAt
     implies isVisible passes opaque
-    evenly numberAt entries headerNumber canonicalHeader isTexture headMade sheetMade fileRefusal importRefusal importAfter wholeRefusal
-    exportRefusal fileMade exportAfter importLength exportLength
+    evenly numberAt entries headerNumber canonicalHeader isTexture headMade sheetMade fileRefusalUpTo importRefusalUpTo importAfterUpTo wholeRefusalBy
+    exportRefusalBy fileMadeBy exportAfterBy importLength exportLength
 calls-hold = record {
   version = refl;
   decodes = refl;

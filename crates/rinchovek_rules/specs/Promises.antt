@@ -30,9 +30,9 @@ pub record Gives {A : Type 0} (refusal : ℕ) (left : A) (answer : ℕ) (after :
 abbrev pub Writes : {A : Type 0} → ℕ → A → A → ℕ → A → Type 0
 Writes refusal value before = Gives refusal (pick (eqb refusal 0) value before)
 
--- version 1.3.0: major, minor and patch, with two digits for each of the last two
+-- version 1.4.0: major, minor and patch, with two digits for each of the last two
 abbrev pub Versions : ℕ → Type 0
-Versions answer = answer ≡ 10300
+Versions answer = answer ≡ 10400
 
 abbrev pub Decodes : List ℕ → List (List ℕ) → Type 0
 Decodes block after = after ≡ pixels block

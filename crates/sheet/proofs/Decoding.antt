@@ -6,7 +6,7 @@ use Prim.Native.Nat.{ℕ}
 use lib.ListN.{length}
 use borrow.Author.Tests.{ne-eqb}
 use Rattle.head_rules.specs.Geometry.{sideShown}
-use Rattle.sheet_rules.specs.Rows.{rowBytes, rowOut, rowRefusal}
+use Rattle.sheet_rules.specs.Rows.{rowBytes, rowOut, rowOutUpTo, rowRefusal}
 use Rattle.sheet_rules.proofs.Refusing.{Accepted, drawn, told}
 
 pub told-by : (w h row given room : ℕ) {r : ℕ} → r ≡ rowRefusal w h row given room → r ≡ 0 → Accepted w h row given room
@@ -14,7 +14,7 @@ told-by w h row given room e z = told w h row given room (sym e ∙ z)
 
 module _ (w h row : ℕ) (blocks out : List ℕ) {r : ℕ} (e : r ≡ rowRefusal w h row (length blocks) (length out)) where
   pub kept : (r ≡ 0 → ⊥) → (r ≡ rowRefusal w h row (length blocks) (length out)) × (out ≡ rowOut w h row blocks out)
-  unfolding rowOut
+  unfolding rowOutUpTo
   kept ne = (e, rw (← e, ne-eqb r 0 ne))
 
   pub drawn-by : r ≡ 0 → {scanlines : ℕ} → scanlines ≡ sideShown h row → {after : List ℕ} → after ≡ rowBytes w scanlines blocks

@@ -10,7 +10,7 @@ use Rattle.laws.specs.Refusals.{here, then}
 use Rattle.laws.proofs.Refusals.{exactly, handed-last}
 use Rattle.line_rules.specs.Replace.{replaced}
 use Rattle.sheet_rules.specs.Rows.{blockAt}
-use Rattle.sheet_rules.specs.Sheets.{blockIn, putBlock, replacedIn, sheetAfter, sheetRefusal}
+use Rattle.sheet_rules.specs.Sheets.{blockBy, putBlock, replacedIn, replacedBy, sheetAfter, sheetRefusal}
 use Rattle.sheet_rules.proofs.Replacing.{accepted-is, handing, refused-is}
 use Rattle.sheet.specs.Found.{findBlock}
 use Rattle.sheet.proofs.blocks.Finding.{at-is, refusal-is, told}
@@ -26,7 +26,7 @@ module _ (s : List ℕ) (b l : ℕ) (new : Replacement) where
     module _ (a : f .refusal ≡ 0) where
       module _ {block : List ℕ} (eb : block ≡ blockAt s (f .at)) {r : Replaced} (er : r ≡ replaced block l new) where
         answer-is : r ≡ replacedIn s b l new
-        unfolding replacedIn blockIn
+        unfolding replacedBy blockBy
         answer-is = er ∙ ap (λ (k : List ℕ). replaced k l new) eb ∙ ap (λ (at : ℕ). replaced (blockAt s at) l new) (at-is s b ef a)
 
         refusal-then : sheetRefusal s b l new ≡ r .refusal

@@ -2,7 +2,7 @@
 // each stands. Nothing else in the code knows these formulas.
 ghost use mathlib.Core.Path.{_≡_};
 ghost use Prim.Native.Nat.{_*_, _≤_, _<_};
-ghost use Rattle.head_rules.specs.Geometry.{across, blocksOf, outLength, placeOf, rowLength, sideShown, wholeLength};
+ghost use Rattle.head_rules.specs.Geometry.{across, blocksOf, mostBlocks, outLength, placeOf, rowLength, sideShown, wholeLength};
 ghost use Rattle.head_rules.specs.Heads.{Sized, limit};
 use head_rules::Head;
 
@@ -39,10 +39,10 @@ pub fn out_length(width: usize, scanlines: usize) -> usize
     scanlines * (4 * width)
 }
 
-// How many blocks a sheet has: 1,048,576 at the most.
+// How many blocks a sheet has.
 pub fn blocks_of(head: Head) -> u32
     requires { ⌜ Sized (head .width) (head .height) ⌝ }
-    ensures { λ r. ⌜ (r ≡ blocksOf head) × (r ≤ 1048576) ⌝ }
+    ensures { λ r. ⌜ (r ≡ blocksOf head) × (r ≤ mostBlocks) ⌝ }
 {
     blocks_across(head.height) * blocks_across(head.width)
 }

@@ -23,7 +23,7 @@ pub mod reader;
 const FORM: u32 = 1;
 
 // The largest width and height.
-const LIMIT: u32 = 4096;
+const LIMIT: u32 = 16384;
 
 fn wide(x: u8) -> u32
     ensures { λ r. ⌜ r ≡ x ⌝ }

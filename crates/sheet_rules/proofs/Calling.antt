@@ -32,7 +32,7 @@ use Rattle.line_rules.proofs.Blocks.{after-sixteen}
 use Rattle.line_rules.proofs.Theorems.{refused-same}
 use Rattle.sheet_rules.specs.Calls.{SheetCall, WholeSheet, callsOn, onBlock, refusalOn, sheetWith, sheetWithAll}
 use Rattle.sheet_rules.specs.Rows.{blockAt}
-use Rattle.sheet_rules.specs.Sheets.{blockIn, putBlock, replacedIn, sheetRefusal, sheetRules}
+use Rattle.sheet_rules.specs.Sheets.{blockIn, blockBy, putBlock, replacedIn, replacedBy, sheetRefusal, sheetRefusalBy, sheetRules}
 use Rattle.sheet_rules.proofs.Finding.{finding-in-words, room}
 use Rattle.sheet_rules.proofs.Replacing.{accepted-is, refused-is, replacing}
 use Rattle.sheet_rules.proofs.Storing.{block-get, block-long, head-kept, other-block, places-apart, put-inside, put-long, put-outside}
@@ -63,7 +63,7 @@ module _ (s : List ℕ) (z : WholeSheet s) where
   room-of b l = room s b (record { head-told = z .told; whole = z .long; number = l })
 
   pub sixteen : (b : ℕ) → b < blocksOf (readHead s) → Fit eights (blockIn s b)
-  unfolding blockIn
+  unfolding blockBy
   sixteen b l =
       sixteen-bytes (blockAt s (placeOf (readHead s) b)) (block-long s (placeOf (readHead s) b) (room-of b l))
       (λ i li. rw (block-get s (placeOf (readHead s) b) i li) (z .bytes (placeOf (readHead s) b + i)))
@@ -94,11 +94,11 @@ module _ (s : List ℕ) (z : WholeSheet s) where
     }
 
     put-named : blockIn (putBlock s (placeOf (readHead s) b) block) b ≡ block
-    unfolding blockIn
+    unfolding blockBy
     put-named = rw head-is (same-block s (placeOf (readHead s) b) block (fit-length f) (room-of b l))
 
     put-other : (a : ℕ) → a < blocksOf (readHead s) → a ≢ b → blockIn (putBlock s (placeOf (readHead s) b) block) a ≡ blockIn s a
-    unfolding blockIn
+    unfolding blockBy
     put-other a la ne =
         rw head-is (other-block s (placeOf (readHead s) b) (placeOf (readHead s) a) block (room-of b l) (room-of a la)
         (places-apart (readHead s) b a (λ e. ne (sym e))))
@@ -108,12 +108,12 @@ pub unchanged : (s : List ℕ) (c : SheetCall) → refusalOn s c ≢ 0 → sheet
 unchanged s c = refused-is s (c .block) (c .line) (c .given)
 
 block-is : (s : List ℕ) (c : SheetCall) → replacedIn s (c .block) (c .line) (c .given) .block ≡ after (blockIn s (c .block)) (onBlock c)
-unfolding replacedIn replaced
+unfolding replacedBy replaced
 block-is s c = refl
 
 put-again : (s : List ℕ) (c : SheetCall) → placeOf (readHead s) (c .block) + 16 ≤ length s → putBlock s (placeOf (readHead s) (c .block))
     (blockIn s (c .block)) ≡ s
-unfolding blockIn
+unfolding blockBy
 put-again s c h = put-same s (placeOf (readHead s) (c .block)) h
 
 module _ (s : List ℕ) (z : WholeSheet s) (c : SheetCall) where
@@ -122,7 +122,7 @@ module _ (s : List ℕ) (z : WholeSheet s) (c : SheetCall) where
 
   module _ (l : c .block < blocksOf (readHead s)) where
     pub answered-as-block : refusalOn s c ≡ refusal (blockIn s (c .block)) (onBlock c)
-    unfolding replacedIn replaced
+    unfolding replacedBy replaced
     answered-as-block = exactly (replacing s (c .block) (c .line) (c .given)) _ .1 (then (z .told) (then (z .long) (then l (handed-last _))))
 
     with-is : sheetWith s c ≡ putBlock s (placeOf (readHead s) (c .block)) (after (blockIn s (c .block)) (onBlock c))
@@ -158,7 +158,7 @@ module _ (s : List ℕ) (z : WholeSheet s) (c : SheetCall) where
 
 -- a byte of a block is a byte of the sheet
 seen-in : {s x : List ℕ} → Same s x → (b j : ℕ) → j < 16 → getD x (readHead s .start + 16 * b + j) 0 ≡ getD (blockIn x b) j 0
-unfolding blockIn placeOf
+unfolding blockBy placeOf
 seen-in {s} {x} k b j l = sym (rw (k .head) (block-get x (readHead s .start + 16 * b) j l))
 
 -- two sheets that are told apart by no block are one
@@ -211,7 +211,7 @@ none-changes s never (c ∷ cs) = ap (λ (t : List ℕ). sheetWithAll t cs) (unc
 
 -- the rules of a call on a sheet
 pub in-words : (s : List ℕ) → Bytes s → (b l : ℕ) (new : Replacement) → Answers (sheetRefusal s b l new) (sheetRules s b l new)
-unfolding sheetRefusal replacedIn replaced
+unfolding sheetRefusalBy replacedBy replaced
 in-words s y b l new = answers (
     rules (finding-in-words s b) λ (f, (o, (w, (h, (z, (long, (n, u))))))).
     rules (on-block (blockIn s b)

@@ -9,16 +9,16 @@ use Rattle.laws.proofs.Refusals.{Answers, answers, by-answer, by-leb, by-not-eq
 use Rattle.head_rules.specs.Geometry.{blocksOf, placeOf}
 use Rattle.head_rules.specs.Heads.{formIn, headRules, heightIn, readHead, widthIn}
 use Rattle.head_rules.proofs.Theorems.{head-answers}
-use Rattle.sheet_rules.specs.Sheets.{behindHead, findRefusal, findRules}
+use Rattle.sheet_rules.specs.Sheets.{behindHead, findRefusal, findRefusalBy, findRules}
 
 pub finding : (s : List ℕ) (b : ℕ) → Answers (findRefusal s b) (findRules (readHead s) s b)
-unfolding findRefusal
+unfolding findRefusalBy
 finding s b = answers (rule by-answer λ h. rule (by-not-eqb tt (length s)
     (readHead s .start + 16 * blocksOf (readHead s))) λ l. rule (by-leb tt (blocksOf (readHead s)) b) λ n. none)
 
 -- the same down to the numbers of the head
 pub finding-in-words : (s : List ℕ) (b : ℕ) → Answers (findRefusal s b) (headRules (formIn s) (widthIn s) (heightIn s) ++ behindHead (readHead s) s b)
-unfolding findRefusal
+unfolding findRefusalBy
 finding-in-words s b = answers (rules (head-answers s) λ h. rule (by-not-eqb tt (length s)
     (readHead s .start + 16 * blocksOf (readHead s))) λ l. rule (by-leb tt (blocksOf (readHead s)) b) λ n. none)
 

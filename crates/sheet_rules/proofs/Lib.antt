@@ -1,5 +1,6 @@
 pub mod Attested
 pub mod Refusing
+pub mod Limits
 pub mod Finding
 pub mod Replacing
 pub mod Pictures

@@ -17,7 +17,7 @@ use Rattle.head_rules.specs.Heads.{Sized, readHead}
 use Rattle.laws.proofs.Refusals.{accepted-when}
 use Rattle.sheet_rules.specs.Pictures.{blockShowing, decodedRows, picture, pictureByte, pixelIn, rowOf}
 use Rattle.sheet_rules.specs.Rows.{blockAt, channel, rowByte, rowBytes, rowOut, rowRefusal}
-use Rattle.sheet_rules.specs.Sheets.{blockIn}
+use Rattle.sheet_rules.specs.Sheets.{blockIn, blockBy}
 use Rattle.sheet_rules.proofs.Refusing.{drawn, row-rules}
 
 -- a part of a part is a part of the whole
@@ -128,7 +128,7 @@ picture-shows w h all x y c lx ly lc =
 -- block b of a sheet is the one that the picture shows in its column and its row: at x, y is block y / 4 · columns + x / 4
 module _ (s : List ℕ) (b x y : ℕ) (column : x / 4 ≡ b % across (readHead s .width)) (row : y / 4 ≡ b / across (readHead s .width)) where
   pub block-shown-there : blockShowing (readHead s .width) (drop (readHead s .start) s) x y ≡ blockIn s b
-  unfolding blockAt blockIn placeOf
+  unfolding blockAt blockBy placeOf
   block-shown-there =
       let n = across (readHead s .width) in
       let e : y / 4 * n + x / 4 ≡ b = rw (row, column) (div-add-mod' b n) in

@@ -9,24 +9,24 @@ use Rattle.laws.specs.Refusals.{handed}
 use Rattle.laws.proofs.Refusals.{Answers, answers, by-answer, none, rule, rules}
 use Rattle.head_rules.specs.Geometry.{placeOf}
 use Rattle.head_rules.specs.Heads.{readHead}
-use Rattle.sheet_rules.specs.Sheets.{findRefusal, findRules, putBlock, replacedIn, sheetAfter, sheetRefusal}
+use Rattle.sheet_rules.specs.Sheets.{findRefusal, findRules, putBlock, replacedIn, sheetAfter, sheetAfterBy, sheetRefusal, sheetRefusalBy}
 use Rattle.sheet_rules.proofs.Finding.{finding}
 
 module _ (s : List ℕ) (b l : ℕ) (new : Replacement) where
   pub refused-is : (sheetRefusal s b l new ≡ 0 → ⊥) → sheetAfter s b l new ≡ s
-  unfolding sheetAfter
+  unfolding sheetAfterBy
   refused-is ne = rw (ne-eqb (sheetRefusal s b l new) 0 ne)
 
   pub accepted-is : sheetRefusal s b l new ≡ 0 → sheetAfter s b l new ≡ putBlock s (placeOf (readHead s) b) (replacedIn s b l new .block)
-  unfolding sheetAfter
+  unfolding sheetAfterBy
   accepted-is e = rw (eq-eqb (sheetRefusal s b l new) 0 e)
 
   -- what `find_block` answers, then as for the block
   pub handing : Answers (sheetRefusal s b l new) (handed (findRefusal s b) ∷ handed (replacedIn s b l new .refusal) ∷ [])
-  unfolding sheetRefusal
+  unfolding sheetRefusalBy
   handing = answers (rule by-answer λ f. rule by-answer λ z. none)
 
   -- the head's refusal, 10, 12, then as for the block
   pub replacing : Answers (sheetRefusal s b l new) (findRules (readHead s) s b ++ (handed (replacedIn s b l new .refusal) ∷ []))
-  unfolding sheetRefusal
+  unfolding sheetRefusalBy
   replacing = answers (rules (finding s b) λ m. rule by-answer λ z. none)

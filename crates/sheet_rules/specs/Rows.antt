@@ -10,7 +10,7 @@ use Rattle.laws.specs.Refusals.{Rule, first, refuse, unless}
 use Rattle.laws.specs.Tables.{pick, table}
 use Rattle.bc7_format.specs.Lines.{pixels}
 use Rattle.head_rules.specs.Geometry.{across, outLength, rowLength, sideShown}
-use Rattle.head_rules.specs.Heads.{Sized, sizeRefusal}
+use Rattle.head_rules.specs.Heads.{Sized, limit, sizeRefusalUpTo}
 
 -- the block at a place of a list of bytes
 unfoldable pub blockAt : List ℕ → ℕ → List ℕ
@@ -30,21 +30,28 @@ rowByte w blocks k =
 unfoldable pub rowBytes : ℕ → ℕ → List ℕ → List ℕ
 rowBytes w scanlines blocks = table (outLength w scanlines) (rowByte w blocks)
 
--- 9, 12, 10, 11; of the block bytes and the output only the lengths matter
-unfoldable pub rowRefusal : ℕ → ℕ → ℕ → ℕ → ℕ → ℕ
-rowRefusal w h row given room =
+-- 9 above the limit `top`, 12, 10, 11; of the block bytes and the output only the lengths matter
+unfoldable pub rowRefusalUpTo : ℕ → ℕ → ℕ → ℕ → ℕ → ℕ → ℕ
+rowRefusalUpTo top w h row given room =
     first
-    (sizeRefusal w h
+    (sizeRefusalUpTo top w h
     ∷ refuse 12 (leb (across h) row) ∷ refuse 10 (not (eqb given (rowLength w)))
     ∷ refuse 11 (not (eqb room (outLength w (sideShown h row)))) ∷ [])
+
+abbrev pub rowRefusal : ℕ → ℕ → ℕ → ℕ → ℕ → ℕ
+rowRefusal w h row given room = rowRefusalUpTo limit w h row given room
 
 abbrev pub rowRules : ℕ → ℕ → ℕ → ℕ → ℕ → List Rule
 rowRules w h row given room =
     unless 9 (Sized w h) ∷ unless 12 (row < across h) ∷ unless 10 (given ≡ rowLength w) ∷ unless 11 (room ≡ outLength w (sideShown h row)) ∷ []
 
 -- the output afterwards
-unfoldable pub rowOut : ℕ → ℕ → ℕ → List ℕ → List ℕ → List ℕ
-rowOut w h row blocks out = pick (eqb (rowRefusal w h row (length blocks) (length out)) 0) (rowBytes w (sideShown h row) blocks) out
+unfoldable pub rowOutUpTo : ℕ → ℕ → ℕ → ℕ → List ℕ → List ℕ → List ℕ
+rowOutUpTo top w h row blocks out =
+    pick (eqb (rowRefusalUpTo top w h row (length blocks) (length out)) 0) (rowBytes w (sideShown h row) blocks) out
+
+abbrev pub rowOut : ℕ → ℕ → ℕ → List ℕ → List ℕ → List ℕ
+rowOut w h row blocks out = rowOutUpTo limit w h row blocks out
 
 -- what `decode_row` promises: its answer, and every byte of the output
 abbrev pub DecodesRow : ℕ → ℕ → ℕ → List ℕ → List ℕ → ℕ → List ℕ → Type 0

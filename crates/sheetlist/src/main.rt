@@ -4,8 +4,9 @@
 // A program has no exit status. Started with an argument, whatever it is, it says `refused` on standard error where the sheet was
 // refused, so that the one who started it can tell.
 ghost use mathlib.Core.Path.{_≡_};
-ghost use Prim.Native.Nat.{_≤_};
+ghost use Prim.Native.Nat.{_+_, _*_, _≤_};
 ghost use lib.ListN.{length};
+ghost use Rattle.listing_rules.specs.Machine.{mostInRun};
 use libc::STDERR_FILENO;
 use libc::STDIN_FILENO;
 use libc::STDOUT_FILENO;
@@ -115,7 +116,7 @@ enum Outcome {
 }
 
 fn list_with(buffer: &mut [u8], text: &mut [u8]) -> Outcome
-    requires { ⌜ (16384 ≤ length (now buffer)) × (41040 ≤ length (now text)) ⌝ }
+    requires { ⌜ (16 * mostInRun ≤ length (now buffer)) × (40 * mostInRun + 80 ≤ length (now text)) ⌝ }
 {
     let mut machine = listing::start();
     while 0 < listing::wanted(machine) {
@@ -138,8 +139,8 @@ fn list_with(buffer: &mut [u8], text: &mut [u8]) -> Outcome
     }
 }
 
-// A buffer of 16,384 zero bytes, which is as much as the machine ever wants, and room for what it says of that: 1,024 texts of
-// 40 bytes, the first text and a refusal.
+// A buffer of 16,384 zero bytes, for the 1,024 blocks of a run, which is as much as the machine ever wants; and room for what it says of
+// that: 1,024 texts of 40 bytes, the first text and a refusal.
 fn list_input() -> Outcome {
     let mut buffer = [0u8; 16384];
     let mut text = [0u8; 41040];

@@ -1,6 +1,7 @@
 -- `behind_head` meets its contract.
 -- Assumes nothing.
 use mathlib.Core.Path.{_∙_, sym}
+use native.Mathlib.Omega.{arith}
 use borrow.Author.Tests.{eq-eqb, ne-eqb}
 use Rattle.listing_rules.specs.Machine.{begun}
 use borrow.Author.Needs.{needs}
@@ -14,16 +15,13 @@ returns : tie.Need-returns
 unfolding begun
 returns c = c .stopped .ensures ∙ sym (rw (ne-eqb _ 0 (c .before .if1 .taken)))
 
-blocks-across-requires : tie.Need-blocks-across-requires
-blocks-across-requires c κs = c .before .before .before .pre (c .if1 .left) .within-high
-
-in-rows-requires : tie.Need-in-rows-requires
-in-rows-requires c κs = search needs
+in-blocks-requires : tie.Need-in-blocks-requires
+in-blocks-requires c κs = (c .before .before .before .pre (c .if1 .left), omega arith)
 
 returns-2 : tie.Need-returns-2
 unfolding begun
-returns-2 c = rw (eq-eqb _ 0 (c .before .before .if1 .left), ← c .before .blocks-across .ensures) (c .in-rows .ensures)
+returns-2 c = rw (eq-eqb _ 0 (c .before .if1 .left)) (c .in-blocks .ensures)
 
 pub behind-head-spec : {M : Type 1} → statement M
 behind-head-spec =
-    tie.close (tie.spec stopped-requires returns blocks-across-requires in-rows-requires returns-2)
+    tie.close (tie.spec stopped-requires returns in-blocks-requires returns-2)

@@ -6,7 +6,7 @@ use lib.Dec.{eqb}
 use lib.ListN.{length}
 use Rattle.laws.proofs.Padding.{written-none}
 use Rattle.listing_rules.proofs.Room.{asked, says, spare-ended, spare-next}
-use Rattle.listing_rules.proofs.Rounds.{row-there}
+use Rattle.listing_rules.proofs.Runs.{run-inside}
 use borrow.Author.Needs.{needs}
 use Rattle.listing.proofs.list.Statement.{statement}
 use Rattle.listing.proofs.list.Tie as tie
@@ -23,11 +23,11 @@ list-at-head-requires c κs =
 enum-told-2 : tie.Need-enum-told-2
 enum-told-2 c = search needs
 
-list-row-requires : tie.Need-list-row-requires
-list-row-requires c κs =
+list-run-requires : tie.Need-list-run-requires
+list-run-requires c κs =
     let a = c .before .before .before .before .before .before in
     let h = asked (a .args .machine) (a .args .came .now) (a .args .at) (length (a .args .out .now)) (c .before .enum-told2 .given .1) (a .pre) in
-    record { sized = h .0 .sized; there = omega (arith, row-there (h .0), h .1); fits = omega (arith, h .2) }
+    (h .0, record { sized = h .0 .sized; there = omega (arith, run-inside (h .0), h .1); fits = omega (arith, h .2) })
 
 enum-told-3 : tie.Need-enum-told-3
 enum-told-3 c = search needs
@@ -62,8 +62,8 @@ returns-2 c =
     let told = c .before .before in
     let a = told .before .before .before .before .before .before .before in
     let m = a .args .machine in
-    says m (a .args .came .now) (told .before .before .enum-told2 .given .1) (told .list-row .ensures .0)
-    (omega (arith, told .list-row .ensures .1, spare-next (m .reader) (m .rows) (m .from) (length (a .args .came .now))))
+    says m (a .args .came .now) (told .before .before .enum-told2 .given .1) (told .list-run .ensures .0)
+    (omega (arith, told .list-run .ensures .1, spare-next (m .reader) (m .from) (length (a .args .came .now))))
 
 same-length-3 : tie.Need-same-length-3
 same-length-3 c = search needs
@@ -92,7 +92,7 @@ list-spec =
     enum-told
     list-at-head-requires
     enum-told-2
-    list-row-requires
+    list-run-requires
     enum-told-3
     refuse-unless-requires
     enum-told-4

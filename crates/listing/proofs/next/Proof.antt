@@ -18,8 +18,8 @@ next-at-head-requires c κs =
 enum-told-2 : tie.Need-enum-told-2
 enum-told-2 c = search needs
 
-next-in-rows-requires : tie.Need-next-in-rows-requires
-next-in-rows-requires c κs =
+next-in-blocks-requires : tie.Need-next-in-blocks-requires
+next-in-blocks-requires c κs =
     let a = c .before .before .before in subst (λ (p : Phase). ReadyIn p (a .args .machine)) (c .enum-told2 .given .1) (a .pre)
 
 enum-told-3 : tie.Need-enum-told-3
@@ -50,7 +50,7 @@ returns-2 : tie.Need-returns-2
 returns-2 c =
     let a = c .before .before .before .before in
     nexts (a .args .machine) (a .args .came .now) (a .pre)
-    (c .next-in-rows .ensures ∙ sym (ap (λ (p : Phase). nextIn p (a .args .machine) (a .args .came .now)) (c .before .enum-told2 .given .1)))
+    (c .next-in-blocks .ensures ∙ sym (ap (λ (p : Phase). nextIn p (a .args .machine) (a .args .came .now)) (c .before .enum-told2 .given .1)))
 
 returns-3 : tie.Need-returns-3
 returns-3 c =
@@ -77,7 +77,7 @@ next-spec =
     enum-told
     next-at-head-requires
     enum-told-2
-    next-in-rows-requires
+    next-in-blocks-requires
     enum-told-3
     stopped-requires
     enum-told-4

@@ -1,6 +1,7 @@
 -- `wanted` meets its contract.
 -- Assumes nothing.
-use mathlib.Core.Path.{refl, subst}
+use mathlib.Core.Path.{ap, refl, subst}
+use Prim.Native.Nat.{ℕ, _*_}
 use Rattle.listing_rules.specs.declared.Phase.{Phase}
 use Rattle.listing_rules.specs.Machine.{ReadyIn}
 use Rattle.listing_rules.proofs.Rounds.{wants}
@@ -14,10 +15,15 @@ enum-told c = search needs
 enum-told-2 : tie.Need-enum-told-2
 enum-told-2 c = search needs
 
-row-length-requires : tie.Need-row-length-requires
-row-length-requires c κs =
-    let a = c .before .before .before in
-    subst (λ (p : Phase). ReadyIn p (a .args .machine)) (c .enum-told2 .given .1) (a .pre) .sized .within-wide
+run-of-requires : tie.Need-run-of-requires
+run-of-requires c κs =
+    let a = c .before .before .before in subst (λ (p : Phase). ReadyIn p (a .args .machine)) (c .enum-told2 .given .1) (a .pre)
+
+cast-result : tie.Need-cast-result
+cast-result c = search needs
+
+mul-result : tie.Need-mul-result
+mul-result c = search needs
 
 enum-told-3 : tie.Need-enum-told-3
 enum-told-3 c = search needs
@@ -33,7 +39,7 @@ returns c = let a = c .before .before .before in wants (a .args .machine) (a .pr
 
 returns-2 : tie.Need-returns-2
 returns-2 c =
-    let a = c .before .before .before .before in wants (a .args .machine) (a .pre) (c .before .enum-told2 .given .1) (c .row-length .ensures)
+    let a = c .before .before .before .before in wants (a .args .machine) (a .pre) (c .before .enum-told2 .given .1) (ap (λ (n : ℕ). 16 * n) (c .run-of .ensures .0))
 
 returns-3 : tie.Need-returns-3
 returns-3 c = let a = c .before .before .before in wants (a .args .machine) (a .pre) (c .enum-told3 .given .1) refl
@@ -50,7 +56,9 @@ wanted-spec =
     (tie.spec
     enum-told
     enum-told-2
-    row-length-requires
+    run-of-requires
+    cast-result
+    mul-result
     enum-told-3
     enum-told-4
     enum-told-5

@@ -26,13 +26,13 @@ write-number-requires c κs = (omega (arith, same-count (c .no-bytes2 .ensures))
 write-number-requires-2 : tie.Need-write-number-requires-2
 write-number-requires-2 c κs =
     let n = c .before in
-    let s = sized _ _ (sym (n .before .before .size-refusal .ensures) ∙ n .before .if1 .left) in
+    let s = sized _ _ _ (sym (n .before .before .size-refusal .ensures) ∙ n .before .if1 .left) in
     (omega (arith, same-count (c .write-number .ensures), same-count (n .no-bytes2 .ensures), one-byte), omega (arith, s .within-wide))
 
 write-number-requires-3 : tie.Need-write-number-requires-3
 write-number-requires-3 c κs =
     let n = c .before .before in
-    let s = sized _ _ (sym (n .before .before .size-refusal .ensures) ∙ n .before .if1 .left) in (
+    let s = sized _ _ _ (sym (n .before .before .size-refusal .ensures) ∙ n .before .if1 .left) in (
       omega (
         arith,
         same-count (c .write-number2 .ensures),

@@ -13,14 +13,14 @@ use Rattle.sheet.proofs.rows.row_refusal.Statement.{statement}
 use Rattle.sheet.proofs.rows.row_refusal.Tie as tie
 
 size : (c : tie.Else1) → Sized (c .before .before .args .width) (c .before .before .args .height)
-size c = sized _ _ (sym (c .before .size-refusal .ensures) ∙ c .if1 .left)
+size c = sized _ _ _ (sym (c .before .size-refusal .ensures) ∙ c .if1 .left)
 
 size-refusal-requires : tie.Need-size-refusal-requires
 size-refusal-requires c κs = search needs
 
 returns : tie.Need-returns
 returns c =
-    let x = size-refused _ _ (c .before .size-refusal .ensures) (c .if1 .taken) in
+    let x = size-refused _ _ _ (c .before .size-refusal .ensures) (c .if1 .taken) in
     x .0 ∙ sym (exactly (row-rules _ _ _ _ _) 9 .1 (here (x .1)))
 
 blocks-across-requires : tie.Need-blocks-across-requires
