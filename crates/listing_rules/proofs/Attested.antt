@@ -18,11 +18,12 @@ use Rattle.bc7_format.specs.Places.{atPlace, opened, placeAt, pos, width, width
 use Rattle.bc7_format.specs.Splits.{splitAt, splitOf}
 use Rattle.bc7_format.proofs.Examples.{block3, block4}
 use Rattle.head_rules.specs.Geometry.{blocksOf}
-use Rattle.head_rules.specs.Heads.{formIn, headRefusalUpTo, heightIn, readHeadUpTo, sizeRefusalUpTo, widthIn}
+use Rattle.head_rules.specs.Heads.{formIn, headRefusalUpTo, heightIn, readHead, readHeadUpTo, sizeRefusalUpTo, widthIn}
 use Rattle.head_rules.specs.Numbers.{raised, readGroups, readNumber}
 use Rattle.listing_rules.specs.Text.{ascii, blockText, channels, decimal, digitsIn, opacityMark, refusedText, sheetText}
 use Rattle.opacity_rules.specs.Opacity.{isVisible, opaque, opaqueIn, passes}
 use Rattle.sheet_rules.specs.Rows.{blockAt}
+use Rattle.listing_rules.specs.Machine.{runOf}
 use Rattle.listing_rules.specs.Listing.{blockListed, blocksListing, blocksText, listed, listing, listingBy}
 
 -- texts; 10 ends each
@@ -52,3 +53,11 @@ unfolding text listingBy blocksListing listed blocksText blockListed readHeadUpT
     trailing number modeOf splitAt splitOf atPlace opened has valuePlace pPlace indexSetOf indexPlace own lineOf lineBits meansStored rotated lineAt
     shown pixel pixels implies isVisible passes opaque opaqueIn
 listings-hold = refl
+
+-- the runs of blocks in sheets of 4,096 by 4 and of 4,100 by 8 pixels, 1,024 and 1,025 blocks wide: from the first block, from another, from the
+-- last one that a row of 1,024 has, and from the one behind it, which is the last of a row of 1,025 and is a run by itself
+pub runs-hold : map (runOf (readHead (0x01 ∷ 0x80 ∷ 0x20 ∷ 0x04 ∷ []))) (0 ∷ 1 ∷ 1023 ∷ [])
+    ++ map (runOf (readHead (0x01 ∷ 0x84 ∷ 0x20 ∷ 0x08 ∷ []))) (0 ∷ 1 ∷ 1023 ∷ 1024 ∷ 1025 ∷ [])
+    ≡ 1024 ∷ 1023 ∷ 1 ∷ 1024 ∷ 1024 ∷ 2 ∷ 1 ∷ 1024 ∷ []
+unfolding runOf readHeadUpTo headRefusalUpTo formIn widthIn heightIn readNumber readGroups raised first sizeRefusalUpTo
+runs-hold = refl

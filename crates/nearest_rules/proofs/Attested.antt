@@ -51,9 +51,9 @@ refuses b l q n = record { block = b; line = l; pixel = q; wanted = rgba 0 0 0 0
 abbrev blockC : List ℕ
 blockC = 0x40 ∷ 0xC0 ∷ 0x1F ∷ (replicate 5 0 ++ (0x0E ∷ replicate 7 0))
 
--- mode 6, all else 0: every index draws 0
+-- mode 5, all else 0: every index draws 0
 abbrev black : List ℕ
-black = 0x40 ∷ replicate 15 0
+black = 0x20 ∷ replicate 15 0
 
 -- mode 5, rotation 1: red is stored from 0 to 127, so from 0 to 255, and shown as alpha; all else is 0. The weights 0, 21, 43 and 64 draw
 -- the alphas 0, 84, 171 and 255
@@ -77,18 +77,17 @@ abbrev pub claims : List Claim
 claims =
     -- pixel 0 is an anchor, whose index is stored with three bits: all four count
     hits blockC 0 0 (rgba 135 0 0 0) 8 ∷
-    hits blockC 0 0 (rgba 254 0 0 0) 15 ∷
-    -- 1 away; 5 and 11 away
-    misses blockC 0 0 (rgba 136 0 0 0) 8 ∷
-    misses blockC 0 0 (rgba 130 0 0 0) 8 ∷
-    -- 8 away from both: the lower
+    -- 8 away from the indexes 7 and 8: the lower
     misses blockC 0 0 (rgba 127 0 0 0) 7 ∷
-    -- all sixteen are as near
+    -- all four are as near
     hits black 0 9 (rgba 0 0 0 0) 0 ∷
     misses black 0 9 (rgba 255 255 255 255) 0 ∷
     -- line 0 is measured on green, blue and alpha, line 1 on red
     hits rotated5 0 3 (rgba 9 0 0 171) 2 ∷
+    hits rotated5 0 3 (rgba 9 0 0 255) 3 ∷
+    -- 1 away; 46 and 41 away
     misses rotated5 0 3 (rgba 0 1 0 171) 2 ∷
+    misses rotated5 0 3 (rgba 9 0 0 130) 2 ∷
     hits rotated5 1 3 (rgba 0 9 9 9) 0 ∷
     misses rotated5 1 3 (rgba 171 0 0 171) 0 ∷
     hits wide4 0 5 (rgba 183 0 0 9) 5 ∷

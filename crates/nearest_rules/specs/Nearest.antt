@@ -46,7 +46,9 @@ indexCount bs l = 2 ^ lineBits (modeOf bs) (splitOf bs) l
 -- the lowest number below n at which d is least
 unfoldable pub leastAt : ℕ → (ℕ → ℕ) → ℕ
 leastAt zero d = 0
-leastAt (suc n) d = pick (ltb (d n) (d (leastAt n d))) n (leastAt n d)
+leastAt (suc n) d =
+    let best = leastAt n d in
+    pick (ltb (d n) (d best)) n best
 
 -- the lowest number below n at which d is 0, and n where there is none
 unfoldable pub zeroAt : ℕ → (ℕ → ℕ) → ℕ
