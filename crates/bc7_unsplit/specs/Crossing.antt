@@ -2,13 +2,16 @@
 -- Assumes nothing.
 use mathlib.Core.Bool.{Bool}
 use mathlib.Core.List.{List, [], _∷_, _++_}
-use Prim.Native.Nat.{ℕ, _+_, _^_, _<_}
+use mathlib.Core.Path.{_≡_}
+use Prim.Native.Nat.{ℕ, _+_, _*_, _^_, _<_}
 use lib.ListN.{drop, getD, replicate, take}
-use Rattle.laws.specs.Digits.{join}
+use Rattle.laws.specs.Digits.{Fit, join}
 use Rattle.laws.specs.Tables.{pick}
 use Rattle.bcn_format.specs.Painting.{between}
 use Rattle.drawing.specs.declared.colour.Ends.{Ends}
-use Rattle.drawing.specs.Words.{endpoint, wordBytes}
+use Rattle.drawing.specs.Words.{Alone, endpoint, wordBytes}
+use Rattle.weights.specs.Weights.{Weighed}
+use Rattle.indexes.specs.declared.Indexes.{Indexes}
 
 -- red, green and blue of a colour, or its alpha, and 0 in place of the others
 unfoldable pub kept : Bool → List ℕ → List ℕ
@@ -34,3 +37,19 @@ colorOf b e k = between b (endpoint e 0 0) (endpoint e 0 1) k
 -- any word of one kind with any of the other is within 32 bits
 abbrev pub Apart : List ℕ → List ℕ → Type 0
 Apart p q = (i j : ℕ) → i < 4 → j < 8 → getD p i 0 + getD q j 0 < 2 ^ 32
+
+-- what the functions ask, each clause by its name: the indexes 2 * k and 2 * k + 1 of endpoints that stand alone
+pub record TwoIndexes (e : Ends) (bits k : ℕ) : Type 0 where
+  pub indexes : Weighed bits (2 * k + 1)
+  pub ends : Alone e
+
+-- words of both kinds, and indexes into them of two and of three bits
+pub record Paintable (p q : List ℕ) (x y : Indexes) : Type 0 where
+  pub apart : Apart p q
+  pub two : x .bits ≡ 2
+  pub three : y .bits ≡ 3
+
+-- two colours without alpha, and an alpha alone
+pub record Crossable (c a : ℕ) : Type 0 where
+  pub colours : Fit (8 ∷ 8 ∷ 8 ∷ 0 ∷ 8 ∷ 8 ∷ 8 ∷ 0 ∷ []) (wordBytes c)
+  pub alpha : Fit (0 ∷ 0 ∷ 0 ∷ 8 ∷ []) (take 4 (wordBytes a))

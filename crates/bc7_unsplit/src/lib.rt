@@ -13,9 +13,8 @@ ghost use Rattle.bcn_format.specs.Indexes.{part};
 ghost use Rattle.bc7_format.specs.Fields.{directPixels};
 ghost use Rattle.bcn_format.specs.Painting.{four};
 ghost use Rattle.bc7_format.specs.Rotating.{swapped};
-ghost use Rattle.weights.specs.Weights.{Weighed};
 ghost use Rattle.drawing.specs.Words.{Alone, wordBytes};
-ghost use Rattle.bc7_unsplit.specs.Crossing.{Apart, colorOf, crossed, crossedBoth, kept, keptWord};
+ghost use Rattle.bc7_unsplit.specs.Crossing.{Crossable, Paintable, TwoIndexes, colorOf, crossed, crossedBoth, kept, keptWord};
 use bits::stream::BitStream;
 use drawing::colour::Ends;
 use drawing::colour::Stored;
@@ -82,7 +81,7 @@ fn keep(x: u64, colour: bool) -> u64
 
 // The colours of the indexes 2 * k and 2 * k + 1: their weights stand 32 bits apart, as `two_shades` wants them.
 fn shades(e: Ends, bits: u32, k: usize) -> u64
-    requires { ⌜ Weighed bits (2 * k + 1) × Alone e ⌝ }
+    requires { ⌜ TwoIndexes e bits k ⌝ }
     ensures { λ r. ⌜ wordBytes r ≡ colorOf bits e (2 * k) ++ colorOf bits e (2 * k + 1) ⌝ }
 {
     two_shades(
@@ -133,7 +132,7 @@ fn words_3(e: Ends, colour: bool) -> [u32; 8]
 
 // Each pixel is the sum of one word of either kind.
 fn paint_2_and_3(p: [u32; 4], q: [u32; 8], x: Indexes, y: Indexes) -> [[u8; 4]; 16]
-    requires { ⌜ Apart p q × (x .bits ≡ 2) × (y .bits ≡ 3) ⌝ }
+    requires { ⌜ Paintable p q x y ⌝ }
     ensures { λ r. ⌜ r ≡ table 16 (λ i. take 4 (wordBytes (getD p (part (x .uncompressed) 2 i) 0 + getD q (part (y .uncompressed) 3 i) 0))) ⌝ }
 {
     let mut output = [[0u8; 4]; 16];
@@ -152,7 +151,7 @@ fn paint_2_and_3(p: [u32; 4], q: [u32; 8], x: Indexes, y: Indexes) -> [[u8; 4]; 
 //     alpha                    |             | A  00 00 00 |
 //     alpha * (2^32 + 1)       | A  00 00 00 | A  00 00 00 |
 fn with_alphas(colours: u64, alpha: u32) -> u64
-    requires { ⌜ Fit (8 ∷ 8 ∷ 8 ∷ 0 ∷ 8 ∷ 8 ∷ 8 ∷ 0 ∷ []) (wordBytes colours) × Fit (0 ∷ 0 ∷ 0 ∷ 8 ∷ []) (take 4 (wordBytes alpha)) ⌝ }
+    requires { ⌜ Crossable colours alpha ⌝ }
     ensures { λ r. ⌜ wordBytes r ≡ crossedBoth colours alpha ⌝ }
 {
     colours + (alpha as u64) * 0x0001_0000_0001

@@ -10,6 +10,7 @@ ghost use Rattle.laws.specs.Tables.{pick};
 ghost use Rattle.bcn_format.specs.Block.{field};
 ghost use Rattle.bcn_format.specs.Drawing.{promoted};
 ghost use Rattle.bcn_format.specs.Painting.{endOf, endOfP, solid};
+ghost use Rattle.drawing.specs.Asked.{Mixable, Mixable2, OneEnd, OneEndP, OneStored, OneStoredP, Promotable, PromotableP, TwoStored, TwoStoredP, WidthP};
 ghost use Rattle.drawing.specs.Words.{laned, Lanes, lanesOf, LanesOfOne, wordBytes, woven, blend, blends, endsP, Fitting, Holds, HoldsOne};
 ghost use Rattle.drawing.specs.Words.{plain, withAlpha, withP};
 
@@ -68,7 +69,7 @@ fn parts(x: u64, at: u32, bits: u32) -> u64
 // would shift a byte by eight, and its modes leave values of eight bits as they are. Here eight is taken too: nothing is shifted,
 // `parts` takes no bits, and the value stays. So a mode whose values have eight bits, with or without a p bit, needs no other call.
 fn promote(x: u64, bits: u32) -> u64
-    requires { ⌜ (4 ≤ bits) × (bits ≤ 8) × Lanes bits x ⌝ }
+    requires { ⌜ Promotable bits x ⌝ }
     ensures { λ r. ⌜ r ≡ laned (map (promoted bits) (lanesOf x)) ⌝ }
 {
     (x << (8 - bits)) + parts(x, 2 * bits - 8, 8 - bits)
@@ -76,7 +77,7 @@ fn promote(x: u64, bits: u32) -> u64
 
 // The same with a p bit below each value.
 fn promote_p(x: u64, p: u64, bits: u32) -> u64
-    requires { ⌜ (3 ≤ bits) × (bits ≤ 7) × Lanes bits x × Lanes 1 p ⌝ }
+    requires { ⌜ PromotableP bits x p ⌝ }
     ensures { λ r. ⌜ r ≡ laned (zipWith (λ v q. promoted (bits + 1) (v * 2 + q)) (lanesOf x) (lanesOf p)) ⌝ }
 {
     promote(x * 2 + p, bits + 1)
@@ -84,7 +85,7 @@ fn promote_p(x: u64, p: u64, bits: u32) -> u64
 
 // Endpoint k, 0 or 1, of lanes that have both.
 fn end_of(x: u64, k: u32, bits: u32) -> u64
-    requires { ⌜ (4 ≤ bits) × (bits ≤ 8) × (k < 2) ⌝ }
+    requires { ⌜ OneEnd bits k ⌝ }
     ensures { λ r. ⌜ r ≡ laned (map (endOf bits k) (lanesOf x)) ⌝ }
 {
     promote(parts(x, bits * k, bits), bits)
@@ -92,7 +93,7 @@ fn end_of(x: u64, k: u32, bits: u32) -> u64
 
 // The same with p bits: a lane of p has both too.
 fn end_of_p(x: u64, p: u64, k: u32, bits: u32) -> u64
-    requires { ⌜ (3 ≤ bits) × (bits ≤ 7) × (k < 2) ⌝ }
+    requires { ⌜ OneEndP bits k ⌝ }
     ensures { λ r. ⌜ r ≡ laned (zipWith (endOfP bits k) (lanesOf x) (lanesOf p)) ⌝ }
 {
     promote_p(parts(x, bits * k, bits), parts(p, k, 1), bits)
@@ -100,7 +101,7 @@ fn end_of_p(x: u64, p: u64, k: u32, bits: u32) -> u64
 
 // Both endpoints in both words, with the p bits of their lanes.
 fn ends_p(rb: u64, ga: u64, p: u64, q: u64, bits: u32) -> Ends
-    requires { ⌜ (3 ≤ bits) × (bits ≤ 7) ⌝ }
+    requires { ⌜ WidthP bits ⌝ }
     ensures { λ e. ⌜ e ≡ endsP bits (lanesOf rb) (lanesOf ga) (lanesOf p) (lanesOf q) ⌝ }
 {
     Ends {
@@ -113,7 +114,7 @@ fn ends_p(rb: u64, ga: u64, p: u64, q: u64, bits: u32) -> Ends
 
 // Two colours with alpha and p bits.
 pub fn translucent_p(x: Stored, y: Stored, bits: u32) -> Ends
-    requires { ⌜ (3 ≤ bits) × (bits ≤ 7) × Fitting x × Fitting y ⌝ }
+    requires { ⌜ TwoStoredP bits x y ⌝ }
     ensures { λ e. ⌜ Holds (λ l. withP bits (pick (eqb l 0) x y)) e ⌝ }
 {
     let rb = lanes(x.r, x.b, y.r, y.b);
@@ -133,7 +134,7 @@ fn all_ones(bits: u32) -> u64
 
 // Two colours with p bits and without alpha. The p bits of alpha are ones as its other bits are: 3, a one for each endpoint.
 pub fn opaque_p(x: Stored, y: Stored, bits: u32) -> Ends
-    requires { ⌜ (3 ≤ bits) × (bits ≤ 7) × Fitting x × Fitting y ⌝ }
+    requires { ⌜ TwoStoredP bits x y ⌝ }
     ensures { λ e. ⌜ Holds (λ l. solid (withP bits (pick (eqb l 0) x y))) e ⌝ }
 {
     let rb = lanes(x.r, x.b, y.r, y.b);
@@ -145,7 +146,7 @@ pub fn opaque_p(x: Stored, y: Stored, bits: u32) -> Ends
 
 // The same without p bits.
 pub fn opaque(x: Stored, y: Stored, bits: u32) -> Ends
-    requires { ⌜ (4 ≤ bits) × (bits ≤ 8) × Fitting x × Fitting y ⌝ }
+    requires { ⌜ TwoStored bits x y ⌝ }
     ensures { λ e. ⌜ Holds (λ l. solid (plain bits (pick (eqb l 0) x y))) e ⌝ }
 {
     let rb = lanes(x.r, x.b, y.r, y.b);
@@ -160,7 +161,7 @@ pub fn opaque(x: Stored, y: Stored, bits: u32) -> Ends
 
 // One colour with alpha and p bits. The words have room for another, which no lane is set of.
 pub fn alone_p(x: Stored, bits: u32) -> Ends
-    requires { ⌜ (3 ≤ bits) × (bits ≤ 7) × Fitting x ⌝ }
+    requires { ⌜ OneStoredP bits x ⌝ }
     ensures { λ e. ⌜ HoldsOne (withP bits x) e ⌝ }
 {
     let none = Stored {
@@ -175,7 +176,7 @@ pub fn alone_p(x: Stored, bits: u32) -> Ends
 
 // One colour whose alpha has a width of its own: green and alpha are promoted apart, and meet in one word.
 pub fn alone(x: Stored, bits: u32, alpha_bits: u32) -> Ends
-    requires { ⌜ (4 ≤ bits) × (bits ≤ 8) × (4 ≤ «alpha_bits») × («alpha_bits» ≤ 8) × Fitting x ⌝ }
+    requires { ⌜ OneStored bits «alpha_bits» x ⌝ }
     ensures { λ e. ⌜ HoldsOne (withAlpha bits «alpha_bits» x) e ⌝ }
 {
     let rb = lanes(x.r, x.b, 0, 0);
@@ -196,7 +197,7 @@ pub fn alone(x: Stored, bits: u32, alpha_bits: u32) -> Ends
 // A lane is at most 256 * 255 + 128, so no lane reaches the next; and as weight * e0 is at most 256 * e0 in each lane, no lane borrows
 // either. No difference of the endpoints is taken, and the first two terms don't depend on the weight.
 pub fn mixed(weight: u64, e0: u64, e1: u64) -> u64
-    requires { ⌜ (weight ≤ 256) × Lanes 8 e0 × Lanes 8 e1 ⌝ }
+    requires { ⌜ Mixable weight e0 e1 ⌝ }
     ensures { λ r. ⌜ r ≡ laned (zipWith (blend weight) (lanesOf e0) (lanesOf e1)) ⌝ }
 {
     (256 * e0 + HALVES - weight * e0) + weight * e1
@@ -209,7 +210,7 @@ pub fn mixed(weight: u64, e0: u64, e1: u64) -> u64
 //
 // 256 * e0 has to stand in both halves too: it is e0 times the weights 256 and 256.
 pub fn mixed_2(weights: u64, e0: u64, e1: u64) -> u64
-    requires { ⌜ (weights % 2 ^ 32 ≤ 256) × (weights / 2 ^ 32 ≤ 256) × LanesOfOne e0 × LanesOfOne e1 ⌝ }
+    requires { ⌜ Mixable2 weights e0 e1 ⌝ }
     ensures { λ r. ⌜ r ≡ laned (blends (weights % 2 ^ 32) (weights / 2 ^ 32) (lanesOf e0) (lanesOf e1)) ⌝ }
 {
     (0x0100_0000_0100 * e0 + HALVES - weights * e0) + weights * e1

@@ -10,6 +10,7 @@ ghost use mathlib.Core.Path.{_≡_};
 ghost use Prim.Native.Nat.{_+_, _*_, _/_, _%_, _^_, _≤_, _<_};
 ghost use lib.Bits.{bitAnd};
 ghost use Rattle.bcn_format.specs.Painting.{painted};
+ghost use Rattle.drawing.specs.Asked.{Key, Moved};
 ghost use Rattle.drawing.specs.Keys.{keysOf, keyAt};
 
 // Those of the eight even and of the eight odd pixels.
@@ -25,7 +26,7 @@ const EVEN_3: u64 = 0x0000_1C71_C71C_71C7;
 
 // The fields of the mask, indexes above subsets.
 fn above(x: u64, map: u64, mask: u64, shift: u32) -> u64
-    requires { ⌜ (mask < 2 ^ 48) × (shift ≤ 2) ⌝ }
+    requires { ⌜ Moved mask shift ⌝ }
     ensures { λ r. ⌜ r ≡ bitAnd x mask * 2 ^ shift + bitAnd map mask ⌝ }
 {
     ((x & mask) << shift) + (map & mask)
@@ -55,7 +56,7 @@ pub fn keys_3(x: u64, shift: u32, map: u64) -> Keys
 
 // Key i of a word that has `step` bits for each, of which there are `many` different ones, a power of two: so the rest is a mask.
 fn key_of(keys: u64, step: u32, i: usize, many: u64) -> usize
-    requires { ⌜ (step ≤ 6) × (i < 8) × (0 < many) ⌝ }
+    requires { ⌜ Key step i many ⌝ }
     ensures { λ r. ⌜ (r ≡ keys / 2 ^ (i * step) % many) × (r < many) ⌝ }
 {
     ((keys >> ((i as u32) * step)) % many) as usize

@@ -8,6 +8,7 @@ ghost use Rattle.laws.specs.Tables.{table};
 ghost use Rattle.bcn_format.specs.Drawing.{weightOf};
 ghost use Rattle.bcn_format.specs.Indexes.{part};
 ghost use Rattle.bcn_format.specs.Painting.{between};
+ghost use Rattle.drawing.specs.Asked.{Shaded, Shaded2, ThreeSubsets};
 ghost use Rattle.drawing.specs.Words.{Alone, Bytes, endpoint, wordBytes};
 ghost use Rattle.drawing.specs.Colours.{endpoints, keyed, shade};
 use crate::colour::Ends;
@@ -20,7 +21,7 @@ use weights::weight_256;
 
 // The colours of two subsets at a weight, that of the first in the low half.
 fn mixed_colours(e: Ends, weight: u64) -> u64
-    requires { ⌜ (weight ≤ 256) × Bytes e ⌝ }
+    requires { ⌜ Shaded weight e ⌝ }
     ensures { λ r. ⌜ wordBytes r ≡ shade e 0 weight ++ shade e 1 weight ⌝ }
 {
     two_colours(mixed(weight, e.rb0, e.rb1), mixed(weight, e.ga0, e.ga1))
@@ -28,7 +29,7 @@ fn mixed_colours(e: Ends, weight: u64) -> u64
 
 // The colours of one subset at two weights, the second 32 bits above the first: that of the first in the low half.
 pub fn two_shades(e: Ends, weights: u64) -> u64
-    requires { ⌜ (weights % 2 ^ 32 ≤ 256) × (weights / 2 ^ 32 ≤ 256) × Alone e ⌝ }
+    requires { ⌜ Shaded2 weights e ⌝ }
     ensures { λ r. ⌜ wordBytes r ≡ shade e 0 (weights % 2 ^ 32) ++ shade e 0 (weights / 2 ^ 32) ⌝ }
 {
     two_colours(
@@ -67,7 +68,7 @@ pub fn palette_2_3(e: Ends) -> [[u8; 4]; 16]
 // The colours of three subsets, the third in words of its own: that of index k and subset s is at 4 * k + s. No key is
 // 4 * k + 3: what stands there, the other half of the third's words, is stored since a palette with gaps would be cleared first.
 pub fn palette_3_2(e: Ends, f: Ends) -> [[u8; 4]; 16]
-    requires { ⌜ Bytes e × Bytes f ⌝ }
+    requires { ⌜ ThreeSubsets e f ⌝ }
     ensures { λ q. ⌜ q ≡ table 16 (keyed 2 4 (endpoints e f)) ⌝ }
 {
     let mut q = [[0u8; 4]; 16];
@@ -84,7 +85,7 @@ pub fn palette_3_2(e: Ends, f: Ends) -> [[u8; 4]; 16]
 }
 
 pub fn palette_3_3(e: Ends, f: Ends) -> [[u8; 4]; 32]
-    requires { ⌜ Bytes e × Bytes f ⌝ }
+    requires { ⌜ ThreeSubsets e f ⌝ }
     ensures { λ q. ⌜ q ≡ table 32 (keyed 3 4 (endpoints e f)) ⌝ }
 {
     let mut q = [[0u8; 4]; 32];

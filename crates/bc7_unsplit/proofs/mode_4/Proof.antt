@@ -69,11 +69,12 @@ paint-2-and-3-requires c κs =
     let first = c .before .before in
     let y = first .before .before in
     let x = y .before in
-    let ends = x .before in (
-      words-apart _ (ends .alone .result) (ends .alone .ensures .one) (first .words-2 .ensures) (c .words-3 .ensures),
-      rw (x .new-p1 .ensures) refl,
-      rw (y .new-p12 .ensures) refl,
-    )
+    let ends = x .before in
+    record {
+      apart = words-apart _ (ends .alone .result) (ends .alone .ensures .one) (first .words-2 .ensures) (c .words-3 .ensures);
+      two = rw (x .new-p1 .ensures) refl;
+      three = rw (y .new-p12 .ensures) refl;
+    }
 
 swap-channels-requires : tie.Need-swap-channels-requires
 swap-channels-requires c κs =

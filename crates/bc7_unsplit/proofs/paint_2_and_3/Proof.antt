@@ -35,28 +35,28 @@ cast-pixel-index : tie.Need-cast-pixel-index Inv-loop μ-loop
 cast-pixel-index c = search needs
 
 get-index-requires : tie.Need-get-index-requires Inv-loop μ-loop
-get-index-requires c κs = let s = c .before .before in (omega (arith, s .pre .1), omega arith)
+get-index-requires c κs = let s = c .before .before in (omega (arith, s .pre .two), omega arith)
 
 cast-word : tie.Need-cast-word Inv-loop μ-loop
 cast-word c = search needs
 
 mul-word : tie.Need-mul-word Inv-loop μ-loop
-mul-word c = let s = c .before .before .before in omega (arith, below (s .pre .1) (c .get-index .ensures))
+mul-word c = let s = c .before .before .before in omega (arith, below (s .pre .two) (c .get-index .ensures))
 
 array-read-word : tie.Need-array-read-word Inv-loop μ-loop
-array-read-word c = let s = c .before .before .before in omega (arith, below (s .pre .1) (c .get-index .ensures))
+array-read-word c = let s = c .before .before .before in omega (arith, below (s .pre .two) (c .get-index .ensures))
 
 get-index-requires-2 : tie.Need-get-index-requires-2 Inv-loop μ-loop
-get-index-requires-2 c κs = let s = c .before .before .before in (omega (arith, s .pre .2), omega arith)
+get-index-requires-2 c κs = let s = c .before .before .before in (omega (arith, s .pre .three), omega arith)
 
 cast-word-2 : tie.Need-cast-word-2 Inv-loop μ-loop
 cast-word-2 c = search needs
 
 mul-word-2 : tie.Need-mul-word-2 Inv-loop μ-loop
-mul-word-2 c = let s = c .before .before .before .before in omega (arith, below (s .pre .2) (c .get-index2 .ensures))
+mul-word-2 c = let s = c .before .before .before .before in omega (arith, below (s .pre .three) (c .get-index2 .ensures))
 
 array-read-word-2 : tie.Need-array-read-word-2 Inv-loop μ-loop
-array-read-word-2 c = let s = c .before .before .before .before in omega (arith, below (s .pre .2) (c .get-index2 .ensures))
+array-read-word-2 c = let s = c .before .before .before .before in omega (arith, below (s .pre .three) (c .get-index2 .ensures))
 
 -- the sum of any two words is within 32 bits
 fits : (c : tie.After-get-index2 Inv-loop μ-loop)
@@ -64,7 +64,7 @@ fits : (c : tie.After-get-index2 Inv-loop μ-loop)
     + getD (c .before .before .before .before .args .t2) (c .get-index2 .result) 0 < 2 ^ 32
 fits c =
     let s = c .before .before .before .before in
-    s .pre .0 _ _ (below (s .pre .1) (c .before .get-index .ensures)) (below (s .pre .2) (c .get-index2 .ensures))
+    s .pre .apart _ _ (below (s .pre .two) (c .before .get-index .ensures)) (below (s .pre .three) (c .get-index2 .ensures))
 
 add-word : tie.Need-add-word Inv-loop μ-loop
 add-word c = record { fits = fits c }
@@ -95,8 +95,8 @@ loop-again c =
     let s = at .before .before in
     made-next (at .before .loop .inv) (at .loop-test .taken)
     (c .low-colour .ensures
-    ∙ ap₂ (λ (i j : ℕ). take 4 (wordBytes (getD (s .args .t1) i 0 + getD (s .args .t2) j 0))) (is (s .pre .1) (x .get-index .ensures))
-    (is (s .pre .2) (y .get-index2 .ensures)))
+    ∙ ap₂ (λ (i j : ℕ). take 4 (wordBytes (getD (s .args .t1) i 0 + getD (s .args .t2) j 0))) (is (s .pre .two) (x .get-index .ensures))
+    (is (s .pre .three) (y .get-index2 .ensures)))
 
 returns : tie.Need-returns Inv-loop μ-loop
 returns c = made-all (c .before .loop .inv) (omega arith)

@@ -49,13 +49,13 @@ words-2-requires : tie.Need-words-2-requires Inv-loop μ-loop
 words-2-requires c κs = search needs
 
 shades-requires : tie.Need-shades-requires Inv-loop μ-loop
-shades-requires c κs = (two-bits (omega arith), c .before .pre)
+shades-requires c κs = record { indexes = two-bits (omega arith); ends = c .before .pre }
 
 keep-requires : tie.Need-keep-requires Inv-loop μ-loop
 keep-requires c κs = search needs
 
 shades-requires-2 : tie.Need-shades-requires-2 Inv-loop μ-loop
-shades-requires-2 c κs = (two-bits (omega arith), c .before .before .before .pre)
+shades-requires-2 c κs = record { indexes = two-bits (omega arith); ends = c .before .before .before .pre }
 
 keep-requires-2 : tie.Need-keep-requires-2 Inv-loop μ-loop
 keep-requires-2 c κs = search needs
@@ -71,11 +71,11 @@ array-read-with-alphas c = omega arith
 
 with-alphas-requires : tie.Need-with-alphas-requires Inv-loop μ-loop
 with-alphas-requires c κs =
-    let start = words (c .before .before) in (
-      colours-fit (start .e) (start .one) 0 1 (omega arith) (omega arith) (start .low-is),
-      alpha-fits (start .e) (start .one) (start .alphas-are)
-          (c .before .loop .j) (c .loop-test .taken),
-    )
+    let start = words (c .before .before) in
+    record {
+      colours = colours-fit (start .e) (start .one) 0 1 (omega arith) (omega arith) (start .low-is);
+      alpha = alpha-fits (start .e) (start .one) (start .alphas-are) (c .before .loop .j) (c .loop-test .taken);
+    }
 
 mul-with-alphas-2 : tie.Need-mul-with-alphas-2 Inv-loop μ-loop
 mul-with-alphas-2 c = omega arith
@@ -86,11 +86,11 @@ array-read-with-alphas-2 c = omega arith
 with-alphas-requires-2 : tie.Need-with-alphas-requires-2 Inv-loop μ-loop
 with-alphas-requires-2 c κs =
     let at = c .before in
-    let start = words (at .before .before) in (
-      colours-fit (start .e) (start .one) 2 3 (omega arith) (omega arith) (start .high-is),
-      alpha-fits (start .e) (start .one) (start .alphas-are)
-          (at .before .loop .j) (at .loop-test .taken),
-    )
+    let start = words (at .before .before) in
+    record {
+      colours = colours-fit (start .e) (start .one) 2 3 (omega arith) (omega arith) (start .high-is);
+      alpha = alpha-fits (start .e) (start .one) (start .alphas-are) (at .before .loop .j) (at .loop-test .taken);
+    }
 
 low-colour-requires : tie.Need-low-colour-requires Inv-loop μ-loop
 low-colour-requires c κs = search needs

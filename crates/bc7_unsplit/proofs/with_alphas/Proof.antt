@@ -9,10 +9,10 @@ mul-result : tie.Need-mul-result
 mul-result c = search needs
 
 add-result : tie.Need-add-result
-add-result c = record { fits = alphas-fit (search needs) (search needs) (c .pre .0) (c .pre .1) }
+add-result c = record { fits = alphas-fit (search needs) (search needs) (c .pre .colours) (c .pre .alpha) }
 
 returns : tie.Need-returns
-returns c = alphas-bytes (search needs) (search needs) (c .pre .0) (c .pre .1)
+returns c = alphas-bytes (search needs) (search needs) (c .pre .colours) (c .pre .alpha)
 
 pub with-alphas-spec : {M : Type 1} → statement M
 with-alphas-spec = tie.close (tie.spec mul-result add-result returns)

@@ -16,13 +16,13 @@ module _ (words : tie.After-lanes3) where
   start = words .before .before .before
 
   red-blue : lanesOf (words .before .before .lanes .result) ≡ start .args .x .r ∷ start .args .x .b ∷ 0 ∷ 0 ∷ []
-  red-blue = let x = start .pre .4 in lanes-four (words .before .before .lanes .ensures) (x .red) (x .blue) (omega arith) (omega arith)
+  red-blue = let x = start .pre .stored in lanes-four (words .before .before .lanes .ensures) (x .red) (x .blue) (omega arith) (omega arith)
 
   green : lanesOf (words .before .lanes2 .result) ≡ start .args .x .g ∷ 0 ∷ 0 ∷ 0 ∷ []
-  green = lanes-four (words .before .lanes2 .ensures) (start .pre .4 .green) (omega arith) (omega arith) (omega arith)
+  green = lanes-four (words .before .lanes2 .ensures) (start .pre .stored .green) (omega arith) (omega arith) (omega arith)
 
   alpha : lanesOf (words .lanes3 .result) ≡ 0 ∷ start .args .x .a ∷ 0 ∷ 0 ∷ []
-  alpha = lanes-four (words .lanes3 .ensures) (omega arith) (start .pre .4 .alpha) (omega arith) (omega arith)
+  alpha = lanes-four (words .lanes3 .ensures) (omega arith) (start .pre .stored .alpha) (omega arith) (omega arith)
 
 lanes-requires : tie.Need-lanes-requires
 lanes-requires c κs = search needs
@@ -47,7 +47,7 @@ add-t10 c =
     let words = c .before .before .before in
     let s = start words in
     record {
-      fits = end-apart-fits (s .args .bits) 0 (s .pre .0) (s .pre .1) (s .args .alpha-bits) (s .pre .2) (s .pre .3) (green words)
+      fits = end-apart-fits (s .args .bits) 0 (s .pre .width .least) (s .pre .width .most) (s .args .alpha-bits) (s .pre .alpha .least) (s .pre .alpha .most) (green words)
           (alpha words) (c .before .end-of2 .ensures) (c .end-of3 .ensures);
     }
 
@@ -65,7 +65,7 @@ add-t14 c =
     let words = c .before .before .before .before .before .before in
     let s = start words in
     record {
-      fits = end-apart-fits (s .args .bits) 1 (s .pre .0) (s .pre .1) (s .args .alpha-bits) (s .pre .2) (s .pre .3) (green words)
+      fits = end-apart-fits (s .args .bits) 1 (s .pre .width .least) (s .pre .width .most) (s .args .alpha-bits) (s .pre .alpha .least) (s .pre .alpha .most) (green words)
           (alpha words) (c .before .end-of5 .ensures) (c .end-of6 .ensures);
     }
 
@@ -78,11 +78,11 @@ returns c =
     let n = s .args .bits in
     let w = s .args .alpha-bits in
     let p = s .pre in
-    holds-one (withAlpha n w (s .args .x)) (λ k c. end-either-lt (eqb c 3) n w k _ (p .0) (p .1) (p .2) (p .3)) (λ i. record {
-      rb0 = end-two n 0 (p .0) (p .1) (red-blue words) (e3 .before .before .end-of .ensures) i;
-      ga0 = end-apart n 0 (p .0) (p .1) w (p .2) (p .3) (green words) (alpha words) (e3 .before .end-of2 .ensures) (e3 .end-of3 .ensures) i;
-      rb1 = end-two n 1 (p .0) (p .1) (red-blue words) (c .before .before .end-of4 .ensures) i;
-      ga1 = end-apart n 1 (p .0) (p .1) w (p .2) (p .3) (green words) (alpha words) (c .before .end-of5 .ensures) (c .end-of6 .ensures) i;
+    holds-one (withAlpha n w (s .args .x)) (λ k c. end-either-lt (eqb c 3) n w k _ (p .width .least) (p .width .most) (p .alpha .least) (p .alpha .most)) (λ i. record {
+      rb0 = end-two n 0 (p .width .least) (p .width .most) (red-blue words) (e3 .before .before .end-of .ensures) i;
+      ga0 = end-apart n 0 (p .width .least) (p .width .most) w (p .alpha .least) (p .alpha .most) (green words) (alpha words) (e3 .before .end-of2 .ensures) (e3 .end-of3 .ensures) i;
+      rb1 = end-two n 1 (p .width .least) (p .width .most) (red-blue words) (c .before .before .end-of4 .ensures) i;
+      ga1 = end-apart n 1 (p .width .least) (p .width .most) w (p .alpha .least) (p .alpha .most) (green words) (alpha words) (c .before .end-of5 .ensures) (c .end-of6 .ensures) i;
     })
 
 pub alone-spec : {M : Type 1} → statement M

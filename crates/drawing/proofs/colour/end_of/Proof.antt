@@ -6,18 +6,20 @@ use Rattle.drawing.proofs.colour.end_of.Statement.{statement}
 use Rattle.drawing.proofs.colour.end_of.Tie as tie
 
 mul-parts : tie.Need-mul-parts
-mul-parts c = omega (arith, ends-within (c .args .bits) (c .args .k) (c .args .x) (c .pre .2) (c .pre .1))
+mul-parts c = omega (arith, ends-within (c .args .bits) (c .args .k) (c .args .x) (c .pre .two) (c .pre .width .most))
 
 parts-requires : tie.Need-parts-requires
-parts-requires c κs = ends-within (c .args .bits) (c .args .k) (c .args .x) (c .pre .2) (c .pre .1)
+parts-requires c κs = ends-within (c .args .bits) (c .args .k) (c .args .x) (c .pre .two) (c .pre .width .most)
 
 promote-requires : tie.Need-promote-requires
-promote-requires c κs = let s = c .before in (s .pre .0, s .pre .1, parts-small (s .args .x) _ (s .args .bits) (omega arith) (c .parts .ensures))
+promote-requires c κs =
+    let s = c .before in
+    record { width = s .pre .width; lanes = parts-small (s .args .x) _ (s .args .bits) (omega arith) (c .parts .ensures) }
 
 returns : tie.Need-returns
 returns c =
     let s =
-    c .before .before in end-of (s .args .bits) (s .args .k) (s .args .x) (s .pre .2) (s .pre .1) (c .before .parts .ensures) (c .promote .ensures)
+    c .before .before in end-of (s .args .bits) (s .args .k) (s .args .x) (s .pre .two) (s .pre .width .most) (c .before .parts .ensures) (c .promote .ensures)
 
 pub end-of-spec : {M : Type 1} → statement M
 end-of-spec = tie.close (tie.spec mul-parts parts-requires promote-requires returns)

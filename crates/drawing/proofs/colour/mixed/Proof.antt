@@ -7,7 +7,7 @@ use Rattle.drawing.proofs.colour.mixed.Statement.{statement}
 use Rattle.drawing.proofs.colour.mixed.Tie as tie
 
 on : (s : tie.Start) → Steps 256 (s .args .weight) (s .args .e0) (s .args .e1)
-on s = steps (s .args .weight) (s .pre .0) (s .args .e0) (s .args .e1) (search needs) (search needs) (s .pre .1) (s .pre .2)
+on s = steps (s .args .weight) (s .pre .weight) (s .args .e0) (s .args .e1) (search needs) (search needs) (s .pre .first) (s .pre .second)
 
 mul-result : tie.Need-mul-result
 mul-result c = omega (arith, on c)
@@ -28,7 +28,7 @@ add-result-2 : tie.Need-add-result-2
 add-result-2 c = record { fits = on c .whole }
 
 returns : tie.Need-returns
-returns c = mixed-word (c .args .weight) (c .pre .0) (c .args .e0) (c .args .e1) (search needs) (search needs) (c .pre .1) (c .pre .2)
+returns c = mixed-word (c .args .weight) (c .pre .weight) (c .args .e0) (c .args .e1) (search needs) (search needs) (c .pre .first) (c .pre .second)
 
 pub mixed-spec : {M : Type 1} → statement M
 mixed-spec =

@@ -45,19 +45,19 @@ returns c =
     let n = s .args .bits in
     let x = s .args .x in
     let y = s .args .y in
-    let hx = s .pre .2 in
-    let hy = s .pre .3 in
+    let hx = s .pre .first in
+    let hy = s .pre .second in
     let one = g .before .before .all-ones .ensures in
     let two = g .before .all-ones2 .ensures in
     let rb = lanes-four (r .lanes .ensures) (hx .red) (hx .blue) (hy .red) (hy .blue) in
     let ga = lanes-four (g .lanes2 .ensures) (hx .green) (one .1) (hy .green) (two .1) in
-    let alpha = full n (s .pre .0) (s .pre .1) (one .0) in
-    let alpha' = full n (s .pre .0) (s .pre .1) (two .0) in
+    let alpha = full n (s .pre .width .least) (s .pre .width .most) (one .0) in
+    let alpha' = full n (s .pre .width .least) (s .pre .width .most) (two .0) in
     let g1 = c .end-of4 .ensures in
     let r1 = c .before .end-of3 .ensures in
     let g0 = c .before .before .end-of2 .ensures in
     let r0 = c .before .before .before .end-of .ensures in
-    holds (λ l. solid (plain n (pick (eqb l 0) x y))) (λ l. solid-lt (λ k c. end-lt n k _ (s .pre .0) (s .pre .1)))
+    holds (λ l. solid (plain n (pick (eqb l 0) x y))) (λ l. solid-lt (λ k c. end-lt n k _ (s .pre .width .least) (s .pre .width .most)))
     ((λ i. record { rb0 = r0 i; ga0 = g0 i; rb1 = r1 i; ga1 = g1 i })
     ∙ (λ i. record {
       rb0 = laned (map (endOf n 0) (rb i));

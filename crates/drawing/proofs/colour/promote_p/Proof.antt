@@ -10,10 +10,10 @@ use Rattle.drawing.proofs.colour.promote_p.Tie as tie
 
 -- both words leave room
 value-le : (s : tie.Start) → s .args .x ≤ 0x00FF_00FF_00FF_00FF
-value-le s = lanes-le (s .args .bits) (omega arith) (search needs) (s .pre .2)
+value-le s = lanes-le (s .args .bits) (omega arith) (search needs) (s .pre .lanes)
 
 p-le : (s : tie.Start) → s .args .p ≤ 0x00FF_00FF_00FF_00FF
-p-le s = lanes-le 1 (omega arith) (search needs) (s .pre .3)
+p-le s = lanes-le 1 (omega arith) (search needs) (s .pre .ps)
 
 mul-promote : tie.Need-mul-promote
 mul-promote c = omega (arith, value-le c, p-le c)
@@ -25,17 +25,15 @@ add-promote-2 : tie.Need-add-promote-2
 add-promote-2 c = search needs
 
 promote-requires : tie.Need-promote-requires
-promote-requires c κs = (
-  omega arith,
-  omega arith,
-  with-p-small (c .args .bits) (c .args .x) (c .args .p) (c .pre .1) (search needs) (search needs) (c .pre .2)
-      (c .pre .3),
-)
+promote-requires c κs = record {
+  width = record { least = omega arith; most = omega arith };
+  lanes = with-p-small (c .args .bits) (c .args .x) (c .args .p) (c .pre .width .most) (search needs) (search needs) (c .pre .lanes) (c .pre .ps);
+}
 
 returns : tie.Need-returns
 returns c =
     let s = c .before in
-    c .promote .ensures ∙ promoted-p (s .args .bits) (s .args .x) (s .args .p) (s .pre .1) (search needs) (search needs) (s .pre .2) (s .pre .3)
+    c .promote .ensures ∙ promoted-p (s .args .bits) (s .args .x) (s .args .p) (s .pre .width .most) (search needs) (search needs) (s .pre .lanes) (s .pre .ps)
 
 pub promote-p-spec : {M : Type 1} → statement M
 promote-p-spec =

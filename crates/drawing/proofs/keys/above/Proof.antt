@@ -12,7 +12,7 @@ use Rattle.drawing.proofs.keys.above.Tie as tie
 
 module _ (s : tie.Start) where
   masked : (x : ℕ) → bitAnd x (s .args .mask) < 2 ^ 48
-  masked x = lt-of-le-of-lt (and-le-r x (s .args .mask)) (s .pre .0)
+  masked x = lt-of-le-of-lt (and-le-r x (s .args .mask)) (s .pre .mask)
 
   moved : (bitAnd (s .args .x) (s .args .mask) * 2 ^ s .args .shift) % 2 ^ 64 ≡ bitAnd (s .args .x) (s .args .mask) * 2 ^ s .args .shift
   moved = shl-exact 48 (s .args .shift) 64 (masked (s .args .x)) (omega arith)

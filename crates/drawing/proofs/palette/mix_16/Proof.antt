@@ -37,7 +37,7 @@ two-shades-requires c κs =
     let odd = at .before .before in
     let s = odd .before .before in
     let w = two-weights (s .args .x) (at .before .loop .i) (at .loop-test .taken) (odd .before .weights-of .ensures) (c .weights-at .ensures) in
-    (w .low-256, w .high-256, s .pre)
+    record { weights = record { low = w .low-256; high = w .high-256 }; ends = s .pre }
 
 low-colour-requires : tie.Need-low-colour-requires Inv-loop μ-loop
 low-colour-requires c κs = search needs
@@ -75,7 +75,7 @@ two-shades-requires-2 c κs =
     let odd = at .before .before in
     let s = odd .before .before in
     let w = two-weights (s .args .x / 2 ^ 4) (at .before .loop .i) (at .loop-test .taken) (odd .weights-of2 .ensures) (c .weights-at2 .ensures) in
-    (w .low-256, w .high-256, s .pre)
+    record { weights = record { low = w .low-256; high = w .high-256 }; ends = s .pre }
 
 low-colour-requires-2 : tie.Need-low-colour-requires-2 Inv-loop μ-loop
 low-colour-requires-2 c κs = search needs

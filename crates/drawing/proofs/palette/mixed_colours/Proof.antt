@@ -17,7 +17,7 @@ two-colours-requires c κs = search needs
 returns : tie.Need-returns
 returns c =
     let s = c .before .before .before in
-    shades (s .args .weight) (s .args .e) (s .pre .0) (s .pre .1) (c .before .before .mixed .ensures) (c .before .mixed2 .ensures)
+    shades (s .args .weight) (s .args .e) (s .pre .weight) (s .pre .ends) (c .before .before .mixed .ensures) (c .before .mixed2 .ensures)
     (c .two-colours .ensures)
 
 pub mixed-colours-spec : {M : Type 1} → statement M

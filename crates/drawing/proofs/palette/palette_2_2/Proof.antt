@@ -24,8 +24,10 @@ weight-256-requires : tie.Need-weight-256-requires Inv-loop μ-loop
 weight-256-requires c κs = record { least = omega arith; most = omega arith; within = omega arith }
 
 mixed-colours-requires : tie.Need-mixed-colours-requires Inv-loop μ-loop
-mixed-colours-requires c κs =
-    (of-256 2 _ (two-bits (c .before .loop-test .taken)) (c .weight-256 .ensures), c .before .before .before .pre)
+mixed-colours-requires c κs = record {
+  weight = of-256 2 _ (two-bits (c .before .loop-test .taken)) (c .weight-256 .ensures);
+  ends = c .before .before .before .pre;
+}
 
 low-colour-requires : tie.Need-low-colour-requires Inv-loop μ-loop
 low-colour-requires c κs = search needs

@@ -24,15 +24,15 @@ weight-256-requires : tie.Need-weight-256-requires Inv-loop μ-loop
 weight-256-requires c κs = two-bits (c .loop-test .taken)
 
 mixed-colours-requires : tie.Need-mixed-colours-requires Inv-loop μ-loop
-mixed-colours-requires c κs = (
-  of-256 2 _ (two-bits (c .before .loop-test .taken)) (c .weight-256 .ensures),
-  c .before .before .before .pre .0,
-)
+mixed-colours-requires c κs = record {
+  weight = of-256 2 _ (two-bits (c .before .loop-test .taken)) (c .weight-256 .ensures);
+  ends = c .before .before .before .pre .two;
+}
 
 mixed-colours-requires-2 : tie.Need-mixed-colours-requires-2 Inv-loop μ-loop
 mixed-colours-requires-2 c κs =
     let at = c .before .before in
-    (of-256 2 _ (two-bits (at .loop-test .taken)) (c .before .weight-256 .ensures), at .before .before .pre .1)
+    record { weight = of-256 2 _ (two-bits (at .loop-test .taken)) (c .before .weight-256 .ensures); ends = at .before .before .pre .third }
 
 low-colour-requires : tie.Need-low-colour-requires Inv-loop μ-loop
 low-colour-requires c κs = search needs
