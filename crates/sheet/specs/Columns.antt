@@ -1,10 +1,12 @@
 -- The scanlines of a block, laid into their column of a row.
 -- Assumes nothing.
-use Prim.Native.Nat.{ℕ, _+_, _*_, _/_, _%_}
+use mathlib.Core.Path.{_≡_}
+use Prim.Native.Nat.{ℕ, _+_, _*_, _/_, _%_, _≤_, _<_}
 use mathlib.Core.List.{List}
 use lib.Dec.{eqb}
 use lib.ListN.{length, getD}
 use Rattle.laws.specs.Tables.{pick, table}
+use Rattle.head_rules.specs.Geometry.{outLength, rowLength, sideShown}
 use Rattle.sheet_rules.specs.Rows.{channel}
 
 -- byte j of scanline y of a block
@@ -17,3 +19,28 @@ columnByte w px c out k = pick (eqb (k % (4 * w) / 16) c) (scanlineByte px (k / 
 
 unfoldable pub withColumn : ℕ → List (List ℕ) → ℕ → List ℕ → List ℕ
 withColumn w px c out = table (length out) (columnByte w px c out)
+
+-- What laying pixels down asks, each clause by its name, with so much room: n pixels of scanline y
+pub record InScanline (y n at room : ℕ) : Type 0 where
+  pub scanline : y < 4
+  pub pixels : n ≤ 4
+  pub inside : at + 4 * n ≤ room
+
+-- s scanlines of a block in column c of a row that is w pixels wide, and n pixels of each
+pub record InColumn (c w s room : ℕ) : Type 0 where
+  pub scanlines : s ≤ 4
+  pub column : 4 * c < w
+  pub width : w ≤ 65536
+  pub whole : room ≡ outLength w s
+
+pub record ShownInColumn (c w n s room : ℕ) : Type 0 where
+  pub block : InColumn c w s room
+  pub pixels : n ≡ sideShown w c
+
+-- s scanlines of a whole row, of which so many bytes are given
+pub record WholeRow (w s given room : ℕ) : Type 0 where
+  pub scanlines : s ≤ 4
+  pub some : 0 < w
+  pub width : w ≤ 65536
+  pub blocks : given ≡ rowLength w
+  pub whole : room ≡ outLength w s

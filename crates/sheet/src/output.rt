@@ -1,11 +1,10 @@
 // The pixels of a block, laid scanline by scanline into their column of a row of blocks. A block at the right edge shows only some of
 // its columns, a block at the lower edge only some of its scanlines.
 ghost use mathlib.Core.Path.{_≡_};
-ghost use Prim.Native.Nat.{_+_, _*_, _≤_, _<_};
+ghost use Prim.Native.Nat.{_+_, _*_, _≤_};
 ghost use lib.ListN.{length, getD};
 ghost use Rattle.laws.specs.Tables.{over};
-ghost use Rattle.head_rules.specs.Geometry.{outLength, sideShown};
-ghost use Rattle.sheet.specs.Columns.{scanlineByte, withColumn};
+ghost use Rattle.sheet.specs.Columns.{InColumn, InScanline, ShownInColumn, scanlineByte, withColumn};
 use sheet_head::geometry::shown_in;
 
 fn put_pixel(pixel: [u8; 4], at: usize, out: &mut [u8])
@@ -20,7 +19,7 @@ fn put_pixel(pixel: [u8; 4], at: usize, out: &mut [u8])
 
 // The first n pixels of scanline y of a block.
 fn put_scanline(px: [[u8; 4]; 16], y: usize, n: usize, at: usize, out: &mut [u8])
-    requires { ⌜ (y < 4) × (n ≤ 4) × (at + 4 * n ≤ length (now out)) ⌝ }
+    requires { ⌜ InScanline y n at (length (now out)) ⌝ }
     ensures { λ _. ⌜ now (out .exit) ≡ over (now (out .entry)) at (4 * n) (scanlineByte px y) ⌝ }
 {
     for k in 0..n {
@@ -31,7 +30,7 @@ fn put_scanline(px: [[u8; 4]; 16], y: usize, n: usize, at: usize, out: &mut [u8]
 
 // The scanlines of a block, into its column c of a row of blocks that is w pixels wide; n pixels of each are shown.
 fn put_scanlines(px: [[u8; 4]; 16], c: usize, w: usize, n: usize, scanlines: usize, out: &mut [u8])
-    requires { ⌜ (scanlines ≤ 4) × (4 * c < w) × (w ≤ 65536) × (n ≡ sideShown w c) × (length (now out) ≡ outLength w scanlines) ⌝ }
+    requires { ⌜ ShownInColumn c w n scanlines (length (now out)) ⌝ }
     ensures { λ _. ⌜ now (out .exit) ≡ withColumn w px c (now (out .entry)) ⌝ }
 {
     let scanline = 4 * w;
@@ -43,7 +42,7 @@ fn put_scanlines(px: [[u8; 4]; 16], c: usize, w: usize, n: usize, scanlines: usi
 // All that is shown of a block, into its column. Nearly every block is shown whole: its loops then have constant bounds, which
 // is what makes rows fast.
 pub fn put_block(px: [[u8; 4]; 16], c: usize, w: usize, scanlines: usize, out: &mut [u8])
-    requires { ⌜ (scanlines ≤ 4) × (4 * c < w) × (w ≤ 65536) × (length (now out) ≡ outLength w scanlines) ⌝ }
+    requires { ⌜ InColumn c w scanlines (length (now out)) ⌝ }
     ensures { λ _. ⌜ now (out .exit) ≡ withColumn w px c (now (out .entry)) ⌝ }
 {
     let n = shown_in(w, c);

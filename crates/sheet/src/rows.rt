@@ -1,10 +1,9 @@
 // A row of blocks: why it is refused, and its blocks decoded and laid into the output. Blocks go
 // straight from the decoder to their columns, so no buffer stands between.
 ghost use mathlib.Core.Path.{_≡_};
-ghost use Prim.Native.Nat.{_*_, _≤_, _<_};
 ghost use lib.ListN.{length};
-ghost use Rattle.head_rules.specs.Geometry.{outLength, rowLength};
 ghost use Rattle.sheet_rules.specs.Rows.{rowBytes, rowRefusal};
+ghost use Rattle.sheet.specs.Columns.{WholeRow};
 use crate::blocks::load;
 use crate::output::put_block;
 use sheet_head::geometry::blocks_across;
@@ -34,7 +33,7 @@ pub fn row_refusal(width: u32, height: u32, row: u32, given: usize, room: usize)
 
 // All blocks of a row.
 pub fn put_row(w: usize, scanlines: usize, blocks: &[u8], out: &mut [u8])
-    requires { ⌜ (scanlines ≤ 4) × (0 < w) × (w ≤ 65536) × (length (now blocks) ≡ rowLength w) × (length (now out) ≡ outLength w scanlines) ⌝ }
+    requires { ⌜ WholeRow w scanlines (length (now blocks)) (length (now out)) ⌝ }
     ensures { λ _. ⌜ now (out .exit) ≡ rowBytes w scanlines (now (blocks .entry)) ⌝ }
 {
     let columns = blocks.len() / 16;

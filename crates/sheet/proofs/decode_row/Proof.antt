@@ -21,14 +21,14 @@ put-row-requires : tie.Need-put-row-requires
 put-row-requires c κs =
     let l = c .before in
     let t = told-by _ _ _ _ _ (l .before .before .row-refusal .ensures) (l .before .if1 .left) in
-    let w = l .before .before .before .before .before .args .width in (
-      omega (arith, l .shown-in .ensures),
-      omega (arith, t .size .wide),
-      omega (arith, t .size .within-wide),
-      t .enough,
-      t .space
-          ∙ ap (λ (n : ℕ). n * (4 * w)) (sym (l .shown-in .ensures)),
-    )
+    let w = l .before .before .before .before .before .args .width in
+    record {
+      scanlines = omega (arith, l .shown-in .ensures);
+      some = omega (arith, t .size .wide);
+      width = omega (arith, t .size .within-wide);
+      blocks = t .enough;
+      whole = t .space ∙ ap (λ (n : ℕ). n * (4 * w)) (sym (l .shown-in .ensures));
+    }
 
 same-length : tie.Need-same-length
 same-length c = search needs

@@ -31,14 +31,16 @@ returns-2 c = search needs
 put-scanlines-requires-3 : tie.Need-put-scanlines-requires-3
 put-scanlines-requires-3 c κs =
     let s = c .before .before .before .before .before in
-    let four : s .args .scanlines ≡ 4 = omega arith in (
-      omega arith,
-      omega arith,
-      omega arith,
-      omega (arith, c .before .before .before .shown-in .ensures),
-      s .pre .3
-          ∙ ap (λ (n : ℕ). n * (4 * s .args .w)) four,
-    )
+    let four : s .args .scanlines ≡ 4 = omega arith in
+    record {
+      block = record {
+        scanlines = omega arith;
+        column = omega arith;
+        width = omega arith;
+        whole = s .pre .whole ∙ ap (λ (n : ℕ). n * (4 * s .args .w)) four;
+      };
+      pixels = omega (arith, c .before .before .before .shown-in .ensures);
+    }
 
 same-length-3 : tie.Need-same-length-3
 same-length-3 c = search needs

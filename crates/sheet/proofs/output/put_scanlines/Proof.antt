@@ -17,28 +17,32 @@ mul-scanline : tie.Need-mul-scanline Inv-loop μ-loop
 mul-scanline c = omega arith
 
 loop-holds : tie.Need-loop-holds Inv-loop μ-loop
-loop-holds c = (omega arith, scanlines-none _ _ _ _ _ (c .before .pre .4))
+loop-holds c = (omega arith, scanlines-none _ _ _ _ _ (c .before .pre .block .whole))
 
 mul-put-scanline : tie.Need-mul-put-scanline Inv-loop μ-loop
 mul-put-scanline c =
     let p = c .before .before .before .pre in
-    omega (arith, fits _ _ (p .1) (c .loop-test .taken) (p .3), c .before .loop .inv .1 .long)
+    omega (arith, fits _ _ (p .block .column) (c .loop-test .taken) (p .pixels), c .before .loop .inv .1 .long)
 
 mul-put-scanline-2 : tie.Need-mul-put-scanline-2 Inv-loop μ-loop
 mul-put-scanline-2 c =
     let p = c .before .before .before .pre in
-    omega (arith, fits _ _ (p .1) (c .loop-test .taken) (p .3), c .before .loop .inv .1 .long)
+    omega (arith, fits _ _ (p .block .column) (c .loop-test .taken) (p .pixels), c .before .loop .inv .1 .long)
 
 add-put-scanline : tie.Need-add-put-scanline Inv-loop μ-loop
 add-put-scanline c =
     let p = c .before .before .before .pre in
-    omega (arith, fits _ _ (p .1) (c .loop-test .taken) (p .3), c .before .loop .inv .1 .long)
+    omega (arith, fits _ _ (p .block .column) (c .loop-test .taken) (p .pixels), c .before .loop .inv .1 .long)
 
 put-scanline-requires : tie.Need-put-scanline-requires Inv-loop μ-loop
 put-scanline-requires c κs =
     let i = c .before in
     let p = i .before .before .before .pre in
-    (omega arith, omega arith, omega (arith, fits _ _ (p .1) (i .loop-test .taken) (p .3), i .before .loop .inv .1 .long))
+    record {
+      scanline = omega arith;
+      pixels = omega arith;
+      inside = omega (arith, fits _ _ (p .block .column) (i .loop-test .taken) (p .pixels), i .before .loop .inv .1 .long);
+    }
 
 add-y : tie.Need-add-y Inv-loop μ-loop
 add-y c = omega arith
@@ -51,14 +55,14 @@ loop-again c =
     let l = c .before .before in
     let i = l .before .before in
     let p = i .before .before .before .pre in
-    (omega arith, scanlines-more _ _ _ _ (p .1) _ _ (i .loop-test .taken) _ (p .3) (i .before .loop .inv .1) (l .put-scanline .ensures))
+    (omega arith, scanlines-more _ _ _ _ (p .block .column) _ _ (i .loop-test .taken) _ (p .pixels) (i .before .loop .inv .1) (l .put-scanline .ensures))
 
 same-length : tie.Need-same-length Inv-loop μ-loop
-same-length c = c .before .loop .inv .1 .long ∙ sym (c .before .before .before .pre .4)
+same-length c = c .before .loop .inv .1 .long ∙ sym (c .before .before .before .pre .block .whole)
 
 returns : tie.Need-returns Inv-loop μ-loop
 returns c =
-    scanlines-all _ _ _ _ (c .before .before .before .pre .1) (c .before .before .before .pre .4) (c .loop-test .left) (c .before .loop .inv .1)
+    scanlines-all _ _ _ _ (c .before .before .before .pre .block .column) (c .before .before .before .pre .block .whole) (c .loop-test .left) (c .before .loop .inv .1)
 
 pub put-scanlines-spec : {M : Type 1} → statement M
 put-scanlines-spec =

@@ -16,7 +16,7 @@ abbrev μ-loop : tie.MeasureT-loop
 μ-loop w scanlines blocks out₀ columns c₀ out c = columns - c
 
 loop-holds : tie.Need-loop-holds Inv-loop μ-loop
-loop-holds c = (omega arith, columns-none _ _ _ (c .before .before .pre .4))
+loop-holds c = (omega arith, columns-none _ _ _ (c .before .before .pre .whole))
 
 mul-load : tie.Need-mul-load Inv-loop μ-loop
 mul-load c = omega arith
@@ -28,7 +28,12 @@ decode-bc7-block-requires : tie.Need-decode-bc7-block-requires Inv-loop μ-loop
 decode-bc7-block-requires c κs = search needs
 
 put-block-requires : tie.Need-put-block-requires Inv-loop μ-loop
-put-block-requires c κs = (omega arith, omega arith, omega arith, c .before .before .before .before .loop .inv .1 .long)
+put-block-requires c κs = record {
+  scanlines = omega arith;
+  column = omega arith;
+  width = omega arith;
+  whole = c .before .before .before .before .loop .inv .1 .long;
+}
 
 add-c : tie.Need-add-c Inv-loop μ-loop
 add-c c = omega arith
@@ -46,7 +51,7 @@ loop-again c =
     )
 
 same-length : tie.Need-same-length Inv-loop μ-loop
-same-length c = c .before .loop .inv .1 .long ∙ sym (c .before .before .before .before .pre .4)
+same-length c = c .before .loop .inv .1 .long ∙ sym (c .before .before .before .before .pre .whole)
 
 returns : tie.Need-returns Inv-loop μ-loop
 returns c = columns-all _ _ _ (omega arith) (omega arith) (c .before .loop .inv .1)
