@@ -22,6 +22,36 @@ pub record Byte (x : Channel) : Type 0 where
   pub second : x .second < 256
   pub wanted : x .wanted < 256
 
+-- What the functions ask, each clause by its name: a value that is promoted, two endpoints and a weight, an endpoint's value and p bit
+pub record Promotable (v bits : ℕ) : Type 0 where
+  pub least : 4 ≤ bits
+  pub most : bits ≤ 8
+  pub value : v < 2 ^ bits
+
+pub record Between (e0 e1 w : ℕ) : Type 0 where
+  pub first : e0 < 256
+  pub second : e1 < 256
+  pub weight : w ≤ 64
+
+pub record AtEndpoint (v q width pWidth : ℕ) : Type 0 where
+  pub least : 4 ≤ width + pWidth
+  pub most : width + pWidth ≤ 8
+  pub value : v < 2 ^ width
+  pub p : q < 2 ^ pWidth
+
+-- four channels, and indexes of so many bits
+pub record Searchable (r g b a : Channel) (bits : ℕ) : Type 0 where
+  pub red : Byte r
+  pub green : Byte g
+  pub blue : Byte b
+  pub alpha : Byte a
+  pub least : 2 ≤ bits
+  pub most : bits ≤ 4
+
+pub record Measurable (r g b a : Channel) (bits i : ℕ) : Type 0 where
+  pub channels : Searchable r g b a bits
+  pub index : i < 2 ^ bits
+
 unfoldable pub channelFar : Channel → ℕ → ℕ
 channelFar x w = pick (x .counts) (squared (drawn (x .first) (x .second) w) (x .wanted)) 0
 

@@ -9,7 +9,8 @@ ghost use Rattle.bc7_format.specs.Modes.{modeOf};
 ghost use Rattle.bc7_format.specs.Splits.{rotation as rotationIn, splitOf};
 ghost use Rattle.nearest_rules.specs.Nearest.{squared as squaredDifference};
 ghost use Rattle.nearest_rules.specs.Promises.{FindsExact, FindsNearest};
-ghost use Rattle.nearest.specs.Trying.{Byte, IsChannel, Readable, Searched, SearchedIn, Tries, Tryable, channelFar, distanceAt, triedAs};
+ghost use Rattle.nearest.specs.Trying.{AtEndpoint, Between, Byte, IsChannel, Measurable, Promotable, Readable, Searchable, Searched, SearchedIn};
+ghost use Rattle.nearest.specs.Trying.{Tries, Tryable, channelFar, distanceAt, triedAs};
 use bc7_places::modes::mode_of;
 use bc7_places::modes::mode_row;
 use bc7_places::splits::read_split;
@@ -44,7 +45,7 @@ pub struct Tried {
 
 // A value of some bits as eight: shifted left, and the empty places filled from its top.
 fn promote(value: u32, bits: u32) -> u32
-    requires { ⌜ (4 ≤ bits) × (bits ≤ 8) × (value < 2 ^ bits) ⌝ }
+    requires { ⌜ Promotable value bits ⌝ }
     ensures { λ r. ⌜ (r ≡ promoted bits value) × (r < 256) ⌝ }
 {
     let top = value << (8 - bits);
@@ -53,7 +54,7 @@ fn promote(value: u32, bits: u32) -> u32
 
 // The channel between two endpoints at a weight of 64.
 fn interpolate(first: u32, second: u32, weight: u32) -> u32
-    requires { ⌜ (first < 256) × (second < 256) × (weight ≤ 64) ⌝ }
+    requires { ⌜ Between first second weight ⌝ }
     ensures { λ r. ⌜ (r ≡ drawn first second weight) × (r < 256) ⌝ }
 {
     ((64 - weight) * first + weight * second + 32) / 64
@@ -109,7 +110,7 @@ fn distance(
     bits: u32,
     index: u32,
 ) -> u32
-    requires { ⌜ Byte red × Byte green × Byte blue × Byte alpha × (2 ≤ bits) × (bits ≤ 4) × (index < 2 ^ bits) ⌝ }
+    requires { ⌜ Measurable red green blue alpha bits index ⌝ }
     ensures { λ r. ⌜ r ≡ distanceAt red green blue alpha bits index ⌝ }
 {
     let at = weight_64(bits, index);
@@ -118,7 +119,7 @@ fn distance(
 
 // Every index is tried, the lowest first, so that of equal ones the lowest stays.
 fn search(red: Channel, green: Channel, blue: Channel, alpha: Channel, bits: u32) -> Nearest
-    requires { ⌜ Byte red × Byte green × Byte blue × Byte alpha × (2 ≤ bits) × (bits ≤ 4) ⌝ }
+    requires { ⌜ Searchable red green blue alpha bits ⌝ }
     ensures { λ r. ⌜ Searched red green blue alpha bits r ⌝ }
 {
     let count = 1u32 << bits;
@@ -141,7 +142,7 @@ fn search(red: Channel, green: Channel, blue: Channel, alpha: Channel, bits: u32
 
 // The value of an endpoint as eight bits, its p bit, where it has one, as the low bit.
 fn eight(value: u8, p: u8, width: u8, p_width: u8) -> u32
-    requires { ⌜ (4 ≤ width + «p_width») × (width + «p_width» ≤ 8) × (value < 2 ^ width) × (p < 2 ^ «p_width») ⌝ }
+    requires { ⌜ AtEndpoint value p width «p_width» ⌝ }
     ensures { λ r. ⌜ (r ≡ promoted (width + «p_width») (value * 2 ^ «p_width» + p)) × (r < 256) ⌝ }
 {
     promote(

@@ -28,7 +28,12 @@ eight-requires c κs =
     let e = c .before .before .before in
     let s = e .before .before in
     let first = first-at (s .args .t1) (s .args .channel) in
-    (s .pre .least (e .if1 .left), s .pre .most (e .if1 .left), rw first (s .pre .value 0 (lit< tt)), s .pre .p 0 (lit< tt))
+    record {
+      least = s .pre .least (e .if1 .left);
+      most = s .pre .most (e .if1 .left);
+      value = rw first (s .pre .value 0 (lit< tt));
+      p = s .pre .p 0 (lit< tt);
+    }
 
 add-eight : tie.Need-add-eight
 add-eight c = search needs
@@ -43,7 +48,12 @@ eight-requires-2 : tie.Need-eight-requires-2
 eight-requires-2 c κs =
     let e = c .before .before .before .before .before .before in
     let s = e .before .before in
-    (s .pre .least (e .if1 .left), s .pre .most (e .if1 .left), s .pre .value 1 (lit< tt), s .pre .p 1 (lit< tt))
+    record {
+      least = s .pre .least (e .if1 .left);
+      most = s .pre .most (e .if1 .left);
+      value = s .pre .value 1 (lit< tt);
+      p = s .pre .p 1 (lit< tt);
+    }
 
 returns-2 : tie.Need-returns-2
 unfolding endIn

@@ -6,7 +6,7 @@ use Rattle.nearest.proofs.distance.Statement.{statement}
 use Rattle.nearest.proofs.distance.Tie as tie
 
 weight-64-requires : tie.Need-weight-64-requires
-weight-64-requires c κs = record { least = c .pre .4; most = c .pre .5; within = c .pre .6 }
+weight-64-requires c κs = record { least = c .pre .channels .least; most = c .pre .channels .most; within = c .pre .index }
 
 far-requires : tie.Need-far-requires
 far-requires c κs = search needs

@@ -13,8 +13,8 @@ use Rattle.nearest.proofs.interpolate.Tie as tie
 sum : (c : tie.Start) → (64 - c .args .weight) * c .args .first + c .args .weight * c .args .second ≤ 64 * 255
 sum c =
     let w = c .args .weight in
-    let p : (64 - w) * c .args .first ≤ (64 - w) * 255 = mul-le-mul-left (64 - w) (le-of-suc-le-suc (c .pre .0)) in
-    let q : w * c .args .second ≤ w * 255 = mul-le-mul-left w (le-of-suc-le-suc (c .pre .1)) in
+    let p : (64 - w) * c .args .first ≤ (64 - w) * 255 = mul-le-mul-left (64 - w) (le-of-suc-le-suc (c .pre .first)) in
+    let q : w * c .args .second ≤ w * 255 = mul-le-mul-left w (le-of-suc-le-suc (c .pre .second)) in
     omega arith
 
 sub-result : tie.Need-sub-result
@@ -34,7 +34,7 @@ add-result-2 c = omega (arith, sum c)
 
 returns : tie.Need-returns
 unfolding drawn
-returns c = (refl, drawn-lt (c .args .first) (c .args .second) (c .args .weight) (c .pre .0) (c .pre .1) (c .pre .2))
+returns c = (refl, drawn-lt (c .args .first) (c .args .second) (c .args .weight) (c .pre .first) (c .pre .second) (c .pre .weight))
 
 pub interpolate-spec : {M : Type 1} → statement M
 interpolate-spec = tie.close (tie.spec sub-result mul-result mul-result-2 add-result add-result-2 returns)

@@ -11,10 +11,10 @@ use Rattle.nearest.proofs.promote.Statement.{statement}
 use Rattle.nearest.proofs.promote.Tie as tie
 
 top : (c : tie.Start) → (c .args .value * 2 ^ (8 - c .args .bits)) % 2 ^ 32 ≡ c .args .value * 2 ^ (8 - c .args .bits)
-top c = shifted (c .args .bits) (c .args .value) (8 - c .args .bits) (omega arith) (c .pre .2)
+top c = shifted (c .args .bits) (c .args .value) (8 - c .args .bits) (omega arith) (c .pre .value)
 
 byte : (c : tie.Start) → promoted (c .args .bits) (c .args .value) < 256
-byte c = promoted-lt (c .args .bits) (c .pre .0) (c .pre .1) (c .pre .2)
+byte c = promoted-lt (c .args .bits) (c .pre .least) (c .pre .most) (c .pre .value)
 
 sub-top : tie.Need-sub-top
 sub-top c = search needs

@@ -21,7 +21,7 @@ abbrev μ-loop : tie.MeasureT-loop
 μ-loop red green blue alpha bits count index₀ least₀ i₀ index least i = 2 ^ bits - i
 
 cnt : (c : tie.Start Inv-loop μ-loop) → Counted (c .args .bits)
-cnt c = counted (c .args .bits) (c .pre .4) (c .pre .5)
+cnt c = counted (c .args .bits) (c .pre .least) (c .pre .most)
 
 -- where a turn begins
 abbrev start : tie.At-loop Inv-loop μ-loop → tie.Start Inv-loop μ-loop
@@ -34,15 +34,14 @@ shl-count : tie.Need-shl-count Inv-loop μ-loop
 shl-count c = search needs
 
 distance-requires : tie.Need-distance-requires Inv-loop μ-loop
-distance-requires c κs = (c .pre .0, c .pre .1, c .pre .2, c .pre .3, c .pre .4, c .pre .5, pow-pos (c .args .bits))
+distance-requires c κs = record { channels = c .pre; index = pow-pos (c .args .bits) }
 
 loop-holds : tie.Need-loop-holds Inv-loop μ-loop
 loop-holds c = (omega (arith, cnt (c .before) .least), least-one _, c .distance .ensures)
 
 distance-requires-2 : tie.Need-distance-requires-2 Inv-loop μ-loop
 distance-requires-2 c κs =
-    let s = start (c .before) in
-    (s .pre .0, s .pre .1, s .pre .2, s .pre .3, s .pre .4, s .pre .5, more c)
+    record { channels = start (c .before) .pre; index = more c }
 
 add-i : tie.Need-add-i Inv-loop μ-loop
 add-i c = omega (arith, cnt (start (c .before .before .before)) .most, more (c .before .before))
