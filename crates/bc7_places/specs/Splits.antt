@@ -1,6 +1,6 @@
 -- What the code holds of a split: its anchors as three pixels, its subsets as a map, and the split with the stream behind it.
 -- Assumes nothing.
-use Prim.Native.Nat.{ℕ, _+_, _*_, _<_}
+use Prim.Native.Nat.{ℕ, _+_, _*_, _<_, _≤_}
 use mathlib.Core.List.{List, [], _∷_}
 use lib.ListN.{getD}
 use Rattle.bc7_places.specs.declared.modes.ModeRow.{ModeRow}
@@ -40,6 +40,11 @@ subsetsOf (Vector r i) = subsetsAs 0 1
 
 unfoldable pub subsetIn : Subsets → ℕ → ℕ
 subsetIn x q = field (x .map) (q * x .bits) (x .bits)
+
+-- what asking for a pixel's subset asks
+pub record PixelIn (x : Subsets) (q : ℕ) : Type 0 where
+  pub bits : x .bits ≤ 2
+  pub pixel : q < 16
 
 -- the split bits come next: partition, rotation, index mode
 abbrev pub splitRead : ModeRow → BitStream → ReadSplit

@@ -1,9 +1,10 @@
 // What a line has: its pixels and its anchor, the set of its indexes, the widths of its parts.
 ghost use mathlib.Core.Path.{_≡_};
-ghost use Prim.Native.Nat.{_≤_, _<_};
+ghost use Prim.Native.Nat.{_<_};
 ghost use lib.Dec.{eqb};
 ghost use Rattle.laws.specs.Tables.{pick};
 ghost use Rattle.bc7_format.specs.Splits.{partition as partitionOf};
+ghost use Rattle.bc7_places.specs.Splits.{PixelIn};
 ghost use Rattle.bc7_places.specs.Lines.{OfLine, anchorIn, linePixels, ownPixel, partOf, indexSetIn};
 use crate::modes::ModeRow;
 use crate::splits::Anchors;
@@ -47,7 +48,7 @@ pub fn pixels_of(split: Split, line: u32) -> Pixels
 
 // Is a pixel the line's?
 pub fn own(pixels: Pixels, pixel: usize) -> bool
-    requires { ⌜ (pixels .subsets .bits ≤ 2) × (pixel < 16) ⌝ }
+    requires { ⌜ PixelIn (pixels .subsets) pixel ⌝ }
     ensures { λ r. ⌜ r ≡ ownPixel pixels pixel ⌝ }
 {
     subset_of(pixels.subsets, pixel) == pixels.subset
@@ -55,7 +56,7 @@ pub fn own(pixels: Pixels, pixel: usize) -> bool
 
 // The anchor of a line: pixel 0 of line 0 and of a set of its own, else that one of the fixups which is the line's.
 pub fn anchor(kind: u8, line: u32, pixels: Pixels, anchors: Anchors) -> usize
-    requires { ⌜ (pixels .subsets .bits ≤ 2) × (anchors .b < 16) ⌝ }
+    requires { ⌜ PixelIn (pixels .subsets) (anchors .b) ⌝ }
     ensures { λ r. ⌜ r ≡ anchorIn kind line pixels anchors ⌝ }
 {
     if line == 0 {

@@ -1,11 +1,10 @@
 // Where the fields of a block stand, in which order and how wide, by the row of its mode: marker and split, the values of red, green,
 // blue and alpha, the p bits, the first and the second set of indexes.
 ghost use mathlib.Core.Path.{_≡_};
-ghost use Prim.Native.Nat.{_+_, _-_, _*_, _≤_, _<_};
+ghost use Prim.Native.Nat.{_+_, _-_, _*_, _<_};
 ghost use lib.Dec.{eqb};
 ghost use Rattle.laws.specs.Tables.{pick};
-ghost use Rattle.bc7_places.specs.Modes.{OfMode};
-ghost use Rattle.bc7_places.specs.Places.{fieldsOf};
+ghost use Rattle.bc7_places.specs.Places.{FieldsFrom, SetFrom, fieldsOf};
 use crate::modes::ModeRow;
 
 // Where the groups start in the list of places, which are also those of a record's bytes: the values, the p bits, the first and the
@@ -43,7 +42,7 @@ fn pair_of(kind: u8, line: u32) -> u32
 
 // The second set of indexes stands behind the first, which has one anchor where there are two sets.
 fn set_start(row: ModeRow, first: u32, set: usize) -> u32
-    requires { ⌜ OfMode row × (first ≤ 200) ⌝ }
+    requires { ⌜ SetFrom row first ⌝ }
     ensures { λ r. ⌜ r ≡ pick (eqb set 0) first (first + (16 * row .first - 1)) ⌝ }
 {
     if set == 0 {
@@ -55,7 +54,7 @@ fn set_start(row: ModeRow, first: u32, set: usize) -> u32
 // The values of a channel stand side by side, those of red first, then come the p bits and the first indexes. `at` is where the
 // values start.
 pub fn fields_of(row: ModeRow, at: u32, line: u32, set: usize) -> Fields
-    requires { ⌜ OfMode row × (at ≤ 16) × (line < 3) ⌝ }
+    requires { ⌜ FieldsFrom row at line ⌝ }
     ensures { λ r. ⌜ r ≡ fieldsOf row at line set ⌝ }
 {
     let pair = pair_of(row.kind, line);

@@ -1,10 +1,10 @@
 // A split by its parts: its kind and the numbers that it holds (0 where it has none), its anchors and its subsets; and the split of
 // a block. Whoever asks something of a split asks here.
 ghost use mathlib.Core.Path.{_≡_};
-ghost use Prim.Native.Nat.{_<_, _≤_};
+ghost use Prim.Native.Nat.{_<_};
 ghost use Rattle.bc7_format.specs.Splits.{kindOf, partition, rotation, indexMode, ofKind};
 ghost use Rattle.bc7_places.specs.Modes.{RowAt};
-ghost use Rattle.bc7_places.specs.Splits.{anchorsOf, splitRead, subsetIn, subsetsOf};
+ghost use Rattle.bc7_places.specs.Splits.{PixelIn, anchorsOf, splitRead, subsetIn, subsetsOf};
 use crate::modes::ModeRow;
 use bc7_format::Split;
 use bits::stream::BitStream;
@@ -159,7 +159,7 @@ pub fn subsets_of(split: Split) -> Subsets
 
 // The subset of a pixel.
 pub fn subset_of(subsets: Subsets, pixel: usize) -> u32
-    requires { ⌜ (subsets .bits ≤ 2) × (pixel < 16) ⌝ }
+    requires { ⌜ PixelIn subsets pixel ⌝ }
     ensures { λ r. ⌜ r ≡ subsetIn subsets pixel ⌝ }
 {
     (subsets.map >> (pixel as u32 * subsets.bits)) % (1u32 << subsets.bits)

@@ -2,10 +2,10 @@
 // blue by one index and alpha by the other, and the rotation comes last. A channel of both endpoints is read as one value, for they are
 // stored side by side: ten bits of it are two values of five.
 ghost use mathlib.Core.Path.{_≡_};
-ghost use mathlib.Core.List.{[], _∷_, _++_};
+ghost use mathlib.Core.List.{_++_};
 ghost use Prim.Native.Nat.{_+_, _*_, _/_, _%_, _<_};
 ghost use lib.ListN.{drop, getD, replicate, take};
-ghost use Rattle.laws.specs.Digits.{Fit, join};
+ghost use Rattle.laws.specs.Digits.{join};
 ghost use Rattle.laws.specs.Tables.{pick, table};
 ghost use Rattle.bc7_format.specs.Lines.{rotated};
 ghost use Rattle.bits.specs.Stream.{held};

@@ -11,7 +11,7 @@ ghost use Rattle.bcn_format.specs.Block.{field};
 ghost use Rattle.bcn_format.specs.Drawing.{promoted};
 ghost use Rattle.bcn_format.specs.Painting.{endOf, endOfP, solid};
 ghost use Rattle.drawing.specs.Asked.{Mixable, Mixable2, OneEnd, OneEndP, OneStored, OneStoredP, Promotable, PromotableP, TwoStored, TwoStoredP, WidthP};
-ghost use Rattle.drawing.specs.Words.{laned, Lanes, lanesOf, LanesOfOne, wordBytes, woven, blend, blends, endsP, Fitting, Holds, HoldsOne};
+ghost use Rattle.drawing.specs.Words.{laned, lanesOf, wordBytes, woven, blend, blends, endsP, Holds, HoldsOne};
 ghost use Rattle.drawing.specs.Words.{plain, withAlpha, withP};
 
 // What a block stores of a colour: each value has a channel of both endpoints, the first one's in the low bits, and p both p bits.

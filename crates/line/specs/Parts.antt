@@ -2,7 +2,7 @@
 -- Assumes nothing.
 use mathlib.Core.Bool.{Bool}
 use mathlib.Core.List.{[], _∷_}
-use Prim.Native.Nat.{ℕ, _+_, _-_, _*_, _%_, _^_}
+use Prim.Native.Nat.{ℕ, _+_, _-_, _*_, _%_, _^_, _<_, _≤_}
 use lib.Dec.{eqb, ltb}
 use lib.ListN.{getD}
 use Rattle.bc7_places.specs.declared.lines.Pixels.{Pixels}
@@ -41,3 +41,20 @@ turnedRound g x =
 
 unfoldable pub storedAs : LinePart → Replacement → ℕ → ℕ → StoredLine
 storedAs part g x mask = pick (eqb (field x (part .anchor * part .index + (part .index - 1)) 1) 0) (asGiven g x) (turnedRound g (mask - x))
+
+-- what is asked: of a line's pixels and its index width, of the widths of its parts, of a line that may have to be turned
+pub record Masked (x : Pixels) (w : ℕ) : Type 0 where
+  pub bits : x .subsets .bits ≤ 2
+  pub width : w ≤ 4
+
+pub record PartWidths (x : LinePart) : Type 0 where
+  pub colour : x .colour ≤ 8
+  pub alpha : x .alpha ≤ 8
+  pub p : x .p ≤ 8
+  pub index : x .index ≤ 8
+
+pub record Turnable (x : LinePart) (indexes mask : ℕ) : Type 0 where
+  pub least : 0 < x .index
+  pub most : x .index ≤ 4
+  pub anchor : x .anchor < 16
+  pub own : indexes ≤ mask

@@ -1,12 +1,14 @@
 // A given line: whether it keeps to what the line has, and how it is stored.
 ghost use mathlib.Core.Path.{_≡_};
-ghost use Prim.Native.Nat.{_%_, _^_, _≤_, _<_};
+ghost use Prim.Native.Nat.{_%_, _^_, _≤_};
 ghost use lib.Bits.{bitAnd};
 ghost use lib.Dec.{eqb, ltb};
 ghost use lib.ListN.{getD};
 ghost use Rattle.laws.specs.Tables.{below, pick};
 ghost use Rattle.bc7_places.specs.Lines.{ownPixel};
-ghost use Rattle.line.specs.Parts.{maskOf, partsFit, storedAs};
+ghost use Rattle.bc7_places.specs.Places.{ByteWidths};
+ghost use Rattle.bc7_places.specs.Splits.{PixelIn};
+ghost use Rattle.line.specs.Parts.{Masked, PartWidths, Turnable, maskOf, partsFit, storedAs};
 use bc7_places::fits::above;
 use bc7_places::fits::indexes_fit;
 use bc7_places::fits::pair_fits;
@@ -19,7 +21,7 @@ use line_rules::Replacement;
 
 // A value at a pixel of the line, and zero at any other.
 pub fn at_own(pixels: Pixels, pixel: usize, value: u64) -> u64
-    requires { ⌜ (pixels .subsets .bits ≤ 2) × (pixel < 16) ⌝ }
+    requires { ⌜ PixelIn (pixels .subsets) pixel ⌝ }
     ensures { λ r. ⌜ r ≡ pick (ownPixel pixels pixel) value 0 ⌝ }
 {
     if own(pixels, pixel) {
@@ -30,7 +32,7 @@ pub fn at_own(pixels: Pixels, pixel: usize, value: u64) -> u64
 
 // All ones at each pixel of the line, zeros at the others, in a word of parts of one width.
 pub fn mask_of(pixels: Pixels, width: u32) -> u64
-    requires { ⌜ (pixels .subsets .bits ≤ 2) × (width ≤ 4) ⌝ }
+    requires { ⌜ Masked pixels width ⌝ }
     ensures { λ r. ⌜ r ≡ maskOf pixels width ⌝ }
 {
     let ones = (1u64 << width) - 1;
@@ -44,7 +46,7 @@ pub fn mask_of(pixels: Pixels, width: u32) -> u64
 }
 
 fn endpoints_fit(e: [u8; 8], colour: u32, alpha: u32) -> bool
-    requires { ⌜ (colour ≤ 8) × (alpha ≤ 8) ⌝ }
+    requires { ⌜ ByteWidths colour alpha ⌝ }
     ensures { λ r. ⌜ r ≡ below 8 (λ i. ltb (getD e i 0) (2 ^ pick (eqb (i % 4) 3) alpha colour)) ⌝ }
 {
     let bytes = word(e[0], e[1], e[2], e[3], e[4], e[5], e[6], e[7]);
@@ -64,7 +66,7 @@ fn p_fits(p: [u8; 2], width: u32) -> bool
 
 // Does each value, p bit and index fit its width? That the indexes of other pixels are zero is seen on their word.
 pub fn parts_fit(part: LinePart, new: Replacement) -> bool
-    requires { ⌜ (part .colour ≤ 8) × (part .alpha ≤ 8) × (part .p ≤ 8) × (part .index ≤ 8) ⌝ }
+    requires { ⌜ PartWidths part ⌝ }
     ensures { λ r. ⌜ r ≡ partsFit part new ⌝ }
 {
     let endpoints = new.endpoints;
@@ -95,7 +97,7 @@ pub struct StoredLine {
 
 // Turned where the index at the anchor has its top bit set: each index i becomes last - i, which is one subtraction for all.
 pub fn oriented(part: LinePart, new: Replacement, indexes: u64, mask: u64) -> StoredLine
-    requires { ⌜ (0 < part .index) × (part .index ≤ 4) × (part .anchor < 16) × (indexes ≤ mask) ⌝ }
+    requires { ⌜ Turnable part indexes mask ⌝ }
     ensures { λ r. ⌜ r ≡ storedAs part new indexes mask ⌝ }
 {
     let e = new.endpoints;

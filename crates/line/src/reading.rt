@@ -4,6 +4,7 @@ ghost use Prim.Native.Nat.{_≤_, _<_};
 ghost use Rattle.laws.specs.Tables.{pick, table};
 ghost use Rattle.bits.specs.Stream.{held};
 ghost use Rattle.bc7_places.specs.Lines.{ownPixel};
+ghost use Rattle.line.specs.Parts.{Masked};
 ghost use Rattle.line.specs.Reading.{PartSmall, ReadReady, SetThere, lineHeld, psAt, setAt, twoAt, widthsIn};
 use crate::fields::standing_at;
 use crate::parts::at_own;
@@ -94,7 +95,7 @@ pub fn line_held(s: BitStream, mode: u8, row: ModeRow, line: u32, part: LinePart
 
 // A width at each pixel of the line.
 fn index_widths(pixels: Pixels, width: u32) -> [u8; 16]
-    requires { ⌜ (pixels .subsets .bits ≤ 2) × (width ≤ 4) ⌝ }
+    requires { ⌜ Masked pixels width ⌝ }
     ensures { λ r. ⌜ r ≡ table 16 (λ q. pick (ownPixel pixels q) width 0) ⌝ }
 {
     let mut widths = [0u8; 16];

@@ -2,7 +2,7 @@
 -- Assumes nothing.
 use mathlib.Core.Path.{_≡_}
 use mathlib.Core.Bool.{Bool}
-use Prim.Native.Nat.{ℕ, _/_, _%_, _^_, _<_}
+use Prim.Native.Nat.{ℕ, _+_, _/_, _%_, _^_, _<_, _≤_}
 use mathlib.Core.List.{List}
 use lib.Dec.{eqb, ltb}
 use lib.ListN.{getD}
@@ -15,8 +15,8 @@ use Rattle.bc7_format.specs.Modes.{kindOfMode}
 use Rattle.bc7_format.specs.Splits.{anchors, indexMode, kindOf, partition, rotation}
 use Rattle.record_rules.specs.Answers.{Within}
 use Rattle.record_rules.specs.Records.{fits, says}
-use Rattle.bc7_places.specs.Modes.{modeRowOf}
-use Rattle.bc7_places.specs.Splits.{anchorsOf}
+use Rattle.bc7_places.specs.Modes.{OfMode, modeRowOf}
+use Rattle.bc7_places.specs.Splits.{ArePixels, anchorsOf}
 
 -- does what a split has fit the row's widths
 abbrev pub splitFits : Split → ModeRow → Bool
@@ -46,3 +46,14 @@ pub record Full (r : Record) (row : ModeRow) : Type 0 where
 pub record FullWith (r : Record) (row : ModeRow) (a : Anchors) : Type 0 where
   pub full : Full r row
   pub anchors-are : a ≡ anchorsOf (r .split)
+
+-- what is asked for the pair of endpoints whose values start at `at`, and for the indexes of a set at its anchors
+pub record PairAt (row : ModeRow) (at : ℕ) : Type 0 where
+  pub of-mode : OfMode row
+  pub inside : at + 8 ≤ 24
+  pub even : at % 8 ≡ 0
+
+pub record SetAt (a : Anchors) (w : ℕ) : Type 0 where
+  pub least : 0 < w
+  pub most : w ≤ 4
+  pub pixels : ArePixels a

@@ -3,6 +3,7 @@
 use mathlib.Core.Path.{_≡_}
 use Prim.Native.Nat.{ℕ, _^_, _<_, _+_, _-_, _*_, _≤_}
 use lib.Dec.{T}
+use lib.ListN.{getD}
 use Rattle.record_rules.specs.declared.Record.{Record}
 use Rattle.bc7_places.specs.declared.modes.ModeRow.{ModeRow}
 use Rattle.bits.specs.declared.writer.BitWriter.{BitWriter}
@@ -18,6 +19,21 @@ use mathlib.Core.List.{List}
 use Rattle.bc7_places.specs.declared.splits.Anchors.{Anchors}
 use Rattle.bcn_format.specs.Indexes.{Rising, anchorCount, anchorsOfKind, indexWidths}
 use Rattle.bc7_places.specs.Splits.{ArePixels, anchorsOf}
+
+-- values of a channel that fit their width, and p bits
+pub record ChannelFits (e : List ℕ) (n c w : ℕ) : Type 0 where
+  pub count : n ≤ 6
+  pub channel : c < 4
+  pub width : w ≤ 8
+  pub values : (k : ℕ) → k < n → getD e (4 * k + c) 0 < 2 ^ w
+
+pub record PBitsFit (p : List ℕ) (n : ℕ) : Type 0 where
+  pub count : n ≤ 6
+  pub bits : (k : ℕ) → k < n → getD p k 0 < 2 ^ 1
+
+-- a set of indexes as it is stored: each at its width, and how many bits that makes
+abbrev pub storedSet : ℕ → Anchors → ℕ → List ℕ → ℕ
+storedSet kind a w indexes = join (indexWidths w (anchorsOfKind kind (a .b) (a .c))) indexes
 
 -- a record that packs, with the row of its mode: everything fits as it is stored
 pub record Packable (r : Record) (row : ModeRow) : Type 0 where

@@ -1,15 +1,14 @@
 // Does a record fit? Everything its full width (refusal 3), and the anchors' indexes their stored one (refusal 6).
 ghost use mathlib.Core.Path.{_≡_};
 ghost use mathlib.Core.List.{[]};
-ghost use Prim.Native.Nat.{_+_, _-_, _%_, _^_, _<_, _≤_};
+ghost use Prim.Native.Nat.{_+_, _-_, _^_, _<_, _≤_};
 ghost use lib.Dec.{ltb};
 ghost use lib.ListN.{getD, replicate};
 ghost use Rattle.laws.specs.Digits.{join};
 ghost use Rattle.laws.specs.Tables.{below, pick, table};
 ghost use Rattle.record_rules.specs.Records.{fits, says};
 ghost use Rattle.bc7_places.specs.Modes.{IsRow, OfMode};
-ghost use Rattle.bc7_places.specs.Splits.{ArePixels};
-ghost use Rattle.record.specs.Fitting.{FullWith, splitFits, storedFit, topsZero, valueBits};
+ghost use Rattle.record.specs.Fitting.{FullWith, PairAt, SetAt, splitFits, storedFit, topsZero, valueBits};
 use bc7_format::Split;
 use bc7_places::fits::above;
 use bc7_places::fits::indexes_fit;
@@ -66,7 +65,7 @@ fn pair(e: [u8; 24], at: usize) -> u64
 
 // A mode has its endpoints in pairs: a pair that it hasn't got fits no width.
 fn endpoints_fit_at(e: [u8; 24], row: ModeRow, at: usize) -> bool
-    requires { ⌜ OfMode row × (at + 8 ≤ 24) × (at % 8 ≡ 0) ⌝ }
+    requires { ⌜ PairAt row at ⌝ }
     ensures { λ r. ⌜ r ≡ below 8 (λ i. ltb (getD e (at + i) 0) (2 ^ valueBits row (at + i))) ⌝ }
 {
     if 4 * row.endpoints <= at {
@@ -130,7 +129,7 @@ pub fn record_fits(record: Record, row: ModeRow) -> bool
 
 // Do the anchors' indexes of a set do without their top bits?
 fn tops_zero(indexes: [u8; 16], anchors: Anchors, width: u32) -> bool
-    requires { ⌜ (0 < width) × (width ≤ 4) × ArePixels anchors ⌝ }
+    requires { ⌜ SetAt anchors width ⌝ }
     ensures { λ r. ⌜ r ≡ topsZero indexes anchors (width - 1) ⌝ }
 {
     let a = anchors.a;

@@ -1,14 +1,14 @@
 // Writing a block group by group: the marker and the split, a word for each channel, a word of p bits, a word for each set of
 // indexes, each of them pushed at once.
 ghost use mathlib.Core.Path.{_≡_};
-ghost use Prim.Native.Nat.{ℕ, _+_, _-_, _*_, _^_, _<_, _≤_};
+ghost use Prim.Native.Nat.{_+_, _-_, _*_};
 ghost use lib.ListN.{getD};
-ghost use Rattle.laws.specs.Digits.{join, evenly};
+ghost use Rattle.laws.specs.Digits.{evenly};
 ghost use Rattle.bc7_format.specs.Places.{blockOf, firstFrom, placeCount, psFrom, valuesFrom};
-ghost use Rattle.bcn_format.specs.Indexes.{anchorCount, anchorsOfKind, indexWidths};
+ghost use Rattle.bcn_format.specs.Indexes.{anchorCount};
 ghost use Rattle.bits.specs.Writer.{pushed};
 ghost use Rattle.record_rules.specs.Records.{says};
-ghost use Rattle.record.specs.Writing.{ChannelNext, IndexesNext, Next, Packable, PackableWith, SetNext, upto};
+ghost use Rattle.record.specs.Writing.{ChannelFits, ChannelNext, IndexesNext, Next, PBitsFit, Packable, PackableWith, SetNext, storedSet, upto};
 use bc7_places::modes::ModeRow;
 use bc7_places::splits::Anchors;
 use bc7_places::splits::index_mode_of;
@@ -22,7 +22,7 @@ use record_rules::Record;
 
 // The values of a channel as one word, endpoint 0 lowest.
 fn channel_word(e: [u8; 24], count: usize, channel: usize, width: u32) -> u64
-    requires { ⌜ (count ≤ 6) × (channel < 4) × (width ≤ 8) × ((k : ℕ) → k < count → getD e (4 * k + channel) 0 < 2 ^ width) ⌝ }
+    requires { ⌜ ChannelFits e count channel width ⌝ }
     ensures { λ r. ⌜ r ≡ evenly count width (λ k. getD e (4 * k + channel) 0) ⌝ }
 {
     let mut word: u64 = 0;
@@ -36,7 +36,7 @@ fn channel_word(e: [u8; 24], count: usize, channel: usize, width: u32) -> u64
 
 // The p bits as one word.
 fn p_word(p: [u8; 6], count: usize) -> u64
-    requires { ⌜ (count ≤ 6) × ((k : ℕ) → k < count → getD p k 0 < 2 ^ 1) ⌝ }
+    requires { ⌜ PBitsFit p count ⌝ }
     ensures { λ r. ⌜ r ≡ evenly count 1 (λ k. getD p k 0) ⌝ }
 {
     let mut word: u64 = 0;
@@ -104,7 +104,7 @@ fn push_set(
     indexes: [u8; 16],
 ) -> BitWriter
     requires { ⌜ SetNext writer kind anchors width indexes ⌝ }
-    ensures { λ r. ⌜ r ≡ pushed writer (join (indexWidths width (anchorsOfKind kind (anchors .b) (anchors .c))) indexes) (16 * width - anchorCount kind) ⌝ }
+    ensures { λ r. ⌜ r ≡ pushed writer (storedSet kind anchors width indexes) (16 * width - anchorCount kind) ⌝ }
 {
     let word = word_of(indexes, width);
     let stored = compressed(kind, width, anchors.b as u32, anchors.c as u32, word);

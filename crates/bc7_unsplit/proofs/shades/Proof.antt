@@ -1,9 +1,8 @@
 -- The colours of two indexes.
 -- Assumes nothing.
 use native.Mathlib.Omega.{arith}
-use borrow.Author.Needs.{needs}
 use Rattle.weights.proofs.Weights.{Counted, counted}
-use Rattle.bc7_unsplit.proofs.Crossing.{first, Pair, pair, two-between}
+use Rattle.bc7_unsplit.proofs.Crossing.{first, pair, two-between}
 use Rattle.bc7_unsplit.proofs.shades.Statement.{statement}
 use Rattle.bc7_unsplit.proofs.shades.Tie as tie
 

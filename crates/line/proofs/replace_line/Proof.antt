@@ -128,7 +128,8 @@ open-line-requires c κs = (
 )
 
 parts-fit-requires : tie.Need-parts-fit-requires
-parts-fit-requires c κs = let i = line-is (c .before) in (i .colour-small, i .alpha-small, omega (arith, i .p-small), omega (arith, i .most))
+parts-fit-requires c κs = let i = line-is (c .before) in
+    record { colour = i .colour-small; alpha = i .alpha-small; p = omega (arith, i .p-small); index = omega (arith, i .most) }
 
 refused-requires-3 : tie.Need-refused-requires-3
 refused-requires-3 c κs = search needs
@@ -151,7 +152,7 @@ word-of-requires c κs =
     }
 
 mask-of-requires : tie.Need-mask-of-requires
-mask-of-requires c κs = let i = line-is (opening (c .before .before .before)) in (i .map, i .most)
+mask-of-requires c κs = let i = line-is (opening (c .before .before .before)) in record { bits = i .map; width = i .most }
 
 only-own-requires : tie.Need-only-own-requires
 only-own-requires c κs = search needs
@@ -191,13 +192,15 @@ oriented-requires c κs =
     let k = c .before .before in
     let o = opening (fit k) in
     let d = unreserved (o .before) in
-    let i = line-is o in (
-      omega (arith, i .least),
-      i .most,
-      i .anchor-small,
-      below-mask _ (sixteen (call d)) _ _ (long (call d)) (low d) (counted (o .before)) (o .open-line .ensures) (fitting (fit k))
-          (masking k .before .before .word-of .ensures) (masking k .mask-of .ensures) (alone k),
-    )
+    let i = line-is o in
+    record {
+      least = omega (arith, i .least);
+      most = i .most;
+      anchor = i .anchor-small;
+      own =
+          below-mask _ (sixteen (call d)) _ _ (long (call d)) (low d) (counted (o .before)) (o .open-line .ensures) (fitting (fit k))
+          (masking k .before .before .word-of .ensures) (masking k .mask-of .ensures) (alone k);
+    }
 
 put-line-requires : tie.Need-put-line-requires
 put-line-requires c κs =

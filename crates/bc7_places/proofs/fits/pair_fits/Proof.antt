@@ -8,10 +8,10 @@ use Rattle.bc7_places.proofs.fits.pair_fits.Statement.{statement}
 use Rattle.bc7_places.proofs.fits.pair_fits.Tie as tie
 
 power-c : (c : tie.Start) → ((1 * 2 ^ c .args .colour) % 2 ^ 64 ≤ 256) × (1 ≤ (1 * 2 ^ c .args .colour) % 2 ^ 64)
-power-c c = byte-power (c .args .colour) (c .pre .0)
+power-c c = byte-power (c .args .colour) (c .pre .colour)
 
 power-a : (c : tie.Start) → ((1 * 2 ^ c .args .alpha) % 2 ^ 64 ≤ 256) × (1 ≤ (1 * 2 ^ c .args .alpha) % 2 ^ 64)
-power-a c = byte-power (c .args .alpha) (c .pre .1)
+power-a c = byte-power (c .args .alpha) (c .pre .alpha)
 
 shl-over : tie.Need-shl-over
 shl-over c = search needs
@@ -35,7 +35,7 @@ add-over : tie.Need-add-over
 add-over c = omega (arith, power-c c .1, power-a c .1)
 
 returns : tie.Need-returns
-returns c = pair-test (c .args .colour) (c .args .alpha) (c .pre .0) (c .pre .1) (c .args .bytes) (search needs)
+returns c = pair-test (c .args .colour) (c .args .alpha) (c .pre .colour) (c .pre .alpha) (c .args .bytes) (search needs)
 
 pub pair-fits-spec : {M : Type 1} → statement M
 pair-fits-spec =

@@ -29,10 +29,11 @@ index-width-requires c κs = search needs
 
 anchor-requires : tie.Need-anchor-requires
 anchor-requires c κs =
-    let s = c .before .before .before .before .before .before .before in (
-      rw (c .before .before .before .before .before .pixels-of .ensures) (map-bits (s .args .split)),
-      rw (c .before .before .before .before .anchors-of .ensures) (anchors-low (s .args .split) (s .pre .partition) .second),
-    )
+    let s = c .before .before .before .before .before .before .before in
+    record {
+      bits = rw (c .before .before .before .before .before .pixels-of .ensures) (map-bits (s .args .split));
+      pixel = rw (c .before .before .before .before .anchors-of .ensures) (anchors-low (s .args .split) (s .pre .partition) .second);
+    }
 
 returns : tie.Need-returns
 returns c =

@@ -8,7 +8,7 @@ use Rattle.bc7_places.proofs.places.fields_of.Statement.{statement}
 use Rattle.bc7_places.proofs.places.fields_of.Tie as tie
 
 rooms : (c : tie.After-pair-of) → Room (c .before .args .row) (c .pair-of .result)
-rooms c = room (c .before .args .line) (c .before .pre .0) (c .before .pre .2) (c .pair-of .ensures)
+rooms c = room (c .before .args .line) (c .before .pre .of-mode) (c .before .pre .line) (c .pair-of .ensures)
 
 pair-of-requires : tie.Need-pair-of-requires
 pair-of-requires c κs = search needs
@@ -67,7 +67,7 @@ add-t17 c = let r = rooms (c .before .before .before .before .before .before) in
 set-start-requires : tie.Need-set-start-requires
 set-start-requires c κs =
     let r = rooms (c .before .before .before .before .before .before) in
-    (c .before .before .before .before .before .before .before .pre .0, omega arith)
+    record { of-mode = c .before .before .before .before .before .before .before .pre .of-mode; within = omega arith }
 
 returns : tie.Need-returns
 unfolding fieldsOf

@@ -10,13 +10,13 @@ returns : tie.Need-returns
 returns c = rw (eq-eqb _ 0 (c .if1 .taken))
 
 mul-result : tie.Need-mul-result
-mul-result c = let r = small (c .before .before .pre .0) in record { fits = omega arith }
+mul-result c = let r = small (c .before .before .pre .of-mode) in record { fits = omega arith }
 
 sub-result : tie.Need-sub-result
-sub-result c = let r = small (c .before .before .pre .0) in omega arith
+sub-result c = let r = small (c .before .before .pre .of-mode) in omega arith
 
 add-result : tie.Need-add-result
-add-result c = let r = small (c .before .before .pre .0) in record { fits = omega arith }
+add-result c = let r = small (c .before .before .pre .of-mode) in record { fits = omega arith }
 
 returns-2 : tie.Need-returns-2
 returns-2 c = rw (ne-eqb _ 0 (c .before .if1 .left))

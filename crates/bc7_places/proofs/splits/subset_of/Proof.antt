@@ -13,20 +13,20 @@ cast-result : tie.Need-cast-result
 cast-result c = search needs
 
 mul-result : tie.Need-mul-result
-mul-result c = record { fits = omega (arith, in-map _ _ (c .before .pre .1) (c .before .pre .0)) }
+mul-result c = record { fits = omega (arith, in-map _ _ (c .before .pre .pixel) (c .before .pre .bits)) }
 
 shr-result : tie.Need-shr-result
-shr-result c = in-map _ _ (c .before .before .pre .1) (c .before .before .pre .0)
+shr-result c = in-map _ _ (c .before .before .pre .pixel) (c .before .before .pre .bits)
 
 shl-result : tie.Need-shl-result
 shl-result c = search needs
 
 rem-result : tie.Need-rem-result
-rem-result c = rw (map-shl _ (c .before .before .before .pre .0)) (pow-pos (c .before .before .before .args .subsets .bits))
+rem-result c = rw (map-shl _ (c .before .before .before .pre .bits)) (pow-pos (c .before .before .before .args .subsets .bits))
 
 returns : tie.Need-returns
 unfolding subsetIn field
-returns c = rw (map-shl _ (c .before .before .before .pre .0))
+returns c = rw (map-shl _ (c .before .before .before .pre .bits))
 
 pub subset-of-spec : {M : Type 1} → statement M
 subset-of-spec = tie.close (tie.spec cast-result mul-result shr-result shl-result rem-result returns)

@@ -28,10 +28,10 @@ shl-ones : tie.Need-shl-ones Inv-loop μ-loop
 shl-ones c = search needs
 
 sub-ones : tie.Need-sub-ones Inv-loop μ-loop
-sub-ones c = one-less _ (c .pre .1) .0
+sub-ones c = one-less _ (c .pre .width) .0
 
 loop-holds : tie.Need-loop-holds Inv-loop μ-loop
-loop-holds c = (omega arith, one-less _ (c .pre .1) .1, upper-none _ _ (mask-fits (c .args .pixels) (c .args .width)))
+loop-holds c = (omega arith, one-less _ (c .pre .width) .1, upper-none _ _ (mask-fits (c .args .pixels) (c .args .width)))
 
 sub-i : tie.Need-sub-i Inv-loop μ-loop
 sub-i c = omega arith
@@ -40,7 +40,7 @@ shl-mask : tie.Need-shl-mask Inv-loop μ-loop
 shl-mask c = omega arith
 
 at-own-requires : tie.Need-at-own-requires Inv-loop μ-loop
-at-own-requires c κs = (c .before .before .pre .0, omega arith)
+at-own-requires c κs = record { bits = c .before .before .pre .bits; pixel = omega arith }
 
 -- the part that comes next, and what it makes of the word
 part-is : (c : tie.After-at-own Inv-loop μ-loop)
@@ -58,7 +58,7 @@ step : (c : tie.After-at-own Inv-loop μ-loop)
     (c .before .before .loop .i) (c .before .before .loop .mask)
 step c =
     let s = c .before .before .before in
-    upper-next _ _ (mask-fits (s .args .pixels) (s .args .width)) (s .pre .1) (c .before .before .loop .i) (c .before .before .loop .mask)
+    upper-next _ _ (mask-fits (s .args .pixels) (s .args .width)) (s .pre .width) (c .before .before .loop .i) (c .before .before .loop .mask)
     (omega arith) (c .before .before .loop .inv .0) (c .before .before .loop .inv .2)
 
 add-mask : tie.Need-add-mask Inv-loop μ-loop

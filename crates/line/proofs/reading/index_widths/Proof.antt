@@ -20,7 +20,7 @@ loop-holds : tie.Need-loop-holds Inv-loop μ-loop
 loop-holds c = (omega arith, filled-none refl)
 
 at-own-requires : tie.Need-at-own-requires Inv-loop μ-loop
-at-own-requires c κs = (c .before .before .pre .0, omega arith)
+at-own-requires c κs = record { bits = c .before .before .pre .bits; pixel = omega arith }
 
 cast-widths : tie.Need-cast-widths Inv-loop μ-loop
 cast-widths c =

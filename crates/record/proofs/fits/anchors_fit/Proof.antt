@@ -15,7 +15,7 @@ of-mode s = record { mode = _; low = s .pre .full .low; is = s .pre .full .is }
 tops-zero-requires : tie.Need-tops-zero-requires
 tops-zero-requires c κs =
     let b = small (of-mode (c .before)) in
-    (omega (arith, b .least), b .most, pixels (c .before .pre .full) (c .before .pre .anchors-are))
+    record { least = omega (arith, b .least); most = b .most; pixels = pixels (c .before .pre .full) (c .before .pre .anchors-are) }
 
 returns : tie.Need-returns
 returns c =
@@ -32,7 +32,11 @@ returns-2 c =
 tops-zero-requires-2 : tie.Need-tops-zero-requires-2
 tops-zero-requires-2 c κs =
     let s = c .before .before .before .before .before .before in
-    (second-bits (of-mode s) (c .before .if2 .left), small (of-mode s) .second, pixels (s .pre .full) (s .pre .anchors-are))
+    record {
+      least = second-bits (of-mode s) (c .before .if2 .left);
+      most = small (of-mode s) .second;
+      pixels = pixels (s .pre .full) (s .pre .anchors-are);
+    }
 
 returns-3 : tie.Need-returns-3
 returns-3 c =

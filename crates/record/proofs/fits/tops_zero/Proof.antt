@@ -9,7 +9,7 @@ use Rattle.record.proofs.fits.tops_zero.Statement.{statement}
 use Rattle.record.proofs.fits.tops_zero.Tie as tie
 
 array-read-value-fits : tie.Need-array-read-value-fits
-array-read-value-fits c = omega (arith, c .pre .2 .first)
+array-read-value-fits c = omega (arith, c .pre .pixels .first)
 
 sub-value-fits : tie.Need-sub-value-fits
 sub-value-fits c = search needs
@@ -21,7 +21,7 @@ returns : tie.Need-returns
 returns c = sym (first-fails _ _ refl (sym (c .before .value-fits .ensures) ∙ not-true _ (c .if1 .taken)))
 
 array-read-value-fits-2 : tie.Need-array-read-value-fits-2
-array-read-value-fits-2 c = omega (arith, c .before .before .pre .2 .second)
+array-read-value-fits-2 c = omega (arith, c .before .before .pre .pixels .second)
 
 sub-value-fits-2 : tie.Need-sub-value-fits-2
 sub-value-fits-2 c = search needs
@@ -35,7 +35,7 @@ returns-2 c =
     ∙ first-fails _ _ refl (sym (c .before .value-fits2 .ensures) ∙ not-true _ (c .if2 .taken)))
 
 array-read-value-fits-3 : tie.Need-array-read-value-fits-3
-array-read-value-fits-3 c = omega (arith, c .before .before .before .before .pre .2 .third)
+array-read-value-fits-3 c = omega (arith, c .before .before .before .before .pre .pixels .third)
 
 sub-value-fits-3 : tie.Need-sub-value-fits-3
 sub-value-fits-3 c = search needs

@@ -21,11 +21,11 @@ step : (c : tie.In-loop Inv-loop μ-loop)
     (λ i. getD (c .before .before .args .t1) (4 * i + c .before .before .args .channel) 0) (c .before .loop .k) (c .before .loop .word)
 step c =
     let s = c .before .before in
-    down-next _ _ _ (s .pre .3) (omega (arith, times-width (s .args .width) (s .args .count) 6 (s .pre .0))) (c .before .loop .k)
+    down-next _ _ _ (s .pre .values) (omega (arith, times-width (s .args .width) (s .args .count) 6 (s .pre .count))) (c .before .loop .k)
     (c .before .loop .word) (omega arith) (c .before .loop .inv .0) (c .before .loop .inv .1)
 
 loop-holds : tie.Need-loop-holds Inv-loop μ-loop
-loop-holds c = (omega arith, down-none _ _ _ (c .pre .3))
+loop-holds c = (omega arith, down-none _ _ _ (c .pre .values))
 
 sub-k : tie.Need-sub-k Inv-loop μ-loop
 sub-k c = omega arith
@@ -55,7 +55,7 @@ loop-again : tie.Need-loop-again Inv-loop μ-loop
 loop-again c = (omega arith, step c .1)
 
 returns : tie.Need-returns Inv-loop μ-loop
-returns c = down-all _ _ _ (c .before .before .pre .3) _ (let z : c .before .loop .k ≡ 0 = omega arith in rw z at (c .before .loop .inv .1))
+returns c = down-all _ _ _ (c .before .before .pre .values) _ (let z : c .before .loop .k ≡ 0 = omega arith in rw z at (c .before .loop .inv .1))
 
 pub channel-word-spec : {M : Type 1} → statement M
 channel-word-spec =

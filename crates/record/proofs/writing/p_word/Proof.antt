@@ -19,11 +19,11 @@ step : (c : tie.In-loop Inv-loop μ-loop)
     → Step 1 (c .before .before .args .count) (λ i. getD (c .before .before .args .t1) i 0) (c .before .loop .k) (c .before .loop .word)
 step c =
     let s = c .before .before in
-    down-next _ _ _ (s .pre .1) (omega (arith, s .pre .0)) (c .before .loop .k) (c .before .loop .word) (omega arith) (c .before .loop .inv .0)
+    down-next _ _ _ (s .pre .bits) (omega (arith, s .pre .count)) (c .before .loop .k) (c .before .loop .word) (omega arith) (c .before .loop .inv .0)
     (c .before .loop .inv .1)
 
 loop-holds : tie.Need-loop-holds Inv-loop μ-loop
-loop-holds c = (omega arith, down-none _ _ _ (c .pre .1))
+loop-holds c = (omega arith, down-none _ _ _ (c .pre .bits))
 
 sub-k : tie.Need-sub-k Inv-loop μ-loop
 sub-k c = omega arith
@@ -44,7 +44,7 @@ loop-again : tie.Need-loop-again Inv-loop μ-loop
 loop-again c = (omega arith, step c .1)
 
 returns : tie.Need-returns Inv-loop μ-loop
-returns c = down-all _ _ _ (c .before .before .pre .1) _ (let z : c .before .loop .k ≡ 0 = omega arith in rw z at (c .before .loop .inv .1))
+returns c = down-all _ _ _ (c .before .before .pre .bits) _ (let z : c .before .loop .k ≡ 0 = omega arith in rw z at (c .before .loop .inv .1))
 
 pub p-word-spec : {M : Type 1} → statement M
 p-word-spec =

@@ -8,13 +8,13 @@ use Rattle.record.proofs.writing.push_channel.Tie as tie
 
 channel-word-requires : tie.Need-channel-word-requires
 channel-word-requires c κs =
-    let s = c .before in (
-      small (of-mode (s .pre .packs)) .endpoints,
-      s .pre .channel,
-      channel-bits (s .pre .packs) _ (s .pre .channel) (s .pre .width-is),
-      channel-fits (s .pre .packs) _ (s .pre .channel)
-          (s .pre .width-is),
-    )
+    let s = c .before in
+    record {
+      count = small (of-mode (s .pre .packs)) .endpoints;
+      channel = s .pre .channel;
+      width = channel-bits (s .pre .packs) _ (s .pre .channel) (s .pre .width-is);
+      values = channel-fits (s .pre .packs) _ (s .pre .channel) (s .pre .width-is);
+    }
 
 cast-push : tie.Need-cast-push
 cast-push c = omega (arith, small (of-mode (c .before .before .before .pre .packs)) .endpoints)

@@ -7,7 +7,7 @@ use Rattle.record.proofs.writing.push_p.Statement.{statement}
 use Rattle.record.proofs.writing.push_p.Tie as tie
 
 p-word-requires : tie.Need-p-word-requires
-p-word-requires c κs = let s = c .before in (small (of-mode (s .pre .packs)) .p, bits-fit (s .pre .packs))
+p-word-requires c κs = let s = c .before in record { count = small (of-mode (s .pre .packs)) .p; bits = bits-fit (s .pre .packs) }
 
 cast-push : tie.Need-cast-push
 cast-push c = omega (arith, small (of-mode (c .before .before .before .pre .packs)) .p)
