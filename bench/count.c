@@ -349,6 +349,7 @@ typedef u32 replace_one(u8 *block, u32 line, const u8 *replacement);
 typedef u32 replace_in(u8 *sheet, u64 length, u32 block, u32 line, const u8 *replacement);
 typedef u32 find_index(const u8 *block, u32 line, u32 pixel, const u8 *wanted, u32 *index);
 typedef u32 tell_opaque(const u8 *block, u32 columns, u32 rows);
+typedef u32 read_pixel(const u8 *block, u32 pixel, u8 *rgba);
 typedef u32 read_head(const u8 *sheet, u64 length, u32 *head);
 typedef u32 write_head(u32 width, u32 height, u8 *head, u32 *count);
 typedef u32 version(void);
@@ -361,6 +362,7 @@ replace_one rinchovek_bc7_replace_line;
 /* weak: an older archive hasn't got them */
 __attribute__((weak)) find_index rinchovek_bc7_nearest_index, rinchovek_bc7_exact_index;
 __attribute__((weak)) tell_opaque rinchovek_bc7_is_opaque;
+__attribute__((weak)) read_pixel rinchovek_bc7_pixel;
 __attribute__((weak)) convert rinchovek_dds_import, rinchovek_dds_export;
 __attribute__((weak)) convert_length rinchovek_dds_import_length, rinchovek_dds_export_length;
 replace_in rinchovek_sheet_replace_line;
@@ -384,6 +386,7 @@ static replace_one *volatile replace_call;
 static replace_in *volatile replace_in_call;
 static find_index *volatile nearest_call, *volatile exact_call;
 static tell_opaque *volatile tell_call;
+static read_pixel *volatile pixel_call;
 static read_head *volatile read_head_call;
 static write_head *volatile write_head_call;
 static version *volatile version_call;
@@ -412,6 +415,11 @@ static u32 no_replace_in(u8 *all, u64 length, u32 block, u32 line, const u8 *rep
 
 static u32 no_find(const u8 *block, u32 line, u32 pixel, const u8 *colour, u32 *index) {
     __asm__ volatile("" ::"r"(block), "r"(line), "r"(pixel), "r"(colour), "r"(index) : "memory");
+    return 0;
+}
+
+static u32 no_pixel(const u8 *block, u32 pixel, u8 *rgba) {
+    __asm__ volatile("" ::"r"(block), "r"(pixel), "r"(rgba) : "memory");
     return 0;
 }
 
@@ -459,6 +467,13 @@ static u32 find_exact(u32 i) {
 }
 
 
+/* every pixel number comes equally often; the last stands farthest behind in the string and in the block */
+static u32 read_each_pixel(u32 i) { return pixel_call(sheet_blocks + 16 * i, i % 16, wanted); }
+
+static u32 read_last_pixel(u32 i) { return pixel_call(sheet_blocks + 16 * i, 15, wanted); }
+
+static u32 read_no_pixel(u32 i) { return pixel_call(sheet_blocks + 16 * i, 16, wanted); }
+
 static u32 tell_a_block(u32 i) {
     tell_call(sheet_blocks + 16 * i, 4, 4);
     return 0;
@@ -503,6 +518,7 @@ static void point_at_calls(int at_none) {
     nearest_call = at_none ? no_find : rinchovek_bc7_nearest_index;
     exact_call = at_none ? no_find : rinchovek_bc7_exact_index;
     tell_call = at_none ? no_tell : rinchovek_bc7_is_opaque;
+    pixel_call = at_none ? no_pixel : rinchovek_bc7_pixel;
     replace_in_call = at_none ? no_replace_in : rinchovek_sheet_replace_line;
 }
 
@@ -652,6 +668,11 @@ static void count_writing(void) {
     say_call("rinchovek_bc7_read_line", read_a_line, 0);
     if (rinchovek_bc7_nearest_index) count_finding();
     if (rinchovek_bc7_is_opaque) say_call("rinchovek_bc7_is_opaque", tell_a_block, 0);
+    if (rinchovek_bc7_pixel) {
+        say_call("rinchovek_bc7_pixel", read_each_pixel, 0);
+        say_call("rinchovek_bc7_pixel, the last", read_last_pixel, 0);
+        say_call("rinchovek_bc7_pixel, refused with 21", read_no_pixel, 21);
+    }
     if (rinchovek_dds_import) count_files();
     say_call("rinchovek_bc7_replace_line, kept", replace_a_line, 0);
     say_call("rinchovek_sheet_replace_line, kept", replace_in_sheet, 0);
@@ -669,6 +690,7 @@ static void count_writing(void) {
     say_call("rinchovek_bc7_read_line, refused with 1", read_a_line, 1);
     say_call("rinchovek_bc7_replace_line, refused with 1", replace_a_line, 1);
 
+    if (rinchovek_bc7_pixel) say_call("rinchovek_bc7_pixel, reserved", read_each_pixel, 0);
     if (rinchovek_bc7_is_opaque) {
         say_call("rinchovek_bc7_is_opaque, reserved", tell_a_block, 0);
         make_opaque();
@@ -677,11 +699,12 @@ static void count_writing(void) {
 
     say("\nThe same by mode\nmode                        ");
     for (int mode = 0; mode < 8; mode++) say_right(column_names[mode], 7);
-    one_call *const calls[] = {unpack_one, pack_one, read_a_line, replace_a_line, find_nearest, tell_a_block};
-    two_buffers *const functions[] = {rinchovek_bc7_unpack, rinchovek_bc7_pack, 0, 0, 0, 0};
+    one_call *const calls[] = {unpack_one, pack_one, read_a_line, replace_a_line, find_nearest, tell_a_block, read_each_pixel, read_last_pixel};
+    two_buffers *const functions[] = {rinchovek_bc7_unpack, rinchovek_bc7_pack, 0, 0, 0, 0, 0, 0};
     const char *const names[] = {"rinchovek_bc7_unpack", "rinchovek_bc7_pack", "rinchovek_bc7_read_line",
-                                 "rinchovek_bc7_replace_line", "rinchovek_bc7_nearest_index", "rinchovek_bc7_is_opaque"};
-    for (int k = 0; k < (rinchovek_bc7_is_opaque ? 6 : rinchovek_bc7_nearest_index ? 5 : 4); k++) {
+                                 "rinchovek_bc7_replace_line", "rinchovek_bc7_nearest_index", "rinchovek_bc7_is_opaque",
+                                 "rinchovek_bc7_pixel", "rinchovek_bc7_pixel, last"};
+    for (int k = 0; k < (rinchovek_bc7_pixel ? 8 : rinchovek_bc7_is_opaque ? 6 : rinchovek_bc7_nearest_index ? 5 : 4); k++) {
         say("\n");
         say_left(names[k], 28);
         for (int mode = 0; mode < 8; mode++) {

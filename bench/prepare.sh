@@ -6,6 +6,7 @@
 #       has_lines  yes where it has rinchovek_bc7_read_line, with which the calls that write are prepared, else empty
 #       has_indexes yes where it has rinchovek_bc7_nearest_index, else empty
 #       has_opacity yes where it has rinchovek_bc7_is_opaque, else empty
+#       has_pixels yes where it has rinchovek_bc7_pixel, else empty
 #       has_files  yes where it has rinchovek_dds_import, else empty
 #       kit        the folder of the kit's clang and linker for this machine
 #       work       a fresh folder, removed at exit, with the published sources and reference.rs in it
@@ -33,6 +34,8 @@ prepare() {
     if grep -qaw rinchovek_bc7_nearest_index "$archive"; then has_indexes=yes; fi
     has_opacity=
     if grep -qaw rinchovek_bc7_is_opaque "$archive"; then has_opacity=yes; fi
+    has_pixels=
+    if grep -qaw rinchovek_bc7_pixel "$archive"; then has_pixels=yes; fi
     has_files=
     if grep -qaw rinchovek_dds_import "$archive"; then has_files=yes; fi
 

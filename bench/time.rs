@@ -115,6 +115,8 @@ mod writing {
         fn rinchovek_bc7_exact_index(block: &Block, line: u32, pixel: u32, wanted: &[u8; 4], index: &mut u32) -> u32;
         #[cfg(opacity)]
         fn rinchovek_bc7_is_opaque(block: &Block, columns: u32, rows: u32) -> u32;
+        #[cfg(pixels)]
+        fn rinchovek_bc7_pixel(block: &Block, pixel: u32, rgba: &mut [u8; 4]) -> u32;
         fn rinchovek_sheet_replace_line(sheet: *mut u8, length: usize, block: u32, line: u32, replacement: &Line) -> u32;
         #[cfg(files)]
         fn rinchovek_dds_import(dds: *const u8, dds_length: usize, sheet: *mut u8, sheet_length: usize) -> u32;
@@ -201,6 +203,10 @@ mod writing {
         #[cfg(opacity)]
         nanoseconds("rinchovek_bc7_is_opaque", SMALL, || {
             every(&mut |i| unsafe { black_box(rinchovek_bc7_is_opaque(&blocks[i], 4, 4)); 0 })
+        });
+        #[cfg(pixels)]
+        nanoseconds("rinchovek_bc7_pixel", SMALL, || {
+            every(&mut |i| unsafe { rinchovek_bc7_pixel(&blocks[i], i as u32 % 16, &mut [0; 4]) })
         });
         #[cfg(files)]
         time_files(&sheet);

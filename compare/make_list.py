@@ -604,6 +604,29 @@ def needing_for_export(dice, shared):
     return [("s", sheet) for sheet in dds_sheets(dice)]
 
 
+def reading_pixels(dice, shared):
+    """The last pixel and the first that is none, 256 and 256 + p, which are none either, the largest number: on a block of each mode and on
+    reserved ones, for nothing else is refused. Every mode, partition, rotation and index mode: at each anchor, behind it and anywhere."""
+    numbers = (0, 15, 16, 17, 31, 32, 255, 256, 257, 271, 272, 65536, 65541, 1 << 31, (1 << 32) - 16, (1 << 32) - 1)
+    calls = []
+    for mode in (*range(8), model.RESERVED):
+        split = None if mode == model.RESERVED else dice.one_of(model.splits(mode))
+        block = block_of(mode, split, bits_of_style(dice, "random"))
+        calls += [("Q", block, number) for number in numbers]
+    for style in STYLES:
+        calls.append(("Q", block_of(model.RESERVED, None, bits_of_style(dice, style)), dice.below(16)))
+    for block, _, _ in document_01.DRAWN:
+        calls += [("Q", block, number) for number in range(16)]
+    for mode, split in all_splits():
+        block = block_of(mode, split, bits_of_style(dice, "random"))
+        anchors = sorted({line.anchor for line in model.lines(mode, split)})
+        asked = {*anchors, *(min(15, anchor + 1) for anchor in anchors), dice.below(16)}
+        calls += [("Q", block, number) for number in sorted(asked)]
+    for block in outside(shared, 240):
+        calls.append(("Q", block, dice.below(16)))
+    return calls
+
+
 MAKERS = {
     "D": decoding,
     "U": taking_apart,
@@ -622,6 +645,7 @@ MAKERS = {
     "X": exporting,
     "d": needing_for_import,
     "s": needing_for_export,
+    "Q": reading_pixels,
 }
 
 

@@ -246,6 +246,13 @@ def decode(block):
     return ZERO_PIXELS if mode_of(block) == RESERVED else draw(take_apart(block))
 
 
+def pixel(block, number):
+    """M-105: what the decoder shows at one pixel, red green blue alpha; 21 for 16 and up, whatever the block."""
+    if number >= 16:
+        return 21, bytes(4)
+    return 0, decode(block)[4 * number : 4 * number + 4]
+
+
 # ---------------------------------------------------------------------------------------------------------------------
 # Replacing a line.
 @lru_cache(None)

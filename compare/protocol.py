@@ -19,10 +19,11 @@ A call is (letter, arguments..):
   X sheet out        export a sheet as a DDS file
   d dds              the length that importing needs
   s sheet            the length that exporting needs
+  Q block pixel      one pixel
 """
 import model
 
-LETTERS = "DUPRHWOSlrNEA" + "IXds"
+LETTERS = "DUPRHWOSlrNEA" + "IXds" + "Q"
 KINDS = ("whole", "two", "three", "vector")
 RECORD, REPLACEMENT = 66, 26
 LARGEST_LENGTH = 65536  # a longer slice ends the run
@@ -51,7 +52,7 @@ def call_bytes(call):
     if letter == "R":
         block, line, new = given
         body = block + number(line) + bytes(new)
-    elif letter == "r":
+    elif letter in "rQ":
         body = given[0] + number(given[1])
     elif letter in "NE":
         block, line, pixel, wanted = given
@@ -106,6 +107,8 @@ def model_answer(call):
     elif letter in "NE":
         refusal, index = (model.nearest_index if letter == "N" else model.exact_index)(*given)
         rest = bytes([index])
+    elif letter == "Q":
+        refusal, rest = model.pixel(*given)
     elif letter == "H":
         refusal, *found = model.read_head(given[0])
         rest = b"".join(map(number, found))

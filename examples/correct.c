@@ -1,6 +1,6 @@
 /* Every call of include/rinchovek.h, from C: a row of a small sheet is decoded, one of its blocks is corrected, and the row is
  * decoded again; the other way round, which index gives a red; the same correction on the block alone; what happens to calls that
- * are refused; records and heads; which blocks are opaque; the sheet as a DDS file and back. */
+ * are refused; records and heads; which blocks are opaque; single pixels; the sheet as a DDS file and back. */
 #include "rinchovek.h"
 
 int printf(const char *format, ...);
@@ -61,6 +61,16 @@ static void show_opaque(const uint8_t block[RINCHOVEK_BLOCK_BYTES], uint32_t wid
     const uint32_t columns = rinchovek_shown(width, n % across), rows = rinchovek_shown(height, n / across);
     printf("block %u of %u by %u shows %u by %u: %s\n", n, width, height, columns, rows,
            rinchovek_bc7_is_opaque(block, columns, rows) ? "opaque" : "not opaque");
+}
+
+/* One pixel, as a cursor reads it. */
+static void show_one(const uint8_t block[RINCHOVEK_BLOCK_BYTES], uint32_t pixel) {
+    uint8_t rgba[RINCHOVEK_PIXEL_BYTES] = {0};
+    const uint32_t refusal = rinchovek_bc7_pixel(block, pixel, rgba);
+    printf("pixel %u: %u, %s", pixel, refusal, rinchovek_refusal_text(refusal));
+    if (refusal == RINCHOVEK_ACCEPTED)
+        printf(", %u %u %u %u", rgba[RINCHOVEK_RED], rgba[RINCHOVEK_GREEN], rgba[RINCHOVEK_BLUE], rgba[RINCHOVEK_ALPHA]);
+    printf("\n");
 }
 
 int main(void) {
@@ -128,6 +138,7 @@ int main(void) {
     show_opaque(corner, 7, 4, 0);
     show_opaque(corner, 7, 4, 1);
     show_opaque(sheet + HEAD + RINCHOVEK_BLOCK_BYTES, WIDTH, HEIGHT, 1);
+    for (uint32_t pixel = 14; pixel <= 16; pixel++) show_one(corner, pixel);
 
     /* The sheet as a DDS file, of which the sides are shown, height first; the file as a sheet again; and what is no such file. */
     uint8_t file[RINCHOVEK_DDS_HEADER_BYTES + 2 * RINCHOVEK_BLOCK_BYTES] = {0}, again[sizeof sheet] = {0};
@@ -144,5 +155,6 @@ int main(void) {
 
     for (uint32_t number = RINCHOVEK_RESERVED_BLOCK; number <= RINCHOVEK_NOT_A_BC7_TEXTURE; number++)
         printf("%u: %s\n", number, rinchovek_refusal_text(number));
+    printf("%u: %s\n", RINCHOVEK_NO_SUCH_PIXEL, rinchovek_refusal_text(RINCHOVEK_NO_SUCH_PIXEL));
     return 0;
 }

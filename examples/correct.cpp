@@ -50,6 +50,10 @@ uint32_t read_line(const Block &block, LineNumber line, Replacement &replacement
     return rinchovek_bc7_read_line(block.data(), uint32_t(line), replacement.data(), widths.data());
 }
 
+uint32_t one_pixel(const Block &block, PixelNumber pixel, Pixel &rgba) {
+    return rinchovek_bc7_pixel(block.data(), uint32_t(pixel), rgba.data());
+}
+
 uint32_t nearest_index(const Block &block, LineNumber line, PixelNumber pixel, const Pixel &wanted, uint32_t &index) {
     return rinchovek_bc7_nearest_index(block.data(), uint32_t(line), uint32_t(pixel), wanted.data(), &index);
 }
@@ -150,6 +154,15 @@ static void show_opaque(const Block &block, uint32_t width, uint32_t height, Blo
                 is_opaque(block, part) ? "opaque" : "not opaque");
 }
 
+static void show_one(const Block &block, PixelNumber pixel) {
+    Pixel rgba = {};
+    const uint32_t refusal = one_pixel(block, pixel, rgba);
+    std::printf("pixel %u: %u, %s", uint32_t(pixel), refusal, rinchovek_refusal_text(refusal));
+    if (refusal == RINCHOVEK_ACCEPTED)
+        std::printf(", %u %u %u %u", rgba[RINCHOVEK_RED], rgba[RINCHOVEK_GREEN], rgba[RINCHOVEK_BLUE], rgba[RINCHOVEK_ALPHA]);
+    std::printf("\n");
+}
+
 int main() {
     const uint32_t version = rinchovek_version();
     if (version / 10000 != RINCHOVEK_VERSION_MAJOR || version < RINCHOVEK_VERSION) return 1;
@@ -208,6 +221,7 @@ int main() {
     show_opaque(corner, 7, 4, BlockNumber(0));
     show_opaque(corner, 7, 4, BlockNumber(1));
     show_opaque(reserved, 8, 4, BlockNumber(1));
+    for (uint32_t pixel = 14; pixel <= 16; pixel++) show_one(corner, PixelNumber(pixel));
 
     std::vector<uint8_t> file, again;
     refusal = export_dds(sheet, file);
@@ -220,4 +234,5 @@ int main() {
 
     for (uint32_t number = RINCHOVEK_RESERVED_BLOCK; number <= RINCHOVEK_NOT_A_BC7_TEXTURE; number++)
         std::printf("%u: %s\n", number, rinchovek_refusal_text(number));
+    std::printf("%u: %s\n", unsigned(RINCHOVEK_NO_SUCH_PIXEL), rinchovek_refusal_text(RINCHOVEK_NO_SUCH_PIXEL));
 }

@@ -53,6 +53,13 @@ fn show_opaque(block: &Block, width: u32, height: u32, number: u32) {
     println!("block {number} of {width} by {height} shows {} by {}: {said}", shown.columns, shown.rows);
 }
 
+/// One pixel, as a cursor reads it.
+fn show_one(block: &Block, pixel: u32) {
+    let read = one_pixel(block, PixelNumber(pixel));
+    let text = read.map_or_else(|refusal| refusal.to_string(), |[r, g, b, a]| format!("accepted, {r} {g} {b} {a}"));
+    println!("pixel {pixel}: {}, {text}", number(&read));
+}
+
 fn main() -> Result<(), Refusal> {
     let (major, minor, patch) = version();
     println!("version {major}.{minor}.{patch}");
@@ -112,6 +119,9 @@ fn main() -> Result<(), Refusal> {
     show_opaque(&corner, 7, 4, 0);
     show_opaque(&corner, 7, 4, 1);
     show_opaque(&[0; 16], 8, 4, 1);
+    for pixel in 14..=16 {
+        show_one(&corner, pixel);
+    }
 
     // the sheet as a DDS file, of which the sides are shown, height first; the file as a sheet again; and what is no such file
     println!("exported: 0, {} bytes", export_length(&sheet)?);

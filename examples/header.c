@@ -84,6 +84,7 @@ static __attribute__((noinline)) void make_calls(uint8_t first, uint8_t others) 
         rinchovek_sheet_replace_line(sheet, count + RINCHOVEK_BLOCK_BYTES, 0, line, held);
     }
     rinchovek_bc7_is_opaque(block, 4, 3);
+    for (uint32_t pixel = 0; pixel <= RINCHOVEK_BLOCK_PIXELS; pixel++) rinchovek_bc7_pixel(block, pixel, widths);
     rinchovek_sheet_read_head(sheet, sizeof sheet, head);
     rinchovek_sheet_decode_row(4, 3, 0, block, RINCHOVEK_BLOCK_BYTES, out, 48);
     uint8_t file[RINCHOVEK_DDS_HEADER_BYTES + RINCHOVEK_BLOCK_BYTES];

@@ -16,6 +16,7 @@ extern "C" {
     fn rinchovek_bc7_nearest_index(block: *const u8, line: u32, pixel: u32, wanted: *const u8, index: *mut u32) -> u32;
     fn rinchovek_bc7_exact_index(block: *const u8, line: u32, pixel: u32, wanted: *const u8, index: *mut u32) -> u32;
     fn rinchovek_bc7_is_opaque(block: *const u8, columns: u32, rows: u32) -> u32;
+    fn rinchovek_bc7_pixel(block: *const u8, pixel: u32, rgba: *mut u8) -> u32;
     fn rinchovek_sheet_read_head(sheet: *const u8, length: usize, head: *mut u32) -> u32;
     fn rinchovek_sheet_write_head(width: u32, height: u32, head: *mut u8, count: *mut u32) -> u32;
     fn rinchovek_sheet_decode_row(
@@ -59,10 +60,11 @@ pub enum Refusal {
     PixelNotInLine = 13,
     NoExactIndex = 14,
     NotABc7Texture = 15,
+    NoSuchPixel = 21,
 }
 
 impl Refusal {
-    pub const ALL: [Refusal; 15] = [
+    pub const ALL: [Refusal; 16] = [
         Refusal::ReservedBlock,
         Refusal::NoSuchLine,
         Refusal::ValueTooWide,
@@ -78,6 +80,7 @@ impl Refusal {
         Refusal::PixelNotInLine,
         Refusal::NoExactIndex,
         Refusal::NotABc7Texture,
+        Refusal::NoSuchPixel,
     ];
 
     pub fn number(self) -> u32 {
@@ -103,6 +106,7 @@ impl fmt::Display for Refusal {
             Refusal::PixelNotInLine => "the pixel is not in the line",
             Refusal::NoExactIndex => "no index of the line gives exactly this colour",
             Refusal::NotABc7Texture => "the file is not a DDS file of one BC7 texture with one level",
+            Refusal::NoSuchPixel => "the block has no such pixel",
         })
     }
 }
@@ -269,6 +273,13 @@ pub struct Shown {
 /// Whether every shown pixel of the block has alpha 255.
 pub fn is_opaque(block: &Block, shown: Shown) -> bool {
     unsafe { rinchovek_bc7_is_opaque(block.as_ptr(), shown.columns, shown.rows) != 0 }
+}
+
+/// One pixel, by the decoder that shares no code with `decode_block`.
+pub fn one_pixel(block: &Block, pixel: PixelNumber) -> Result<Color, Refusal> {
+    let mut rgba = [0; 4];
+    let refusal = unsafe { rinchovek_bc7_pixel(block.as_ptr(), pixel.0, rgba.as_mut_ptr()) };
+    answer(refusal, rgba)
 }
 
 /// Width and height in pixels, and where the first block starts in the sheet.

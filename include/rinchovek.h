@@ -1,5 +1,5 @@
-/* rinchovek.h: BC7 blocks, and sheets of them, decoded, taken apart, packed and corrected; which index gives a wanted colour, and
- * which blocks are opaque; DDS files in and out.
+/* rinchovek.h: BC7 blocks, and sheets of them, decoded, taken apart, packed and corrected; which index gives a wanted colour,
+ * which blocks are opaque, and what one pixel shows; DDS files in and out.
  *
  * WORDS
  * A block is 16 bytes that draw 4 by 4 pixels. A pixel is 4 bytes: red, green, blue, alpha. The pixel in column x and row y of a
@@ -41,7 +41,7 @@
 /* The version of this file. The major number is raised where a call goes, or answers otherwise what it accepted before; the minor
  * one where a call comes, or accepts what it refused before; the patch where neither is so. */
 #define RINCHOVEK_VERSION_MAJOR 1
-#define RINCHOVEK_VERSION_MINOR 4
+#define RINCHOVEK_VERSION_MINOR 5
 #define RINCHOVEK_VERSION_PATCH 0
 #define RINCHOVEK_VERSION (10000 * RINCHOVEK_VERSION_MAJOR + 100 * RINCHOVEK_VERSION_MINOR + RINCHOVEK_VERSION_PATCH)
 
@@ -56,7 +56,7 @@
 #define RINCHOVEK_HEAD_NUMBERS 3 /* uint32_t */
 #define RINCHOVEK_LARGEST_SIDE 16384 /* pixels, of a sheet; 4,096 before version 1.4.0 */
 #define RINCHOVEK_DDS_HEADER_BYTES 148
-#define RINCHOVEK_STACK_BYTES 2048 /* found: 1,240 and the 128 below the stack pointer, in rinchovek_bc7_nearest_index */
+#define RINCHOVEK_STACK_BYTES 4096 /* found: 2,080 in rinchovek_bc7_pixel; below 2,048 in every other call, and in all before 1.5.0 */
 
 /* A channel in a pixel and in an endpoint. */
 enum rinchovek_channel { RINCHOVEK_RED = 0, RINCHOVEK_GREEN = 1, RINCHOVEK_BLUE = 2, RINCHOVEK_ALPHA = 3 };
@@ -133,7 +133,8 @@ enum rinchovek_refusal {
     RINCHOVEK_BEYOND_SHEET = 12,        /* the row or the block number is beyond the sheet */
     RINCHOVEK_PIXEL_NOT_IN_LINE = 13,   /* the pixel is of another line's subset, or 16 and up */
     RINCHOVEK_NO_EXACT_INDEX = 14,      /* no index of the line gives the pixel exactly what is wanted */
-    RINCHOVEK_NOT_A_BC7_TEXTURE = 15    /* the DDS file isn't one texture of two dimensions in BC7 with one level */
+    RINCHOVEK_NOT_A_BC7_TEXTURE = 15,   /* the DDS file isn't one texture of two dimensions in BC7 with one level */
+    RINCHOVEK_NO_SUCH_PIXEL = 21        /* the pixel number isn't below 16 */
 };
 
 #ifdef __cplusplus
@@ -190,6 +191,14 @@ uint32_t rinchovek_bc7_exact_index(const uint8_t block[RINCHOVEK_BLOCK_BYTES], u
  * rows stand side by side and have one type. Hand them over in variables of these names.
  * Refusals: none. */
 uint32_t rinchovek_bc7_is_opaque(const uint8_t block[RINCHOVEK_BLOCK_BYTES], uint32_t columns, uint32_t rows);
+
+/* Writes one pixel of a block: red, green, blue, alpha as it is shown. It is what rinchovek_bc7_decode_block writes at pixels[4 * pixel ..],
+ * found by a second decoder that has no code in common with the first: each bit by its number, the partition from its string. So the one
+ * checks the other, and a cursor reads its pixel; a whole block is decoded by
+ * the other call in less than a tenth of what one pixel costs here. The number is taken whole: 256 + p isn't pixel p. A reserved block is
+ * accepted, and shows 0 0 0 0.
+ * Refusals: 21. */
+uint32_t rinchovek_bc7_pixel(const uint8_t block[RINCHOVEK_BLOCK_BYTES], uint32_t pixel, uint8_t rgba[RINCHOVEK_PIXEL_BYTES]);
 
 /* Reads the head of a sheet: writes width, height and start (enum rinchovek_head_number). What stands behind the head isn't looked
  * at: the first RINCHOVEK_HEAD_BYTES bytes of a sheet are enough. An empty sheet is refused with 7.
@@ -282,6 +291,7 @@ static inline const char *rinchovek_refusal_text(uint32_t refusal) {
     case RINCHOVEK_PIXEL_NOT_IN_LINE: return "the pixel is not in the line";
     case RINCHOVEK_NO_EXACT_INDEX: return "no index of the line gives exactly this colour";
     case RINCHOVEK_NOT_A_BC7_TEXTURE: return "the file is not a DDS file of one BC7 texture with one level";
+    case RINCHOVEK_NO_SUCH_PIXEL: return "the block has no such pixel";
     default: return "no refusal of this version";
     }
 }

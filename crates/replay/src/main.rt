@@ -12,6 +12,7 @@ use rinchovek::rinchovek_bc7_exact_index;
 use rinchovek::rinchovek_bc7_is_opaque;
 use rinchovek::rinchovek_bc7_nearest_index;
 use rinchovek::rinchovek_bc7_pack;
+use rinchovek::rinchovek_bc7_pixel;
 use rinchovek::rinchovek_bc7_read_line;
 use rinchovek::rinchovek_bc7_replace_line;
 use rinchovek::rinchovek_bc7_unpack;
@@ -195,6 +196,24 @@ fn opacity_call() -> bool {
     }
     write_small(rinchovek_bc7_is_opaque(&block, number(&shown, 0), number(&shown, 4)));
     true
+}
+
+fn write_pixel(rgba: &[u8; 4]) -> bool {
+    io::write_all(STDOUT_FILENO, rgba)
+}
+
+fn pixel_call() -> bool {
+    let mut block = [0u8; 16];
+    if !filled(&mut block) {
+        return false;
+    }
+    let mut pixel = [0u8; 4];
+    if !filled(&mut pixel) {
+        return false;
+    }
+    let mut rgba = [0u8; 4];
+    write_small(rinchovek_bc7_pixel(&block, number(&pixel, 0), &mut rgba));
+    write_pixel(&rgba)
 }
 
 fn read_head_of(sheet: &mut [u8]) -> bool {
@@ -427,6 +446,7 @@ fn call(letter: u8) -> bool {
         b'X' => dds_call(true),
         b'd' => length_call(false),
         b's' => length_call(true),
+        b'Q' => pixel_call(),
         _ => false,
     }
 }

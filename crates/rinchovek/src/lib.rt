@@ -2,10 +2,11 @@
 // was lent. What a call promises has one name, in specs/Promises. include/rinchovek.h declares these functions and says what a
 // C caller has to know; `rt staticlib rinchovek` writes the archive.
 ghost use Rattle.rinchovek_rules.specs.Promises.{Decodes, Packs, ReadsLine, Replaces, Unpacks, Versions, DecodesRow, ReadsHead, ReplacesIn};
-ghost use Rattle.rinchovek_rules.specs.Promises.{FindsExact, FindsNearest, TellsOpaque, WritesHead};
+ghost use Rattle.rinchovek_rules.specs.Promises.{FindsExact, FindsNearest, ReadsPixel, TellsOpaque, WritesHead};
 ghost use Rattle.rinchovek_rules.specs.Promises.{ExportNeeds, ExportsDds, ImportNeeds, ImportsDds};
 use bc7::decode_bc7_block;
 use bc7_places::places::PLACES;
+use bc7_plain::pixel_of;
 use dds::export_dds;
 use dds::export_length;
 use dds::import_dds;
@@ -27,7 +28,7 @@ use sheet_head::write_head;
 
 // Which version of the calls and their answers this is: 10000 times the major number, 100 times the minor one, and the patch. The
 // header has the same three.
-const VERSION: u32 = 10400;
+const VERSION: u32 = 10500;
 
 #[no_mangle]
 pub extern "C" fn rinchovek_version() -> u32
@@ -158,6 +159,20 @@ pub extern "C" fn rinchovek_bc7_is_opaque(block: &[u8; 16], columns: u32, rows: 
     if is_opaque(*block, columns, rows) {
         return 1;
     }
+    0
+}
+
+// One pixel of a block, red green blue alpha, by the reader that shares no code with the decoder.
+#[no_mangle]
+pub extern "C" fn rinchovek_bc7_pixel(block: &[u8; 16], pixel: u32, rgba: &mut [u8; 4]) -> u32
+    ensures { λ r. ⌜ ReadsPixel (now (block .entry)) pixel (now (rgba .entry)) r (now (rgba .exit)) ⌝ }
+{
+    let read = pixel_of(*block, pixel);
+    if read.refusal != 0 {
+        return read.refusal as u32;
+    }
+    let channels = read.rgba;
+    *rgba = channels;
     0
 }
 

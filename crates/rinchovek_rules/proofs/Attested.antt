@@ -25,6 +25,7 @@ use Rattle.line_rules.proofs.Attested.{after7, bytesGiven}
 use Rattle.nearest_rules.specs.Nearest.{channelDistance, distance, drawnWith, exactIndex, exactRefusal, inLine, indexCount, leastAt, nearestIndex}
 use Rattle.nearest_rules.specs.Nearest.{nearestRefusal, squared, withIndex, zeroAt}
 use Rattle.opacity_rules.specs.Opacity.{isVisible, opaque, passes}
+use Rattle.pixel_rules.specs.Pixels.{pixelRead, pixelRefusal}
 use Rattle.head_rules.specs.Geometry.{blocksOf, placeOf}
 use Rattle.head_rules.specs.Heads.{formIn, headBytes, headRefusalUpTo, heightIn, readHeadUpTo, sizeRefusalUpTo, widthIn, writeHead}
 use Rattle.head_rules.specs.Numbers.{groups, raised, readGroups, readNumber}
@@ -32,7 +33,7 @@ use Rattle.sheet_rules.specs.Rows.{blockAt, channel, rowByte, rowBytes, rowOutU
 use Rattle.sheet_rules.specs.Sheets.{blockBy, findRefusalBy, putBlock, replacedBy, sheetAfterBy, sheetRefusalBy}
 use Rattle.sheet_rules.proofs.Attested.{lower, lowerScanlines, small, smallReplaced}
 use Rattle.rinchovek_rules.specs.Promises.{Decodes, Gives, Packs, ReadsLine, Replaces, Unpacks, Versions, DecodesRow, ReadsHead, ReplacesIn}
-use Rattle.rinchovek_rules.specs.Promises.{FindsExact, FindsNearest, TellsOpaque, WritesHead}
+use Rattle.rinchovek_rules.specs.Promises.{FindsExact, FindsNearest, ReadsPixel, TellsOpaque, WritesHead}
 use Rattle.laws.specs.Digits.{evenly}
 use Rattle.dds_rules.specs.Header.{canonicalHeader, entries, headerNumber, isTexture, numberAt}
 use Rattle.dds_rules.specs.Files.{exportAfterBy, exportLength, exportRefusalBy, fileMadeBy, fileRefusalUpTo, headMade, importAfterUpTo, importLength}
@@ -76,7 +77,7 @@ computed : {A : Type 0} {refusal : ℕ} {left : A} → Gives refusal left refusa
 computed = record { answers = refl; leaves = refl }
 
 pub record Calls : Type 0 where
-  pub version : Versions (10000 * 1 + 100 * 4 + 0)
+  pub version : Versions (10000 * 1 + 100 * 5 + 0)
   pub decodes : Decodes block4 (half4 ++ half4)
   pub decodes-reserved : Decodes (zeros 16) (replicate 16 (rgba 0 0 0 0))
   pub unpacks : Unpacks block4 (nines 66) 0 (bytes4 3)
@@ -93,6 +94,8 @@ pub record Calls : Type 0 where
   pub finds-exact-not : FindsExact block7 1 8 (rgba 77 85 93 130) 9 14 9
   pub tells-opaque : TellsOpaque graded6 2 4 1
   pub tells-opaque-not : TellsOpaque graded6 4 2 0
+  pub reads-pixel : ReadsPixel block4 1 (nines 4) 0 (rgba 13 31 46 29)
+  pub reads-pixel-not : ReadsPixel block4 16 (nines 4) 21 (nines 4)
   pub reads-head : ReadsHead small (nines 3) 0 (5 ∷ 6 ∷ 3 ∷ [])
   pub reads-head-not : ReadsHead (0x02 ∷ []) (nines 3) 8 (nines 3)
   pub writes-head : WritesHead 5 6 (nines 7, 9) 0 (0x01 ∷ 0x05 ∷ 0x06 ∷ zeros 4, 3)
@@ -120,7 +123,7 @@ unfolding padded first over table tableFrom weights weightOf drawn promoted eigh
     widthIn heightIn readNumber readGroups raised sizeRefusalUpTo writeHead headBytes groups blockAt channel rowByte rowBytes rowOutUpTo
     rowRefusalUpTo blockBy blocksOf findRefusalBy placeOf putBlock replacedBy sheetAfterBy sheetRefusalBy draws meansShown channelDistance
     distance drawnWith exactIndex exactRefusal inLine indexCount leastAt nearestIndex nearestRefusal squared withIndex zeroAt
-    implies isVisible passes opaque
+    implies isVisible passes opaque pixelRefusal pixelRead
     evenly numberAt entries headerNumber canonicalHeader isTexture headMade sheetMade fileRefusalUpTo importRefusalUpTo importAfterUpTo wholeRefusalBy
     exportRefusalBy fileMadeBy exportAfterBy importLength exportLength
 calls-hold = record {
@@ -141,6 +144,8 @@ calls-hold = record {
   finds-exact-not = computed;
   tells-opaque = refl;
   tells-opaque-not = refl;
+  reads-pixel = computed;
+  reads-pixel-not = computed;
   reads-head = computed;
   reads-head-not = computed;
   writes-head = computed;

@@ -1,17 +1,21 @@
 -- Each promise to C admits one answer and one state of the bytes that were lent; and a refused call leaves them as they were.
 -- Assumes nothing.
-use Prim.Native.Nat.{ℕ}
-use mathlib.Core.Path.{_≡_, _∙_, sym}
+use Prim.Native.Nat.{ℕ, _<_}
+use mathlib.Core.Path.{_≡_, _∙_, ap, sym}
 use mathlib.Core.Logic.{_≢_}
-use mathlib.Core.List.{List}
-use borrow.Author.Tests.{ne-eqb}
+use mathlib.Core.List.{List, []}
+use borrow.Author.Tests.{eq-eqb, ne-eqb}
+use lib.ListN.{getD}
 use Rattle.line_rules.specs.Replace.{callOf, replaced}
 use Rattle.line_rules.proofs.Theorems.{refused-same}
 use Rattle.line_rules.specs.Read.{replacementOf}
 use Rattle.sheet_rules.proofs.Theorems.{refused-row-leaves, refused-sheet-leaves}
+use Rattle.pixel_rules.specs.declared.PixelRead.{PixelRead}
+use Rattle.pixel_rules.specs.Pixels.{pixelRead}
+use Rattle.pixel_rules.proofs.Theorems.{pixel-accepted, pixel-of-the-sixteen}
 use Rattle.dds_rules.proofs.Theorems.{refused-export-leaves, refused-import-leaves}
 use Rattle.rinchovek_rules.specs.Promises.{Decodes, Determined, Gives, Packs, ReadsLine, Replaces, Unpacks, Versions, Writes, DecodesRow}
-use Rattle.rinchovek_rules.specs.Promises.{ReadsHead, FindsExact, FindsNearest, ReplacesIn, TellsOpaque, WritesHead}
+use Rattle.rinchovek_rules.specs.Promises.{ReadsHead, ReadsPixel, FindsExact, FindsNearest, ReplacesIn, TellsOpaque, WritesHead}
 use Rattle.rinchovek_rules.specs.Promises.{ExportNeeds, ExportsDds, ImportNeeds, ImportsDds}
 
 one-given : {A : Type 0} (refusal : ℕ) (left : A) → Determined (Gives refusal left)
@@ -45,6 +49,9 @@ determined-bc7-exact-index block line pixel wanted before = one-given _ _
 
 pub determined-bc7-is-opaque : (block : List ℕ) (columns rows a b : ℕ) → TellsOpaque block columns rows a → TellsOpaque block columns rows b → a ≡ b
 determined-bc7-is-opaque block columns rows a b p q = p ∙ sym q
+
+pub determined-bc7-pixel : (block : List ℕ) (pixel : ℕ) (before : List ℕ) → Determined (ReadsPixel block pixel before)
+determined-bc7-pixel block pixel before = one-given _ _
 
 pub determined-sheet-read-head : (sheet before : List ℕ) → Determined (ReadsHead sheet before)
 determined-sheet-read-head sheet before = one-given _ _
@@ -99,6 +106,9 @@ pub refused-bc7-exact-index-leaves : (block : List ℕ) (line pixel : ℕ) (want
     → Leaves before (FindsExact block line pixel wanted before)
 refused-bc7-exact-index-leaves block line pixel wanted before = refused-leaves _ _ before
 
+pub refused-bc7-pixel-leaves : (block : List ℕ) (pixel : ℕ) (before : List ℕ) → Leaves before (ReadsPixel block pixel before)
+refused-bc7-pixel-leaves block pixel before = refused-leaves _ _ before
+
 pub refused-sheet-read-head-leaves : (sheet before : List ℕ) → Leaves before (ReadsHead sheet before)
 refused-sheet-read-head-leaves sheet before = refused-leaves _ _ before
 
@@ -124,3 +134,13 @@ refused-dds-import-length-leaves dds before = refused-leaves _ _ before
 
 pub refused-dds-export-length-leaves : (sheet : List ℕ) (before : ℕ) → Leaves before (ExportNeeds sheet before)
 refused-dds-export-length-leaves sheet before = refused-leaves _ _ before
+
+-- what one pixel's call leaves is what decoding the block leaves there, whatever stood before
+pub pixel-is-the-decoded : (block : List ℕ) (pixel : ℕ) (before after : List ℕ) (answer : ℕ) (sixteen : List (List ℕ))
+    → Decodes block sixteen → ReadsPixel block pixel before answer after → pixel < 16 → (answer ≡ 0) × (after ≡ getD sixteen pixel [])
+pixel-is-the-decoded block pixel before after answer sixteen d r h =
+    let zero : pixelRead block pixel .refusal ≡ 0 = ap (λ (a : PixelRead). a .refusal) (pixel-accepted block pixel h) in (
+      r .answers ∙ zero,
+      r .leaves ∙ rw (eq-eqb (pixelRead block pixel .refusal) 0 zero) (sym (pixel-of-the-sixteen block pixel h))
+          ∙ sym (ap (λ (l : List (List ℕ)). getD l pixel []) d),
+    )

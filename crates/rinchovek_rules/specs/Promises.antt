@@ -19,6 +19,7 @@ use Rattle.sheet_rules.specs.Rows.{rowOut, rowRefusal}
 use Rattle.sheet_rules.specs.Sheets.{sheetAfter, sheetRefusal}
 use Rattle.nearest_rules.specs.Nearest.{exactIndex, nearestIndex}
 use Rattle.opacity_rules.specs.Opacity.{opaque}
+use Rattle.pixel_rules.specs.Pixels.{pixelRead}
 use Rattle.dds_rules.specs.Files.{exportAfter, exportLength, exportRefusal, importAfter, importLength, importRefusal}
 
 -- this number is answered, and this is left
@@ -30,9 +31,9 @@ pub record Gives {A : Type 0} (refusal : ℕ) (left : A) (answer : ℕ) (after :
 abbrev pub Writes : {A : Type 0} → ℕ → A → A → ℕ → A → Type 0
 Writes refusal value before = Gives refusal (pick (eqb refusal 0) value before)
 
--- version 1.4.0: major, minor and patch, with two digits for each of the last two
+-- version 1.5.0: major, minor and patch, with two digits for each of the last two
 abbrev pub Versions : ℕ → Type 0
-Versions answer = answer ≡ 10400
+Versions answer = answer ≡ 10500
 
 abbrev pub Decodes : List ℕ → List (List ℕ) → Type 0
 Decodes block after = after ≡ pixels block
@@ -65,6 +66,10 @@ FindsExact block line pixel wanted before =
 -- 1 for an opaque block, 0 for any other: a call that refuses nothing and writes nothing
 abbrev pub TellsOpaque : List ℕ → ℕ → ℕ → ℕ → Type 0
 TellsOpaque block columns rows answer = answer ≡ pick (opaque columns rows block) 1 0
+
+-- one pixel of a block
+abbrev pub ReadsPixel : List ℕ → ℕ → List ℕ → ℕ → List ℕ → Type 0
+ReadsPixel block pixel before = Writes (pixelRead block pixel .refusal) (pixelRead block pixel .rgba) before
 
 -- width, height and where the blocks start
 abbrev pub headNumbers : Head → List ℕ

@@ -1,0 +1,5 @@
+pub mod BitNumbers
+pub mod Rows
+pub mod Walks
+pub mod EndBytes
+pub mod Answers

@@ -1,0 +1,2 @@
+-- What the reader's inner functions ask and answer.
+pub mod Asked

@@ -1,0 +1,4 @@
+pub mod Attested
+pub mod Walking
+pub mod Reading
+pub mod Theorems
