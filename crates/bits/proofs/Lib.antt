@@ -1,4 +1,5 @@
 pub mod Bytes
 pub mod On
+pub mod InOrder
 pub mod BitList
 pub mod Puts
