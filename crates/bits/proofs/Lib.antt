@@ -1,3 +1,4 @@
+pub mod Attested
 pub mod Bytes
 pub mod On
 pub mod InOrder

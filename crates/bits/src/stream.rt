@@ -162,14 +162,15 @@ impl BitStream {
     fn short(self) -> Read
         ensures { λ r. ⌜ r ≡ shortRead self ⌝ }
     {
+        let at = self.at;
         let mut remaining: u32 = 0;
-        if self.at < 128 {
-            remaining = 128 - self.at;
+        if at < 128 {
+            remaining = 128 - at;
         }
         Read {
             refusal: SHORT,
             value: 0,
-            first: self.at,
+            first: at,
             remaining: remaining,
             stream: self,
         }
