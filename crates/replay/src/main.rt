@@ -410,34 +410,34 @@ fn length_call(export: bool) -> bool {
 }
 
 // A read that was asked for: whether there is such a read, and the stream behind it.
-struct Answered {
+struct NextRead {
     known: bool,
     stream: BitStream,
 }
 
-fn unknown(stream: BitStream) -> Answered {
-    Answered {
+fn unknown(stream: BitStream) -> NextRead {
+    NextRead {
         known: false,
         stream: stream,
     }
 }
 
 // The answer of a read, written: the refusal, the value, the first bit, the bits that remain.
-fn written(read: Read) -> Answered {
+fn written(read: Read) -> NextRead {
     write_small(read.refusal);
     write_u32((read.value % 4294967296) as u32);
     write_u32((read.value >> 32) as u32);
     write_small(read.first);
     write_small(read.remaining);
     let stream = read.stream;
-    Answered {
+    NextRead {
         known: true,
         stream: stream,
     }
 }
 
 // The read that a byte asks for: 0 is one bit, 1 to 8 are that many, 128 and c are c bits of 1 to 64.
-fn answered(stream: BitStream, kind: u8) -> Answered {
+fn answered(stream: BitStream, kind: u8) -> NextRead {
     if kind == 0 {
         return written(stream.consume_bit());
     }
@@ -477,9 +477,9 @@ fn reads_call() -> bool {
     if !filled(&mut count) {
         return false;
     }
-    let end = count[0] as usize;
-    let mut kinds = [0u8; 255];
-    reads_of(block, &mut kinds[..end])
+    let n = wide(count[0]) as usize;
+    let mut kinds = [0u8; 256];
+    reads_of(block, &mut kinds[..n])
 }
 
 // One call: whether another may follow.
