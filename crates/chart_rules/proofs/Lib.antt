@@ -1,0 +1,4 @@
+-- The claims, the laws that the proofs cite, and the theorems.
+pub mod Attested
+pub mod Standing
+pub mod Theorems
