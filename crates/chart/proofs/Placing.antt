@@ -1,19 +1,20 @@
 -- The places by their numbers, and their widths by the row of a mode and three anchors.
 -- Assumes nothing.
-use mathlib.Core.Path.{_≡_, refl, ap, _∙_}
-use mathlib.Core.Bool.{Bool}
+use mathlib.Core.Path.{_≡_, refl, ap, sym}
+use mathlib.Core.Bool.{Bool, true, false}
 use mathlib.Core.List.{List}
 use Prim.Native.Nat.{ℕ, _-_, _/_, _%_, _<_, _≤_}
 use native.Mathlib.Omega.{arith}
 use borrow.Author.Tests.{le-ltb, lt-ltb}
 use lib.Dec.{eqb, ltb}
+use lib.ListN.{getD}
 use Rattle.bc7_format.specs.declared.Split.{Split}
 use Rattle.bc7_places.specs.declared.modes.ModeRow.{ModeRow}
 use Rattle.laws.specs.Tables.{pick}
 use Rattle.bcn_format.specs.Partitions.{among}
 use Rattle.bc7_format.specs.Modes.{indexBits}
 use Rattle.bc7_format.specs.Places.{Place, firstFrom, lead, index, pbit, placeAt, psFrom, value, valuesFrom, width}
-use Rattle.bc7_format.specs.Splits.{anchors, partition}
+use Rattle.bc7_format.specs.Splits.{anchors, leadBits, partition}
 use Rattle.bc7_places.specs.Modes.{IsRow}
 use Rattle.bc7_places.specs.Splits.{anchorsOf, threeOf}
 use Rattle.bc7_places.proofs.splits.AnchorPixels.{three-are}
@@ -35,19 +36,33 @@ module _ (i : ℕ) where
   unfolding placeAt
   is-index h = rw (le-ltb i valuesFrom (omega arith), le-ltb i psFrom (omega arith), le-ltb i firstFrom h)
 
--- the columns of a row are those of its mode
-module _ {m : ℕ} {row : ModeRow} (is : IsRow m row) (an : List ℕ) where
-  pub value-wide : (c e : ℕ) → pick (ltb e (row .endpoints)) (pick (eqb c 3) (row .alpha) (row .colour)) 0 ≡ width m an (value c e)
+-- the width of a place by the columns of its mode's row
+module _ {m : ℕ} {row : ModeRow} (is : IsRow m row) (an : List ℕ) (i : ℕ) where
+  pub at-lead : i < valuesFrom → getD (leadBits m) i 0 ≡ width m an (placeAt i)
   unfolding width
-  value-wide c e = rw (is .is)
+  at-lead h = ap (width m an) (sym (is-lead i h))
 
-  pub p-wide : (k : ℕ) → pick (ltb k (row .p)) 1 0 ≡ width m an (pbit k)
+  pub at-value : valuesFrom ≤ i → i < psFrom
+      → pick (ltb ((i - valuesFrom) % 6) (row .endpoints)) (pick (eqb ((i - valuesFrom) / 6) 3) (row .alpha) (row .colour)) 0
+      ≡ width m an (placeAt i)
   unfolding width
-  p-wide k = rw (is .is)
+  at-value h l = rw (is .is) (ap (width m an) (sym (is-value i h l)))
 
-  pub index-wide : (a q : ℕ) → pick (among q an) (pick (eqb a 0) (row .first) (row .second) - 1) (pick (eqb a 0) (row .first) (row .second)) ≡ width m an (index a q)
+  pub at-p-bit : psFrom ≤ i → i < firstFrom → pick (ltb (i - psFrom) (row .p)) 1 0 ≡ width m an (placeAt i)
   unfolding width
-  index-wide a q = rw (is .is)
+  at-p-bit h l = rw (is .is) (ap (width m an) (sym (is-p-bit i h l)))
+
+  abbrev full : ℕ
+  full = pick (eqb ((i - firstFrom) / 16) 0) (row .first) (row .second)
+
+  pub at-index : firstFrom ≤ i → pick (among ((i - firstFrom) % 16) an) (full - 1) full ≡ width m an (placeAt i)
+  unfolding width
+  at-index h = rw (is .is) (ap (width m an) (sym (is-index i h)))
+
+-- where an index has no bits an anchor can't have one less
+pub no-width : (t : Bool) {w : ℕ} → w ≡ 0 → 0 ≡ pick t (w - 1) w
+no-width true e = omega arith
+no-width false e = sym e
 
 -- three anchors are the split's
 pub three-wide : (m : ℕ) (s : Split) → partition s < 64 → (x : Place) → width m (threeOf (anchorsOf s)) x ≡ width m (anchors s) x

@@ -15,10 +15,17 @@ use Rattle.bc7_format.proofs.Starts.{start-next}
 use Rattle.bc7_places.specs.declared.splits.Anchors.{Anchors}
 use Rattle.bc7_places.specs.Splits.{anchorsOf, threeOf}
 use Rattle.bc7_places.proofs.modes.Bounds.{low-partition}
-use Rattle.chart_rules.specs.Charts.{fieldText, placesText}
+use Rattle.chart_rules.specs.Charts.{fieldText, placesText, textRoom}
 use Rattle.chart_rules.proofs.Standing.{start-low, wide}
 use Rattle.chart.specs.Asked.{OfMode}
 use Rattle.chart.proofs.Placing.{three-wide}
+
+module _ (m : ℕ) (s : Split) (asked : OfMode m s) where
+  pub few : partition s < 64
+  few = low-partition m (partition s) (asked .low) (asked .few)
+
+  pub bit-low : (i : ℕ) → i ≤ placeCount → start m s i ≤ 128
+  bit-low = start-low m s (asked .low) (asked .kind) (asked .few)
 
 module _ (m : ℕ) (s : Split) (out₀ : List ℕ) where
   -- so far, the first i places
@@ -32,33 +39,33 @@ module _ (m : ℕ) (s : Split) (out₀ : List ℕ) where
   unfolding placesText start
   walked-none = record { within = omega arith; text = written-none; room = omega arith; stands = refl }
 
-  module _ (asked : OfMode m s) where
-    pub few : partition s < 64
-    few = low-partition m (partition s) (asked .low) (asked .few)
+  -- all of them
+  pub walked-all : {i : ℕ} {out : List ℕ} {at bit : ℕ} → Walked i out at bit → placeCount ≤ i
+      → Written out₀ 0 (placesText m s placeCount) out at × (at ≤ textRoom)
+  walked-all {i} {out} {at} w h =
+      let all : i ≡ placeCount = omega (arith, w .within) in
+      (subst (λ (k : ℕ). Written out₀ 0 (placesText m s k) out at) all (w .text), omega (arith, w .room))
 
-    pub bit-low : (i : ℕ) → i ≤ placeCount → start m s i ≤ 128
-    bit-low = start-low m s (asked .low) (asked .kind) (asked .few)
+  -- the next place: its width by three anchors is its own, and its bits are there
+  module _ (asked : OfMode m s) {i : ℕ} (h : i < placeCount) {out : List ℕ} {at bit w : ℕ} {an : Anchors} (so-far : Walked i out at bit)
+      (ea : an ≡ anchorsOf s) (ew : w ≡ width m (threeOf an) (placeAt i)) where
+    pub width-is : w ≡ wide m s i
+    width-is = ew ∙ ap (λ (a : Anchors). width m (threeOf a) (placeAt i)) ea ∙ three-wide m s (few m s asked) (placeAt i)
 
-    -- the next place: its width by three anchors is its own, and its bits are there
-    module _ {i : ℕ} (h : i < placeCount) {out : List ℕ} {at bit w : ℕ} {an : Anchors} (so-far : Walked i out at bit) (ea : an ≡ anchorsOf s)
-        (ew : w ≡ width m (threeOf an) (placeAt i)) where
-      pub width-is : w ≡ wide m s i
-      width-is = ew ∙ ap (λ (a : Anchors). width m (threeOf a) (placeAt i)) ea ∙ three-wide m s few (placeAt i)
+    pub next-is : bit + w ≡ start m s (suc i)
+    next-is = let n = start-next m s i h in omega (arith, n, so-far .stands, width-is)
 
-      pub next-is : bit + w ≡ start m s (suc i)
-      next-is = let n = start-next m s i h in omega (arith, n, so-far .stands, width-is)
+    pub next-low : bit + w ≤ 128
+    next-low = omega (arith, next-is, bit-low m s asked (suc i) h)
 
-      pub next-low : bit + w ≤ 128
-      next-low = omega (arith, next-is, bit-low (suc i) h)
-
-      pub walked-more : {out' : List ℕ} {at' : ℕ} → Written out at (fieldText (placeAt i) bit w) out' at' → at' ≤ at + 22
-          → Walked (i + 1) out' at' (bit + w)
-      unfolding placesText
-      walked-more {out'} {at'} wr l =
-          let e : i + 1 ≡ suc i = add-one i in
-          subst (λ (k : ℕ). Walked k out' at' (bit + w)) (sym e) (record {
-            within = h;
-            text = written-then (so-far .text) (rw (so-far .stands, width-is) at wr);
-            room = omega (arith, l, so-far .room);
-            stands = next-is;
-          })
+    pub walked-more : {out' : List ℕ} {at' : ℕ} → Written out at (fieldText (placeAt i) bit w) out' at' → at' ≤ at + 22
+        → Walked (i + 1) out' at' (bit + w)
+    unfolding placesText
+    walked-more {out'} {at'} wr l =
+        let e : i + 1 ≡ suc i = add-one i in
+        subst (λ (k : ℕ). Walked k out' at' (bit + w)) (sym e) (record {
+          within = h;
+          text = written-then (so-far .text) (rw (so-far .stands, width-is) at wr);
+          room = omega (arith, l, so-far .room);
+          stands = next-is;
+        })

@@ -21,8 +21,8 @@ use bc7_places::modes::ModeRow;
 use bc7_places::modes::mode_of;
 use bc7_places::modes::mode_row;
 use bc7_places::places::FIRST;
-use bc7_places::places::PLACES;
 use bc7_places::places::P_BITS;
+use bc7_places::places::PLACES;
 use bc7_places::places::VALUES;
 use bc7_places::splits::Anchors;
 use bc7_places::splits::anchors_of;
@@ -216,6 +216,7 @@ fn put_places(mode: u8, split: Split, out: &mut [u8]) -> usize
 
 fn refused(refusal: u8) -> Chart
     ensures { λ r. ⌜ r ≡ charted refusal (refusedText refusal) ⌝ }
+    ensures { λ r. ⌜ r .length ≤ textRoom ⌝ }
 {
     let mut text = [0u8; ROOM];
     let length = refused_text(refusal, 0, &mut text);
@@ -239,6 +240,7 @@ fn split_in(block: [u8; 16], mode: u8) -> Split
 fn accepted(block: [u8; 16], mode: u8) -> Chart
     requires { ⌜ BlockMode block mode ⌝ }
     ensures { λ r. ⌜ r ≡ charted 0 (placesText mode (splitOf block) placeCount) ⌝ }
+    ensures { λ r. ⌜ r .length ≤ textRoom ⌝ }
 {
     let mut text = [0u8; ROOM];
     let length = put_places(mode, split_in(block, mode), &mut text);
@@ -262,6 +264,7 @@ fn whole(input: &[u8]) -> [u8; 16]
 // The chart of an input: `refused 10` unless it has exactly sixteen bytes, then `refused 1` for a reserved block.
 pub fn chart(input: &[u8]) -> Chart
     ensures { λ r. ⌜ Charts (now (input .entry)) r ⌝ }
+    ensures { λ r. ⌜ r .length ≤ textRoom ⌝ }
 {
     if input.len() != 16 {
         return refused(10);
