@@ -1,10 +1,11 @@
-// The program `bitchart`: the bit chart of a block that comes on standard input. It reads seventeen bytes, for one more than a block has
-// would be one too many, hands over those that came to the library `chart`, and writes its answer; what is printed is decided there.
+// The program `bitchart`: the bit chart of a block that comes on standard input. It reads what the library `chart` wants, hands over what
+// came, and writes the answer; what is wanted and what is printed is decided there.
 //
 // A program has no exit status. Started with an argument, whatever it is, it says `refused` on standard error where the input was
 // refused, so that the one who started it can tell.
 ghost use Prim.Native.Nat.{_≤_};
 ghost use lib.ListN.{length};
+ghost use Rattle.chart_rules.specs.Charts.{wantedBytes};
 use libc::STDERR_FILENO;
 use pipes::read_wanted;
 use pipes::write_whole;
@@ -18,9 +19,9 @@ enum Outcome {
 }
 
 fn chart_with(buffer: &mut [u8]) -> Outcome
-    requires { ⌜ 17 ≤ length (now buffer) ⌝ }
+    requires { ⌜ wantedBytes ≤ length (now buffer) ⌝ }
 {
-    let got = read_wanted(17, buffer);
+    let got = read_wanted(chart::wanted(), buffer);
     if got.failed {
         return Outcome::CannotRead;
     }

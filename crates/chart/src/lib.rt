@@ -13,7 +13,7 @@ ghost use Rattle.bc7_places.specs.Modes.{IsRow};
 ghost use Rattle.bc7_places.specs.Splits.{threeOf};
 ghost use Rattle.listing_rules.specs.Text.{refusedText};
 ghost use Rattle.chart_rules.specs.Names.{channelName, leadName, nameOf, setName};
-ghost use Rattle.chart_rules.specs.Charts.{Charts, charted, fieldText, placesText, textRoom};
+ghost use Rattle.chart_rules.specs.Charts.{Charts, charted, fieldText, placesText, textRoom, wantedBytes};
 ghost use Rattle.chart.specs.Asked.{BlockMode, FieldAsked, OfMode};
 use bc7_format::Split;
 use bc7_places::lines::index_width;
@@ -259,6 +259,13 @@ fn whole(input: &[u8]) -> [u8; 16]
     let mut block = [0u8; 16];
     bytes::copy(input, &mut block);
     block
+}
+
+// How many bytes a program reads of its input: one more than a block has tells that there are too many.
+pub fn wanted() -> usize
+    ensures { λ r. ⌜ r ≡ wantedBytes ⌝ }
+{
+    17
 }
 
 // The chart of an input: `refused 10` unless it has exactly sixteen bytes, then `refused 1` for a reserved block.

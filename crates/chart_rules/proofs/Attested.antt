@@ -53,7 +53,7 @@ unfolding text chart chartRefusal placesText fieldText nameOf ascii decimal digi
     kindOfMode endpointCount splitAt splitOf placeAt width widths start anchors2 anchors3 marks strings2 strings3
 chart-of-mode-0 = refl
 
--- mode 4 with index mode 1: the 2-bit set is stored first all the same. It is the longest chart there is
+-- mode 4 with index mode 1: the 2-bit set is stored first all the same
 abbrev chart4 : List String
 chart4 =
     "mode 0 5" ∷ "rotation 5 2" ∷ "index-mode 7 1" ∷ "red-0 8 5" ∷ "red-1 13 5" ∷ "green-0 18 5" ∷ "green-1 23 5" ∷ "blue-0 28 5" ∷

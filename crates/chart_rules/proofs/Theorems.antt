@@ -28,7 +28,7 @@ use Rattle.bc7_format.proofs.Opening.{good-kind, good-partition, opened-good}
 use Rattle.bc7_format.proofs.Places.{inside-placeAt, pos-placeAt}
 use Rattle.bc7_format.proofs.Starts.{at-field, start-next}
 use Rattle.listing_rules.specs.Text.{ascii, decimal, digitsIn, refusedText}
-use Rattle.chart_rules.specs.Charts.{Charts, chart, chartRefusal, chartRules, fieldText, placeText, placesText}
+use Rattle.chart_rules.specs.Charts.{Charts, chart, chartRefusal, chartRules, fieldText, placeText, placesText, wantedBytes}
 use Rattle.chart_rules.specs.Names.{nameOf}
 use Rattle.chart_rules.proofs.Standing.{all-passed, nothing-between, start-zero, wide}
 
@@ -118,19 +118,19 @@ pub accepted-prints : (bs : List ℕ) → chartRefusal bs ≡ 0 → chart bs ≡
 unfolding chart
 accepted-prints bs e = answer-0 _ _ e
 
--- SEVENTEEN BYTES TELL: what comes behind them changes nothing
+-- THE WANTED BYTES TELL: what comes behind them changes nothing
 pub not-sixteen : (bs : List ℕ) → length bs ≢ 16 → chartRefusal bs ≡ 10
 unfolding chartRefusal first
 not-sixteen bs n = rw (ne-eqb (length bs) 16 n)
 
-pub seventeen-tell : (s : List ℕ) → chart (take 17 s) ≡ chart s
-seventeen-tell s =
+pub wanted-bytes-tell : (s : List ℕ) → chart (take wantedBytes s) ≡ chart s
+wanted-bytes-tell s =
     ⊎-elim
-    (λ long. refused-prints-only (take 17 s) 9
-    (not-sixteen (take 17 s) (λ e. let k = length-take-le 17 s (omega arith) in let q : ⊥ = omega arith in q))
+    (λ long. refused-prints-only (take wantedBytes s) 9
+    (not-sixteen (take wantedBytes s) (λ e. let k = length-take-le wantedBytes s (omega arith) in let q : ⊥ = omega arith in q))
     ∙ sym (refused-prints-only s 9 (not-sixteen s (λ e. let q : ⊥ = omega arith in q))))
-    (λ short. ap chart (take-all 17 s short))
-    (lt-or 17 (length s))
+    (λ short. ap chart (take-all wantedBytes s short))
+    (lt-or wantedBytes (length s))
 
 -- any two answers that the promise admits coincide
 pub determined-chart : (bs : List ℕ) (a b : Chart) → Charts bs a → Charts bs b → a ≡ b

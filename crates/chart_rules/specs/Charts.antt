@@ -41,6 +41,10 @@ chartRules bs = unless 10 (length bs ≡ 16) ∷ unless 1 (modeOf bs ≢ 8) ∷ 
 unfoldable pub chart : List ℕ → List ℕ
 chart bs = pick (eqb (chartRefusal bs) 0) (placesText (modeOf bs) (splitOf bs) placeCount) (refusedText (chartRefusal bs))
 
+-- so many bytes of an input are enough to tell: those of a block, and one more
+abbrev pub wantedBytes : ℕ
+wantedBytes = 17
+
 -- an answer with its text, for which there is room: no field's has more than 22 bytes
 abbrev pub textRoom : ℕ
 textRoom = 1452
