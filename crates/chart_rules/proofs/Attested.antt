@@ -5,6 +5,7 @@ use mathlib.Core.List.{List, [], _∷_, _++_, map}
 use Prim.Native.Nat.{ℕ}
 use Prim.Native.String.{String}
 use lib.ListN.{length, replicate}
+use Rattle.bc7_format.specs.declared.Split.the-variants.{Whole, Vector}
 use Rattle.laws.specs.Refusals.{first}
 use Rattle.laws.specs.Tables.{table, tableFrom}
 use Rattle.bcn_format.specs.Block.{number, trailing}
@@ -15,8 +16,17 @@ use Rattle.bc7_format.specs.Splits.{splitAt, splitOf}
 use Rattle.bc7_format.proofs.Examples.{block0, block4}
 use Rattle.listing_rules.specs.Text.{ascii, decimal, digitsIn, refusedText}
 use Rattle.listing_rules.proofs.Attested.{text}
-use Rattle.chart_rules.specs.Charts.{chart, chartRefusal, fieldText, placesText}
+use Rattle.chart_rules.specs.Charts.{chart, chartRefusal, fieldText, placeText, placesText}
 use Rattle.chart_rules.specs.Names.{nameOf}
+
+-- places of mode 6: the marker, no partition, red of the endpoints 0 to 2, of which there are two, the first index, which is the
+-- anchor's, and the next; and the first of mode 4's second set
+pub texts-of-places : map (placeText 6 Whole) (0 ∷ 1 ∷ 4 ∷ 5 ∷ 6 ∷ 34 ∷ 35 ∷ []) ++ map (placeText 4 (Vector 2 1)) (50 ∷ [])
+    ≡ map text
+    (("mode 0 7" ∷ []) ∷ [] ∷ ("red-0 7 7" ∷ []) ∷ ("red-1 14 7" ∷ []) ∷ [] ∷ ("index-0 65 3" ∷ []) ∷ ("index-1 68 4" ∷ []) ∷
+    ("second-0 81 2" ∷ []) ∷ [])
+unfolding text fieldText nameOf ascii decimal digitsIn table tableFrom modeRow endpointCount placeAt width widths start
+texts-of-places = refl
 
 -- README's block C, and C corrected: mode 6
 abbrev blockC : List ℕ
