@@ -8,6 +8,7 @@ from dice import Dice
 from listing import difference, printed
 
 REFUSED = "refused %d\n"
+LEAD = ("mode", "partition", "rotation", "index-mode")
 CHANNELS = ("red", "green", "blue", "alpha")
 
 

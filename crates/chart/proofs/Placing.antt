@@ -1,6 +1,6 @@
 -- The places by their numbers, and their widths by the row of a mode and three anchors.
 -- Assumes nothing.
-use mathlib.Core.Path.{_≡_, refl, ap, sym}
+use mathlib.Core.Path.{_≡_, refl, ap, sym, _∙_}
 use mathlib.Core.Bool.{Bool, true, false}
 use mathlib.Core.List.{List}
 use Prim.Native.Nat.{ℕ, _-_, _/_, _%_, _<_, _≤_}
@@ -52,12 +52,10 @@ module _ {m : ℕ} {row : ModeRow} (is : IsRow m row) (an : List ℕ) (i : ℕ) 
   unfolding width
   at-p-bit h l = rw (is .is) (ap (width m an) (sym (is-p-bit i h l)))
 
-  abbrev full : ℕ
-  full = pick (eqb ((i - firstFrom) / 16) 0) (row .first) (row .second)
-
-  pub at-index : firstFrom ≤ i → pick (among ((i - firstFrom) % 16) an) (full - 1) full ≡ width m an (placeAt i)
+  pub at-index : firstFrom ≤ i → {full w : ℕ} → full ≡ pick (eqb ((i - firstFrom) / 16) 0) (row .first) (row .second)
+      → w ≡ pick (among ((i - firstFrom) % 16) an) (full - 1) full → w ≡ width m an (placeAt i)
   unfolding width
-  at-index h = rw (is .is) (ap (width m an) (sym (is-index i h)))
+  at-index h ef ew = ew ∙ rw (ef, is .is) (ap (width m an) (sym (is-index i h)))
 
 -- where an index has no bits an anchor can't have one less
 pub no-width : (t : Bool) {w : ℕ} → w ≡ 0 → 0 ≡ pick t (w - 1) w

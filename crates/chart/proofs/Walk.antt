@@ -15,7 +15,8 @@ use Rattle.bc7_format.proofs.Starts.{start-next}
 use Rattle.bc7_places.specs.declared.splits.Anchors.{Anchors}
 use Rattle.bc7_places.specs.Splits.{anchorsOf, threeOf}
 use Rattle.bc7_places.proofs.modes.Bounds.{low-partition}
-use Rattle.chart_rules.specs.Charts.{fieldText, placesText, textRoom}
+use Rattle.chart_rules.specs.Charts.{fieldText, placesText, textMost, textRoom}
+use Rattle.chart_rules.proofs.Lengths.{some-texts}
 use Rattle.chart_rules.proofs.Standing.{start-low, wide}
 use Rattle.chart.specs.Asked.{OfMode}
 use Rattle.chart.proofs.Placing.{three-wide}
@@ -32,19 +33,21 @@ module _ (m : ℕ) (s : Split) (out₀ : List ℕ) where
   pub record Walked (i : ℕ) (out : List ℕ) (at bit : ℕ) : Type 0 where
     pub within : i ≤ placeCount
     pub text : Written out₀ 0 (placesText m s i) out at
-    pub room : at ≤ 22 * i
     pub stands : bit ≡ start m s i
 
   pub walked-none : Walked 0 out₀ 0 0
   unfolding placesText start
-  walked-none = record { within = omega arith; text = written-none; room = omega arith; stands = refl }
+  walked-none = record { within = omega arith; text = written-none; stands = refl }
 
-  -- all of them
-  pub walked-all : {i : ℕ} {out : List ℕ} {at bit : ℕ} → Walked i out at bit → placeCount ≤ i
-      → Written out₀ 0 (placesText m s placeCount) out at × (at ≤ textRoom)
-  walked-all {i} {out} {at} w h =
-      let all : i ≡ placeCount = omega (arith, w .within) in
-      (subst (λ (k : ℕ). Written out₀ 0 (placesText m s k) out at) all (w .text), omega (arith, w .room))
+  module _ (asked : OfMode m s) {i : ℕ} {out : List ℕ} {at bit : ℕ} (w : Walked i out at bit) where
+    pub at-most : at ≤ textMost
+    at-most = omega (arith, w .text .ends, some-texts m s (asked .low) (asked .kind) (asked .few) i (w .within))
+
+    -- all of them
+    pub walked-all : placeCount ≤ i → Written out₀ 0 (placesText m s placeCount) out at × (at ≤ textRoom)
+    walked-all h =
+        let all : i ≡ placeCount = omega (arith, w .within) in
+        (subst (λ (k : ℕ). Written out₀ 0 (placesText m s k) out at) all (w .text), omega (arith, at-most))
 
   -- the next place: its width by three anchors is its own, and its bits are there
   module _ (asked : OfMode m s) {i : ℕ} (h : i < placeCount) {out : List ℕ} {at bit w : ℕ} {an : Anchors} (so-far : Walked i out at bit)
@@ -58,14 +61,12 @@ module _ (m : ℕ) (s : Split) (out₀ : List ℕ) where
     pub next-low : bit + w ≤ 128
     next-low = omega (arith, next-is, bit-low m s asked (suc i) h)
 
-    pub walked-more : {out' : List ℕ} {at' : ℕ} → Written out at (fieldText (placeAt i) bit w) out' at' → at' ≤ at + 22
-        → Walked (i + 1) out' at' (bit + w)
+    pub walked-more : {out' : List ℕ} {at' : ℕ} → Written out at (fieldText (placeAt i) bit w) out' at' → Walked (i + 1) out' at' (bit + w)
     unfolding placesText
-    walked-more {out'} {at'} wr l =
+    walked-more {out'} {at'} wr =
         let e : i + 1 ≡ suc i = add-one i in
         subst (λ (k : ℕ). Walked k out' at' (bit + w)) (sym e) (record {
           within = h;
           text = written-then (so-far .text) (rw (so-far .stands, width-is) at wr);
-          room = omega (arith, l, so-far .room);
           stands = next-is;
         })

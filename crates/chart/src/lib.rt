@@ -35,8 +35,8 @@ use text::put_spaced;
 use text::put_word;
 use text::refused_text;
 
-// Room for the text of every place.
-const ROOM: usize = 1452;
+// Room for the longest chart, and for a field's text behind it.
+const ROOM: usize = 609;
 
 // The width of the marker, the partition, the rotation or the index mode.
 fn lead_width(mode: u8, row: ModeRow, lead: usize) -> u32
@@ -185,7 +185,6 @@ fn put_name(place: usize, at: usize, out: &mut [u8]) -> usize
 fn put_field(place: usize, bit: u32, width: u32, at: usize, out: &mut [u8]) -> usize
     requires { ⌜ FieldAsked place bit width at (length (now out)) ⌝ }
     ensures { λ r. ⌜ Written (now (out .entry)) at (fieldText (placeAt place) bit width) (now (out .exit)) r ⌝ }
-    ensures { λ r. ⌜ r ≤ at + 22 ⌝ }
 {
     if width == 0 {
         return at;

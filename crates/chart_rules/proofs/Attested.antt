@@ -16,7 +16,7 @@ use Rattle.bc7_format.specs.Splits.{splitAt, splitOf}
 use Rattle.bc7_format.proofs.Examples.{block0, block4}
 use Rattle.listing_rules.specs.Text.{ascii, decimal, digitsIn, refusedText}
 use Rattle.listing_rules.proofs.Attested.{text}
-use Rattle.chart_rules.specs.Charts.{chart, chartRefusal, fieldText, placeText, placesText}
+use Rattle.chart_rules.specs.Charts.{chart, chartRefusal, fieldText, placeText, placesText, textMost}
 use Rattle.chart_rules.specs.Names.{nameOf}
 
 -- places of mode 6: the marker, no partition, red of the endpoints 0 to 2, of which there are two, the first index, which is the
@@ -79,6 +79,11 @@ pub chart-of-mode-4 : chart block4 ≡ text chart4
 unfolding text chart chartRefusal placesText fieldText nameOf ascii decimal digitsIn refusedText first table tableFrom trailing number modeOf modeRow
     kindOfMode endpointCount splitAt splitOf placeAt width widths start anchors2 anchors3 marks strings2 strings3
 chart-of-mode-4 = refl
+
+-- and no chart is longer
+pub longest : length (text chart4) ≡ textMost
+unfolding text ascii
+longest = refl
 
 -- no bytes, fifteen zeros and seventeen, and C with a byte more: 10 comes first; sixteen zeros: 1
 pub charts-refused : map chart ([] ∷ replicate 15 0 ∷ replicate 17 0 ∷ (blockC ++ (0 ∷ [])) ∷ replicate 16 0 ∷ [])

@@ -5,10 +5,11 @@ use mathlib.Core.Bool.{Bool, true, false}
 use mathlib.Core.Logic.{_↔_, _≢_, ⊎-elim}
 use mathlib.Core.List.{List, [], _∷_}
 use Prim.Native.Nat.{ℕ, zero, suc, _+_, _<_, _≤_}
+use native.Mathlib.Decide.{ℕ-discrete}
 use native.Mathlib.Nat.{le-refl}
 use native.Mathlib.Omega.{arith}
 use borrow.Author.Tests.{eq-eqb, ne-eqb}
-use lib.Dec.{T, eqb, eqb→eq, eqb-refl, ltb}
+use lib.Dec.{T, eqb, eqb→eq, leb, leb→le, ltb}
 use lib.ListN.{length, getD, take}
 use lib.Seq.{length-take-le, take-all}
 use Rattle.chart_rules.specs.declared.Chart.{Chart}
@@ -24,12 +25,15 @@ use Rattle.bcn_format.specs.Block.{eights, field, number}
 use Rattle.bc7_format.specs.Modes.{modeOf}
 use Rattle.bc7_format.specs.Places.{opened, placeAt, placeCount, start, width, widths}
 use Rattle.bc7_format.specs.Splits.{anchors, splitOf}
+use Rattle.bc7_format.proofs.Modes.{mode-le-8}
 use Rattle.bc7_format.proofs.Opening.{good-kind, good-partition, opened-good}
 use Rattle.bc7_format.proofs.Places.{inside-placeAt, pos-placeAt}
 use Rattle.bc7_format.proofs.Starts.{at-field, start-next}
+use Rattle.bc7_format.proofs.Subsets.{sixteen-bytes}
 use Rattle.listing_rules.specs.Text.{ascii, decimal, digitsIn, refusedText}
-use Rattle.chart_rules.specs.Charts.{Charts, chart, chartRefusal, chartRules, fieldText, placeText, placesText, wantedBytes}
+use Rattle.chart_rules.specs.Charts.{Charts, chart, chartRefusal, chartRules, fieldText, placeText, placesText, textMost, wantedBytes}
 use Rattle.chart_rules.specs.Names.{nameOf}
+use Rattle.chart_rules.proofs.Lengths.{all-texts}
 use Rattle.chart_rules.proofs.Standing.{all-passed, nothing-between, start-zero, wide}
 
 module _ (m : ℕ) (s : Split) where
@@ -131,6 +135,27 @@ wanted-bytes-tell s =
     ∙ sym (refused-prints-only s 9 (not-sixteen s (λ e. let q : ⊥ = omega arith in q))))
     (λ short. ap chart (take-all wantedBytes s short))
     (lt-or wantedBytes (length s))
+
+-- HOW LONG: no chart has more than 587 bytes
+reserved : (bs : List ℕ) → length bs ≡ 16 → modeOf bs ≡ 8 → chartRefusal bs ≡ 1
+unfolding chartRefusal first
+reserved bs l m = rw (eq-eqb (length bs) 16 l, eq-eqb (modeOf bs) 8 m)
+
+refused-short : (bs : List ℕ) (n : ℕ) → chartRefusal bs ≡ suc n → T (leb (length (refusedText (suc n))) textMost) → length (chart bs) ≤ textMost
+refused-short bs n e t = rw (refused-prints-only bs n e) (leb→le (length (refusedText (suc n))) textMost t)
+
+pub chart-at-most : (bs : List ℕ) → ((i : ℕ) → getD bs i 0 < 256) → length (chart bs) ≤ textMost
+unfolding refusedText ascii decimal digitsIn
+chart-at-most bs bytes = go (ℕ-discrete (length bs) 16) (ℕ-discrete (modeOf bs) 8)
+  where
+    go : Dec (length bs ≡ 16) → Dec (modeOf bs ≡ 8) → length (chart bs) ≤ textMost
+    go (no n) m = refused-short bs 9 (not-sixteen bs n) tt
+    go (yes l) (yes m) = refused-short bs 0 (reserved bs l m) tt
+    go (yes l) (no n) =
+        let low : modeOf bs < 8 = omega (arith, n, mode-le-8 bs) in
+        let g = opened-good bs (sixteen-bytes bs l (λ i h. bytes i)) low in
+        rw (accepted-prints bs (accepted-when (chart-answers bs) .1 (l, (n, tt))))
+        (all-texts (modeOf bs) (splitOf bs) low (good-kind g) (good-partition g))
 
 -- any two answers that the promise admits coincide
 pub determined-chart : (bs : List ℕ) (a b : Chart) → Charts bs a → Charts bs b → a ≡ b

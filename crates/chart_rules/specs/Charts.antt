@@ -45,10 +45,14 @@ chart bs = pick (eqb (chartRefusal bs) 0) (placesText (modeOf bs) (splitOf bs) p
 abbrev pub wantedBytes : ℕ
 wantedBytes = 17
 
--- an answer with its text, for which there is room: no field's has more than 22 bytes
-abbrev pub textRoom : ℕ
-textRoom = 1452
+-- no chart is longer, and the room that an answer has for it: a field's text is written where 22 bytes are free
+abbrev pub textMost : ℕ
+textMost = 587
 
+abbrev pub textRoom : ℕ
+textRoom = 609
+
+-- an answer with its text
 abbrev pub charted : ℕ → List ℕ → Chart
 charted r t = record { refusal = r; length = length t; text = padded textRoom t }
 

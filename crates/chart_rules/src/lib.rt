@@ -4,5 +4,5 @@
 pub struct Chart {
     pub refusal: u8,
     pub length: usize,
-    pub text: [u8; 1452],
+    pub text: [u8; 609],
 }

@@ -1,6 +1,5 @@
 -- `put_field` meets its contract.
 -- Assumes nothing.
-use native.Mathlib.Omega.{arith}
 use borrow.Author.Tests.{eq-eqb, ne-eqb}
 use Rattle.laws.proofs.Padding.{written-none, written-then}
 use Rattle.chart_rules.specs.Charts.{fieldText}
@@ -10,7 +9,7 @@ use Rattle.chart.proofs.put_field.Tie as tie
 
 returns : tie.Need-returns
 unfolding fieldText
-returns c = (rw (eq-eqb _ 0 (c .if1 .taken)) written-none, omega arith)
+returns c = rw (eq-eqb _ 0 (c .if1 .taken)) written-none
 
 put-name-requires : tie.Need-put-name-requires
 put-name-requires c κs = search needs
@@ -41,7 +40,7 @@ returns-2 c =
     let begun = wide .before .before .before .before in
     let named = begun .before .before .before .before in
     let told = written-then (written-then (named .put-name .ensures .0) (begun .put-spaced .ensures .0)) (wide .put-spaced2 .ensures .0) in
-    (rw (ne-eqb _ 0 (named .before .before .if1 .left)) (written-then told (ended .put .ensures .0)), omega arith)
+    rw (ne-eqb _ 0 (named .before .before .if1 .left)) (written-then told (ended .put .ensures .0))
 
 pub put-field-spec : {M : Type 1} → statement M
 put-field-spec =

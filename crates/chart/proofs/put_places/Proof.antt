@@ -8,7 +8,7 @@ use Rattle.laws.proofs.Padding.{written-long}
 use Rattle.bc7_format.specs.Places.{placeCount}
 use Rattle.bc7_places.specs.Splits.{anchorsOf}
 use Rattle.chart.specs.Asked.{OfMode}
-use Rattle.chart.proofs.Walk.{Walked, bit-low, few, next-low, walked-all, walked-more, walked-none}
+use Rattle.chart.proofs.Walk.{Walked, at-most, bit-low, few, next-low, walked-all, walked-more, walked-none}
 use Rattle.chart.proofs.put_places.Statement.{statement}
 use Rattle.chart.proofs.put_places.Tie as tie
 
@@ -47,7 +47,7 @@ put-field-requires c κs =
       there = omega arith;
       starts = omega (arith, w .stands, bit-low _ _ (begun l .pre .0) _ (w .within));
       ends = omega (arith, next-low _ _ _ (begun l .pre .0) (omega arith) w (l .before .anchors-of .ensures) (c .before .width-at .ensures));
-      fits = omega (arith, w .room, written-long (w .text), begun l .pre .1);
+      fits = omega (arith, at-most _ _ _ (begun l .pre .0) w, written-long (w .text), begun l .pre .1);
     }
 
 add-bit : tie.Need-add-bit Inv-loop μ-loop
@@ -66,14 +66,13 @@ loop-again : tie.Need-loop-again Inv-loop μ-loop
 loop-again c =
     let f = c .before .before in
     let l = f .before .before .before .before in
-    λ t o e. walked-more _ t _ o (omega arith) (l .loop .inv t o e) e (f .before .before .width-at .ensures) (f .put-field .ensures .0)
-    (f .put-field .ensures .1)
+    λ t o e. walked-more _ t _ o (omega arith) (l .loop .inv t o e) e (f .before .before .width-at .ensures) (f .put-field .ensures)
 
 same-length : tie.Need-same-length Inv-loop μ-loop
 same-length c = written-long (so-far (c .before) .text)
 
 returns : tie.Need-returns Inv-loop μ-loop
-returns c = walked-all _ _ _ (so-far (c .before)) (omega arith)
+returns c = let l = c .before in walked-all _ _ _ (begun l .pre .0) (so-far l) (omega arith)
 
 pub put-places-spec : {M : Type 1} → statement M
 put-places-spec =

@@ -37,8 +37,7 @@ stored-width-requires c κs = search needs
 returns-4 : tie.Need-returns-4
 returns-4 c =
     let else = c .before .before in
-    rw (c .before .index-width .ensures) at (c .stored-width .ensures)
-    ∙ at-index (else .before .before .before .pre .0) _ _ (else .if3 .left)
+    at-index (else .before .before .before .pre .0) _ _ (else .if3 .left) (c .before .index-width .ensures) (c .stored-width .ensures)
 
 pub width-at-spec : {M : Type 1} → statement M
 width-at-spec =
