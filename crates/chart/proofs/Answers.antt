@@ -1,9 +1,9 @@
 -- The answer from a text that was written into zeros, and which answer it is.
 -- Assumes nothing.
-use mathlib.Core.Path.{_≡_, refl, sym, ap, ap₂, _∙_}
+use mathlib.Core.Path.{_≡_, sym, ap, ap₂, _∙_}
 use mathlib.Core.List.{List, _++_, append-nil}
 use mathlib.Core.Logic.{_≢_}
-use Prim.Native.Nat.{ℕ, _+_, _<_, _≤_}
+use Prim.Native.Nat.{ℕ, _+_, _≤_}
 use native.Mathlib.Nat.{le-refl}
 use native.Mathlib.Omega.{arith}
 use borrow.Author.Tests.{eq-eqb, ne-eqb}
@@ -21,9 +21,9 @@ use Rattle.bc7_format.specs.Places.{placeCount}
 use Rattle.bc7_format.specs.Splits.{splitOf}
 use Rattle.bc7_format.proofs.Opening.{good-kind, good-partition, opened-good}
 use Rattle.listing_rules.specs.Text.{refusedText}
-use Rattle.chart_rules.specs.Charts.{Charts, chart, chartRefusal, charted, placesText, textRoom}
+use Rattle.chart_rules.specs.Charts.{Charts, chartRefusal, charted, placesText, textRoom}
 use Rattle.chart_rules.proofs.Theorems.{accepted-prints, not-sixteen, refused-prints-only}
-use Rattle.chart.specs.Asked.{BlockMode, OfMode}
+use Rattle.chart.specs.Asked.{BlockMode, SplitOfMode}
 
 pub answered : (r : ℕ) {t out : List ℕ} {n : ℕ} → Written (replicate textRoom 0) 0 t out n → n ≤ textRoom
     → _≡_ {A = Chart} (record { refusal = r; length = n; text = out }) (charted r t)
@@ -63,7 +63,7 @@ module _ (bs : List ℕ) (l : length bs ≡ 16) {block : List ℕ} {mode : ℕ} 
       ap₂ (λ (m : ℕ) (b : List ℕ). charted 0 (placesText m (splitOf b) placeCount)) mode-is eb ∙ sym (ap₂ charted e (accepted-prints bs e))
 
 -- the split of a block that is not reserved
-pub of-mode : (bs : List ℕ) → Fit eights bs → {mode : ℕ} {s : Split} → BlockMode bs mode → s ≡ splitOf bs → OfMode mode s
+pub of-mode : (bs : List ℕ) → Fit eights bs → {mode : ℕ} {s : Split} → BlockMode bs mode → s ≡ splitOf bs → SplitOfMode mode s
 of-mode bs sixteen b e =
     let g = opened-good bs sixteen (rw (b .is) at (b .low)) in
     record { low = b .low; kind = rw (e, b .is) (good-kind g); few = rw (e, b .is) (good-partition g) }

@@ -2,13 +2,12 @@
 -- Assumes nothing.
 use mathlib.Core.Path.{_≡_, refl, ap, sym, subst, _∙_}
 use mathlib.Core.List.{List}
-use Prim.Native.Nat.{ℕ, suc, _+_, _*_, _<_, _≤_}
+use Prim.Native.Nat.{ℕ, suc, _+_, _<_, _≤_}
 use native.Mathlib.Numerals.{add-one}
 use native.Mathlib.Omega.{arith}
 use Rattle.bc7_format.specs.declared.Split.{Split}
 use Rattle.laws.specs.Padding.{Written}
 use Rattle.laws.proofs.Padding.{written-none, written-then}
-use Rattle.bc7_format.specs.Modes.{partitionBits}
 use Rattle.bc7_format.specs.Places.{placeAt, placeCount, start, width}
 use Rattle.bc7_format.specs.Splits.{anchors, partition}
 use Rattle.bc7_format.proofs.Starts.{start-next}
@@ -18,10 +17,10 @@ use Rattle.bc7_places.proofs.modes.Bounds.{low-partition}
 use Rattle.chart_rules.specs.Charts.{fieldText, placesText, textMost, textRoom}
 use Rattle.chart_rules.proofs.Lengths.{some-texts}
 use Rattle.chart_rules.proofs.Standing.{start-low, wide}
-use Rattle.chart.specs.Asked.{OfMode}
+use Rattle.chart.specs.Asked.{SplitOfMode}
 use Rattle.chart.proofs.Placing.{three-wide}
 
-module _ (m : ℕ) (s : Split) (asked : OfMode m s) where
+module _ (m : ℕ) (s : Split) (asked : SplitOfMode m s) where
   pub few : partition s < 64
   few = low-partition m (partition s) (asked .low) (asked .few)
 
@@ -39,7 +38,7 @@ module _ (m : ℕ) (s : Split) (out₀ : List ℕ) where
   unfolding placesText start
   walked-none = record { within = omega arith; text = written-none; stands = refl }
 
-  module _ (asked : OfMode m s) {i : ℕ} {out : List ℕ} {at bit : ℕ} (w : Walked i out at bit) where
+  module _ (asked : SplitOfMode m s) {i : ℕ} {out : List ℕ} {at bit : ℕ} (w : Walked i out at bit) where
     pub at-most : at ≤ textMost
     at-most = omega (arith, w .text .ends, some-texts m s (asked .low) (asked .kind) (asked .few) i (w .within))
 
@@ -50,7 +49,7 @@ module _ (m : ℕ) (s : Split) (out₀ : List ℕ) where
         (subst (λ (k : ℕ). Written out₀ 0 (placesText m s k) out at) all (w .text), omega (arith, at-most))
 
   -- the next place: its width by three anchors is its own, and its bits are there
-  module _ (asked : OfMode m s) {i : ℕ} (h : i < placeCount) {out : List ℕ} {at bit w : ℕ} {an : Anchors} (so-far : Walked i out at bit)
+  module _ (asked : SplitOfMode m s) {i : ℕ} (h : i < placeCount) {out : List ℕ} {at bit w : ℕ} {an : Anchors} (so-far : Walked i out at bit)
       (ea : an ≡ anchorsOf s) (ew : w ≡ width m (threeOf an) (placeAt i)) where
     pub width-is : w ≡ wide m s i
     width-is = ew ∙ ap (λ (a : Anchors). width m (threeOf a) (placeAt i)) ea ∙ three-wide m s (few m s asked) (placeAt i)

@@ -16,7 +16,7 @@ pub record FieldAsked (place bit width at room : ℕ) : Type 0 where
   pub fits : at + 22 ≤ room
 
 -- a split of a mode that is not reserved
-pub record OfMode (mode : ℕ) (split : Split) : Type 0 where
+pub record SplitOfMode (mode : ℕ) (split : Split) : Type 0 where
   pub low : mode < 8
   pub kind : kindOf split ≡ kindOfMode mode
   pub few : partition split < 2 ^ partitionBits mode

@@ -14,7 +14,7 @@ ghost use Rattle.bc7_places.specs.Splits.{threeOf};
 ghost use Rattle.listing_rules.specs.Text.{refusedText};
 ghost use Rattle.chart_rules.specs.Names.{channelName, leadName, nameOf, setName};
 ghost use Rattle.chart_rules.specs.Charts.{Charts, charted, fieldText, placesText, textRoom, wantedBytes};
-ghost use Rattle.chart.specs.Asked.{BlockMode, FieldAsked, OfMode};
+ghost use Rattle.chart.specs.Asked.{BlockMode, FieldAsked, SplitOfMode};
 use bc7_format::Split;
 use bc7_places::lines::index_width;
 use bc7_places::modes::ModeRow;
@@ -197,7 +197,7 @@ fn put_field(place: usize, bit: u32, width: u32, at: usize, out: &mut [u8]) -> u
 
 // The texts of all places, to the start of the output; where they end.
 fn put_places(mode: u8, split: Split, out: &mut [u8]) -> usize
-    requires { ⌜ OfMode mode split × (textRoom ≤ length (now out)) ⌝ }
+    requires { ⌜ SplitOfMode mode split × (textRoom ≤ length (now out)) ⌝ }
     ensures { λ r. ⌜ Written (now (out .entry)) 0 (placesText mode split placeCount) (now (out .exit)) r ⌝ }
     ensures { λ r. ⌜ r ≤ textRoom ⌝ }
 {

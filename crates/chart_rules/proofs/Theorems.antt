@@ -1,10 +1,10 @@
 -- WHAT IS PROVED OF A CHART, in one place.
 -- Assumes nothing.
-use mathlib.Core.Path.{_≡_, refl, sym, ap, ap₂, _∙_, subst}
+use mathlib.Core.Path.{_≡_, refl, sym, ap, _∙_, subst}
 use mathlib.Core.Bool.{Bool, true, false}
 use mathlib.Core.Logic.{_↔_, _≢_, ⊎-elim}
 use mathlib.Core.List.{List, [], _∷_}
-use Prim.Native.Nat.{ℕ, zero, suc, _+_, _<_, _≤_}
+use Prim.Native.Nat.{ℕ, suc, _+_, _<_, _≤_}
 use native.Mathlib.Decide.{ℕ-discrete}
 use native.Mathlib.Nat.{le-refl}
 use native.Mathlib.Omega.{arith}
@@ -16,15 +16,15 @@ use Rattle.chart_rules.specs.declared.Chart.{Chart}
 use Rattle.bc7_format.specs.declared.Split.{Split}
 use Rattle.laws.specs.Digits.{Fit, total}
 use Rattle.laws.specs.Refusals.{Given, first}
-use Rattle.laws.specs.Tables.{below, both, implies, table, tableFrom}
+use Rattle.laws.specs.Tables.{below, both, implies}
 use Rattle.laws.proofs.Cases.{lt-or}
 use Rattle.laws.proofs.Part.{getD-table}
 use Rattle.laws.proofs.Refusals.{Answers, accepted-when, answer-0, answer-not-0, answers, by-eqb, by-not-eqb, exactly, none, rule}
 use Rattle.laws.proofs.Tests.{at, implied}
 use Rattle.bcn_format.specs.Block.{eights, field, number}
 use Rattle.bc7_format.specs.Modes.{modeOf}
-use Rattle.bc7_format.specs.Places.{opened, placeAt, placeCount, start, width, widths}
-use Rattle.bc7_format.specs.Splits.{anchors, splitOf}
+use Rattle.bc7_format.specs.Places.{opened, placeAt, placeCount, start, widths}
+use Rattle.bc7_format.specs.Splits.{splitOf}
 use Rattle.bc7_format.proofs.Modes.{mode-le-8}
 use Rattle.bc7_format.proofs.Opening.{good-kind, good-partition, opened-good}
 use Rattle.bc7_format.proofs.Places.{inside-placeAt, pos-placeAt}

@@ -3,7 +3,6 @@
 //
 // A program has no exit status. Started with an argument, whatever it is, it says `refused` on standard error where the sheet was
 // refused, so that the one who started it can tell.
-ghost use mathlib.Core.Path.{_≡_};
 ghost use Prim.Native.Nat.{_+_, _*_, _≤_};
 ghost use lib.ListN.{length};
 ghost use Rattle.listing_rules.specs.Machine.{mostInRun};

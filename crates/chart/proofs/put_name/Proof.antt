@@ -37,7 +37,8 @@ returns-2 c =
     let number = c .before .before in
     let word = number .before .before .before .before in
     let then = word .before .before in
-    (rw (is-value _ (then .before .if1 .left) (then .if2 .taken)) (written-then (word .put-channel .ensures .0) (number .put-few .ensures .0)), omega arith)
+    let told = written-then (word .put-channel .ensures .0) (number .put-few .ensures .0) in
+    (rw (is-value _ (then .before .if1 .left) (then .if2 .taken)) told, omega arith)
 
 slice-aggregate-put-word : tie.Need-slice-aggregate-put-word
 slice-aggregate-put-word c = search needs
@@ -60,7 +61,8 @@ returns-3 c =
     let number = c .before .before in
     let word = number .before .before .before .before in
     let then = word .before .before .before in
-    (rw (is-p-bit _ (then .before .if2 .left) (then .if3 .taken)) (written-then (word .put-word .ensures .0) (number .put-few2 .ensures .0)), omega arith)
+    let told = written-then (word .put-word .ensures .0) (number .put-few2 .ensures .0) in
+    (rw (is-p-bit _ (then .before .if2 .left) (then .if3 .taken)) told, omega arith)
 
 put-set-requires : tie.Need-put-set-requires
 put-set-requires c κs = search needs
@@ -80,7 +82,8 @@ returns-4 c =
     let number = c .before .before in
     let word = number .before .before .before .before in
     let else = word .before .before in
-    (rw (is-index _ (else .if3 .left)) (written-then (word .put-set .ensures .0) (number .put-few3 .ensures .0)), omega arith)
+    let told = written-then (word .put-set .ensures .0) (number .put-few3 .ensures .0) in
+    (rw (is-index _ (else .if3 .left)) told, omega arith)
 
 pub put-name-spec : {M : Type 1} → statement M
 put-name-spec =

@@ -1,20 +1,20 @@
 -- `put_places` meets its contract.
 -- Assumes nothing.
 use mathlib.Core.Path.{_≡_}
-use Prim.Native.Nat.{_-_, _≤_}
+use Prim.Native.Nat.{_-_}
 use native.Mathlib.Omega.{arith}
 use Rattle.bc7_format.specs.declared.Split.{Split}
 use Rattle.laws.proofs.Padding.{written-long}
 use Rattle.bc7_format.specs.Places.{placeCount}
 use Rattle.bc7_places.specs.Splits.{anchorsOf}
-use Rattle.chart.specs.Asked.{OfMode}
+use Rattle.chart.specs.Asked.{SplitOfMode}
 use Rattle.chart.proofs.Walk.{Walked, at-most, bit-low, few, next-low, walked-all, walked-more, walked-none}
 use Rattle.chart.proofs.put_places.Statement.{statement}
 use Rattle.chart.proofs.put_places.Tie as tie
 
 abbrev Inv-loop : tie.InvT-loop
 Inv-loop mode out₀ row anchors at₀ bit₀ place₀ out at bit place =
-    (t : Split) → OfMode mode t → anchors ≡ anchorsOf t → Walked mode t out₀ place out at bit
+    (t : Split) → SplitOfMode mode t → anchors ≡ anchorsOf t → Walked mode t out₀ place out at bit
 
 abbrev μ-loop : tie.MeasureT-loop
 μ-loop mode out₀ row anchors at₀ bit₀ place₀ out at bit place = placeCount - place

@@ -1,6 +1,6 @@
 -- `split_in` meets its contract.
 -- Assumes nothing.
-use mathlib.Core.Path.{_≡_, ap, sym, _∙_}
+use mathlib.Core.Path.{ap, _∙_}
 use Rattle.bcn_format.specs.Block.{number}
 use Rattle.bc7_format.specs.Splits.{splitAt, splitOf}
 use Rattle.bc7_places.proofs.splits.Leads.{marker-on, split-is}
