@@ -6,6 +6,7 @@ use lib.ListN.{getD}
 use Rattle.bcn_format.specs.Indexes.{anchorCount}
 use Rattle.bc7_format.specs.Modes.{alphaBits, colourBits, endpointCount, firstBits, indexModeBits, kindOfMode, pCount, partitionBits, rotationBits}
 use Rattle.bc7_format.specs.Modes.{secondBits}
+use Rattle.bc7_format.specs.Places.{index, lead, pbit, pos, value}
 
 -- Decoding has a function for each mode, with literal widths: the partition, or the rotation and the index mode; of red, green, blue and
 -- alpha the two values of each subset as one word (in mode 0 those of all three); the p bits likewise; the indexes.
@@ -30,3 +31,9 @@ takingReads m =
     (partitionBits m + rotationBits m + indexModeBits m) ∷ (endpointCount m * colourBits m) ∷ (endpointCount m * colourBits m)
     ∷ (endpointCount m * colourBits m) ∷ (endpointCount m * alphaBits m) ∷ pCount m ∷ (16 * firstBits m - anchorCount (kindOfMode m))
     ∷ (16 * secondBits m - 1) ∷ []
+
+-- the place at which each of these starts: the partition, of red, green, blue and alpha the value of endpoint 0, the first p bit, of each set
+-- the index of pixel 0
+abbrev pub takingPlace : ℕ → ℕ
+takingPlace k =
+    pos (getD (lead 1 ∷ value 0 0 ∷ value 1 0 ∷ value 2 0 ∷ value 3 0 ∷ pbit 0 ∷ index 0 0 ∷ index 1 0 ∷ []) k (lead 0))

@@ -26,7 +26,7 @@ use Rattle.sheet_rules.specs.Rows.{blockAt}
 use Rattle.listing_rules.specs.Listing.{blockListed, blocksListing, blocksText, listed, listing, listingBy}
 
 -- texts; 10 ends each
-pub text : List String → List ℕ
+unfoldable pub text : List String → List ℕ
 text [] = []
 text (s ∷ more) = ascii s ++ (10 ∷ []) ++ text more
 
