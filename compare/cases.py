@@ -195,6 +195,20 @@ def some_opacity(dice):
 
 
 # ---------------------------------------------------------------------------------------------------------------------
+# Reads of the bit reader.
+READS = (0, *range(1, 9), *range(129, 193))
+
+
+def some_reads(dice):
+    """A block, and reads until a few were asked for behind the last bit."""
+    kinds, asked, wide = [], 0, dice.chance(50)
+    while asked < 128 + dice.below(64) and len(kinds) < 255:
+        kinds.append(dice.one_of(READS) if wide else dice.below(9))
+        asked += max(1, kinds[-1] % 128)
+    return dice.bytes(16), bytes(kinds)
+
+
+# ---------------------------------------------------------------------------------------------------------------------
 # Heads, rows and sheets.
 SIDES = (*range(1, 10), 127, 128, 129, 4095, 4096, 4097, 8192, 16380, 16381, 16382, 16383, 16384)
 WRONG_SIDES = (0, 16385, 16386, 32768, 65535, (1 << 21) - 1)

@@ -3,6 +3,7 @@ any right reading: round trips, lines that keep to themselves, the last call of 
 colour whose distance was measured, and marks that go by what a picture shows."""
 from collections import Counter
 
+import chart
 import document_01
 import model
 import partitions
@@ -135,3 +136,16 @@ def check_marks(seed, count):
             marked[line[-1]] += 1
     assert min(marked["o"], marked["-"]) > count // 10
     return sum(marked.values())
+
+
+def check_charts():
+    """Every mode with every split: behind the lead the chart has the bits that the model takes a record's values from."""
+    charts = 0
+    for block in chart.every_split(Dice(0)):
+        mode = model.mode_of(block)
+        lines = [line.split() for line in chart.chart(block).splitlines()]
+        behind = [(int(bit), int(width)) for name, bit, width in lines if name not in chart.LEAD]
+        split = model.split_of(mode, int.from_bytes(block, "little"))
+        assert behind == [(bit, width) for _, bit, width in model.layout(mode, split)], block.hex()
+        charts += 1
+    return charts

@@ -26,6 +26,7 @@ from cases import (
     DDS_NUMBERS,
     DDS_WIDTH,
     LARGE,
+    READS,
     bits_of_style,
     block_of,
     fitting_replacement,
@@ -35,6 +36,7 @@ from cases import (
     some_head,
     some_listed,
     some_opacity,
+    some_reads,
     some_record,
     some_replacement,
     some_row,
@@ -310,6 +312,45 @@ def telling_opaque(dice, shared):
         calls += [("A", corner, large, 4), ("A", corner, 3, large), ("A", corner, large, large)]
     calls += [("A", block, dice.within(1, 4), dice.within(1, 4)) for block in outside(shared, 96)]
     return calls + [("A", *some_opacity(dice)) for _ in range(60)]
+
+
+def reading_bits(dice, shared):
+    del shared
+    calls, ones = [], b"\xff" * 16
+
+    def add(*kinds, block=None):
+        calls.append(("B", block or dice.bytes(16), bytes(kinds)))
+
+    # At 128 every read is short, and each leaves the reader there; at 127 all but one bit.
+    for block in (ones, None):
+        add(192, 192, *READS, block=block)
+        add(192, 191, *READS[2:9], *READS[10:], 0, 0, block=block)
+    # From every place: a read one bit too wide, then one that just fits (by each of the calls that has the width), then one bit more.
+    for at in range(64, 128):
+        start, left = (192, 128 + at - 64) if at > 64 else (192,), 128 - at
+        if left < 64:
+            add(*start, 128 + left + 1, 128 + left, 0)
+        add(*start, 192, 128 + left, 0, 192)
+        if left <= 8:
+            add(*start, *(width for width in range(left + 1, 9)), left, 0, 1)
+    # 64 bits across the halves from every place, and what is left; a refused read before one that takes the rest.
+    for at in range(1, 64):
+        add(128 + at, 192, 192, 128 + 64 - at, 0)
+    # The widths of each kind one after the other, and the bits one by one.
+    for width in range(1, 9):
+        add(*(width for _ in range(128 // width + 3)))
+    for width in range(1, 65):
+        add(*(128 + width for _ in range(128 // width + 2)))
+    add(*(0 for _ in range(131)))
+    add(*(0 for _ in range(131)), block=ones)
+    add()
+    add(0)
+    # The fields of each mode, marker and split as one: they take all bits. Then one bit more.
+    for mode, split in all_splits():
+        if split in model.splits(mode)[:2]:
+            fields = model.layout(mode, split)
+            add(128 + fields[0][1], *(128 + width for _, _, width in fields), 0, block=block_of(mode, split, bits_of_style(dice, "random")))
+    return calls + [("B", *some_reads(dice)) for _ in range(60)]
 
 
 # ---------------------------------------------------------------------------------------------------------------------
@@ -646,6 +687,7 @@ MAKERS = {
     "d": needing_for_import,
     "s": needing_for_export,
     "Q": reading_pixels,
+    "B": reading_bits,
 }
 
 

@@ -141,6 +141,21 @@ def field(number, bit, width):
     return number >> bit & ((1 << width) - 1)
 
 
+def reads(block, kinds):
+    """Reads of the bit reader, one after the other from the block's start. A kind is 0 for one bit, 1 to 8 for so many, and 128 and
+    a count of 1 to 64. Each answers a refusal, the value, the number of its first bit, and how many bits remain afterwards; one
+    that wants more than remain is refused with 22, and the reader stays where it is."""
+    left, answers = [byte >> bit & 1 for byte in block for bit in range(8)], []
+    for kind in kinds:
+        first, count = 128 - len(left), 1 if kind == 0 else kind % 128
+        if count > len(left):
+            answers.append((22, 0, first, len(left)))
+        else:
+            taken, left = left[:count], left[count:]
+            answers.append((0, sum(bit << place for place, bit in enumerate(taken)), first, len(left)))
+    return answers
+
+
 def split_of(mode, number):
     kind, bits = MODES[mode].kind, MODES[mode].split_bits
     stored, bit = [], mode + 1

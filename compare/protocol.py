@@ -20,12 +20,13 @@ A call is (letter, arguments..):
   d dds              the length that importing needs
   s sheet            the length that exporting needs
   Q block pixel      one pixel
+  B block kinds      reads of the bit reader, a byte each
 """
 import model
 
-LETTERS = "DUPRHWOSlrNEA" + "IXds" + "Q"
+LETTERS = "DUPRHWOSlrNEA" + "IXds" + "Q" + "B"
 KINDS = ("whole", "two", "three", "vector")
-RECORD, REPLACEMENT = 66, 26
+RECORD, REPLACEMENT, READ = 66, 26, 11
 LARGEST_LENGTH = 65536  # a longer slice ends the run
 
 
@@ -59,6 +60,8 @@ def call_bytes(call):
         body = block + number(line) + number(pixel) + bytes(wanted)
     elif letter == "A":
         body = given[0] + number(given[1]) + number(given[2])
+    elif letter == "B":
+        body = given[0] + bytes([len(given[1])]) + bytes(given[1])
     elif letter == "H":
         body = bytes([len(given[0])]) + given[0]
     elif letter == "W":
@@ -94,6 +97,8 @@ def model_answer(call):
         return bytes([refusal]) + record_bytes(record)
     if letter == "A":
         return bytes([model.is_opaque(*given)])
+    if letter == "B":
+        return b"".join(bytes([r]) + value.to_bytes(8, "little") + bytes([first, left]) for r, value, first, left in model.reads(*given))
     if letter == "l":
         text = model.listing(given[0]).encode()
         return number(len(text)) + text
@@ -132,6 +137,8 @@ def refusal_in(letter, reply):
     """The refusal number that an answer gives: 0 where there is none. A listing's stands in its last line."""
     if letter in "DA":
         return 0
+    if letter == "B":  # of any of its reads
+        return max(reply[::READ], default=0)
     if letter == "l":
         last = reply.splitlines()[-1].split()
         return int(last[-1]) if b"refused" in last[0] else 0

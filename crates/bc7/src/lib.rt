@@ -1,6 +1,7 @@
 // One block to sixteen pixels: the port of the Rust's src/decode/bc7.rs, whose modes stand in bc7_unsplit and bc7_subsets. Here the
 // mode is found and its function called.
 ghost use mathlib.Core.Path.{_≡_};
+ghost use Prim.Native.Nat.{_+_, _≤_};
 ghost use Rattle.bcn_format.specs.Block.{field, trailing};
 ghost use Rattle.bits.specs.Stream.{held};
 ghost use Rattle.bc7.specs.Promises.{DecodesBlock};
@@ -29,6 +30,7 @@ pub fn decode_bc7_block(block: [u8; 16]) -> [[u8; 4]; 16]
 
 // The stream isn't moved: each mode skips its own marker, so that positions are literals.
 fn extract_mode(stream: BitStream) -> u8
+    requires { ⌜ stream .at + 8 ≤ 128 ⌝ }
     ensures { λ r. ⌜ r ≡ trailing 8 (field (held stream) (stream .at) 8) ⌝ }
 {
     u8::trailing_zeros(stream.low_u8()) as u8

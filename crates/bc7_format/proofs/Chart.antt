@@ -5,20 +5,14 @@ use mathlib.Core.Path.{_≡_, refl}
 use mathlib.Core.List.{List, [], _∷_, map}
 use Prim.Native.Nat.{ℕ}
 use lib.Dec.{eqb}
-use lib.ListN.{take}
 use Rattle.bc7_format.specs.declared.Split.{Split}
 use Rattle.bc7_format.specs.declared.Split.the-variants.{Whole, Two, Three, Vector}
-use Rattle.laws.specs.Digits.{total}
 use Rattle.laws.specs.Tables.{pick, table, tableFrom}
 use Rattle.bc7_format.specs.Lines.{indexSetOf, has, indexPlace, pPlace, valuePlace}
 use Rattle.bc7_format.specs.Modes.{endpointCount, lines, modeRow}
 use Rattle.bcn_format.specs.Partitions.{anchors2, anchors3, digits, marks, strings2, strings3, subset2, subset3}
-use Rattle.bc7_format.specs.Places.{Place, lead, placeAt, pos, width, widths}
+use Rattle.bc7_format.specs.Places.{Place, lead, placeAt, pos, start, width, widths}
 use Rattle.bc7_format.specs.Splits.{anchors}
-
--- the bit at which the i-th place starts
-unfoldable pub start : ℕ → Split → ℕ → ℕ
-start m s i = total (take i (widths m s))
 
 -- where the places start that line l has
 starts : ℕ → Split → ℕ → List Place → List ℕ

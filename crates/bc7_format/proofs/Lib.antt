@@ -10,6 +10,7 @@ pub mod Opening
 pub mod Reserved
 pub mod Modes
 pub mod Starts
+pub mod ReadsFit
 pub mod Lens
 pub mod Subsets
 pub mod Meaning

@@ -132,13 +132,16 @@ split-of-kind (Two a) = refl
 split-of-kind (Three a) = refl
 split-of-kind (Vector r i) = refl
 
+-- the anchors go by the mode and the partition
+pub anchors-by-partition : (m : ℕ) (s : Split) → kindOf s ≡ kindOfMode m → anchors s ≡ anchors (ofKind (kindOfMode m) (partition s) 0 0)
+anchors-by-partition m s hk =
+    ap anchors (split-of-kind s) ∙ same-anchors (kindOf s) (partition s) (rotation s) (indexMode s)
+    ∙ ap (λ (k : ℕ). anchors (ofKind k (partition s) 0 0)) hk
+
 -- every block has 128 bits
 pub total-128 : (m : ℕ) (s : Split) → m < 8 → kindOf s ≡ kindOfMode m → partition s < 2 ^ partitionBits m → total (widths m s) ≡ 128
 unfolding widths
 total-128 m s hm hk hp =
-    let e : anchors s ≡ anchors (ofKind (kindOfMode m) (partition s) 0 0) =
-    ap anchors (split-of-kind s) ∙ same-anchors (kindOf s) (partition s) (rotation s) (indexMode s)
-    ∙ ap (λ (k : ℕ). anchors (ofKind k (partition s) 0 0)) hk in
-    ap (λ (an : List ℕ). total (table placeCount (λ i. width m an (placeAt i)))) e
+    ap (λ (an : List ℕ). total (table placeCount (λ i. width m an (placeAt i)))) (anchors-by-partition m s hk)
     ∙ eqb→eq _ 128 (at (2 ^ partitionBits m) (λ a. eqb (total (widths m (ofKind (kindOfMode m) a 0 0))) 128)
     (at 8 (λ m. below (2 ^ partitionBits m) (λ a. eqb (total (widths m (ofKind (kindOfMode m) a 0 0))) 128)) all-128 m hm) (partition s) hp)

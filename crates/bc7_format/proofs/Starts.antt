@@ -17,7 +17,7 @@ use Rattle.bc7_format.specs.Modes.{endpointCount, modeRow}
 use Rattle.bc7_format.specs.Places.{Place, atPlace, inside, placeAt, pos, width, widths, placeCount, firstFrom}
 use Rattle.bc7_format.specs.Splits.{anchors}
 use Rattle.bc7_format.proofs.Places.{placeAt-pos, pos-lt}
-unfoldable pub use Rattle.bc7_format.proofs.Chart.{start}
+unfoldable pub use Rattle.bc7_format.specs.Places.{start}
 
 -- where a place starts: behind the total of the widths before
 start-is : (m : ℕ) (s : Split) (i : ℕ) → i ≤ placeCount → start m s i ≡ total (table i (λ k. width m (anchors s) (placeAt k)))

@@ -6,3 +6,4 @@ pub mod Splits
 pub mod Places
 pub mod Lines
 pub mod WellFormed
+pub mod Reads

@@ -4,9 +4,9 @@ use Prim.Native.Nat.{ℕ, _+_, _-_, _*_, _/_, _%_}
 use mathlib.Core.Bool.{Bool}
 use mathlib.Core.List.{List}
 use lib.Dec.{ltb}
-use lib.ListN.{getD}
+use lib.ListN.{getD, take}
 use Rattle.bc7_format.specs.declared.Split.{Split}
-use Rattle.laws.specs.Digits.{join, split}
+use Rattle.laws.specs.Digits.{join, split, total}
 use Rattle.laws.specs.Tables.{both, pick, table}
 use Rattle.bcn_format.specs.Block.{bytesOf, number}
 use Rattle.bc7_format.specs.Modes.{modeOf, channelBits, endpointCount, indexBits, pCount}
@@ -66,10 +66,15 @@ width m an (value c e) = pick (ltb e (endpointCount m)) (channelBits m c) 0
 width m an (pbit k) = pick (ltb k (pCount m)) 1 0
 width m an (index a q) = pick (among q an) (indexBits m a - 1) (indexBits m a)
 
--- all widths, and what stands at all places, in stored order
+-- all widths in stored order
 unfoldable pub widths : ℕ → Split → List ℕ
 widths m s = table placeCount (λ i. width m (anchors s) (placeAt i))
 
+-- the number of the first bit of the i-th place: so many bits have the places before it
+unfoldable pub start : ℕ → Split → ℕ → ℕ
+start m s i = total (take i (widths m s))
+
+-- what stands at all places, in stored order
 unfoldable pub listOf : (Place → ℕ) → List ℕ
 listOf f = table placeCount (λ i. f (placeAt i))
 

@@ -3,3 +3,4 @@ pub mod Modes
 pub mod Splits
 pub mod Places
 pub mod Lines
+pub mod Reads

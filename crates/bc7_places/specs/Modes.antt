@@ -2,9 +2,8 @@
 -- Assumes nothing.
 use mathlib.Core.Path.{_≡_}
 use mathlib.Core.List.{List}
-use Prim.Native.Nat.{ℕ, _<_, _≤_}
+use Prim.Native.Nat.{ℕ, _<_}
 use Rattle.bc7_places.specs.declared.modes.ModeRow.{ModeRow}
-use Rattle.bits.specs.declared.stream.BitStream.{BitStream}
 use Rattle.bc7_format.specs.Modes.{alphaBits, colourBits, endpointCount, firstBits, indexModeBits, kindOfMode, lines, modeOf, pCount, partitionBits}
 use Rattle.bc7_format.specs.Modes.{rotationBits, secondBits}
 
@@ -45,8 +44,3 @@ pub record OfBlock (bs : List ℕ) (mode : ℕ) (row : ModeRow) : Type 0 where
   pub mode-is : mode ≡ modeOf bs
   pub low : mode < 8
   pub mode-row-is : row ≡ modeRowOf mode
-
--- the row of a mode, and a stream that stands within its block
-pub record RowAt (row : ModeRow) (s : BitStream) : Type 0 where
-  pub of-mode : OfMode row
-  pub within : s .at ≤ 128

@@ -1,6 +1,6 @@
 -- What the code holds of a split: its anchors as three pixels, its subsets as a map, and the split with the stream behind it.
 -- Assumes nothing.
-use Prim.Native.Nat.{ℕ, _+_, _*_, _<_, _≤_}
+use Prim.Native.Nat.{ℕ, _+_, _*_, _/_, _%_, _^_, _<_, _≤_}
 use mathlib.Core.List.{List, [], _∷_}
 use lib.ListN.{getD}
 use Rattle.bc7_places.specs.declared.modes.ModeRow.{ModeRow}
@@ -12,7 +12,7 @@ use Rattle.bc7_format.specs.declared.Split.the-variants.{Whole, Two, Three, Vec
 use Rattle.bits.specs.declared.stream.BitStream.{BitStream}
 use Rattle.bcn_format.specs.Block.{field}
 use Rattle.bc7_format.specs.Splits.{anchors, ofKind}
-use Rattle.bits.specs.Stream.{nextBits, skipped}
+use Rattle.bits.specs.Stream.{readOf}
 use Rattle.partitions.specs.Maps.{map2, map3}
 
 -- the anchors as three pixels: pixel 0 again where a split has fewer
@@ -46,10 +46,8 @@ pub record PixelIn (x : Subsets) (q : ℕ) : Type 0 where
   pub bits : x .bits ≤ 2
   pub pixel : q < 16
 
--- the split bits come next: partition, rotation, index mode
+-- the bits of the split are one read: a partition, or a rotation of two bits with the index mode above it
 abbrev pub splitRead : ModeRow → BitStream → ReadSplit
-splitRead row s = record {
-  split = ofKind (row .kind) (nextBits s (row .partition)) (nextBits (skipped s (row .partition)) (row .rotation))
-      (nextBits (skipped s (row .partition + row .rotation)) (row .«index_mode»));
-  stream = skipped s (row .partition + row .rotation + row .«index_mode»);
-}
+splitRead row s =
+    let r = readOf s (row .partition + row .rotation + row .«index_mode») in
+    record { split = ofKind (row .kind) (r .value) (r .value % 4) (r .value / 2 ^ 2); stream = r .stream }

@@ -3,7 +3,7 @@
 ghost use mathlib.Core.Path.{_≡_};
 ghost use Prim.Native.Nat.{_<_};
 ghost use Rattle.bc7_format.specs.Splits.{kindOf, partition, rotation, indexMode, ofKind};
-ghost use Rattle.bc7_places.specs.Modes.{RowAt};
+ghost use Rattle.bc7_places.specs.Modes.{OfMode};
 ghost use Rattle.bc7_places.specs.Splits.{PixelIn, anchorsOf, splitRead, subsetIn, subsetsOf};
 use crate::modes::ModeRow;
 use bc7_format::Split;
@@ -174,7 +174,7 @@ pub struct ReadSplit {
 // A mode has a partition, or a rotation (of two bits) with an index mode, or nothing: one read, of which the kind takes what it
 // has.
 pub fn read_split(row: ModeRow, stream: BitStream) -> ReadSplit
-    requires { ⌜ RowAt row stream ⌝ }
+    requires { ⌜ OfMode row ⌝ }
     ensures { λ r. ⌜ r ≡ splitRead row stream ⌝ }
 {
     let bits = stream.take(row.partition + row.rotation + row.index_mode);

@@ -1,5 +1,5 @@
 // The modes with three subsets, 0 and 2: `mode_subset_3` of the Rust. A function for each mode has literal widths, so that
-// positions and masks fold away. A channel of both endpoints of a subset is read as one value, for they are stored side by side.
+// positions and masks fold away. Both endpoints of a subset are read as one value of a channel, for they are stored side by side.
 // Subsets 0 and 1 share words; the third has its own, whose other half no key reaches.
 ghost use mathlib.Core.Path.{_≡_};
 ghost use mathlib.Core.List.{[], _∷_};
@@ -7,7 +7,7 @@ ghost use Prim.Native.Nat.{_+_, _-_, _*_, _^_, _≤_, _<_};
 ghost use lib.Dec.{T};
 ghost use Rattle.bcn_format.specs.Partitions.{among};
 ghost use Rattle.bcn_format.specs.Indexes.{expanded};
-ghost use Rattle.bits.specs.Stream.{held, nextBits};
+ghost use Rattle.bits.specs.Stream.{held, readOf};
 ghost use Rattle.bc7_format.specs.Fields.{directPixels};
 ghost use Rattle.partitions.specs.Words.{secondIn3, thirdIn3};
 use crate::extract_partition_set_id;
@@ -39,8 +39,8 @@ pub fn mode_subset_3(mode: u8, stream: BitStream) -> [[u8; 4]; 16]
 
 // Sixteen indexes, read whole and expanded. The anchors behind pixel 0 stand in the partition's word from bit 48 on, four bits each.
 fn indexes_3(bits: u32, stream: BitStream, set: u64) -> u64
-    requires { ⌜ (2 ≤ bits) × (bits ≤ 3) × (0 < secondIn3 set) × (secondIn3 set < thirdIn3 set) × (thirdIn3 set < 16) × (stream .at + 64 < 2 ^ 32) ⌝ }
-    ensures { λ r. ⌜ r ≡ expanded bits (0 ∷ secondIn3 set ∷ thirdIn3 set ∷ []) (nextBits stream (16 * bits - 3)) ⌝ }
+    requires { ⌜ (2 ≤ bits) × (bits ≤ 3) × (0 < secondIn3 set) × (secondIn3 set < thirdIn3 set) × (thirdIn3 set < 16) ⌝ }
+    ensures { λ r. ⌜ r ≡ expanded bits (0 ∷ secondIn3 set ∷ thirdIn3 set ∷ []) (readOf stream (16 * bits - 3) .value) ⌝ }
 {
     let second = ((set >> 48) % 16) as u32;
     let third = (set >> 52) as u32;
@@ -55,35 +55,35 @@ fn mode_0(stream: BitStream) -> [[u8; 4]; 16]
     ensures { λ r. ⌜ r ≡ directPixels 0 (held stream) ⌝ }
 {
     let id = extract_partition_set_id(0, stream);
-    let set = partition_word_3_3(id.value);
-    let r = id.stream.consume_2(8);
-    let r3 = r.stream.take(8);
-    let g = r3.stream.consume_2(8);
-    let g3 = g.stream.take(8);
-    let b = g3.stream.consume_2(8);
-    let b3 = b.stream.take(8);
-    let p = b3.stream.consume_2(2);
-    let p3 = p.stream.take(2);
+    let set = partition_word_3_3(id.value as u8);
+    let r = id.stream.take(24);
+    let g = r.stream.take(24);
+    let b = g.stream.take(24);
+    let p = b.stream.take(6);
+    let reds = r.value;
+    let greens = g.value;
+    let blues = b.value;
+    let ps = p.value;
     let first = Stored {
-        r: r.first,
-        g: g.first,
-        b: b.first,
+        r: reds % 256,
+        g: greens % 256,
+        b: blues % 256,
         a: 0,
-        p: p.first,
+        p: ps % 4,
     };
     let second = Stored {
-        r: r.second,
-        g: g.second,
-        b: b.second,
+        r: (reds >> 8) % 256,
+        g: (greens >> 8) % 256,
+        b: (blues >> 8) % 256,
         a: 0,
-        p: p.second,
+        p: (ps >> 2) % 4,
     };
     let third = Stored {
-        r: r3.value,
-        g: g3.value,
-        b: b3.value,
+        r: reds >> 16,
+        g: greens >> 16,
+        b: blues >> 16,
         a: 0,
-        p: p3.value,
+        p: ps >> 4,
     };
     let none = Stored {
         r: 0,
@@ -93,7 +93,7 @@ fn mode_0(stream: BitStream) -> [[u8; 4]; 16]
         p: 0,
     };
     let colours = palette_3_3(opaque_p(first, second, 4), opaque_p(third, none, 4));
-    let x = indexes_3(3, p3.stream, set);
+    let x = indexes_3(3, p.stream, set);
     paint_3_3(colours, keys_3(x, 2, set))
 }
 
@@ -103,31 +103,34 @@ fn mode_2(stream: BitStream) -> [[u8; 4]; 16]
     ensures { λ r. ⌜ r ≡ directPixels 2 (held stream) ⌝ }
 {
     let id = extract_partition_set_id(2, stream);
-    let set = partition_word_3_2(id.value);
-    let r = id.stream.consume_2(10);
-    let r3 = r.stream.take(10);
-    let g = r3.stream.consume_2(10);
-    let g3 = g.stream.take(10);
-    let b = g3.stream.consume_2(10);
-    let b3 = b.stream.take(10);
+    let set = partition_word_3_2(id.value as u8);
+    let r0 = id.stream.take(10);
+    let r1 = r0.stream.take(10);
+    let r2 = r1.stream.take(10);
+    let g0 = r2.stream.take(10);
+    let g1 = g0.stream.take(10);
+    let g2 = g1.stream.take(10);
+    let b0 = g2.stream.take(10);
+    let b1 = b0.stream.take(10);
+    let b2 = b1.stream.take(10);
     let first = Stored {
-        r: r.first,
-        g: g.first,
-        b: b.first,
+        r: r0.value,
+        g: g0.value,
+        b: b0.value,
         a: 0,
         p: 0,
     };
     let second = Stored {
-        r: r.second,
-        g: g.second,
-        b: b.second,
+        r: r1.value,
+        g: g1.value,
+        b: b1.value,
         a: 0,
         p: 0,
     };
     let third = Stored {
-        r: r3.value,
-        g: g3.value,
-        b: b3.value,
+        r: r2.value,
+        g: g2.value,
+        b: b2.value,
         a: 0,
         p: 0,
     };
@@ -139,6 +142,6 @@ fn mode_2(stream: BitStream) -> [[u8; 4]; 16]
         p: 0,
     };
     let colours = palette_3_2(opaque(first, second, 5), opaque(third, none, 5));
-    let x = indexes_3(2, b3.stream, set);
+    let x = indexes_3(2, b2.stream, set);
     paint_4(colours, keys_2(x, 2, set))
 }

@@ -1,12 +1,12 @@
 // The modes with two subsets, 1, 3 and 7: `mode_subset_2` of the Rust. A function for each mode has literal widths, so that
-// positions and masks fold away. A channel of both endpoints of a subset is read as one value, for they are stored side by side.
+// positions and masks fold away. Both endpoints of a subset are read as one value of a channel, for they are stored side by side.
 ghost use mathlib.Core.Path.{_≡_};
 ghost use mathlib.Core.List.{[], _∷_};
 ghost use Prim.Native.Nat.{_+_, _-_, _*_, _^_, _≤_, _<_};
 ghost use lib.Dec.{T};
 ghost use Rattle.bcn_format.specs.Partitions.{among};
 ghost use Rattle.bcn_format.specs.Indexes.{expanded};
-ghost use Rattle.bits.specs.Stream.{held, nextBits};
+ghost use Rattle.bits.specs.Stream.{held, readOf};
 ghost use Rattle.bc7_format.specs.Fields.{directPixels};
 ghost use Rattle.partitions.specs.Words.{anchorIn2};
 use crate::extract_partition_set_id;
@@ -39,8 +39,8 @@ pub fn mode_subset_2(mode: u8, stream: BitStream) -> [[u8; 4]; 16]
 
 // Sixteen indexes, read whole and expanded. The anchor behind pixel 0 stands in the partition's word from bit 48 on.
 fn indexes_2(bits: u32, stream: BitStream, set: u64) -> u64
-    requires { ⌜ (2 ≤ bits) × (bits ≤ 3) × (0 < anchorIn2 set) × (anchorIn2 set < 16) × (stream .at + 64 < 2 ^ 32) ⌝ }
-    ensures { λ r. ⌜ r ≡ expanded bits (0 ∷ anchorIn2 set ∷ []) (nextBits stream (16 * bits - 2)) ⌝ }
+    requires { ⌜ (2 ≤ bits) × (bits ≤ 3) × (0 < anchorIn2 set) × (anchorIn2 set < 16) ⌝ }
+    ensures { λ r. ⌜ r ≡ expanded bits (0 ∷ anchorIn2 set ∷ []) (readOf stream (16 * bits - 2) .value) ⌝ }
 {
     let read = Indexes::new_p2(bits, stream, (set >> 48) as u32);
     let indexes = read.indexes;
@@ -53,27 +53,31 @@ fn mode_1(stream: BitStream) -> [[u8; 4]; 16]
     ensures { λ r. ⌜ r ≡ directPixels 1 (held stream) ⌝ }
 {
     let id = extract_partition_set_id(1, stream);
-    let set = partition_word_2_3(id.value);
-    let r = id.stream.consume_2(12);
-    let g = r.stream.consume_2(12);
-    let b = g.stream.consume_2(12);
-    let p = b.stream.consume_2(1);
+    let set = partition_word_2_3(id.value as u8);
+    let r0 = id.stream.take(12);
+    let r1 = r0.stream.take(12);
+    let g0 = r1.stream.take(12);
+    let g1 = g0.stream.take(12);
+    let b0 = g1.stream.take(12);
+    let b1 = b0.stream.take(12);
+    let p0 = b1.stream.take(1);
+    let p1 = p0.stream.take(1);
     let first = Stored {
-        r: r.first,
-        g: g.first,
-        b: b.first,
+        r: r0.value,
+        g: g0.value,
+        b: b0.value,
         a: 0,
-        p: 3 * p.first,
+        p: 3 * p0.value,
     };
     let second = Stored {
-        r: r.second,
-        g: g.second,
-        b: b.second,
+        r: r1.value,
+        g: g1.value,
+        b: b1.value,
         a: 0,
-        p: 3 * p.second,
+        p: 3 * p1.value,
     };
     let colours = palette_2_3(opaque_p(first, second, 6));
-    let x = indexes_2(3, p.stream, set);
+    let x = indexes_2(3, p1.stream, set);
     paint_2_3(colours, keys_3(x, 1, set))
 }
 
@@ -83,27 +87,31 @@ fn mode_3(stream: BitStream) -> [[u8; 4]; 16]
     ensures { λ r. ⌜ r ≡ directPixels 3 (held stream) ⌝ }
 {
     let id = extract_partition_set_id(3, stream);
-    let set = partition_word_2_2(id.value);
-    let r = id.stream.consume_2(14);
-    let g = r.stream.consume_2(14);
-    let b = g.stream.consume_2(14);
-    let p = b.stream.consume_2(2);
+    let set = partition_word_2_2(id.value as u8);
+    let r0 = id.stream.take(14);
+    let r1 = r0.stream.take(14);
+    let g0 = r1.stream.take(14);
+    let g1 = g0.stream.take(14);
+    let b0 = g1.stream.take(14);
+    let b1 = b0.stream.take(14);
+    let p0 = b1.stream.take(2);
+    let p1 = p0.stream.take(2);
     let first = Stored {
-        r: r.first,
-        g: g.first,
-        b: b.first,
+        r: r0.value,
+        g: g0.value,
+        b: b0.value,
         a: 0,
-        p: p.first,
+        p: p0.value,
     };
     let second = Stored {
-        r: r.second,
-        g: g.second,
-        b: b.second,
+        r: r1.value,
+        g: g1.value,
+        b: b1.value,
         a: 0,
-        p: p.second,
+        p: p1.value,
     };
     let colours = palette_2_2(opaque_p(first, second, 7));
-    let x = indexes_2(2, p.stream, set);
+    let x = indexes_2(2, p1.stream, set);
     paint_2_2(colours, keys_2(x, 1, set))
 }
 
@@ -113,27 +121,32 @@ fn mode_7(stream: BitStream) -> [[u8; 4]; 16]
     ensures { λ r. ⌜ r ≡ directPixels 7 (held stream) ⌝ }
 {
     let id = extract_partition_set_id(7, stream);
-    let set = partition_word_2_2(id.value);
-    let r = id.stream.consume_2(10);
-    let g = r.stream.consume_2(10);
-    let b = g.stream.consume_2(10);
-    let a = b.stream.consume_2(10);
-    let p = a.stream.consume_2(2);
+    let set = partition_word_2_2(id.value as u8);
+    let r0 = id.stream.take(10);
+    let r1 = r0.stream.take(10);
+    let g0 = r1.stream.take(10);
+    let g1 = g0.stream.take(10);
+    let b0 = g1.stream.take(10);
+    let b1 = b0.stream.take(10);
+    let a0 = b1.stream.take(10);
+    let a1 = a0.stream.take(10);
+    let p0 = a1.stream.take(2);
+    let p1 = p0.stream.take(2);
     let first = Stored {
-        r: r.first,
-        g: g.first,
-        b: b.first,
-        a: a.first,
-        p: p.first,
+        r: r0.value,
+        g: g0.value,
+        b: b0.value,
+        a: a0.value,
+        p: p0.value,
     };
     let second = Stored {
-        r: r.second,
-        g: g.second,
-        b: b.second,
-        a: a.second,
-        p: p.second,
+        r: r1.value,
+        g: g1.value,
+        b: b1.value,
+        a: a1.value,
+        p: p1.value,
     };
     let colours = palette_2_2(translucent_p(first, second, 5));
-    let x = indexes_2(2, p.stream, set);
+    let x = indexes_2(2, p1.stream, set);
     paint_2_2(colours, keys_2(x, 1, set))
 }

@@ -202,7 +202,7 @@ pub fn mode_4(stream: BitStream) -> [[u8; 4]; 16]
     let second = words_3(e, index_mode.value != 0);
     swap_channels(
         paint_2_and_3(first, second, x.indexes, y.indexes),
-        rotation.value,
+        rotation.value as u8,
     )
 }
 
@@ -231,7 +231,7 @@ pub fn mode_5(stream: BitStream) -> [[u8; 4]; 16]
             palette_2_and_2(e),
             keys_2(y.indexes.uncompressed, 2, x.indexes.uncompressed),
         ),
-        rotation.value,
+        rotation.value as u8,
     )
 }
 

@@ -1,8 +1,7 @@
--- Each read is the next bits of the block's list of 128, low bit of byte 0 first, and zero past its end.
+-- Each read is the next bits of the block's list of 128, low bit of byte 0 first.
 -- Assumes nothing.
 use mathlib.Core.Path.{_≡_, refl, sym, ap, ap₂, _∙_}
 use mathlib.Core.Logic.{⊎-elim}
-use mathlib.Core.Bool.{not}
 use mathlib.Core.List.{List, _∷_, _++_}
 use Prim.Native.Nat.{ℕ, zero, suc, _+_, _-_, _*_, _/_, _%_, _^_, _≤_, _<_, min}
 use native.Mathlib.Nat.{div-div-eq-div-mul, div-eq-of-lt, div-lt-iff-lt-mul, div-one, le-of-lt, lt-of-lt-of-le, min-eq-left, min-eq-right, min-zero}
@@ -11,20 +10,16 @@ use native.Mathlib.Nat.{zero-sub}
 use native.Mathlib.Omega.{arith}
 use lib.Arith.{mod-mul}
 use lib.Bits.{block-half, block-odd}
-use lib.Dec.{eqb}
 use lib.ListN.{length, take, drop, replicate}
 use lib.Pow.{pow-pos, pow-mono, shr-lt, high}
 use Rattle.bits.specs.declared.stream.BitStream.{BitStream}
-use Rattle.bits.specs.declared.stream.Bit.{Bit}
-use Rattle.bits.specs.declared.stream.Bits8.{Bits8}
-use Rattle.bits.specs.declared.stream.Bits64.{Bits64}
-use Rattle.bits.specs.declared.stream.Values2.{Values2}
+use Rattle.bits.specs.declared.stream.Read.{Read}
 use Rattle.laws.specs.Digits.{Fit, join, more, none}
 use Rattle.laws.proofs.Cases.{lt-or}
 use Rattle.laws.proofs.Digits.{join-lt}
 use Rattle.bcn_format.specs.Block.{bitsOf, bitsOfBytes, eights, field, number, valueOfBits}
-use Rattle.bits.specs.Stream.{consumed1, consumed2, consumed64, consumed8, held, On}
-use Rattle.bits.proofs.On.{got-64, got-8, got-first, got-second, next-is, on-2, on-64, on-8, on-skipped}
+use Rattle.bits.specs.Stream.{held, readOf, On}
+use Rattle.bits.proofs.On.{got, next-is, on-read}
 
 -- the bits of a number
 value-of-bits : (k n : ℕ) → valueOfBits (bitsOf k n) ≡ n % 2 ^ k
@@ -105,27 +100,10 @@ module _ {bs : List ℕ} (block : Fit eights bs) where
   field-is-bits at w =
       sym (field-bits 128 (join eights bs) at w (join-lt block)) ∙ ap (λ (l : List ℕ). valueOfBits (take w (drop at l))) (sym (bytes-bits 16 block))
 
-  -- and zero past its end
-  pub field-past-end : (at w : ℕ) → 128 ≤ at → field (number bs) at w ≡ 0
-  unfolding field number
-  field-past-end at w h =
-      ap (λ (x : ℕ). x % 2 ^ w) (div-eq-of-lt (lt-of-lt-of-le (join-lt block) (pow-mono {i = 128} {j = at} h)))
-      ∙ mod-eq-of-lt (pow-pos w)
-
   -- each read of a stream that stands at bit a of the block
   module _ {a : ℕ} {s : BitStream} (o : On (number bs) a s) where
     pub low-u8-bits : {r : ℕ} → r ≡ field (held s) (s .at) 8 → r ≡ listed bs a 8
     low-u8-bits e = e ∙ next-is o 8 ∙ field-is-bits a 8
 
-    pub consume-bit-bits : {r : Bit} → r ≡ consumed1 s → (r .value ≡ not (eqb (listed bs a 1) 0)) × On (number bs) (a + 1) (r .stream)
-    consume-bit-bits e = rw e (ap (λ (x : ℕ). not (eqb x 0)) (next-is o 1 ∙ field-is-bits a 1), on-skipped o 1)
-
-    pub consume-bits-bits : {r : Bits8} (w : ℕ) → r ≡ consumed8 s w → (r .value ≡ listed bs a w) × On (number bs) (a + w) (r .stream)
-    consume-bits-bits w e = (got-8 o w e ∙ field-is-bits a w, on-8 o w e)
-
-    pub consume-bits-64-bits : {r : Bits64} (w : ℕ) → r ≡ consumed64 s w → (r .value ≡ listed bs a w) × On (number bs) (a + w) (r .stream)
-    consume-bits-64-bits w e = (got-64 o w e ∙ field-is-bits a w, on-64 o w e)
-
-    pub consume-2-bits : {r : Values2} (w : ℕ) → r ≡ consumed2 s w
-        → (r .first ≡ listed bs a w) × (r .second ≡ listed bs (a + w) w) × On (number bs) (a + 2 * w) (r .stream)
-    consume-2-bits w e = (got-first o w e ∙ field-is-bits a w, got-second o w e ∙ field-is-bits (a + w) w, on-2 o w e)
+    pub read-bits : (w : ℕ) → a + w ≤ 128 → {r : Read} → r ≡ readOf s w → (r .value ≡ listed bs a w) × On (number bs) (a + w) (r .stream)
+    read-bits w h e = (got o w h e ∙ field-is-bits a w, on-read o w h e)

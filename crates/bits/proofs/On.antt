@@ -1,37 +1,67 @@
 -- Reads one after the other, over one number.
 -- Assumes nothing.
-use mathlib.Core.Path.{_≡_, refl, ap, ap₂}
-use Prim.Native.Nat.{ℕ, _+_, _*_}
+use mathlib.Core.Path.{_≡_, refl, sym, ap, ap₂, _∙_}
+use mathlib.Core.Logic.{_↔_, ⊎-elim}
+use mathlib.Core.List.{List, [], _∷_}
+use Prim.Native.Nat.{ℕ, _+_, _-_, _*_, _/_, _%_, _^_, _≤_, _<_}
+use native.Mathlib.Nat.{mod-one}
 use native.Mathlib.Omega.{arith}
+use borrow.Author.Tests.{lt-ltb, le-ltb}
+use lib.Pow.{pow-pos}
 use Rattle.bits.specs.declared.stream.BitStream.{BitStream}
-use Rattle.bits.specs.declared.stream.Bits8.{Bits8}
-use Rattle.bits.specs.declared.stream.Bits64.{Bits64}
-use Rattle.bits.specs.declared.stream.Values2.{Values2}
+use Rattle.bits.specs.declared.stream.Read.{Read}
 use Rattle.laws.specs.Digits.{split, total}
+use Rattle.laws.specs.Refusals.{Given, unless}
 use Rattle.laws.specs.Tables.{table}
+use Rattle.laws.proofs.Cases.{lt-or}
+use Rattle.laws.proofs.Refusals.{Decided, alone, exactly, fails, holds}
 use Rattle.laws.proofs.Rows.{split-table}
+use Rattle.laws.proofs.Words.{rem-window}
 use Rattle.bcn_format.specs.Block.{field}
 pub use Rattle.bcn_format.proofs.Fields.{field-below, field-lt}
-use Rattle.bits.specs.Stream.{consumed2, consumed64, consumed8, held, skipped, Taken2, Taken64, Taken8}
+use Rattle.bits.specs.Stream.{Reads, answered, held, readOf, shortRead, skipped}
 pub use Rattle.bits.specs.Stream.{On}
 
--- the clauses that follow from what is read
+-- a read by whether its bits are there
 module _ (s : BitStream) (w : ℕ) where
-  pub taken-8 : {r : Bits8} → r ≡ consumed8 s w → Taken8 s w r
-  taken-8 e = record { same = e; small = rw e (field-lt _ _ _); moved = rw e refl }
+  pub read-fits : s .at + w ≤ 128 → readOf s w ≡ answered s w (field (held s) (s .at) w)
+  unfolding readOf
+  read-fits h = rw (le-ltb 128 (s .at + w) h)
 
-  pub taken-64 : {r : Bits64} → r ≡ consumed64 s w → Taken64 s w r
-  taken-64 e = record { same = e; small = rw e (field-lt _ _ _); moved = rw e refl }
+  pub read-short : 128 < s .at + w → readOf s w ≡ shortRead s
+  unfolding readOf
+  read-short h = rw (lt-ltb 128 (s .at + w) h)
 
-  -- two reads of one width
-  pub taken-2 : {x y : Bits64} → x ≡ consumed64 s w → y ≡ consumed64 (x .stream) w
-      → Taken2 s w (record { first = x .value; second = y .value; stream = y .stream })
-  unfolding held
-  taken-2 p q =
-      let e : s .at + w + w ≡ s .at + 2 * w = omega arith in
-      record { same = rw (q, p, e); small-first = rw p (field-lt _ _ _); small-second = rw q (field-lt _ _ _); moved = rw (q, p, e) refl }
+  read-small : readOf s w .value < 2 ^ w
+  read-small =
+      ⊎-elim (λ (l : 128 < s .at + w). rw (read-short l) (pow-pos w)) (λ (l : s .at + w ≤ 128). rw (read-fits l) (field-lt _ _ _))
+      (lt-or 128 (s .at + w))
 
--- what a stream holds that skips, where it stands, and what comes next
+  decided : Decided (readOf s w .refusal) 22 (s .at + w ≤ 128)
+  decided =
+      ⊎-elim
+      (λ (l : 128 < s .at + w). fails (λ h. let z : ⊥ = omega arith in z) (ap (λ (r : Read). r .refusal) (read-short l))
+      (λ e. let z : ⊥ = omega arith in z))
+      (λ (l : s .at + w ≤ 128). holds l (ap (λ (r : Read). r .refusal) (read-fits l)))
+      (lt-or 128 (s .at + w))
+
+  -- EXACTLY WHEN: 22 where the bits aren't all there, else 0
+  pub refused-when : (n : ℕ) → (readOf s w .refusal ≡ n) ↔ Given (unless 22 (s .at + w ≤ 128) ∷ []) n
+  refused-when = exactly (alone decided)
+
+  -- what a read promises
+  pub reads : {r : Read} → r ≡ readOf s w → Reads s w r
+  reads e = record { same = e; small = rw e read-small; fits = λ h. e ∙ read-fits h }
+
+-- the w bits that come next, in the 64 of a window there; no bits are asked for where the window isn't there
+pub in-window : (x n a w : ℕ) → w < 64 → (a < 128 → x ≡ n / 2 ^ a % 2 ^ 64) → a + w ≤ 128 → x % ((1 * 2 ^ w) % 2 ^ 64) ≡ field n a w
+unfolding field
+in-window x n a w narrow is h =
+    ⊎-elim (λ (l : a < 128). rw (is l) (rem-window (n / 2 ^ a) w narrow))
+    (λ (l : 128 ≤ a). let none : w ≡ 0 = omega arith in rw none (mod-one x ∙ sym (mod-one (n / 2 ^ a))))
+    (lt-or a 128)
+
+-- what a stream holds that skips
 pub held-skipped : (s : BitStream) {t : BitStream} (w : ℕ) → t ≡ skipped s w → held t ≡ held s
 unfolding held
 held-skipped s w e = rw e refl
@@ -44,28 +74,26 @@ module _ {n a : ℕ} {s : BitStream} (o : On n a s) where
   pub next-is : (w : ℕ) → field (held s) (s .at) w ≡ field n a w
   next-is w = ap₂ (λ (x y : ℕ). field x y w) (o .of) (o .stands)
 
--- what a stream there reads, and where it stands then
-module _ {n a : ℕ} {s : BitStream} (o : On n a s) (w : ℕ) where
-  pub got-8 : {r : Bits8} → r ≡ consumed8 s w → r .value ≡ field n a w
-  got-8 e = rw e (next-is o w)
+-- a read from bit a of n, where w bits are there: that it is accepted, what it reads, where it stood and what remains, and where the
+-- stream stands then
+module _ {n a : ℕ} {s : BitStream} (o : On n a s) (w : ℕ) (h : a + w ≤ 128) {r : Read} (e : r ≡ readOf s w) where
+  is-answer : r ≡ answered s w (field (held s) (s .at) w)
+  is-answer = e ∙ read-fits s w (rw (o .stands) h)
 
-  pub on-8 : {r : Bits8} → r ≡ consumed8 s w → On n (a + w) (r .stream)
-  on-8 e = rw e (on-skipped o w)
+  pub accepts : r .refusal ≡ 0
+  accepts = ap (λ (r : Read). r .refusal) is-answer
 
-  pub got-64 : {r : Bits64} → r ≡ consumed64 s w → r .value ≡ field n a w
-  got-64 e = rw e (next-is o w)
+  pub got : r .value ≡ field n a w
+  got = ap (λ (r : Read). r .value) is-answer ∙ next-is o w
 
-  pub on-64 : {r : Bits64} → r ≡ consumed64 s w → On n (a + w) (r .stream)
-  on-64 e = rw e (on-skipped o w)
+  pub stood : r .first ≡ a
+  stood = ap (λ (r : Read). r .first) is-answer ∙ o .stands
 
-  pub got-first : {r : Values2} → r ≡ consumed2 s w → r .first ≡ field n a w
-  got-first e = rw e (next-is o w)
+  pub left : r .remaining ≡ 128 - (a + w)
+  left = ap (λ (r : Read). r .remaining) is-answer ∙ ap (λ (b : ℕ). 128 - (b + w)) (o .stands)
 
-  pub got-second : {r : Values2} → r ≡ consumed2 s w → r .second ≡ field n (a + w) w
-  got-second e = rw e (next-is (on-skipped o w) w)
-
-  pub on-2 : {r : Values2} → r ≡ consumed2 s w → On n (a + 2 * w) (r .stream)
-  on-2 e = rw e (on-skipped o (2 * w))
+  pub on-read : On n (a + w) (r .stream)
+  on-read = rw is-answer (on-skipped o w)
 
 -- values read at the widths f 0, f 1, .. one after the other are the digits of n
 pub split-fields : (k : ℕ) (f : ℕ → ℕ) (n : ℕ) → split (table k f) n ≡ table k (λ i. field n (total (table i f)) (f i))

@@ -1,14 +1,14 @@
--- What a reader holds, where it stands, and what each read gives: the next bits of the number, and the position past them.
+-- What a reader holds, where it stands, and what a read answers.
 -- Assumes nothing.
 use mathlib.Core.Path.{_≡_}
-use mathlib.Core.Bool.{not}
-use Prim.Native.Nat.{ℕ, _+_, _*_, _^_, _<_}
-use lib.Dec.{eqb}
+use mathlib.Core.List.{List, [], _∷_}
+use Prim.Native.Nat.{ℕ, _+_, _-_, _*_, _/_, _^_, _≤_, _<_}
+use lib.Dec.{ltb}
+use lib.ListN.{getD, take}
+use Rattle.laws.specs.Digits.{split, total}
+use Rattle.laws.specs.Tables.{pick}
 use Rattle.bits.specs.declared.stream.BitStream.{BitStream}
-use Rattle.bits.specs.declared.stream.Bit.{Bit}
-use Rattle.bits.specs.declared.stream.Bits8.{Bits8}
-use Rattle.bits.specs.declared.stream.Bits64.{Bits64}
-use Rattle.bits.specs.declared.stream.Values2.{Values2}
+use Rattle.bits.specs.declared.stream.Read.{Read}
 use Rattle.bcn_format.specs.Block.{field}
 
 -- the block's number
@@ -23,41 +23,35 @@ pub record On (n a : ℕ) (s : BitStream) : Type 0 where
 abbrev pub skipped : BitStream → ℕ → BitStream
 skipped s n = record { low = s .low; high = s .high; at = s .at + n }
 
--- the n bits that come next
-abbrev pub nextBits : BitStream → ℕ → ℕ
-nextBits s n = field (held s) (s .at) n
+-- the answer of a read that is accepted: the value v, that it started where the stream stands, how many bits remain behind its w, and
+-- the stream there
+abbrev pub answered : BitStream → ℕ → ℕ → Read
+answered s w v = record { refusal = 0; value = v; first = s .at; remaining = 128 - (s .at + w); stream = skipped s w }
 
-abbrev pub consumed1 : BitStream → Bit
-consumed1 s = record { value = not (eqb (nextBits s 1) 0); stream = skipped s 1 }
+-- and of one that is refused: no value, and everything as before it
+abbrev pub shortRead : BitStream → Read
+shortRead s = record { refusal = 22; value = 0; first = s .at; remaining = 128 - s .at; stream = s }
 
-abbrev pub consumed8 : BitStream → ℕ → Bits8
-consumed8 s n = record { value = nextBits s n; stream = skipped s n }
+-- A READ of w bits is refused where it wants more of the 128 than remain; else it answers the w bits of the number that come next
+unfoldable pub readOf : BitStream → ℕ → Read
+readOf s w = pick (ltb 128 (s .at + w)) (shortRead s) (answered s w (field (held s) (s .at) w))
 
-abbrev pub consumed64 : BitStream → ℕ → Bits64
-consumed64 s n = record { value = nextBits s n; stream = skipped s n }
+-- reads of these widths, one after the other
+unfoldable pub readsOf : BitStream → List ℕ → List Read
+readsOf s [] = []
+readsOf s (w ∷ ws) = readOf s w ∷ readsOf (readOf s w .stream) ws
 
--- two values of n bits each, one after the other
-abbrev pub consumed2 : BitStream → ℕ → Values2
-consumed2 s n = record { first = nextBits s n; second = nextBits (skipped s n) n; stream = skipped s (2 * n) }
-
--- What the reads promise, each clause by its name: what is read, that it is within its width, and where the stream stands then. The
--- last two follow from the first, and are what the next calls ask for.
-pub record TakenBit (s : BitStream) (r : Bit) : Type 0 where
-  pub same : r ≡ consumed1 s
-  pub moved : r .stream .at ≡ s .at + 1
-
-pub record Taken8 (s : BitStream) (w : ℕ) (r : Bits8) : Type 0 where
-  pub same : r ≡ consumed8 s w
+-- What every read promises: all of its answer; and what follows from that, a value within its width, and what is answered where the
+-- bits are there.
+pub record Reads (s : BitStream) (w : ℕ) (r : Read) : Type 0 where
+  pub same : r ≡ readOf s w
   pub small : r .value < 2 ^ w
-  pub moved : r .stream .at ≡ s .at + w
+  pub fits : s .at + w ≤ 128 → r ≡ answered s w (field (held s) (s .at) w)
 
-pub record Taken64 (s : BitStream) (w : ℕ) (r : Bits64) : Type 0 where
-  pub same : r ≡ consumed64 s w
-  pub small : r .value < 2 ^ w
-  pub moved : r .stream .at ≡ s .at + w
-
-pub record Taken2 (s : BitStream) (w : ℕ) (r : Values2) : Type 0 where
-  pub same : r ≡ consumed2 s w
-  pub small-first : r .first < 2 ^ w
-  pub small-second : r .second < 2 ^ w
-  pub moved : r .stream .at ≡ s .at + 2 * w
+-- Of reads at the widths ws from bit a of n on, the i-th stood behind those before it: it was accepted, it read the i-th digit of what stands
+-- there, started behind the widths before its own, and left what remains behind it.
+pub record Stood (n a : ℕ) (ws : List ℕ) (i : ℕ) (r : Read) : Type 0 where
+  pub accepted : r .refusal ≡ 0
+  pub digit : r .value ≡ getD (split ws (n / 2 ^ a)) i 0
+  pub starts : r .first ≡ a + total (take i ws)
+  pub leaves : r .remaining ≡ 128 - (a + total (take i ws) + getD ws i 0)

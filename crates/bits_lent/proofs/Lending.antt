@@ -32,12 +32,11 @@ use denote.Triple.Entry.{Args}
 use denote.Triple.Clauses.{Lasts, closing, ensured, lasts}
 use denote.Triple.Spec.{tripleOf}
 use denote.Triple.Statement.{Contract, Triple}
-use denote.Triple.Walked.{says}
 use Rattle.bits.specs.declared.stream.BitStream.{BitStream}
 use Rattle.bits.proofs.stream.BitStream as T
 use Rattle.bits.proofs.stream.BitStream.Laws as T′
-use Rattle.bits_lent.proofs.Answers.{IsStream, type, val, IsVal}
-use Rattle.bits_lent.proofs.Lent.{Beside, Read, vals, AreBeside, owned-beside, signature, ended, Gave, clauses}
+use Rattle.bits_lent.proofs.Answers.{IsStream, X, type, val, IsVal}
+use Rattle.bits_lent.proofs.Lent.{Beside, Read, asking-is, vals, AreBeside, owned-beside, signature, ended, Gave, clauses}
 
 -- what the local l holds
 abbrev pub cell : ℕ → BitStream → Fml
@@ -62,18 +61,18 @@ module _ {B : Beside} (f : Read B) {M : Type 1} (𝓤 : URA M) (H : Heap 𝓤) (
       abbrev to : lent .Ghost
       to = (((κ, tt), (fullShare, tt), tt, passed, (vptr l 0 ∷ [], vals B 1 (κ, tt) (ns κ))), tt)
 
-      may-call : f .asks h (B .args 1 (κ, tt) (ns κ)) → AreBeside B 1 (κ, tt) (ns κ)
+      may-call : f .asks h (B .args 1 (κ, tt) (ns κ)) .Fact → AreBeside B 1 (κ, tt) (ns κ)
           → ent 𝓤 (sep 𝓤 (A .lft κ fullShare) (sem 𝓤 H A Own)) (lent .pre to)
       may-call ok are =
-          qed W (‵ (flft κ fullShare) ∷ ‵ Own ∷ []) ∵ says ! ok $ nothing ! $ move ! (1 ∷ 0 ∷ []) $ join ! $ frame ! $
+          qed W (‵ (flft κ fullShare) ∷ ‵ Own ∷ []) ∵ asking-is ! (f .asks h (B .args 1 (κ, tt) (ns κ))) ok $ nothing ! $ move ! (1 ∷ 0 ∷ []) $ join ! $ frame ! $
           use0 W (‵ (owns (typesAt (B .slots 1) (κ, tt)) (ns κ) (vals B 1 (κ, tt) (ns κ)))) (owned-beside B 1 (κ, tt) (ns κ) 𝓤 H A W are) $ move !
           (1 ∷ 0 ∷ []) $ fjoin ! $ done !
 
     pub lends : {C : Calls 𝓤 H} {Λ : Loops 𝓤 H} → FmC 𝓤 H (W .laws) C
         → {Γ : List (Item 𝓤)} {E : Env 𝓤 H} {g : Name} {xs : List Operand} {d : Place} {rest : Code} {q : Post 𝓤 H} → Triple 𝓤 (C g) lent
-        → IsStream h → ((κ : Lft) → f .asks h (B .args 1 (κ, tt) (ns κ))) → ((κ : Lft) → AreBeside B 1 (κ, tt) (ns κ))
+        → IsStream h → ((κ : Lft) → f .asks h (B .args 1 (κ, tt) (ns κ)) .Fact) → ((κ : Lft) → AreBeside B 1 (κ, tt) (ns κ))
         → ((κ : Lft) (i j : Item 𝓤) → Opds (Go {0}) W (i ∷ j ∷ Γ) E xs (vptr l 0 ∷ flat (typesAt (B .slots 1) (κ, tt)) (vals B 1 (κ, tt) (ns κ))))
-        → ((κ : Lft) (x : f .b .X) (s : BitStream) → f .answer .parts x s (f .gives h (B .args 1 (κ, tt) (ns κ))) → IsVal (f .b) x → IsStream s
+        → ((κ : Lft) (x : X (f .b)) (s : BitStream) → f .answer .parts x s (f .gives h (B .args 1 (κ, tt) (ns κ))) → IsVal (f .b) x → IsStream s
         → Seq (Go {0}) W (‵ (cell l s) ∷ Γ) (lands C Λ E d (val (f .b) x) rest q))
         → Seq (Go {0}) W (‵ (cell l h) ∷ Γ) (runs C Λ E (seq (call g xs d) rest) q)
     unfolding partOf
@@ -86,7 +85,7 @@ module _ {B : Beside} (f : Read B) {M : Type 1} (𝓤 : URA M) (H : Heap 𝓤) (
         (lends-ref 𝓤 H A W T.the-row (named 0) (ν ∷ []) h l 0) $ await ! tt $ pick ! (λ δ. split ! $
         move ! (2 ∷ 0 ∷ []) $ use2 W (raw (lent .pre (to ν δ))) (may-call ν δ (ok (ν ∷ [])) (are (ν ∷ []))) $
         calls-at ! fm lent known (to ν δ) (ops (ν ∷ []) _ _) (λ u.
-        use1 W (later (some (λ (x : f .b .X). ((‵ (flft (ν ∷ []) fullShare) ⊛ ‵ ftrue) ⊛ ‵ (type (f .b) .own x (u ∷ [])))
+        use1 W (later (some (λ (x : X (f .b)). ((‵ (flft (ν ∷ []) fullShare) ⊛ ‵ ftrue) ⊛ ‵ (type (f .b) .own x (u ∷ [])))
         ⊛ raw (ensured 𝓤 H A (ended f) (clauses f 𝓤) (ν ∷ [], tt) (passed ν δ) tt x)))) (id⊢ 𝓤 _) $ await ! tt $ pick ! (λ x.
         split ! $ move ! (1 ∷ []) $
         use1 W (some (λ (ws : Lasts (ended f) (ν ∷ [], tt) (passed ν δ)). ‵ (lasts (ended f) (ν ∷ [], tt) (passed ν δ) ws)
@@ -102,5 +101,5 @@ module _ {B : Beside} (f : Read B) {M : Type 1} (𝓤 : URA M) (H : Heap 𝓤) (
         (LL.tells T.the-type T′.the-laws) fullShare s us l 0 $
         move ! (1 ∷ []) $ facts ! T.the-row (Is T.the-row) (shows 𝓤 H A T.the-row) s (T′.lowered s ∷ [])
         (λ is-s. use1 W (‵ (cell l s)) (W .laws .raw-at fullShare T′.mir l 0 (T′.lowered s)) $
-        regoal ! (λ (v : Val). lands C Λ E d v rest q) (ap only (f .b .laws .tells x _ is-x)) refl $ k (ν ∷ []) x s e
-        (subst (Is (type (f .b)) x) (f .b .laws .tells x _ is-x) is-x) is-s)))))))))
+        regoal ! (λ (v : Val). lands C Λ E d v rest q) (ap only (f .b .told x _ is-x)) refl $ k (ν ∷ []) x s e
+        (subst (Is (type (f .b)) x) (f .b .told x _ is-x) is-x) is-s)))))))))

@@ -26,13 +26,13 @@ use denote.Triple.Call.{calls-from}
 use Rattle.bits.specs.declared.stream.BitStream.{BitStream}
 use Rattle.bits.proofs.stream.BitStream as T
 use Rattle.bits.proofs.stream.BitStream.Laws as T′
-use Rattle.bits_lent.proofs.Answers.{found, IsStream, stream-typed, Builtin, ByValue, val, IsVal, typed}
+use Rattle.bits_lent.proofs.Answers.{found, IsStream, stream-typed, Result, ByValue, val, IsVal, typed}
 
 abbrev pub reference : Ty
 reference = tyRef (named 0) mut (pointee (T.the-row .written))
 
 -- g is called with the stream and xs; its answer stands in the local i, the stream taken out in the local j
-abbrev pub body : {b : Builtin} → ByValue b → Name → List Operand → ℕ → ℕ → Code
+abbrev pub body : {b : Result} → ByValue b → Name → List Operand → ℕ → ℕ → Code
 body a g xs i j =
     seq (assign (place j []) (rvOpd (copy (place 1 (deref T′.mir ∷ [])))))
     (seq (call g (copy (place j []) ∷ xs) (place i []))
@@ -40,7 +40,7 @@ body a g xs i j =
     (seq (assign (place 0 []) (rvOpd (a .value-at i))) return)))
 
 module _ {M : Type 1} {𝓤 : URA M} {H : Heap 𝓤} {A : Atoms 𝓤} {W : Given 𝓤 H A} (C : Calls 𝓤 H) (Λ : Loops 𝓤 H) (fm : FmC 𝓤 H (W .laws) C)
-    {b : Builtin} (a : ByValue b) (g : Name) (h : BitStream) (vs : List Val) (φ : a .R .Denot → Type 0) (Q : Val → SProp 𝓤)
+    {b : Result} (a : ByValue b) (g : Name) (h : BitStream) (vs : List Val) (φ : a .R .Denot → Type 0) (Q : Val → SProp 𝓤)
     (called : IsStream h → ent 𝓤 (emp 𝓤) (C g (T′.lowered h ∷ vs) Q))
     (answered : (u : Val) → ent 𝓤 (Q u) (H .⇛ (ex 𝓤 (λ (r : a .R .Denot). sep 𝓤 (sem 𝓤 H A (a .R .own r (u ∷ []))) (fact 𝓤 (φ r)))))) where
   pub moves : {κ : Lft} {q : Share} {p o : ℕ} {γ : GName} {Γ : List (Item 𝓤)} {E : Env 𝓤 H} {K : Val → SProp 𝓤} {l₀ l₁ lᵣ lₜ : ℕ} {xs : List Operand} (i j : ℕ)

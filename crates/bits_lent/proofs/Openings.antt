@@ -1,20 +1,28 @@
--- The reads that open a mode 4 block give `openingAt`, whichever way the stream goes from one to the next; and from a block's start they give the fields of its number.
+-- The reads that open a mode 4 block give `openingAt`, whichever way the stream goes from one to the next; and from a block's start each is accepted.
 -- Assumes nothing.
 use mathlib.Core.Path.{_≡_}
-use mathlib.Core.Bool.{Bool}
-use Prim.Native.Nat.{ℕ}
+use mathlib.Core.List.{List, [], _∷_}
+use Prim.Native.Nat.{ℕ, _≤_, _<_}
+use native.Mathlib.Omega.{arith}
+use lib.Dec.{lit<}
 use Rattle.bits.specs.declared.stream.BitStream.{BitStream}
-use Rattle.bits.specs.Stream.{held, skipped, consumed1, consumed8, consumed64}
+use Rattle.bits.specs.declared.stream.Read.{Read}
+use Rattle.bits.specs.Stream.{On, readOf, readsOf, skipped}
+use Rattle.bits.proofs.InOrder.{in-order}
+use Rattle.bits.proofs.On.{on-skipped}
 use Rattle.bits_lent.specs.declared.Opening.{Opening}
-use Rattle.bits_lent.specs.Opening.{openingAt, openingOf}
+use Rattle.bits_lent.specs.Opening.{Opens, openingAt}
 
-pub opens-at : (s : BitStream) {s₁ s₂ s₃ : BitStream} {x z : ℕ} {y : Bool} → s₁ ≡ skipped s 5
-    → (x ≡ consumed8 s₁ 2 .value) × (s₂ ≡ consumed8 s₁ 2 .stream) → (y ≡ consumed1 s₂ .value) × (s₃ ≡ consumed1 s₂ .stream)
-    → z ≡ consumed64 s₃ 42 .value
+pub opens-at : (s : BitStream) {s₁ s₂ s₃ : BitStream} {x y z : Read} → s₁ ≡ skipped s 5
+    → (x ≡ readOf s₁ 2) × (s₂ ≡ readOf s₁ 2 .stream) → (y ≡ readOf s₂ 1) × (s₃ ≡ readOf s₂ 1 .stream)
+    → z ≡ readOf s₃ 42
     → _≡_ {A = Opening} (record { rotation = x; «index_mode» = y; endpoints = z }) (openingAt s)
 unfolding openingAt
 opens-at s p q r t = rw (t, r .0, r .1, q .0, q .1, p)
 
-pub opens-block : (s : BitStream) {n : ℕ} → held s ≡ n → s .at ≡ 0 → openingAt s ≡ openingOf n
-unfolding openingAt held
-opens-block s e f = rw (← e, f)
+-- at bit 5 of a block there is room for all three
+pub opens-block : {n : ℕ} {s : BitStream} → On n 0 s → Opens n (openingAt s)
+unfolding openingAt readsOf
+opens-block {s = s} o =
+    let stood = in-order (on-skipped o 5) (2 ∷ 1 ∷ 42 ∷ []) (omega arith) (readOf s 0) in
+    record { rotation = stood 0 (lit< tt); index-mode = stood 1 (lit< tt); endpoints = stood 2 (lit< tt) }

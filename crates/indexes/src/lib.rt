@@ -5,7 +5,7 @@ ghost use mathlib.Core.Path.{_≡_};
 ghost use mathlib.Core.List.{[], _∷_};
 ghost use Prim.Native.Nat.{_+_, _-_, _*_, _^_, _≤_, _<_};
 ghost use Rattle.laws.specs.Digits.{inserted};
-ghost use Rattle.indexes.specs.Reading.{Anchors1, Anchors2, Anchors3, Index, Insertable, Room, indexesOf, newIndexes};
+ghost use Rattle.indexes.specs.Reading.{Anchors1, Anchors2, Anchors3, Compressed, Index, Insertable, indexesOf, newIndexes};
 use bits::stream::BitStream;
 
 pub mod sets;
@@ -35,10 +35,10 @@ fn decompress_single_index(bits: u32, compressed: u64, index: u32) -> u64
 
 impl Indexes {
     pub fn new_p1(bits: u32, stream: BitStream) -> NewIndexes
-        requires { ⌜ Anchors1 bits (Room stream bits 1) ⌝ }
+        requires { ⌜ Anchors1 bits ⌝ }
         ensures { λ r. ⌜ r ≡ newIndexes bits (0 ∷ []) stream (16 * bits - 1) ⌝ }
     {
-        let compressed = stream.consume_bits_64(16 * bits - 1);
+        let compressed = stream.take(16 * bits - 1);
         let indexes = Indexes::from_compressed_p1(bits, compressed.value);
         let rest = compressed.stream;
         NewIndexes {
@@ -48,10 +48,10 @@ impl Indexes {
     }
 
     pub fn new_p2(bits: u32, stream: BitStream, p2_fixup: u32) -> NewIndexes
-        requires { ⌜ Anchors2 bits «p2_fixup» (Room stream bits 2) ⌝ }
+        requires { ⌜ Anchors2 bits «p2_fixup» ⌝ }
         ensures { λ r. ⌜ r ≡ newIndexes bits (0 ∷ «p2_fixup» ∷ []) stream (16 * bits - 2) ⌝ }
     {
-        let compressed = stream.consume_bits_64(16 * bits - 2);
+        let compressed = stream.take(16 * bits - 2);
         let indexes = Indexes::from_compressed_p2(bits, compressed.value, p2_fixup);
         let rest = compressed.stream;
         NewIndexes {
@@ -61,10 +61,10 @@ impl Indexes {
     }
 
     pub fn new_p3(bits: u32, stream: BitStream, p2_fixup: u32, p3_fixup: u32) -> NewIndexes
-        requires { ⌜ Anchors3 bits «p2_fixup» «p3_fixup» (Room stream bits 3) ⌝ }
+        requires { ⌜ Anchors3 bits «p2_fixup» «p3_fixup» ⌝ }
         ensures { λ r. ⌜ r ≡ newIndexes bits (0 ∷ «p2_fixup» ∷ «p3_fixup» ∷ []) stream (16 * bits - 3) ⌝ }
     {
-        let compressed = stream.consume_bits_64(16 * bits - 3);
+        let compressed = stream.take(16 * bits - 3);
         let indexes = Indexes::from_compressed_p3(bits, compressed.value, p2_fixup, p3_fixup);
         let rest = compressed.stream;
         NewIndexes {
@@ -75,7 +75,7 @@ impl Indexes {
 
     // Pixel 0 is always an anchor, and the fix-ups are the others in pixel order.
     pub fn from_compressed_p1(bits: u32, compressed: u64) -> Self
-        requires { ⌜ Anchors1 bits (compressed < 2 ^ (16 * bits - 1)) ⌝ }
+        requires { ⌜ Compressed (Anchors1 bits) compressed (16 * bits - 1) ⌝ }
         ensures { λ r. ⌜ r ≡ indexesOf bits (0 ∷ []) compressed ⌝ }
     {
         Indexes {
@@ -85,7 +85,7 @@ impl Indexes {
     }
 
     pub fn from_compressed_p2(bits: u32, compressed: u64, p2_fixup: u32) -> Self
-        requires { ⌜ Anchors2 bits «p2_fixup» (compressed < 2 ^ (16 * bits - 2)) ⌝ }
+        requires { ⌜ Compressed (Anchors2 bits «p2_fixup») compressed (16 * bits - 2) ⌝ }
         ensures { λ r. ⌜ r ≡ indexesOf bits (0 ∷ «p2_fixup» ∷ []) compressed ⌝ }
     {
         let first = decompress_single_index(bits, compressed, 0);
@@ -96,7 +96,7 @@ impl Indexes {
     }
 
     pub fn from_compressed_p3(bits: u32, compressed: u64, p2_fixup: u32, p3_fixup: u32) -> Self
-        requires { ⌜ Anchors3 bits «p2_fixup» «p3_fixup» (compressed < 2 ^ (16 * bits - 3)) ⌝ }
+        requires { ⌜ Compressed (Anchors3 bits «p2_fixup» «p3_fixup») compressed (16 * bits - 3) ⌝ }
         ensures { λ r. ⌜ r ≡ indexesOf bits (0 ∷ «p2_fixup» ∷ «p3_fixup» ∷ []) compressed ⌝ }
     {
         let first = decompress_single_index(bits, compressed, 0);

@@ -20,7 +20,7 @@ pub fn read_indexes(
     second: usize,
     third: usize,
 ) -> NewIndexes
-    requires { ⌜ SetAt kind bits stream second third ⌝ }
+    requires { ⌜ SetAt kind bits second third ⌝ }
     ensures { λ r. ⌜ r ≡ newIndexes bits (anchorsOfKind kind second third) stream (16 * bits - anchorCount kind) ⌝ }
 {
     if kind == 1 {

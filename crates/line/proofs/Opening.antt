@@ -50,27 +50,24 @@ module _ (bs : List ℕ) (sixteen : Fit eights bs) (low : modeOf bs < 8) where
   line-is l h i = is-part good l h {row = modeRowOf (modeOf bs)} refl (i .part)
 
 -- the stream behind the marker
-pub stands-low : {mode : ℕ} {b s : BitStream} → mode < 8 → b .at ≡ 0 → s ≡ skipped b (mode + 1) → s .at ≤ 128
-stands-low h zb es = rw (es, zb) (omega arith)
-
-module _ (bs : List ℕ) {mode : ℕ} {row : ModeRow} (em : mode ≡ modeOf bs) (er : row ≡ modeRowOf mode) {b s : BitStream} {r : ReadSplit}
+module _ (bs : List ℕ) {mode : ℕ} {row : ModeRow} (em : mode ≡ modeOf bs) (low : mode < 8) (er : row ≡ modeRowOf mode) {b s : BitStream} {r : ReadSplit}
     (hb : held b ≡ number bs) (zb : b .at ≡ 0) (es : s ≡ skipped b (mode + 1)) (e : r ≡ splitRead row s) where
   on : On (number bs) (mode + 1) s
   on = marker-on mode hb zb es
 
   pub the-split : r .split ≡ splitOf bs
   unfolding splitOf
-  the-split = split-is mode er on e ∙ ap (λ (m : ℕ). splitAt m (number bs)) em
+  the-split = split-is mode low er on e ∙ ap (λ (m : ℕ). splitAt m (number bs)) em
 
-  pub asks : Fit eights bs → mode < 8 → (l : ℕ) → l < lines mode → OfLine row (r .split) l
-  asks sixteen low l h = rw the-split (of-line (good bs sixteen (rw em at low)) l (rw em at h) (er ∙ ap modeRowOf em))
+  pub asks : Fit eights bs → (l : ℕ) → l < lines mode → OfLine row (r .split) l
+  asks sixteen l h = rw the-split (of-line (good bs sixteen (rw em at low)) l (rw em at h) (er ∙ ap modeRowOf em))
 
   pub is-opened : {x : LinePart} (l : ℕ) → x ≡ partOf row (r .split) l → IsOpened bs l (record { stream = r .stream; part = x })
   is-opened l ex =
-      let o = split-on row on e in
+      let o = split-on mode low er on e in
       record {
         holds = o .of;
-        stands = o .stands ∙ rw er (lead-end mode) ∙ ap leadEnd em;
+        stands = o .stands ∙ lead-end mode ∙ ap leadEnd em;
         part = ex ∙ rw (er, the-split, em);
       }
 

@@ -25,7 +25,7 @@ use Rattle.bc7_format.specs.WellFormed.{WellFormed}
 use Rattle.bc7_format.proofs.Meaning.{index-set-lt}
 use Rattle.bc7_format.proofs.Modes.{good-index-mode, lines-le}
 use Rattle.bc7_format.proofs.Places.{inside-index}
-use Rattle.bc7_format.proofs.Starts.{start, start-le}
+use Rattle.bc7_format.proofs.Starts.{start}
 use Rattle.bits.specs.Stream.{held}
 use Rattle.bcn_format.specs.Indexes.{part}
 use Rattle.bc7_format.specs.Fields.{leadEnd}
@@ -40,10 +40,10 @@ use Rattle.line.proofs.parts.Parts.{IsPart}
 use Rattle.line.proofs.parts.Words.{Small, masked, word, word-part}
 use Rattle.line.specs.Fields.{fieldsAt, setBefore}
 use Rattle.bc7_places.specs.Places.{fieldsOf}
-use Rattle.line.proofs.fields.Indexes.{before-word, rising, stood-small}
+use Rattle.line.proofs.fields.Indexes.{before-word, rising, size-is, stood-small}
 use Rattle.line.proofs.fields.Putting.{p-next, p-there, value-next, value-there}
 use Rattle.bc7_places.proofs.places.Starting.{channel-low, channel-starts, channelAt, p-low, p-starts, set-starts}
-use Rattle.line.proofs.fields.Whole.{lead-low, two-of-1, whole-start}
+use Rattle.line.proofs.fields.Whole.{lead-low, set-room, two-of-1}
 use Rattle.line.proofs.fields.Taking.{first-read, one-read, second-read}
 use Rattle.line.specs.Reading.{PartSmall, ReadReady, lineHeld, psAt, setAt, twoAt, widthsIn}
 
@@ -191,7 +191,7 @@ module _ {m : ℕ} {s : Split} {f : Place → ℕ} (g : WellFormed m s f) (l : �
           (channel-second 0 (omega arith)) (channel-second 1 (omega arith)) (channel-second 2 (omega arith)) (channel-second 3 (omega arith)))
           (two (lineOf m s l f .p) refl refl) refl)
 
-      low : (c : ℕ) → c < 4 → channelAt at c ≤ 128
+      low : (c : ℕ) → c < 4 → channelAt at c ≤ 112
       unfolding fieldsOf
       low c h = omega (arith, channel-low g l hl l3 c h)
 
@@ -215,11 +215,6 @@ module _ {m : ℕ} {s : Split} {f : Place → ℕ} (g : WellFormed m s f) (l : �
           most = is .most;
           rising = rising g l is;
           map = is .map;
-          below = rw (set-starts g l hl l3) set-low;
+          room = rw (set-starts g l hl l3, size-is g l is) (set-room g l);
         });
       }
-        where
-          set-low : start m s (firstFrom + (16 * indexSetOf s l + 0)) ≤ 128
-          set-low =
-              rw (← (whole-start g))
-              (start-le m s (firstFrom + (16 * indexSetOf s l + 0)) placeCount (omega (arith, index-set-lt s l (good-index-mode g))) (omega arith))

@@ -16,7 +16,7 @@ use Rattle.bcn_format.specs.Indexes.{Rising, part}
 use Rattle.bc7_places.specs.Modes.{OfMode}
 use Rattle.line.specs.Parts.{maskOf}
 use Rattle.bc7_places.specs.Lines.{ownPixel}
-use Rattle.line.specs.Fields.{fieldsAt, setBefore}
+use Rattle.line.specs.Fields.{fieldsAt, setBefore, sizeIn}
 
 -- two values of w bits from bit a on
 abbrev pub twoAt : ℕ → ℕ → ℕ → PerEndpoint
@@ -34,7 +34,7 @@ pub record SetThere (k a : ℕ) (x : LinePart) : Type 0 where
   pub most : x .index ≤ 4
   pub rising : Rising k (x .anchors .b) (x .anchors .c)
   pub map : x .pixels .subsets .bits ≤ 2
-  pub below : a ≤ 128
+  pub room : a + sizeIn k x ≤ 128
 
 -- the line, of a stream that stands where the values start
 abbrev pub endpointsFrom : PerEndpoint → PerEndpoint → PerEndpoint → PerEndpoint → List ℕ
@@ -65,10 +65,10 @@ pub record ReadReady (s : BitStream) (row : ModeRow) (l : ℕ) (x : LinePart) : 
   pub start : s .at ≤ 16
   pub line : l < 3
   pub small : PartSmall x
-  pub red : fieldsAt s row l x .red ≤ 128
-  pub green : fieldsAt s row l x .green ≤ 128
-  pub blue : fieldsAt s row l x .blue ≤ 128
-  pub alpha : fieldsAt s row l x .alpha ≤ 128
+  pub red : fieldsAt s row l x .red ≤ 112
+  pub green : fieldsAt s row l x .green ≤ 112
+  pub blue : fieldsAt s row l x .blue ≤ 112
+  pub alpha : fieldsAt s row l x .alpha ≤ 112
   pub p-start : fieldsAt s row l x .p ≤ 100
   pub set : SetThere (row .kind) (fieldsAt s row l x .indexes) x
 

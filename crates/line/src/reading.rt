@@ -24,15 +24,16 @@ pub struct PerEndpoint {
     pub second: u8,
 }
 
-// Two values of one width side by side.
+// Two values of one width side by side: one read, which has its bits in the block.
 fn two_at(s: BitStream, at: u32, width: u32) -> PerEndpoint
-    requires { ⌜ (at ≤ 128) × (width ≤ 8) ⌝ }
+    requires { ⌜ (at ≤ 112) × (width ≤ 8) ⌝ }
     ensures { λ r. ⌜ r ≡ twoAt (held s) at width ⌝ }
 {
-    let both = standing_at(s, at).consume_2(width);
+    let both = standing_at(s, at).take(2 * width);
+    let values = both.value;
     PerEndpoint {
-        first: both.first as u8,
-        second: both.second as u8,
+        first: (values % (1u64 << width)) as u8,
+        second: (values >> width) as u8,
     }
 }
 

@@ -29,8 +29,9 @@ use sheet_head::geometry::blocks_of;
 use sheet_head::reader::has_ended;
 use sheet_head::reader::refused_with;
 use sheet_head::reader::take_byte;
-
-pub mod text;
+use text::block_text;
+use text::refused_text;
+use text::sheet_text;
 
 // A row of blocks is taken in runs of so many blocks at the most, and a program needs a buffer for one run.
 const MOST_IN_RUN: u32 = 1024;
@@ -56,7 +57,7 @@ fn list_block(head: Head, number: u32, block: [u8; 16], at: usize, out: &mut [u8
     let pixels = decode_bc7_block(block);
     let opaque = is_opaque_in(head, number, block, pixels);
     let first = pixels[0];
-    crate::text::block_text(number, mode_of(block), first, opaque, at, out)
+    block_text(number, mode_of(block), first, opaque, at, out)
 }
 
 // The texts of the whole blocks among these bytes, numbered from `from` on, to a place of the output; the place behind them.
@@ -223,7 +224,7 @@ fn refuse_unless(exact: bool, at: usize, out: &mut [u8]) -> usize
     if exact {
         return at;
     }
-    crate::text::refused_text(10, at, out)
+    refused_text(10, at, out)
 }
 
 // What is said of a head.
@@ -233,9 +234,9 @@ fn list_head(head: Head, at: usize, out: &mut [u8]) -> usize
     ensures { λ r. ⌜ r ≤ at + 40 ⌝ }
 {
     if head.refusal != 0 {
-        return crate::text::refused_text(head.refusal, at, out);
+        return refused_text(head.refusal, at, out);
     }
-    crate::text::sheet_text(head.width, head.height, at, out)
+    sheet_text(head.width, head.height, at, out)
 }
 
 fn list_at_head(reader: HeadReader, came: &[u8], at: usize, out: &mut [u8]) -> usize

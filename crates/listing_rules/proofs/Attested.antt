@@ -27,7 +27,7 @@ use Rattle.listing_rules.specs.Machine.{runOf}
 use Rattle.listing_rules.specs.Listing.{blockListed, blocksListing, blocksText, listed, listing, listingBy}
 
 -- texts; 10 ends each
-pub text : List String → List ℕ
+unfoldable pub text : List String → List ℕ
 text [] = []
 text (s ∷ more) = ascii s ++ (10 ∷ []) ++ text more
 

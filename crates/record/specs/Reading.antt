@@ -1,6 +1,6 @@
 -- What is read of a block group by group, by the row of its mode.
 -- Assumes nothing.
-use Prim.Native.Nat.{ℕ, _+_, _-_, _*_, _/_, _%_, _≤_, _<_}
+use Prim.Native.Nat.{ℕ, _-_, _*_, _/_, _%_}
 use mathlib.Core.List.{List, [], _∷_}
 use lib.Dec.{eqb, ltb}
 use lib.ListN.{getD, replicate}
@@ -12,7 +12,7 @@ use Rattle.bits.specs.declared.stream.BitStream.{BitStream}
 use Rattle.laws.specs.Tables.{pick, table}
 use Rattle.bcn_format.specs.Indexes.{anchorCount, anchorsOfKind, part, Rising}
 use Rattle.indexes.specs.Reading.{newIndexes}
-use Rattle.bits.specs.Stream.{nextBits, skipped}
+use Rattle.bits.specs.Stream.{readOf}
 use Rattle.bc7_places.specs.Modes.{OfMode}
 
 -- the endpoints of four words, one a channel: value e of a channel is part e of its word, and 0 where the mode has no endpoint e
@@ -24,19 +24,18 @@ endpointsOf row red green blue alpha =
     table 24 (λ i. pick (ltb (i / 4) (row .endpoints))
     (part (channelOf red green blue alpha (i % 4)) (pick (eqb (i % 4) 3) (row .alpha) (row .colour)) (i / 4)) 0)
 
--- a word for each channel comes next
-abbrev pub channelsAt : ModeRow → BitStream → ℕ → ℕ
-channelsAt row s c = nextBits (skipped s (c * (row .endpoints * row .colour))) (row .endpoints * pick (eqb c 3) (row .alpha) (row .colour))
-
+-- four reads, a word for each channel
 unfoldable pub endpointsRead : ModeRow → BitStream → ReadEndpoints
-endpointsRead row s = record {
-  endpoints = endpointsOf row (channelsAt row s 0) (channelsAt row s 1) (channelsAt row s 2) (channelsAt row s 3);
-  stream = skipped s (3 * (row .endpoints * row .colour) + row .endpoints * row .alpha);
-}
+endpointsRead row s =
+    let r = readOf s (row .endpoints * row .colour) in
+    let g = readOf (r .stream) (row .endpoints * row .colour) in
+    let b = readOf (g .stream) (row .endpoints * row .colour) in
+    let a = readOf (b .stream) (row .endpoints * row .alpha) in
+    record { endpoints = endpointsOf row (r .value) (g .value) (b .value) (a .value); stream = a .stream }
 
--- a word of p bits comes next
+-- one of all p bits
 unfoldable pub pRead : ModeRow → BitStream → ReadP
-pRead row s = record { p = table 6 (part (nextBits s (row .p)) 1); stream = skipped s (row .p) }
+pRead row s = let r = readOf s (row .p) in record { p = table 6 (part (r .value) 1); stream = r .stream }
 
 -- the second set comes next, where the mode has one
 unfoldable pub secondRead : ModeRow → Anchors → BitStream → List ℕ
@@ -46,8 +45,7 @@ secondRead row a s =
     .uncompressed) (row .second)))
     (replicate 16 0)
 
--- what that asks for: anchors in rising order, and a stream that stands within its block
-pub record SecondAt (row : ModeRow) (a : Anchors) (s : BitStream) : Type 0 where
+-- what that asks for: anchors in rising order
+pub record SecondAt (row : ModeRow) (a : Anchors) : Type 0 where
   pub of-mode : OfMode row
   pub rising : Rising (row .kind) (a .b) (a .c)
-  pub within : s .at ≤ 128

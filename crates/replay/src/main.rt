@@ -4,6 +4,8 @@
 ghost use Prim.Native.Nat.{_+_, _≤_, _<_};
 ghost use lib.ListN.{length};
 use bc7_places::places::PLACES;
+use bits::stream::BitStream;
+use bits::stream::Read;
 use libc::STDIN_FILENO;
 use libc::STDOUT_FILENO;
 use listing::list_sheet;
@@ -426,6 +428,79 @@ fn length_call(export: bool) -> bool {
     length_call_of(export, &mut given[..end])
 }
 
+// A read that was asked for: whether there is such a read, and the stream behind it.
+struct NextRead {
+    known: bool,
+    stream: BitStream,
+}
+
+fn unknown(stream: BitStream) -> NextRead {
+    NextRead {
+        known: false,
+        stream: stream,
+    }
+}
+
+// The answer of a read, written: the refusal, the value, the first bit, the bits that remain.
+fn written(read: Read) -> NextRead {
+    write_small(read.refusal);
+    write_u32((read.value % 4294967296) as u32);
+    write_u32((read.value >> 32) as u32);
+    write_small(read.first);
+    write_small(read.remaining);
+    let stream = read.stream;
+    NextRead {
+        known: true,
+        stream: stream,
+    }
+}
+
+// The read that a byte asks for: 0 is one bit, 1 to 8 are that many, 128 and c are c bits of 1 to 64.
+fn answered(stream: BitStream, kind: u8) -> NextRead {
+    if kind == 0 {
+        return written(stream.consume_bit());
+    }
+    if kind <= 8 {
+        return written(stream.consume_bits(kind as u32));
+    }
+    if kind <= 128 {
+        return unknown(stream);
+    }
+    if 192 < kind {
+        return unknown(stream);
+    }
+    written(stream.consume_bits_64(kind as u32 - 128))
+}
+
+fn reads_of(block: [u8; 16], kinds: &mut [u8]) -> bool {
+    if !filled(kinds) {
+        return false;
+    }
+    let mut stream = BitStream::new(block);
+    for i in 0..kinds.len() {
+        let next = answered(stream, kinds[i]);
+        if !next.known {
+            return false;
+        }
+        stream = next.stream;
+    }
+    true
+}
+
+fn reads_call() -> bool {
+    let mut block = [0u8; 16];
+    if !filled(&mut block) {
+        return false;
+    }
+    let mut count = [0u8; 1];
+    if !filled(&mut count) {
+        return false;
+    }
+    let n = wide(count[0]) as usize;
+    let mut kinds = [0u8; 256];
+    reads_of(block, &mut kinds[..n])
+}
+
 // One call: whether another may follow.
 fn call(letter: u8) -> bool {
     match letter {
@@ -447,6 +522,7 @@ fn call(letter: u8) -> bool {
         b'd' => length_call(false),
         b's' => length_call(true),
         b'Q' => pixel_call(),
+        b'B' => reads_call(),
         _ => false,
     }
 }

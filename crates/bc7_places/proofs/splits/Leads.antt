@@ -1,23 +1,23 @@
 -- The split of a block is one read.
 -- Assumes nothing.
 use mathlib.Core.Path.{_≡_, refl, ap, ap₂, _∙_}
-use Prim.Native.Nat.{ℕ, zero, suc, _+_, _/_, _%_, _^_, _<_}
+use Prim.Native.Nat.{ℕ, zero, suc, _+_, _/_, _%_, _^_, _≤_, _<_}
 use native.Mathlib.Nat.{add-assoc, add-zero, zero-add}
 use native.Mathlib.Numerals.{add-one}
 use native.Mathlib.Omega.{arith}
+use lib.Dec.{leb, leb→le}
 use lib.Pow.{field as part-of, mod-mod-pow, shr-shr}
 use Rattle.bc7_places.specs.declared.splits.ReadSplit.{ReadSplit}
 use Rattle.bc7_places.specs.declared.modes.ModeRow.{ModeRow}
 use Rattle.bits.specs.declared.stream.BitStream.{BitStream}
-use Rattle.bits.specs.declared.stream.Bits64.{Bits64}
-use Rattle.bc7_format.specs.declared.Split.{Split}
 use Rattle.bc7_format.specs.declared.Split.the-variants.{Vector}
+use Rattle.laws.proofs.Tests.{at}
 use Rattle.bcn_format.specs.Block.{field}
 use Rattle.bc7_format.specs.Modes.{indexModeBits, kindOfMode, modeRow, partitionBits, rotationBits}
 use Rattle.bc7_format.specs.Splits.{ofKind, partition, splitAt}
-use Rattle.bits.specs.Stream.{consumed64, held, skipped}
-use Rattle.bits.proofs.On.{On, next-is, on-skipped}
-use Rattle.bc7_places.specs.Modes.{OfMode, modeRowOf}
+use Rattle.bits.specs.Stream.{held, skipped}
+use Rattle.bits.proofs.On.{On, got, on-read, on-skipped}
+use Rattle.bc7_places.specs.Modes.{modeRowOf}
 use Rattle.bc7_places.specs.Splits.{splitRead}
 
 -- two bits of rotation, and the index mode above them
@@ -46,13 +46,10 @@ one-read (suc (suc (suc (suc (suc (suc zero)))))) n a h = refl
 one-read (suc (suc (suc (suc (suc (suc (suc zero))))))) n a h = refl
 one-read (suc (suc (suc (suc (suc (suc (suc (suc m)))))))) n a h = absurd (let z : ⊥ = omega arith in z)
 
-pub split-taken : (row : ModeRow) (s : BitStream) {x : Bits64} {t : Split} → OfMode row
-    → x ≡ consumed64 s (row .partition + row .rotation + row .«index_mode»)
-    → t ≡ ofKind (row .kind) (x .value) (x .value % 4) (x .value / 2 ^ 2) → record { split = t; stream = x .stream } ≡ splitRead row s
-unfolding held
-split-taken row s {t = t} o ex et =
-    let e : t ≡ splitRead row s .split = rw (et, ex, o .is) (one-read (o .mode) _ _ (o .low)) in
-    ap₂ (λ (t : Split) (x : BitStream). record { split = t; stream = x }) e (ap (λ (x : Bits64). x .stream) ex)
+-- the read is accepted behind the marker
+lead-fits : (m : ℕ) → m < 8 → m + 1 + (partitionBits m + rotationBits m + indexModeBits m) ≤ 128
+unfolding modeRow
+lead-fits m h = leb→le _ 128 (at 8 (λ m. leb (m + 1 + (partitionBits m + rotationBits m + indexModeBits m)) 128) tt m h)
 
 -- behind the marker
 pub marker-on : (m : ℕ) {n : ℕ} {b s : BitStream} → held b ≡ n → b .at ≡ 0 → s ≡ skipped b (m + 1) → On n (m + 1) s
@@ -65,13 +62,15 @@ split-parts : (m n : ℕ)
 unfolding splitAt field
 split-parts m n = rw (← (add-assoc (m + 1) (partitionBits m) (rotationBits m))) (simp (shr-shr, add-one))
 
-pub split-is : (m : ℕ) {n : ℕ} {row : ModeRow} {s : BitStream} {r : ReadSplit} → row ≡ modeRowOf m → On n (m + 1) s → r ≡ splitRead row s
-    → r .split ≡ splitAt m n
-split-is m e o er =
-    let p : ℕ = partitionBits m in
-    let q : ℕ = p + rotationBits m in
-    rw (er, e, next-is o p, next-is (on-skipped o p) (rotationBits m), next-is (on-skipped o q) (indexModeBits m)) (split-parts m _)
+module _ (m : ℕ) (low : m < 8) {n : ℕ} {row : ModeRow} {s : BitStream} {r : ReadSplit} (e : row ≡ modeRowOf m) (o : On n (m + 1) s)
+    (er : r ≡ splitRead row s) where
+  bits : ℕ
+  bits = partitionBits m + rotationBits m + indexModeBits m
 
-pub split-on : (row : ModeRow) {a n : ℕ} {s : BitStream} {r : ReadSplit} → On n a s → r ≡ splitRead row s
-    → On n (a + (row .partition + row .rotation + row .«index_mode»)) (r .stream)
-split-on row o er = rw er (on-skipped o (row .partition + row .rotation + row .«index_mode»))
+  pub split-is : r .split ≡ splitAt m n
+  unfolding bits
+  split-is = rw (er, e, got o bits (lead-fits m low) refl) (one-read m n (m + 1) low ∙ split-parts m n)
+
+  pub split-on : On n (m + 1 + (partitionBits m + rotationBits m + indexModeBits m)) (r .stream)
+  unfolding bits
+  split-on = rw (er, e) (on-read o bits (lead-fits m low) refl)

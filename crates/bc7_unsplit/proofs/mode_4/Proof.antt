@@ -2,9 +2,14 @@
 -- Assumes nothing.
 use mathlib.Core.Path.{_≡_, refl, ap, ap₂, _∙_}
 use mathlib.Core.List.{List, [], _∷_}
-use Prim.Native.Nat.{ℕ, _+_, _*_, _<_}
+use Prim.Native.Nat.{ℕ, _+_, _*_, _≤_, _<_}
 use native.Mathlib.Omega.{arith}
 use borrow.Author.Needs.{needs}
+use lib.Dec.{lit<}
+use lib.ListN.{getD, take}
+use Rattle.laws.specs.Digits.{total}
+use Rattle.bc7_format.specs.Reads.{decodingReads}
+use Rattle.bc7_format.proofs.ReadsFit.{decoding-fits}
 use lib.Dec.{eqb}
 use Rattle.laws.specs.Tables.{pick, table}
 use Rattle.bcn_format.specs.Block.{field}
@@ -12,7 +17,7 @@ use Rattle.bc7_format.specs.Modes.{endpointCount, kindOfMode, modeRow}
 use Rattle.bc7_format.specs.Splits.{splitAt}
 use Rattle.bc7_format.proofs.Starts.{index-start}
 use Rattle.bits.specs.Stream.{held}
-use Rattle.bits.proofs.On.{On, field-lt, got-64, got-8, on-64, on-8}
+use Rattle.bits.proofs.On.{On, field-lt, got, on-read}
 use Rattle.bcn_format.specs.Indexes.{part}
 use Rattle.indexes.proofs.Reading.{got-indexes, on-indexes}
 use Rattle.bc7_format.specs.Fields.{endByte, leadEnd, valueStart}
@@ -54,9 +59,7 @@ new-p1-requires : tie.Need-new-p1-requires
 new-p1-requires c κs = search needs
 
 new-p1-requires-2 : tie.Need-new-p1-requires-2
-new-p1-requires-2 c κs =
-    let a = c .before .before in
-    record { least = omega arith; most = omega arith; enough = rw (c .new-p1 .ensures) (omega (arith, a, a .before .before .before)) }
+new-p1-requires-2 c κs = search needs
 
 words-2-requires : tie.Need-words-2-requires
 words-2-requires c κs = search needs
@@ -76,16 +79,26 @@ paint-2-and-3-requires c κs =
       three = rw (y .new-p12 .ensures) refl;
     }
 
+cast-swap-channels : tie.Need-cast-swap-channels
+cast-swap-channels c =
+    let rotation =
+    c .before .before .before .before .before .before .before .before .before .before .before .before .before .before .consume-bits .ensures in
+    record { fits = omega (arith, rotation .small) }
+
 swap-channels-requires : tie.Need-swap-channels-requires
 swap-channels-requires c κs =
     let rotation =
-    c .before .before .before .before .before .before .before .before .before .before .before .before .before .consume-bits .ensures in
+    c .before .before .before .before .before .before .before .before .before .before .before .before .before .before .consume-bits .ensures in
     omega (arith, rotation .small)
+
+-- each read is accepted: it is the k-th of those that decoding makes
+fits : (k : ℕ) → 5 + total (take k (decodingReads 4)) + getD (decodingReads 4) k 0 ≤ 128
+fits k = decoding-fits 4 k (lit< tt)
 
 returns : tie.Need-returns
 unfolding splitAt kindOfMode modeRow endpointCount field valueStart leadEnd
 returns c =
-    let third = c .before .before in
+    let third = c .before .before .before in
     let first = third .before .before in
     let y = first .before .before in
     let x = y .before in
@@ -100,12 +113,12 @@ returns c =
     let n = held (s .args .stream) in
     let small = field-lt n 5 2 in
     let on-rotation : On n 5 (s .args .stream) = record { of = refl; stands = s .pre } in
-    let on-mode = on-8 on-rotation 2 (rotation .consume-bits .ensures .same) in
-    let on-r = on-8 on-mode 1 (index-mode .consume-bits2 .ensures .same) in
-    let on-g = on-64 on-r 10 (r .take .ensures .same) in
-    let on-b = on-64 on-g 10 (g .take2 .ensures .same) in
-    let on-a = on-64 on-b 10 (b .take3 .ensures .same) in
-    let on-x = on-64 on-a 12 (a .take4 .ensures .same) in
+    let on-mode = on-read on-rotation 2 (fits 0) (rotation .consume-bits .ensures .same) in
+    let on-r = on-read on-mode 1 (fits 1) (index-mode .consume-bits2 .ensures .same) in
+    let on-g = on-read on-r 10 (fits 2) (r .take .ensures .same) in
+    let on-b = on-read on-g 10 (fits 3) (g .take2 .ensures .same) in
+    let on-a = on-read on-b 10 (fits 4) (b .take3 .ensures .same) in
+    let on-x = on-read on-a 12 (fits 5) (a .take4 .ensures .same) in
     let e = ends .alone .result in
     let stored : Stored =
     record {
@@ -118,26 +131,26 @@ returns c =
     let shown =
     translucent-shown 4 n {l = 0} {p = 0} refl
     (record {
-      red = got-64 on-r 10 (r .take .ensures .same);
-      green = got-64 on-g 10 (g .take2 .ensures .same);
-      blue = got-64 on-b 10
+      red = got on-r 10 (fits 2) (r .take .ensures .same);
+      green = got on-g 10 (fits 3) (g .take2 .ensures .same);
+      blue = got on-b 10 (fits 4)
           (b .take3 .ensures .same);
     })
-    refl (got-64 on-a 12 (a .take4 .ensures .same)) refl in
+    refl (got on-a 12 (fits 5) (a .take4 .ensures .same)) refl in
     let end : (k : ℕ) → k < 2 → endpoint e 0 k ≡ four (endByte 4 n (2 * 0 + k)) =
     λ k hk. endpoint-one (withAlpha 5 6 stored) (ends .alone .ensures .each) (ends .alone .ensures .same) k hk
     ∙ four-ext _ _ (λ c hc. shown k c hk hc) in
-    let first-is = got-indexes on-x 2 (0 ∷ []) 31 (x .new-p1 .ensures) in
-    let on-y = on-indexes on-x 2 (0 ∷ []) 31 (x .new-p1 .ensures) in
-    let second-is = got-indexes on-y 3 (0 ∷ []) 47 (y .new-p12 .ensures) in
+    let first-is = got-indexes on-x 2 (0 ∷ []) 31 (fits 6) (x .new-p1 .ensures) in
+    let on-y = on-indexes on-x 2 (0 ∷ []) 31 (fits 6) (x .new-p1 .ensures) in
+    let second-is = got-indexes on-y 3 (0 ∷ []) 47 (fits 7) (y .new-p12 .ensures) in
     let f : ℕ → List ℕ = λ q. between 2 (endpoint e 0 0) (endpoint e 0 1) (part (x .new-p1 .result .indexes .uncompressed) 2 q) in
     let h : ℕ → List ℕ = λ q. between 3 (endpoint e 0 0) (endpoint e 0 1) (part (y .new-p12 .result .indexes .uncompressed) 3 q) in
     c .swap-channels .ensures
-    ∙ ap₂ swapped (got-8 on-rotation 2 (rotation .consume-bits .ensures .same))
-    (c .before .paint-2-and-3 .ensures ∙ words-summed _ e (ends .alone .ensures .one) (first .words-2 .ensures) (third .words-3 .ensures)
+    ∙ ap₂ swapped (got on-rotation 2 (fits 0) (rotation .consume-bits .ensures .same))
+    (c .before .before .paint-2-and-3 .ensures ∙ words-summed _ e (ends .alone .ensures .one) (first .words-2 .ensures) (third .words-3 .ensures)
     (x .new-p1 .result .indexes .uncompressed) (y .new-p12 .result .indexes .uncompressed)
     ∙ ap (λ (i : ℕ). table 16 (λ q. pick (eqb i 0) (crossed (f q) (h q)) (crossed (h q) (f q))))
-    (got-8 on-mode 1 (index-mode .consume-bits2 .ensures .same)))
+    (got on-mode 1 (fits 1) (index-mode .consume-bits2 .ensures .same)))
     ∙ vector-either 4 n (field n 5 2) (field n 7 1) small (split-4 n) (field-lt n 7 1) f h
     (by-set 4 n _ _ small (split-4 n) (end 0 (omega arith)) (end 1 (omega arith)) 0 2 50 (omega arith) refl (omega arith)
     (index-start 4 _ (omega arith)) first-is)
@@ -159,5 +172,6 @@ mode-4-spec =
     words-2-requires
     words-3-requires
     paint-2-and-3-requires
+    cast-swap-channels
     swap-channels-requires
     returns)

@@ -2,15 +2,20 @@
 -- Assumes nothing.
 use mathlib.Core.Path.{_≡_, refl, ap₂, _∙_}
 use mathlib.Core.List.{List, [], _∷_}
-use Prim.Native.Nat.{ℕ, _+_, _*_, _<_}
+use Prim.Native.Nat.{ℕ, _+_, _*_, _≤_, _<_}
 use native.Mathlib.Omega.{arith}
 use borrow.Author.Needs.{needs}
+use lib.Dec.{lit<}
+use lib.ListN.{getD, take}
+use Rattle.laws.specs.Digits.{total}
+use Rattle.bc7_format.specs.Reads.{decodingReads}
+use Rattle.bc7_format.proofs.ReadsFit.{decoding-fits}
 use Rattle.bcn_format.specs.Block.{field}
 use Rattle.bc7_format.specs.Modes.{endpointCount, kindOfMode, modeRow}
 use Rattle.bc7_format.specs.Splits.{splitAt}
 use Rattle.bc7_format.proofs.Starts.{index-start}
 use Rattle.bits.specs.Stream.{held}
-use Rattle.bits.proofs.On.{On, field-lt, got-64, got-8, on-64, on-8}
+use Rattle.bits.proofs.On.{On, field-lt, got, on-read}
 use Rattle.indexes.proofs.Reading.{got-indexes, on-indexes}
 use Rattle.bc7_format.specs.Fields.{endByte, leadEnd, valueStart}
 use Rattle.bcn_format.specs.Painting.{four, between, painted}
@@ -49,7 +54,7 @@ new-p1-requires : tie.Need-new-p1-requires
 new-p1-requires c κs = search needs
 
 new-p1-requires-2 : tie.Need-new-p1-requires-2
-new-p1-requires-2 c κs = record { least = omega arith; most = omega arith; enough = rw (c .new-p1 .ensures) (omega arith) }
+new-p1-requires-2 c κs = search needs
 
 palette-2-and-2-requires : tie.Need-palette-2-and-2-requires
 palette-2-and-2-requires c κs = search needs
@@ -60,15 +65,26 @@ keys-2-requires c κs = search needs
 paint-4-requires : tie.Need-paint-4-requires
 paint-4-requires c κs = search needs
 
+cast-swap-channels : tie.Need-cast-swap-channels
+cast-swap-channels c =
+    let rotation =
+    c .before .before .before .before .before .before .before .before .before .before .before .consume-bits .ensures in
+    record { fits = omega (arith, rotation .small) }
+
 swap-channels-requires : tie.Need-swap-channels-requires
 swap-channels-requires c κs =
-    let rotation = c .before .before .before .before .before .before .before .before .before .before .consume-bits .ensures in
+    let rotation =
+    c .before .before .before .before .before .before .before .before .before .before .before .consume-bits .ensures in
     omega (arith, rotation .small)
+
+-- each read is accepted: it is the k-th of those that decoding makes
+fits : (k : ℕ) → 6 + total (take k (decodingReads 5)) + getD (decodingReads 5) k 0 ≤ 128
+fits k = decoding-fits 5 k (lit< tt)
 
 returns : tie.Need-returns
 unfolding splitAt kindOfMode modeRow endpointCount field valueStart leadEnd
 returns c =
-    let keys = c .before .before in
+    let keys = c .before .before .before in
     let palette = keys .before in
     let y = palette .before in
     let x = y .before in
@@ -82,11 +98,11 @@ returns c =
     let n = held (s .args .stream) in
     let small = field-lt n 6 2 in
     let on-rotation : On n 6 (s .args .stream) = record { of = refl; stands = s .pre } in
-    let on-r = on-8 on-rotation 2 (rotation .consume-bits .ensures .same) in
-    let on-g = on-64 on-r 14 (r .take .ensures .same) in
-    let on-b = on-64 on-g 14 (g .take2 .ensures .same) in
-    let on-a = on-64 on-b 14 (b .take3 .ensures .same) in
-    let on-x = on-64 on-a 16 (a .take4 .ensures .same) in
+    let on-r = on-read on-rotation 2 (fits 0) (rotation .consume-bits .ensures .same) in
+    let on-g = on-read on-r 14 (fits 1) (r .take .ensures .same) in
+    let on-b = on-read on-g 14 (fits 2) (g .take2 .ensures .same) in
+    let on-a = on-read on-b 14 (fits 3) (b .take3 .ensures .same) in
+    let on-x = on-read on-a 16 (fits 4) (a .take4 .ensures .same) in
     let e = ends .alone .result in
     let stored : Stored =
     record {
@@ -99,21 +115,21 @@ returns c =
     let shown =
     translucent-shown 5 n {l = 0} {p = 0} refl
     (record {
-      red = got-64 on-r 14 (r .take .ensures .same);
-      green = got-64 on-g 14 (g .take2 .ensures .same);
-      blue = got-64 on-b 14
+      red = got on-r 14 (fits 1) (r .take .ensures .same);
+      green = got on-g 14 (fits 2) (g .take2 .ensures .same);
+      blue = got on-b 14 (fits 3)
           (b .take3 .ensures .same);
     })
-    refl (got-64 on-a 16 (a .take4 .ensures .same)) refl in
+    refl (got on-a 16 (fits 4) (a .take4 .ensures .same)) refl in
     let end : (k : ℕ) → k < 2 → endpoint e 0 k ≡ four (endByte 5 n (2 * 0 + k)) =
     λ k hk. endpoint-one (withAlpha 7 8 stored) (ends .alone .ensures .each) (ends .alone .ensures .same) k hk
     ∙ four-ext _ _ (λ c hc. shown k c hk hc) in
-    let first = got-indexes on-x 2 (0 ∷ []) 31 (x .new-p1 .ensures) in
-    let on-y = on-indexes on-x 2 (0 ∷ []) 31 (x .new-p1 .ensures) in
-    let second = got-indexes on-y 2 (0 ∷ []) 31 (y .new-p12 .ensures) in
+    let first = got-indexes on-x 2 (0 ∷ []) 31 (fits 5) (x .new-p1 .ensures) in
+    let on-y = on-indexes on-x 2 (0 ∷ []) 31 (fits 5) (x .new-p1 .ensures) in
+    let second = got-indexes on-y 2 (0 ∷ []) 31 (fits 6) (y .new-p12 .ensures) in
     c .swap-channels .ensures
-    ∙ ap₂ swapped (got-8 on-rotation 2 (rotation .consume-bits .ensures .same))
-    (c .before .paint-4 .ensures ∙ ap₂ (λ (k : Keys) (p : List (List ℕ)). painted (keyAt 2 2 k) p) (keys .keys-2 .ensures)
+    ∙ ap₂ swapped (got on-rotation 2 (fits 0) (rotation .consume-bits .ensures .same))
+    (c .before .before .paint-4 .ensures ∙ ap₂ (λ (k : Keys) (p : List (List ℕ)). painted (keyAt 2 2 k) p) (keys .keys-2 .ensures)
     (palette .palette-2-and-2 .ensures)
     ∙ paired (x .new-p1 .result .indexes .uncompressed) (y .new-p12 .result .indexes .uncompressed) (between 2 (endpoint e 0 0) (endpoint e 0 1)))
     ∙ vector-either 5 n (field n 6 2) 0 small (split-5 n) (omega arith) _ _
@@ -136,5 +152,6 @@ mode-5-spec =
     palette-2-and-2-requires
     keys-2-requires
     paint-4-requires
+    cast-swap-channels
     swap-channels-requires
     returns)

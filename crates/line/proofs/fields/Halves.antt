@@ -8,13 +8,14 @@ use native.Mathlib.Omega.{arith}
 use lib.Arith.{digits-lt}
 use lib.Pow.{field as low-bits, high, low, mod-mod-pow, pow-add, pow-mono, pow-pos, shl-exact, shr-lt, shr-shr}
 use Rattle.bits.specs.declared.stream.BitStream.{BitStream}
-use Rattle.bits.specs.declared.stream.Bits64.{Bits64}
+use Rattle.bits.specs.declared.stream.Read.{Read}
 use Rattle.laws.specs.Digits.{replacedAt}
 use Rattle.laws.proofs.Cases.{lt-or}
 use Rattle.laws.proofs.Putting.{at-zero, up}
 use Rattle.laws.proofs.Replacing.{across, in-lower, replaced-lt, taken-added, taken-le}
 use Rattle.bcn_format.specs.Block.{field}
-use Rattle.bits.specs.Stream.{consumed64, held}
+use Rattle.bits.specs.Stream.{held, readOf}
+use Rattle.bits.proofs.On.{got}
 use Rattle.laws.proofs.Words.{shl-keeps}
 use Rattle.line.specs.Fields.{Step, standing}
 
@@ -125,10 +126,24 @@ module _ (lo hi a c v : ℕ) (hl : lo < 2 ^ 64) (hh : hi < 2 ^ 64) (hv : v < 2 ^
     in-low m = ⊎-elim (λ k. below (omega arith)) (λ k. crossing (omega arith) m) (lt-or (a + c) 65)
 
 -- what is read of a stream that was set to another position
-pub read-at : (s : BitStream) (a c : ℕ) {q : BitStream} {r : Bits64} → q ≡ standing s a → r ≡ consumed64 q c
+pub read-at : (s : BitStream) (a c : ℕ) → a + c ≤ 128 → {q : BitStream} {r : Read} → q ≡ standing s a → r ≡ readOf q c
     → r .value ≡ (s .high * 2 ^ 64 + s .low) / 2 ^ a % 2 ^ c
 unfolding held field
-read-at s a c eq er = rw (er, eq)
+read-at s a c h eq er = got (record { of = ap held eq; stands = ap (λ (t : BitStream). t .at) eq }) c h er
+
+-- and two values of w bits, read at once
+module _ (s : BitStream) (a w : ℕ) (h : a + 2 * w ≤ 128) {q : BitStream} {r : Read} (eq : q ≡ standing s a) (er : r ≡ readOf q (2 * w)) where
+  read-both : r .value ≡ (s .high * 2 ^ 64 + s .low) / 2 ^ a % 2 ^ (w + w)
+  read-both = let e : 2 * w ≡ w + w = omega arith in rw e at (read-at s a (2 * w) h eq er)
+
+  pub first-of : r .value % 2 ^ w ≡ field (held s) a w
+  unfolding held field
+  first-of = rw read-both (mod-mod-pow ((s .high * 2 ^ 64 + s .low) / 2 ^ a) w w)
+
+  pub second-of : r .value / 2 ^ w ≡ field (held s) (a + w) w
+  unfolding held field
+  second-of =
+      rw read-both (low-bits ((s .high * 2 ^ 64 + s .low) / 2 ^ a) w w ∙ ap (λ (x : ℕ). x % 2 ^ w) (shr-shr (s .high * 2 ^ 64 + s .low) a w))
 
 -- two values of w bits side by side
 pub pair-is : (w a b : ℕ) {x y : ℕ} → w ≤ 8 → b < 2 ^ w → y ≡ b → x ≡ a → (y * 2 ^ w) % 2 ^ 64 + x ≡ b * 2 ^ w + a

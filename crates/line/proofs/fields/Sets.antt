@@ -1,6 +1,6 @@
 -- A set of indexes read, replaced in part and stored.
 -- Assumes nothing.
-use mathlib.Core.Path.{_≡_}
+use mathlib.Core.Path.{_≡_, ap}
 use mathlib.Core.List.{[]}
 use Prim.Native.Nat.{ℕ, zero, suc, _+_, _-_, _*_, _^_, _≤_, _<_}
 use native.Mathlib.Nat.{lt-of-lt-of-le}
@@ -15,14 +15,16 @@ use Rattle.laws.proofs.Digits.{join-lt}
 use Rattle.bits.specs.Stream.{held}
 use Rattle.bcn_format.specs.Indexes.{anchorCount, indexWidths}
 use Rattle.indexes.specs.Reading.{newIndexes}
+use Rattle.indexes.proofs.Reading.{got-indexes}
 use Rattle.indexes.proofs.Remove.{size-kind}
 use Rattle.line.specs.Fields.{SetReady, anchorsIn, setAfter, setBefore, sizeIn, standing}
 
 module _ (s : BitStream) (k a : ℕ) (x : LinePart) (mask new : ℕ) where
-  pub before-is : {q : BitStream} {r : NewIndexes} → q ≡ standing s a → r ≡ newIndexes (x .index) (anchorsIn k x) q (sizeIn k x)
-      → r .indexes .uncompressed ≡ setBefore (held s) k a x
+  pub before-is : a + sizeIn k x ≤ 128 → {q : BitStream} {r : NewIndexes} → q ≡ standing s a
+      → r ≡ newIndexes (x .index) (anchorsIn k x) q (sizeIn k x) → r .indexes .uncompressed ≡ setBefore (held s) k a x
   unfolding setBefore held
-  before-is eq er = rw (er, eq)
+  before-is h eq er =
+      got-indexes (record { of = ap held eq; stands = ap (λ (t : BitStream). t .at) eq }) (x .index) (anchorsIn k x) (sizeIn k x) h er
 
   module _ {b : ℕ} (e : b ≡ setBefore (held s) k a x) (r : SetReady (held s) k a x mask new) where
     pub after-is : b - bitAnd b mask + new ≡ setAfter (held s) k a x mask new

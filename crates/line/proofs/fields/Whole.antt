@@ -65,6 +65,15 @@ pub whole-start : {m : ℕ} {s : Split} {f : Place → ℕ} → WellFormed m s f
 unfolding start widths
 whole-start {m} {s} g = ap total (take-table placeCount placeCount (λ i. width m (anchors s) (placeAt i)) (le-refl placeCount)) ∙ good-total g
 
+-- a set ends where the block does, at the latest
+pub set-room : {m : ℕ} {s : Split} {f : Place → ℕ} → WellFormed m s f → (l : ℕ)
+    → start m s (firstFrom + (16 * indexSetOf s l + 0)) + total (indexWidths (indexBits m (indexSetOf s l)) (anchors s)) ≤ 128
+unfolding indexWidths
+set-room {m} {s} g l =
+    let h : indexSetOf s l < 2 = index-set-lt s l (good-index-mode g) in
+    rw (← (begins m s (indexSetOf s l) h 16 (omega arith)), ← (whole-start g))
+    (start-le m s (firstFrom + (16 * indexSetOf s l + 16)) placeCount (omega arith) (omega arith))
+
 module _ {m : ℕ} {s : Split} {f : Place → ℕ} (g : WellFormed m s f) (l : ℕ) (ln : Line) (acc : refusalIn m s l ln ≡ 0) {x : LinePart}
     (is : IsPart m s l x) where
   abbrev o : Line
@@ -198,14 +207,6 @@ module _ {m : ℕ} {s : Split} {f : Place → ℕ} (g : WellFormed m s f) (l : �
       unfolding indexPlace pos
       as-stood q h = until-first .rest (index (indexSetOf s l) q) (inside-index (index-set-lt s l (good-index-mode g)) h) (omega arith)
 
-      -- the set ends where the block does, at the latest
-      set-room : start m s (firstFrom + (16 * indexSetOf s l + 0)) + total (indexWidths (indexBits m (indexSetOf s l)) (anchors s)) ≤ 128
-      unfolding indexWidths
-      set-room =
-          let h : indexSetOf s l < 2 = index-set-lt s l (good-index-mode g) in
-          rw (← (begins m s (indexSetOf s l) h 16 (omega arith)), ← (whole-start g))
-          (start-le m s (firstFrom + (16 * indexSetOf s l + 16)) placeCount (omega arith) (omega arith))
-
       module _ {mask : ℕ} (em : mask ≡ word (x .index) (maskPart x)) (q : BitStream) (hq : held q ≡ n) (aq : q .at ≡ leadEnd m) {row : ModeRow}
           (er : row ≡ modeRowOf m) where
         fields-are : fieldsAt q row l x ≡ at
@@ -215,7 +216,7 @@ module _ {m : ℕ} {s : Split} {f : Place → ℕ} (g : WellFormed m s f) (l : �
         values-are = rw (hq, fields-are)
 
         ready-set : SetReady n' (kindOfMode m) (at .indexes) x mask (st .indexes)
-        ready-set = set-ready g l is o stands-fits n' (at .indexes) (set-starts g l hl l3) as-stood em (ist .indexes) set-room
+        ready-set = set-ready g l is o stands-fits n' (at .indexes) (set-starts g l hl l3) as-stood em (ist .indexes) (set-room g l)
 
         pair : (c w i j : ℕ) (b : ℕ) → c < 4 → pick (eqb c 3) (x .alpha) (x .colour) ≡ w → w ≤ 8 → b ≡ channelAt at c → e i ≡ o .value 0 c
             → e j ≡ o .value 1 c → PairReady b w (e i) (e j)

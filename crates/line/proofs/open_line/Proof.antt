@@ -9,7 +9,7 @@ use lib.ListN.{length, getD}
 use Rattle.laws.specs.Digits.{Fit}
 use Rattle.bcn_format.specs.Block.{eights}
 use Rattle.bc7_format.proofs.Subsets.{sixteen-bytes}
-use Rattle.line.proofs.Opening.{asks, is-opened, stands-low}
+use Rattle.line.proofs.Opening.{asks, is-opened}
 use Rattle.line.proofs.open_line.Statement.{statement}
 use Rattle.line.proofs.open_line.Tie as tie
 
@@ -34,22 +34,19 @@ skip-requires c κs = search needs
 read-split-requires : tie.Need-read-split-requires
 read-split-requires c κs =
     let s = c .before .before in
-    record {
-      of-mode = record { mode = s .args .mode; low = s .pre .0 .low; is = s .pre .0 .mode-row-is };
-      within = stands-low (s .pre .0 .low) (c .before .new .ensures .stands) (c .skip .ensures);
-    }
+    record { mode = s .args .mode; low = s .pre .0 .low; is = s .pre .0 .mode-row-is }
 
 line-part-requires : tie.Need-line-part-requires
 line-part-requires c κs =
     let s = c .before .before .before .before in
-    asks (s .args .block) (s .pre .0 .mode-is) (s .pre .0 .mode-row-is) (c .before .before .before .new .ensures .of)
+    asks (s .args .block) (s .pre .0 .mode-is) (s .pre .0 .low) (s .pre .0 .mode-row-is) (c .before .before .before .new .ensures .of)
     (c .before .before .before .new .ensures .stands)
-    (c .before .before .skip .ensures) (c .before .read-split .ensures) (sixteen s) (s .pre .0 .low) (s .args .line) (s .pre .1)
+    (c .before .before .skip .ensures) (c .before .read-split .ensures) (sixteen s) (s .args .line) (s .pre .1)
 
 returns : tie.Need-returns
 returns c =
     let s = c .before .before .before .before .before in
-    is-opened (s .args .block) (s .pre .0 .mode-is) (s .pre .0 .mode-row-is) (c .before .before .before .before .new .ensures .of)
+    is-opened (s .args .block) (s .pre .0 .mode-is) (s .pre .0 .low) (s .pre .0 .mode-row-is) (c .before .before .before .before .new .ensures .of)
     (c .before .before .before .before .new .ensures .stands) (c .before .before .before .skip .ensures) (c .before .before .read-split .ensures)
     (s .args .line) (c .line-part .ensures)
 

@@ -5,7 +5,7 @@ use Prim.Native.Nat.{_<_}
 use borrow.Author.Needs.{needs}
 use Rattle.bc7_format.specs.Splits.{rotation}
 use Rattle.bc7_places.specs.Modes.{OfMode}
-use Rattle.line.proofs.Opening.{stands-low, the-split}
+use Rattle.line.proofs.Opening.{the-split}
 use Rattle.nearest.proofs.rotation_in.Statement.{statement}
 use Rattle.nearest.proofs.rotation_in.Tie as tie
 
@@ -32,8 +32,7 @@ read-split-requires c κs =
     let o = c .before .before .before in
     let low : o .mode-of .result < 8 = rw (o .mode-of .ensures) (o .before .pre) in
     let row = c .before .before .mode-row in
-    let of-mode : OfMode (row .result) = record { mode = o .mode-of .result; low = low; is = row .ensures } in
-    record { of-mode = of-mode; within = stands-low low (c .before .new .ensures .stands) (c .skip .ensures) }
+    record { mode = o .mode-of .result; low = low; is = row .ensures }
 
 rotation-of-requires : tie.Need-rotation-of-requires
 rotation-of-requires c κs = search needs
@@ -42,8 +41,10 @@ returns : tie.Need-returns
 returns c =
     let k = c .before .before .before .before in
     let n = c .before .before .before in
+    let o = k .before in
+    let low : o .mode-of .result < 8 = rw (o .mode-of .ensures) (o .before .pre) in
     c .rotation-of .ensures
-    ∙ ap rotation (the-split _ (k .before .mode-of .ensures) (k .mode-row .ensures) (n .new .ensures .of) (n .new .ensures .stands)
+    ∙ ap rotation (the-split _ (k .before .mode-of .ensures) low (k .mode-row .ensures) (n .new .ensures .of) (n .new .ensures .stands)
     (c .before .before .skip .ensures) (c .before .read-split .ensures))
 
 pub rotation-in-spec : {M : Type 1} → statement M

@@ -10,12 +10,12 @@ use lib.Dec.{eqb, ltb}
 use lib.ListN.{replicate, set, getD-replicate}
 use Rattle.bc7_places.specs.declared.modes.ModeRow.{ModeRow}
 use Rattle.bits.specs.declared.stream.BitStream.{BitStream}
-use Rattle.bits.specs.declared.stream.Bits64.{Bits64}
+use Rattle.bits.specs.declared.stream.Read.{Read}
 use Rattle.laws.specs.Tables.{pick, table, tableFrom}
 use Rattle.laws.proofs.Filled.{Upto, upto-next}
 use Rattle.laws.proofs.Part.{part-all}
 use Rattle.bcn_format.specs.Indexes.{part}
-use Rattle.bits.specs.Stream.{consumed64, held}
+use Rattle.bits.specs.Stream.{readOf}
 use Rattle.record.specs.Reading.{channelOf, endpointsOf, endpointsRead, pRead}
 
 -- the endpoints of four words
@@ -63,22 +63,15 @@ module _ (row : ModeRow) (red green blue alpha : ℕ) where
   values-all e l h = part-all h (λ k lk q. omega arith)
 
 -- four reads, one a channel
-pub endpoints-read : (row : ModeRow) (s : BitStream) {r g b a : Bits64} {es : List ℕ} → r ≡ consumed64 s (row .endpoints * row .colour)
-    → g ≡ consumed64 (r .stream) (row .endpoints * row .colour) → b ≡ consumed64 (g .stream) (row .endpoints * row .colour)
-    → a ≡ consumed64 (b .stream) (row .endpoints * row .alpha) → es ≡ endpointsOf row (r .value) (g .value) (b .value) (a .value)
+pub endpoints-read : (row : ModeRow) (s : BitStream) {r g b a : Read} {es : List ℕ} → r ≡ readOf s (row .endpoints * row .colour)
+    → g ≡ readOf (r .stream) (row .endpoints * row .colour) → b ≡ readOf (g .stream) (row .endpoints * row .colour)
+    → a ≡ readOf (b .stream) (row .endpoints * row .alpha) → es ≡ endpointsOf row (r .value) (g .value) (b .value) (a .value)
     → record { endpoints = es; stream = a .stream } ≡ endpointsRead row s
-unfolding endpointsRead held
-endpoints-read row s er eg eb ea ee =
-    let x : ℕ = row .endpoints * row .colour in
-    let e0 : s .at + 0 * x ≡ s .at = omega arith in
-    let e1 : s .at + 1 * x ≡ s .at + x = omega arith in
-    let e2 : s .at + 2 * x ≡ s .at + x + x = omega arith in
-    let e3 : s .at + 3 * x ≡ s .at + x + x + x = omega arith in
-    let e4 : s .at + (3 * x + row .endpoints * row .alpha) ≡ s .at + x + x + x + row .endpoints * row .alpha = omega arith in
-    rw (ee, ea, eb, eg, er, e0, e1, e2, e3, e4)
+unfolding endpointsRead
+endpoints-read row s er eg eb ea ee = rw (ee, ea, eb, eg, er)
 
 -- six parts of one read
-pub p-read : (row : ModeRow) (s : BitStream) {x : Bits64} {p0 p1 p2 p3 p4 p5 : ℕ} → x ≡ consumed64 s (row .p)
+pub p-read : (row : ModeRow) (s : BitStream) {x : Read} {p0 p1 p2 p3 p4 p5 : ℕ} → x ≡ readOf s (row .p)
     → p0 ≡ part (x .value) 1 0 → p1 ≡ part (x .value) 1 1 → p2 ≡ part (x .value) 1 2 → p3 ≡ part (x .value) 1 3 → p4 ≡ part (x .value) 1 4
     → p5 ≡ part (x .value) 1 5
     → record { p = p0 ∷ p1 ∷ p2 ∷ p3 ∷ p4 ∷ p5 ∷ []; stream = x .stream } ≡ pRead row s

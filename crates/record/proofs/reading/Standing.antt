@@ -27,26 +27,28 @@ use Rattle.laws.proofs.Cases.{lt-or, pick-less}
 use Rattle.laws.proofs.Joining.{table-same}
 use Rattle.bcn_format.specs.Block.{eights, field, number}
 use Rattle.bc7_format.specs.Modes.{modeOf, alphaBits, channelBits, colourBits, endpointCount, firstBits, indexBits, kindOfMode, modeRow, pCount}
-use Rattle.bc7_format.specs.Modes.{secondBits}
+use Rattle.bc7_format.specs.Modes.{indexModeBits, partitionBits, rotationBits, secondBits}
 use Rattle.bcn_format.specs.Partitions.{among}
 use Rattle.bc7_format.specs.Places.{Place, atPlace, index, inside, opened, pbit, pos, value, width, firstFrom, secondFrom}
 use Rattle.bc7_format.specs.Splits.{anchors, kindOf, partition, splitAt, splitOf}
 use Rattle.bc7_format.proofs.Modes.{by-subset, good-64}
 use Rattle.bc7_format.proofs.Opening.{good-kind, opened-good}
 use Rattle.bc7_format.proofs.Places.{inside-index, inside-pbit, inside-value}
+use Rattle.bc7_format.proofs.ReadsFit.{taking-fits}
 use Rattle.bc7_format.proofs.Starts.{at-field, start}
 use Rattle.bcn_format.specs.Indexes.{Rising, anchorCount, anchorsOfKind, expanded, indexWidths, part}
 use Rattle.indexes.specs.Reading.{newIndexes}
 use Rattle.indexes.proofs.Remove.{size-kind}
-use Rattle.bits.specs.Stream.{skipped}
-use Rattle.bits.proofs.On.{On, field-lt, next-is, on-skipped}
+use Rattle.bits.specs.declared.stream.Read.{Read}
+use Rattle.bits.specs.Stream.{readOf}
+use Rattle.bits.proofs.On.{On, field-lt, got, on-read}
 use Rattle.bc7_format.specs.Fields.{leadEnd, valueStart}
 use Rattle.bc7_format.proofs.Fields.{begins, bit-at, first-start, index-at, value-at, valuesEnd}
 use Rattle.record_rules.specs.Records.{made, recordOf}
 use Rattle.bc7_places.specs.Modes.{OfMode, modeRowOf}
 use Rattle.bc7_places.specs.Splits.{anchorsOf, splitRead}
 use Rattle.bc7_places.proofs.modes.Bounds.{second-bits, small}
-use Rattle.record.specs.Reading.{channelOf, channelsAt, endpointsOf, endpointsRead, pRead, secondRead}
+use Rattle.record.specs.Reading.{channelOf, endpointsOf, endpointsRead, pRead, secondRead}
 use Rattle.bc7_places.proofs.splits.Leads.{split-is, split-on}
 use Rattle.bc7_places.proofs.splits.AnchorPixels.{anchors-kind, anchors-rise}
 
@@ -69,24 +71,38 @@ unfolding part
 part-past n a t i h =
     ap (λ (y : ℕ). y % 2 ^ 1) (div-eq-of-lt (lt-of-lt-of-le (field-lt n a t) (pow-mono {i = t} {j = i * 1} (rw (mul-one i) h))))
 
--- the last group of each mode ends within the block
-pub record Room (m : ℕ) : Type 0 where
-  pub values : leadEnd m ≤ 128
-  pub p : valuesEnd m ≤ 128
-  pub first : valuesEnd m + pCount m ≤ 128
-  pub second : valuesEnd m + pCount m + (16 * firstBits m - anchorCount (kindOfMode m)) ≤ 128
+-- where the values end, channel by channel
+values-end : (m : ℕ)
+    → leadEnd m + endpointCount m * colourBits m + endpointCount m * colourBits m + endpointCount m * colourBits m + endpointCount m * alphaBits m
+    ≡ valuesEnd m
+values-end m =
+    let k : ℕ = endpointCount m in
+    let x : ℕ = k * colourBits m in
+    let y : ℕ = k * alphaBits m in
+    (let z : leadEnd m + x + x + x + y ≡ leadEnd m + (3 * x + y) = omega arith in z)
+    ∙ ap (λ (z : ℕ). leadEnd m + (z + y))
+    (sym (mul-assoc 3 k (colourBits m)) ∙ ap (λ (z : ℕ). z * colourBits m) (mul-comm 3 k) ∙ mul-assoc k 3 (colourBits m))
+    ∙ ap (λ (z : ℕ). leadEnd m + z) (sym (mul-add k (3 * colourBits m) (alphaBits m)))
 
-pub in-block : (m : ℕ) → m < 8 → Room m
-unfolding leadEnd modeRow kindOfMode endpointCount
-in-block zero h = omega arith
-in-block (suc zero) h = omega arith
-in-block (suc (suc zero)) h = omega arith
-in-block (suc (suc (suc zero))) h = omega arith
-in-block (suc (suc (suc (suc zero)))) h = omega arith
-in-block (suc (suc (suc (suc (suc zero))))) h = omega arith
-in-block (suc (suc (suc (suc (suc (suc zero)))))) h = omega arith
-in-block (suc (suc (suc (suc (suc (suc (suc zero))))))) h = omega arith
-in-block (suc (suc (suc (suc (suc (suc (suc (suc m)))))))) h = absurd (let z : ⊥ = omega arith in z)
+-- the reads behind the values are accepted: the p bits, the first indexes, the second
+module _ (m : ℕ) (hm : m < 8) where
+  abbrev firstSize : ℕ
+  firstSize = 16 * firstBits m - anchorCount (kindOfMode m)
+
+  second-fits : valuesEnd m + pCount m + firstSize + (16 * secondBits m - 1) ≤ 128
+  unfolding leadEnd
+  second-fits =
+      let x : ℕ = endpointCount m * colourBits m in
+      let y : ℕ = endpointCount m * alphaBits m in
+      let f : suc m + (0 + firstSize + pCount m + y + x + x + x + (partitionBits m + rotationBits m + indexModeBits m)) + (16 * secondBits m - 1) ≤ 128 =
+      taking-fits m 7 hm in
+      omega (arith, values-end m)
+
+  first-fits : valuesEnd m + pCount m + firstSize ≤ 128
+  first-fits = omega (arith, second-fits)
+
+  p-fits : valuesEnd m + pCount m ≤ 128
+  p-fits = omega (arith, second-fits)
 
 module _ (m : ℕ) (s : Split) (n : ℕ) (hm : m < 8) where
   abbrev at : Place → ℕ
@@ -96,19 +112,63 @@ module _ (m : ℕ) (s : Split) (n : ℕ) (hm : m < 8) where
   nothing : (x : Place) → T (inside x) → width m (anchors s) x ≡ 0 → at x ≡ 0
   nothing x h e = at-field m s n x h ∙ ap (λ (w : ℕ). n / 2 ^ start m s (pos x) % 2 ^ w) e ∙ mod-one (n / 2 ^ start m s (pos x))
 
-  -- the values
-  module _ {row : ModeRow} {t : BitStream} (er : row ≡ modeRowOf m) (o : On n (leadEnd m) t) where
-    channel-word : (c : ℕ) → channelsAt row t c ≡ field n (leadEnd m + c * (endpointCount m * colourBits m)) (endpointCount m * channelBits m c)
-    channel-word c = rw er (next-is (on-skipped o (c * (endpointCount m * colourBits m))) (endpointCount m * channelBits m c))
+  -- the values: a read for each channel, each of them accepted
+  module _ {t : BitStream} (o : On n (leadEnd m) t) where
+    abbrev x : ℕ
+    x = endpointCount m * colourBits m
 
-    one-of : (c : ℕ) → c < 4 → channelOf (channelsAt row t 0) (channelsAt row t 1) (channelsAt row t 2) (channelsAt row t 3) c ≡ channelsAt row t c
-    one-of zero h = refl
-    one-of (suc zero) h = refl
-    one-of (suc (suc zero)) h = refl
-    one-of (suc (suc (suc zero))) h = refl
-    one-of (suc (suc (suc (suc c)))) h = absurd (let z : ⊥ = omega arith in z)
+    abbrev y : ℕ
+    y = endpointCount m * alphaBits m
 
-    value-there : (c e : ℕ) → c < 4 → e < endpointCount m → part (channelsAt row t c) (channelBits m c) e ≡ at (value c e)
+    abbrev reds : Read
+    reds = readOf t x
+
+    abbrev greens : Read
+    greens = readOf (reds .stream) x
+
+    abbrev blues : Read
+    blues = readOf (greens .stream) x
+
+    abbrev alphas : Read
+    alphas = readOf (blues .stream) y
+
+    all-fit : leadEnd m + x + x + x + y ≤ 128
+    unfolding leadEnd
+    all-fit =
+        let f : suc m + (0 + x + x + x + (partitionBits m + rotationBits m + indexModeBits m)) + y ≤ 128 = taking-fits m 4 hm in
+        omega arith
+
+    red-fits : leadEnd m + x ≤ 128
+    red-fits = omega (arith, all-fit)
+
+    green-fits : leadEnd m + x + x ≤ 128
+    green-fits = omega (arith, all-fit)
+
+    blue-fits : leadEnd m + x + x + x ≤ 128
+    blue-fits = omega (arith, all-fit)
+
+    on-greens : On n (leadEnd m + x) (reds .stream)
+    on-greens = on-read o x red-fits refl
+
+    on-blues : On n (leadEnd m + x + x) (greens .stream)
+    on-blues = on-read on-greens x green-fits refl
+
+    on-alphas : On n (leadEnd m + x + x + x) (blues .stream)
+    on-alphas = on-read on-blues x blue-fits refl
+
+    channel-word : (c : ℕ) → c < 4
+        → channelOf (reds .value) (greens .value) (blues .value) (alphas .value) c ≡ field n (leadEnd m + c * x) (endpointCount m * channelBits m c)
+    channel-word zero h = got o x red-fits refl ∙ ap (λ (a : ℕ). field n a x) (let z : leadEnd m ≡ leadEnd m + 0 * x = omega arith in z)
+    channel-word (suc zero) h =
+        got on-greens x green-fits refl ∙ ap (λ (a : ℕ). field n a x) (let z : leadEnd m + x ≡ leadEnd m + 1 * x = omega arith in z)
+    channel-word (suc (suc zero)) h =
+        got on-blues x blue-fits refl ∙ ap (λ (a : ℕ). field n a x) (let z : leadEnd m + x + x ≡ leadEnd m + 2 * x = omega arith in z)
+    channel-word (suc (suc (suc zero))) h =
+        got on-alphas y all-fit refl ∙ ap (λ (a : ℕ). field n a y) (let z : leadEnd m + x + x + x ≡ leadEnd m + 3 * x = omega arith in z)
+    channel-word (suc (suc (suc (suc c)))) h = absurd (let z : ⊥ = omega arith in z)
+
+    value-there : (c e : ℕ) → c < 4 → e < endpointCount m
+        → part (channelOf (reds .value) (greens .value) (blues .value) (alphas .value) c) (channelBits m c) e ≡ at (value c e)
     unfolding valueStart
     value-there c e hc he =
         let k : ℕ = endpointCount m in
@@ -117,40 +177,32 @@ module _ (m : ℕ) (s : Split) (n : ℕ) (hm : m < 8) where
         (mul-le-mul-right b (rw (add-one e) he)) in
         let place : leadEnd m + c * (k * colourBits m) + e * b ≡ leadEnd m + k * (colourBits m * c) + b * e =
         ap₂ (λ (x y : ℕ). leadEnd m + x + y) (mul-comm c (k * colourBits m) ∙ mul-assoc k (colourBits m) c) (mul-comm e b) in
-        ap (λ (x : ℕ). part x b e) (channel-word c) ∙ part-field n _ (k * b) b e room
+        ap (λ (x : ℕ). part x b e) (channel-word c hc) ∙ part-field n _ (k * b) b e room
         ∙ ap (λ (x : ℕ). field n x b) place ∙ sym (value-at m s n hm c e hc he)
 
-    pub values-stand : endpointsRead row t .endpoints ≡ table 24 (λ i. at (value (i % 4) (i / 4)))
+    pub values-stand : endpointsRead (modeRowOf m) t .endpoints ≡ table 24 (λ i. at (value (i % 4) (i / 4)))
     unfolding endpointsRead endpointsOf width
     values-stand = table-same 0 24 _ _ (λ i l. stands (i % 4) (i / 4) (omega arith) (omega arith))
       where
         stands : (c e : ℕ) → c < 4 → e < 6
-            → pick (ltb e (row .endpoints))
-            (part (channelOf (channelsAt row t 0) (channelsAt row t 1) (channelsAt row t 2) (channelsAt row t 3) c)
-            (pick (eqb c 3) (row .alpha) (row .colour)) e) 0
+            → pick (ltb e (endpointCount m))
+            (part (channelOf (reds .value) (greens .value) (blues .value) (alphas .value) c) (channelBits m c) e) 0
             ≡ at (value c e)
         stands c e hc he =
             ⊎-elim
-            (λ l. rw (one-of c hc, er, lt-ltb e (endpointCount m) l) (rw er at (value-there c e hc l)))
-            (λ l. rw (er, le-ltb e (endpointCount m) l) (sym (nothing (value c e) (inside-value hc he) (rw (le-ltb e (endpointCount m) l)))))
+            (λ l. rw (lt-ltb e (endpointCount m) l) (value-there c e hc l))
+            (λ l. rw (le-ltb e (endpointCount m) l) (sym (nothing (value c e) (inside-value hc he) (rw (le-ltb e (endpointCount m) l)))))
             (lt-or e (endpointCount m))
 
-    pub values-on : On n (valuesEnd m) (endpointsRead row t .stream)
+    pub values-on : On n (valuesEnd m) (endpointsRead (modeRowOf m) t .stream)
     unfolding endpointsRead
-    values-on =
-        let k : ℕ = endpointCount m in
-        let x : ℕ = 3 * (k * colourBits m) + k * alphaBits m in
-        let e : leadEnd m + x ≡ valuesEnd m =
-        ap (λ (y : ℕ). leadEnd m + (y + k * alphaBits m))
-        (sym (mul-assoc 3 k (colourBits m)) ∙ ap (λ (y : ℕ). y * colourBits m) (mul-comm 3 k) ∙ mul-assoc k 3 (colourBits m))
-        ∙ ap (λ (y : ℕ). leadEnd m + y) (sym (mul-add k (3 * colourBits m) (alphaBits m))) in
-        rw er (subst (λ (a : ℕ). On n a (skipped t x)) e (on-skipped o x))
+    values-on = subst (λ (a : ℕ). On n a (alphas .stream)) (values-end m) (on-read on-alphas y all-fit refl)
 
   -- the p bits
-  module _ {row : ModeRow} {t : BitStream} (er : row ≡ modeRowOf m) (o : On n (valuesEnd m) t) where
-    pub ps-stand : pRead row t .p ≡ table 6 (λ k. at (pbit k))
+  module _ {t : BitStream} (o : On n (valuesEnd m) t) (fits : valuesEnd m + pCount m ≤ 128) where
+    pub ps-stand : pRead (modeRowOf m) t .p ≡ table 6 (λ k. at (pbit k))
     unfolding pRead width
-    ps-stand = rw er (table-same 0 6 _ _ (λ k l. ap (λ (x : ℕ). part x 1 k) (next-is o (pCount m)) ∙ stands k l))
+    ps-stand = table-same 0 6 _ _ (λ k l. ap (λ (x : ℕ). part x 1 k) (got o (pCount m) fits refl) ∙ stands k l)
       where
         stands : (k : ℕ) → k < 6 → part (field n (valuesEnd m) (pCount m)) 1 k ≡ at (pbit k)
         stands k h =
@@ -160,18 +212,18 @@ module _ (m : ℕ) (s : Split) (n : ℕ) (hm : m < 8) where
             (λ l. part-past n (valuesEnd m) (pCount m) k l ∙ sym (nothing (pbit k) (inside-pbit h) (rw (le-ltb k (pCount m) l))))
             (lt-or k (pCount m))
 
-    pub ps-on : On n (start m s firstFrom) (pRead row t .stream)
+    pub ps-on : On n (start m s firstFrom) (pRead (modeRowOf m) t .stream)
     unfolding pRead
-    ps-on = rw (er, first-start m s hm) (on-skipped o (pCount m))
+    ps-on = rw (first-start m s hm) (on-read o (pCount m) fits refl)
 
   -- a set of indexes, read whole
   pub set-stands : (a : ℕ) → a < 2 → {an : List ℕ} {t : BitStream} (b : ℕ) → an ≡ anchors s → b ≡ total (indexWidths (indexBits m a) (anchors s))
-      → On n (start m s (firstFrom + (16 * a + 0))) t
+      → start m s (firstFrom + (16 * a + 0)) + b ≤ 128 → On n (start m s (firstFrom + (16 * a + 0))) t
       → table 16 (part (newIndexes (indexBits m a) an t b .indexes .uncompressed) (indexBits m a)) ≡ table 16 (λ q. at (index a q))
-  set-stands a ha {an} {t} b ea eb o =
+  set-stands a ha {an} {t} b ea eb fits o =
       table-same 0 16 _ _ (λ q l.
       ap₂ (λ (l : List ℕ) (x : ℕ). part (expanded (indexBits m a) l x) (indexBits m a) q) ea
-      (next-is o b ∙ ap (field n (start m s (firstFrom + (16 * a + 0)))) eb)
+      (got o b fits refl ∙ ap (field n (start m s (firstFrom + (16 * a + 0)))) eb)
       ∙ index-at m s a ha n q l)
 
   -- and one that the mode hasn't got
@@ -213,15 +265,20 @@ module _ (bs : List ℕ) (sixteen : Fit eights bs) {m : ℕ} (em : m ≡ modeOf 
       set-size : (w : ℕ) → 0 < w → 16 * w - anchorCount (row .kind) ≡ total (indexWidths w (anchors s))
       set-size w h = sym (size-kind (row .kind) w (a .b) (a .c) h rise) ∙ ap (λ (l : List ℕ). total (indexWidths w l)) anchors-are
 
+      second-start : start m s secondFrom ≡ start m s firstFrom + (16 * row .first - anchorCount (row .kind))
+      unfolding indexWidths
+      second-start =
+          let w : 0 < row .first = omega (arith, small of-mode .least) in
+          begins m s 0 (omega arith) 16 (omega arith)
+          ∙ ap (λ (b : ℕ). start m s firstFrom + b)
+          (sym (set-size (row .first) w ∙ ap (λ (r : ModeRow). total (indexWidths (r .first) (anchors s))) er))
+
       second-on : {t : BitStream} {set : NewIndexes} → On n (start m s firstFrom) t
           → set ≡ newIndexes (row .first) (anchorsOfKind (row .kind) (a .b) (a .c)) t (16 * row .first - anchorCount (row .kind))
           → On n (start m s secondFrom) (set .stream)
-      unfolding indexWidths
-      second-on o e =
-          let w : 0 < row .first = omega (arith, small of-mode .least) in
-          let size : 16 * row .first - anchorCount (row .kind) ≡ total (indexWidths (firstBits m) (anchors s)) = set-size (row .first) w
-          ∙ ap (λ (r : ModeRow). total (indexWidths (r .first) (anchors s))) er in
-          rw (e, size, begins m s 0 (omega arith) 16 (omega arith)) (on-skipped o _)
+      second-on {set = set} o e =
+          subst (λ (a : ℕ). On n a (set .stream)) (sym second-start)
+          (rw e (on-read o (16 * row .first - anchorCount (row .kind)) (rw (er, first-start m s hm) (first-fits m hm)) refl))
 
       second-stands : {t : BitStream} → On n (start m s secondFrom) t → secondRead row a t ≡ table 16 (λ q. atPlace m s n (index 1 q))
       unfolding secondRead
@@ -233,7 +290,9 @@ module _ (bs : List ℕ) (sixteen : Fit eights bs) {m : ℕ} (em : m ≡ modeOf 
               ≡ table 16 (λ q. atPlace m s n (index 1 q))
           two k =
               let e : row .second ≡ secondBits m = ap (λ (r : ModeRow). r .second) er in
-              rw e (set-stands m s n hm 1 (omega arith) _ anchors-are (rw e at (set-size (row .second) (second-bits of-mode k))) o)
+              let fits : start m s secondFrom + (16 * row .second - anchorCount (row .kind)) ≤ 128 =
+              rw (second-start, k, e, er, first-start m s hm) (rw (ap (λ (r : ModeRow). r .kind) (sym er) ∙ k) at (second-fits m hm)) in
+              rw e (set-stands m s n hm 1 (omega arith) _ anchors-are (rw e at (set-size (row .second) (second-bits of-mode k))) (rw e at fits) o)
 
           go : (b : Bool) → eqb (row .kind) 3 ≡ b
               → pick b (table 16 (part (newIndexes (row .second) (anchorsOfKind (row .kind) (a .b) (a .c)) t
@@ -248,7 +307,8 @@ module _ (bs : List ℕ) (sixteen : Fit eights bs) {m : ℕ} (em : m ≡ modeOf 
           ≡ table 16 (λ q. atPlace m s n (index 0 q))
       first-stands o =
           let e : row .first ≡ firstBits m = ap (λ (r : ModeRow). r .first) er in
-          rw e (set-stands m s n hm 0 (omega arith) _ anchors-are (rw e at (set-size (row .first) (omega (arith, small of-mode .least)))) o)
+          rw e (set-stands m s n hm 0 (omega arith) _ anchors-are (rw e at (set-size (row .first) (omega (arith, small of-mode .least))))
+          (rw e at (let f : start m s firstFrom + (16 * row .first - anchorCount (row .kind)) ≤ 128 = rw (er, first-start m s hm) (first-fits m hm) in f)) o)
 
   -- the reads one after the other
   module _ {t : BitStream} (o : On n (m + 1) t) {h : ReadSplit} (eh : h ≡ splitRead row t) where
@@ -256,32 +316,19 @@ module _ (bs : List ℕ) (sixteen : Fit eights bs) {m : ℕ} (em : m ≡ modeOf 
     s = h .split
 
     pub the-split : h .split ≡ splitAt m n
-    the-split = split-is m er o eh
+    the-split = split-is m hm er o eh
 
     lead-on : On n (leadEnd m) (h .stream)
     unfolding leadEnd
-    lead-on = subst (λ (a : ℕ). On n a (h .stream)) (rw er (omega arith)) (split-on row o eh)
-
-    pub values-room : h .stream .at ≤ 128
-    values-room = rw (lead-on .stands) (in-block m hm .values)
+    lead-on = subst (λ (a : ℕ). On n a (h .stream)) (omega arith) (split-on m hm er o eh)
 
     module _ {v : ReadEndpoints} (ev : v ≡ endpointsRead row (h .stream)) where
       values-behind : On n (valuesEnd m) (v .stream)
-      values-behind = rw ev (values-on m (h .split) n hm er lead-on)
-
-      pub p-room : v .stream .at ≤ 128
-      p-room = rw (values-behind .stands) (in-block m hm .p)
+      values-behind = rw (ev, er) (values-on m (h .split) n hm lead-on)
 
       module _ {p : ReadP} (ep : p ≡ pRead row (v .stream)) where
         p-behind : On n (start m (h .split) firstFrom) (p .stream)
-        p-behind = rw ep (ps-on m (h .split) n hm er values-behind)
-
-        pub first-room : p .stream .at ≤ 128
-        first-room = rw (p-behind .stands, first-start m (h .split) hm) (in-block m hm .first)
-
-        pub second-room : (l : List ℕ) {set : NewIndexes} → set ≡ newIndexes (row .first) l (p .stream) (16 * row .first - anchorCount (row .kind))
-            → set .stream .at ≤ 128
-        second-room l e = rw (e, p-behind .stands, first-start m (h .split) hm, er) (in-block m hm .second)
+        p-behind = rw (ep, er) (ps-on m (h .split) n hm values-behind (p-fits m hm))
 
         pub record-read : {a : Anchors} → a ≡ anchorsOf (h .split) → {set : NewIndexes}
             → set ≡ newIndexes (row .first) (anchorsOfKind (row .kind) (a .b) (a .c)) (p .stream) (16 * row .first - anchorCount (row .kind))
@@ -290,8 +337,8 @@ module _ (bs : List ℕ) (sixteen : Fit eights bs) {m : ℕ} (em : m ≡ modeOf 
         unfolding recordOf made opened
         record-read {a} ea {set} eset {first} {second} ef eg =
             let s : Split = h .split in
-            let e1 : v .endpoints ≡ table 24 (λ i. atPlace m s n (value (i % 4) (i / 4))) = rw ev (values-stand m s n hm er lead-on) in
-            let e2 : p .p ≡ table 6 (λ k. atPlace m s n (pbit k)) = rw ep (ps-stand m s n hm er values-behind) in
+            let e1 : v .endpoints ≡ table 24 (λ i. atPlace m s n (value (i % 4) (i / 4))) = rw (ev, er) (values-stand m s n hm lead-on) in
+            let e2 : p .p ≡ table 6 (λ k. atPlace m s n (pbit k)) = rw (ep, er) (ps-stand m s n hm values-behind (p-fits m hm)) in
             let e3 : first ≡ table 16 (λ q. atPlace m s n (index 0 q)) = ef ∙ rw eset (first-stands the-split ea p-behind) in
             let e4 : second ≡ table 16 (λ q. atPlace m s n (index 1 q)) = eg ∙ second-stands the-split ea (second-on the-split ea p-behind eset) in
             rw (e1, e2, e3, e4) (ap₂ (λ (m : ℕ) (s : Split). made m s (atPlace m s n)) em (is-split the-split))

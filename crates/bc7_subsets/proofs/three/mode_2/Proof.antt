@@ -1,14 +1,20 @@
 -- Mode 2: three subsets, no p bits.
 -- Assumes nothing.
 use mathlib.Core.Path.{refl, sym, ap}
+use Prim.Native.Nat.{ℕ, _+_, _≤_}
 use native.Mathlib.Omega.{arith}
 use borrow.Author.Needs.{needs}
+use lib.Dec.{lit<}
+use lib.ListN.{getD, take}
+use Rattle.laws.specs.Digits.{total}
+use Rattle.bc7_format.specs.Reads.{decodingReads}
+use Rattle.bc7_format.proofs.ReadsFit.{decoding-fits}
 use Rattle.bc7_format.specs.declared.Split.the-variants.{Three}
 use Rattle.bcn_format.specs.Block.{field}
 use Rattle.bc7_format.specs.Modes.{endpointCount, kindOfMode, modeRow}
 use Rattle.bc7_format.specs.Splits.{splitAt}
 use Rattle.bits.specs.Stream.{held}
-use Rattle.bits.proofs.On.{On, got-64, got-8, got-first, got-second, on-2, on-64, on-8}
+use Rattle.bits.proofs.On.{On, got, on-read}
 use Rattle.bc7_format.specs.Fields.{leadEnd, pStart, valueStart}
 use Rattle.bcn_format.specs.Painting.{solid}
 use Rattle.drawing.specs.Words.{plain}
@@ -21,29 +27,50 @@ use Rattle.bc7_subsets.proofs.three.mode_2.Tie as tie
 extract-partition-set-id-requires : tie.Need-extract-partition-set-id-requires
 extract-partition-set-id-requires c κs = search needs
 
+cast-partition-word-3-2 : tie.Need-cast-partition-word-3-2
+cast-partition-word-3-2 c = record { fits = omega (arith, c .before .extract-partition-set-id .ensures .small) }
+
 partition-word-3-2-requires : tie.Need-partition-word-3-2-requires
 partition-word-3-2-requires c κs = search needs
-
-consume-2-requires : tie.Need-consume-2-requires
-consume-2-requires c κs = search needs
 
 take-requires : tie.Need-take-requires
 take-requires c κs = search needs
 
-consume-2-requires-2 : tie.Need-consume-2-requires-2
-consume-2-requires-2 c κs = search needs
-
 take-requires-2 : tie.Need-take-requires-2
 take-requires-2 c κs = search needs
-
-consume-2-requires-3 : tie.Need-consume-2-requires-3
-consume-2-requires-3 c κs = search needs
 
 take-requires-3 : tie.Need-take-requires-3
 take-requires-3 c κs = search needs
 
+take-requires-4 : tie.Need-take-requires-4
+take-requires-4 c κs = search needs
+
+take-requires-5 : tie.Need-take-requires-5
+take-requires-5 c κs = search needs
+
+take-requires-6 : tie.Need-take-requires-6
+take-requires-6 c κs = search needs
+
+take-requires-7 : tie.Need-take-requires-7
+take-requires-7 c κs = search needs
+
+take-requires-8 : tie.Need-take-requires-8
+take-requires-8 c κs = search needs
+
+take-requires-9 : tie.Need-take-requires-9
+take-requires-9 c κs = search needs
+
 opaque-requires : tie.Need-opaque-requires
-opaque-requires c κs = search needs
+opaque-requires c κs =
+    omega (
+      arith,
+      c .before .before .before .before .before .before .before .before .take .ensures .small,
+      c .before .before .before .before .before .before .before .take2 .ensures .small,
+      c .before .before .before .before .before .take4 .ensures .small,
+      c .before .before .before .before .take5 .ensures .small,
+      c .before .before .take7 .ensures .small,
+      c .before .take8 .ensures .small,
+    )
 
 opaque-requires-2 : tie.Need-opaque-requires-2
 opaque-requires-2 c κs = search needs
@@ -53,16 +80,14 @@ palette-3-2-requires c κs = search needs
 
 indexes-3-requires : tie.Need-indexes-3-requires
 indexes-3-requires c κs =
-    let last = c .before .before .before in
-    let set = last .before .before .before .before .before .before in
-    let id = set .before .extract-partition-set-id .ensures in
+    let set = c .before .before .before .before .before .before .before .before .before .before .before .before in
+    let id = set .before .before .extract-partition-set-id .ensures in
     let fixes = fixes-3 {w = 2} (omega (arith, id .small)) (omega arith) (omega arith) (set .partition-word-3-2 .ensures) in (
       omega arith,
       omega arith,
       fixes .above,
       fixes .next,
       fixes .last,
-      omega (arith, last, last .before .before .before),
     )
 
 keys-2-requires : tie.Need-keys-2-requires
@@ -71,46 +96,59 @@ keys-2-requires c κs = search needs
 paint-4-requires : tie.Need-paint-4-requires
 paint-4-requires c κs = search needs
 
+-- each read is accepted: it is the k-th of those that decoding makes
+fits : (k : ℕ) → 3 + total (take k (decodingReads 2)) + getD (decodingReads 2) k 0 ≤ 128
+fits k = decoding-fits 2 k (lit< tt)
+
 returns : tie.Need-returns
 unfolding splitAt kindOfMode modeRow endpointCount field valueStart pStart leadEnd
 returns c =
     let colours = c .before .before .before in
-    let at-b3 = colours .before .before .before in
-    let at-b = at-b3 .before in
-    let at-g3 = at-b .before in
-    let at-g = at-g3 .before in
-    let at-r3 = at-g .before in
-    let at-r = at-r3 .before in
-    let set = at-r .before in
-    let id = set .before .extract-partition-set-id .ensures in
-    let s = set .before .before in
+    let at-b2 = colours .before .before .before in
+    let at-b1 = at-b2 .before in
+    let at-b0 = at-b1 .before in
+    let at-g2 = at-b0 .before in
+    let at-g1 = at-g2 .before in
+    let at-g0 = at-g1 .before in
+    let at-r2 = at-g0 .before in
+    let at-r1 = at-r2 .before in
+    let at-r0 = at-r1 .before in
+    let set = at-r0 .before in
+    let id = set .before .before .extract-partition-set-id .ensures in
+    let s = set .before .before .before in
     let n = held (s .args .stream) in
     let start : On n 3 (s .args .stream) = record { of = refl; stands = s .pre } in
-    let on-r = on-8 start 6 (id .same) in
-    let r = at-r .consume-2 .ensures .same in
-    let on-r3 = on-2 on-r 10 r in
-    let r3 = at-r3 .take .ensures .same in
-    let on-g = on-64 on-r3 10 r3 in
-    let g = at-g .consume-22 .ensures .same in
-    let on-g3 = on-2 on-g 10 g in
-    let g3 = at-g3 .take2 .ensures .same in
-    let on-b = on-64 on-g3 10 g3 in
-    let b = at-b .consume-23 .ensures .same in
-    let on-b3 = on-2 on-b 10 b in
-    let b3 = at-b3 .take3 .ensures .same in
-    let on-x = on-64 on-b3 10 b3 in
-    three-keys 2 n 2 (omega arith) refl (omega arith) (omega arith) (omega (arith, id .small)) on-x (ap Three (sym (got-8 start 6 (id .same))))
-    (set .partition-word-3-2 .ensures) (c .before .before .indexes-3 .ensures) (c .before .keys-2 .ensures)
+    let on-r0 = on-read start 6 (fits 0) (id .same) in
+    let r0 = at-r0 .take .ensures .same in
+    let on-r1 = on-read on-r0 10 (fits 1) r0 in
+    let r1 = at-r1 .take2 .ensures .same in
+    let on-r2 = on-read on-r1 10 (fits 2) r1 in
+    let r2 = at-r2 .take3 .ensures .same in
+    let on-g0 = on-read on-r2 10 (fits 3) r2 in
+    let g0 = at-g0 .take4 .ensures .same in
+    let on-g1 = on-read on-g0 10 (fits 4) g0 in
+    let g1 = at-g1 .take5 .ensures .same in
+    let on-g2 = on-read on-g1 10 (fits 5) g1 in
+    let g2 = at-g2 .take6 .ensures .same in
+    let on-b0 = on-read on-g2 10 (fits 6) g2 in
+    let b0 = at-b0 .take7 .ensures .same in
+    let on-b1 = on-read on-b0 10 (fits 7) b0 in
+    let b1 = at-b1 .take8 .ensures .same in
+    let on-b2 = on-read on-b1 10 (fits 8) b1 in
+    let b2 = at-b2 .take9 .ensures .same in
+    let on-x = on-read on-b2 10 (fits 9) b2 in
+    three-keys 2 n 2 (omega arith) refl (omega arith) (omega arith) (omega (arith, id .small)) on-x (ap Three (sym (got start 6 (fits 0) (id .same))))
+    (set .partition-word-3-2 .ensures) (fits 10) (c .before .before .indexes-3 .ensures) (c .before .keys-2 .ensures)
     (three-palette 2 n 2 (λ x. solid (plain 5 x)) _ _ (colours .before .before .opaque .ensures)
     (opaque-shown 2 n {l = 0} {a = 0} {p = 0} refl
-    (record { red = got-first on-r 10 r; green = got-first on-g 10 g; blue = got-first on-b 10 b })
+    (record { red = got on-r0 10 (fits 1) r0; green = got on-g0 10 (fits 4) g0; blue = got on-b0 10 (fits 7) b0 })
     refl refl)
     (opaque-shown 2 n {l = 1} {a = 0} {p = 0} refl
-    (record { red = got-second on-r 10 r; green = got-second on-g 10 g; blue = got-second on-b 10 b })
+    (record { red = got on-r1 10 (fits 2) r1; green = got on-g1 10 (fits 5) g1; blue = got on-b1 10 (fits 8) b1 })
     refl refl)
     _ _ (colours .before .opaque2 .ensures)
     (opaque-shown 2 n {l = 2} {a = 0} {p = 0} refl
-    (record { red = got-64 on-r3 10 r3; green = got-64 on-g3 10 g3; blue = got-64 on-b3 10 b3 })
+    (record { red = got on-r2 10 (fits 3) r2; green = got on-g2 10 (fits 6) g2; blue = got on-b2 10 (fits 9) b2 })
     refl refl)
     (colours .palette-3-2 .ensures))
     (c .paint-4 .ensures)
@@ -120,13 +158,17 @@ mode-2-spec =
     tie.close
     (tie.spec
     extract-partition-set-id-requires
+    cast-partition-word-3-2
     partition-word-3-2-requires
-    consume-2-requires
     take-requires
-    consume-2-requires-2
     take-requires-2
-    consume-2-requires-3
     take-requires-3
+    take-requires-4
+    take-requires-5
+    take-requires-6
+    take-requires-7
+    take-requires-8
+    take-requires-9
     opaque-requires
     opaque-requires-2
     palette-3-2-requires

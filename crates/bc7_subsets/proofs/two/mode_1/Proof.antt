@@ -1,15 +1,20 @@
 -- Mode 1: two subsets, and a p bit for each.
 -- Assumes nothing.
 use mathlib.Core.Path.{refl, sym, ap}
-use Prim.Native.Nat.{ℕ, _*_}
+use Prim.Native.Nat.{ℕ, _+_, _*_, _≤_}
 use native.Mathlib.Omega.{arith}
 use borrow.Author.Needs.{needs}
+use lib.Dec.{lit<}
+use lib.ListN.{getD, take}
+use Rattle.laws.specs.Digits.{total}
+use Rattle.bc7_format.specs.Reads.{decodingReads}
+use Rattle.bc7_format.proofs.ReadsFit.{decoding-fits}
 use Rattle.bc7_format.specs.declared.Split.the-variants.{Two}
 use Rattle.bcn_format.specs.Block.{field}
 use Rattle.bc7_format.specs.Modes.{endpointCount, kindOfMode, modeRow}
 use Rattle.bc7_format.specs.Splits.{splitAt}
 use Rattle.bits.specs.Stream.{held}
-use Rattle.bits.proofs.On.{On, got-8, got-first, got-second, on-2, on-8}
+use Rattle.bits.proofs.On.{On, got, on-read}
 use Rattle.bc7_format.specs.Fields.{leadEnd, pStart, valueStart}
 use Rattle.bcn_format.specs.Painting.{solid}
 use Rattle.drawing.specs.Words.{withP}
@@ -22,40 +27,65 @@ use Rattle.bc7_subsets.proofs.two.mode_1.Tie as tie
 extract-partition-set-id-requires : tie.Need-extract-partition-set-id-requires
 extract-partition-set-id-requires c κs = search needs
 
+cast-partition-word-2-3 : tie.Need-cast-partition-word-2-3
+cast-partition-word-2-3 c = record { fits = omega (arith, c .before .extract-partition-set-id .ensures .small) }
+
 partition-word-2-3-requires : tie.Need-partition-word-2-3-requires
 partition-word-2-3-requires c κs = search needs
 
-consume-2-requires : tie.Need-consume-2-requires
-consume-2-requires c κs = search needs
+take-requires : tie.Need-take-requires
+take-requires c κs = search needs
 
-consume-2-requires-2 : tie.Need-consume-2-requires-2
-consume-2-requires-2 c κs = search needs
+take-requires-2 : tie.Need-take-requires-2
+take-requires-2 c κs = search needs
 
-consume-2-requires-3 : tie.Need-consume-2-requires-3
-consume-2-requires-3 c κs = search needs
+take-requires-3 : tie.Need-take-requires-3
+take-requires-3 c κs = search needs
 
-consume-2-requires-4 : tie.Need-consume-2-requires-4
-consume-2-requires-4 c κs = search needs
+take-requires-4 : tie.Need-take-requires-4
+take-requires-4 c κs = search needs
 
-mul-t12 : tie.Need-mul-t12
-mul-t12 c = search needs
+take-requires-5 : tie.Need-take-requires-5
+take-requires-5 c κs = search needs
 
-mul-t12-2 : tie.Need-mul-t12-2
-mul-t12-2 c = search needs
+take-requires-6 : tie.Need-take-requires-6
+take-requires-6 c κs = search needs
+
+take-requires-7 : tie.Need-take-requires-7
+take-requires-7 c κs = search needs
+
+take-requires-8 : tie.Need-take-requires-8
+take-requires-8 c κs = search needs
+
+mul-t17 : tie.Need-mul-t17
+mul-t17 c = search needs
+
+mul-t17-2 : tie.Need-mul-t17-2
+mul-t17-2 c = search needs
 
 opaque-p-requires : tie.Need-opaque-p-requires
-opaque-p-requires c κs = search needs
+opaque-p-requires c κs =
+    omega (
+      arith,
+      c .before .before .before .before .before .before .before .before .before .take .ensures .small,
+      c .before .before .before .before .before .before .before .before .take2 .ensures .small,
+      c .before .before .before .before .before .before .before .take3 .ensures .small,
+      c .before .before .before .before .before .before .take4 .ensures .small,
+      c .before .before .before .before .before .take5 .ensures .small,
+      c .before .before .before .before .take6 .ensures .small,
+      c .before .before .before .take7 .ensures .small,
+      c .before .before .take8 .ensures .small,
+    )
 
 palette-2-3-requires : tie.Need-palette-2-3-requires
 palette-2-3-requires c κs = search needs
 
 indexes-2-requires : tie.Need-indexes-2-requires
 indexes-2-requires c κs =
-    let p = c .before .before .before .before in
-    let set = p .before .before .before .before in
-    let id = set .before .extract-partition-set-id .ensures in
+    let set = c .before .before .before .before .before .before .before .before .before .before .before .before in
+    let id = set .before .before .extract-partition-set-id .ensures in
     let fixes = fixes-2 {w = 3} (omega (arith, id .small)) (omega arith) (omega arith) (set .partition-word-2-3 .ensures) in
-    (omega arith, omega arith, fixes .above, fixes .last, omega (arith, p, p .before .before))
+    (omega arith, omega arith, fixes .above, fixes .last)
 
 keys-3-requires : tie.Need-keys-3-requires
 keys-3-requires c κs = search needs
@@ -63,37 +93,53 @@ keys-3-requires c κs = search needs
 paint-2-3-requires : tie.Need-paint-2-3-requires
 paint-2-3-requires c κs = search needs
 
+-- each read is accepted: it is the k-th of those that decoding makes
+fits : (k : ℕ) → 2 + total (take k (decodingReads 1)) + getD (decodingReads 1) k 0 ≤ 128
+fits k = decoding-fits 1 k (lit< tt)
+
 returns : tie.Need-returns
 unfolding splitAt kindOfMode modeRow endpointCount field valueStart pStart leadEnd
 returns c =
     let colours = c .before .before .before in
-    let at-p = colours .before .before .before .before in
-    let at-b = at-p .before in
-    let at-g = at-b .before in
-    let at-r = at-g .before in
-    let set = at-r .before in
-    let id = set .before .extract-partition-set-id .ensures in
-    let s = set .before .before in
+    let at-p1 = colours .before .before .before .before in
+    let at-p0 = at-p1 .before in
+    let at-b1 = at-p0 .before in
+    let at-b0 = at-b1 .before in
+    let at-g1 = at-b0 .before in
+    let at-g0 = at-g1 .before in
+    let at-r1 = at-g0 .before in
+    let at-r0 = at-r1 .before in
+    let set = at-r0 .before in
+    let id = set .before .before .extract-partition-set-id .ensures in
+    let s = set .before .before .before in
     let n = held (s .args .stream) in
     let start : On n 2 (s .args .stream) = record { of = refl; stands = s .pre } in
-    let on-r = on-8 start 6 (id .same) in
-    let r = at-r .consume-2 .ensures .same in
-    let on-g = on-2 on-r 12 r in
-    let g = at-g .consume-22 .ensures .same in
-    let on-b = on-2 on-g 12 g in
-    let b = at-b .consume-23 .ensures .same in
-    let on-p = on-2 on-b 12 b in
-    let p = at-p .consume-24 .ensures .same in
-    let on-x = on-2 on-p 1 p in
-    two-keys 1 n 3 (omega arith) refl (omega arith) (omega arith) (omega (arith, id .small)) on-x (ap Two (sym (got-8 start 6 (id .same))))
-    (set .partition-word-2-3 .ensures) (c .before .before .indexes-2 .ensures) (c .before .keys-3 .ensures)
+    let on-r0 = on-read start 6 (fits 0) (id .same) in
+    let r0 = at-r0 .take .ensures .same in
+    let on-r1 = on-read on-r0 12 (fits 1) r0 in
+    let r1 = at-r1 .take2 .ensures .same in
+    let on-g0 = on-read on-r1 12 (fits 2) r1 in
+    let g0 = at-g0 .take3 .ensures .same in
+    let on-g1 = on-read on-g0 12 (fits 3) g0 in
+    let g1 = at-g1 .take4 .ensures .same in
+    let on-b0 = on-read on-g1 12 (fits 4) g1 in
+    let b0 = at-b0 .take5 .ensures .same in
+    let on-b1 = on-read on-b0 12 (fits 5) b0 in
+    let b1 = at-b1 .take6 .ensures .same in
+    let on-p0 = on-read on-b1 12 (fits 6) b1 in
+    let p0 = at-p0 .take7 .ensures .same in
+    let on-p1 = on-read on-p0 1 (fits 7) p0 in
+    let p1 = at-p1 .take8 .ensures .same in
+    let on-x = on-read on-p1 1 (fits 8) p1 in
+    two-keys 1 n 3 (omega arith) refl (omega arith) (omega arith) (omega (arith, id .small)) on-x (ap Two (sym (got start 6 (fits 0) (id .same))))
+    (set .partition-word-2-3 .ensures) (fits 9) (c .before .before .indexes-2 .ensures) (c .before .keys-3 .ensures)
     (two-palette 1 n 3 (λ x. solid (withP 6 x)) _ _ (colours .before .opaque-p .ensures)
     (opaque-p-shown 1 n {l = 0} refl
-    (record { red = got-first on-r 12 r; green = got-first on-g 12 g; blue = got-first on-b 12 b })
-    refl (one-p 1 n 0 refl (ap (λ (v : ℕ). 3 * v) (got-first on-p 1 p))) refl)
+    (record { red = got on-r0 12 (fits 1) r0; green = got on-g0 12 (fits 3) g0; blue = got on-b0 12 (fits 5) b0 })
+    refl (one-p 1 n 0 refl (ap (λ (v : ℕ). 3 * v) (got on-p0 1 (fits 7) p0))) refl)
     (opaque-p-shown 1 n {l = 1} refl
-    (record { red = got-second on-r 12 r; green = got-second on-g 12 g; blue = got-second on-b 12 b })
-    refl (one-p 1 n 1 refl (ap (λ (v : ℕ). 3 * v) (got-second on-p 1 p))) refl)
+    (record { red = got on-r1 12 (fits 2) r1; green = got on-g1 12 (fits 4) g1; blue = got on-b1 12 (fits 6) b1 })
+    refl (one-p 1 n 1 refl (ap (λ (v : ℕ). 3 * v) (got on-p1 1 (fits 8) p1))) refl)
     (colours .palette-2-3 .ensures))
     (c .paint-2-3 .ensures)
 
@@ -102,13 +148,18 @@ mode-1-spec =
     tie.close
     (tie.spec
     extract-partition-set-id-requires
+    cast-partition-word-2-3
     partition-word-2-3-requires
-    consume-2-requires
-    consume-2-requires-2
-    consume-2-requires-3
-    consume-2-requires-4
-    mul-t12
-    mul-t12-2
+    take-requires
+    take-requires-2
+    take-requires-3
+    take-requires-4
+    take-requires-5
+    take-requires-6
+    take-requires-7
+    take-requires-8
+    mul-t17
+    mul-t17-2
     opaque-p-requires
     palette-2-3-requires
     indexes-2-requires

@@ -1,7 +1,10 @@
 -- `stream::window` meets its contract.
 -- Assumes nothing.
+use mathlib.Core.Path.{_≡_, ap, _∙_}
+use Prim.Native.Nat.{ℕ, _-_, _/_, _%_, _^_}
+use native.Mathlib.Omega.{arith}
 use borrow.Author.Needs.{needs}
-use Rattle.laws.proofs.Words.{window-high, window-low, window-none}
+use Rattle.laws.proofs.Words.{window-high, window-low}
 use Rattle.bits.proofs.stream.window.Statement.{statement}
 use Rattle.bits.proofs.stream.window.Tie as tie
 
@@ -26,17 +29,14 @@ shr-result-2 c = search needs
 returns : tie.Need-returns
 returns c =
     let s = c .before in
-    window-low (s .args .low) (s .args .high) (s .args .at) (s .fits .low .fits) (c .if1 .taken)
+    λ h. window-low (s .args .low) (s .args .high) (s .args .at) (s .fits .low .fits) (c .if1 .taken)
 
 returns-2 : tie.Need-returns-2
 returns-2 c =
-    let s = c .before .before in
-    window-high (s .args .low) (s .args .high) (s .args .at) (s .fits .low .fits) (s .fits .high .fits) (c .before .if1 .left)
-
-returns-3 : tie.Need-returns-3
-returns-3 c =
-    let s = c .before .before in
-    window-none (s .args .low) (s .args .high) (s .args .at) (s .fits .low .fits) (s .fits .high .fits) (c .if2 .left)
+    let s = c .before in
+    λ h. let e : s .args .at % 64 ≡ s .args .at - 64 = omega arith in
+    ap (λ (k : ℕ). s .args .high / 2 ^ k) e
+    ∙ window-high (s .args .low) (s .args .high) (s .args .at) (s .fits .low .fits) (s .fits .high .fits) (c .if1 .left)
 
 pub window-spec : {M : Type 1} → statement M
 window-spec =
@@ -49,5 +49,4 @@ window-spec =
     cast-result-2
     shr-result-2
     returns
-    returns-2
-    returns-3)
+    returns-2)

@@ -14,7 +14,7 @@ new-p2-requires : tie.Need-new-p2-requires
 new-p2-requires c κs =
     let s = c .before in
     let r = s .pre .rising .two (c .if1 .taken) in
-    record { least = s .pre .least; most = s .pre .most; above = r .0; pixel = r .1; enough = omega (arith, s .pre .most, s .pre .within) }
+    record { least = s .pre .least; most = s .pre .most; above = r .0; pixel = r .1 }
 
 returns : tie.Need-returns
 returns c = c .new-p2 .ensures ∙ rw (c .before .if1 .taken)
@@ -35,7 +35,6 @@ new-p3-requires c κs =
       above = r .0;
       rising = r .1;
       pixel = r .2;
-      enough = omega (arith, s .pre .most, s .pre .within);
     }
 
 returns-2 : tie.Need-returns-2

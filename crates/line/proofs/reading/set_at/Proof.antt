@@ -20,7 +20,6 @@ read-indexes-requires c κs =
       least = s .pre .least;
       most = s .pre .most;
       rising = s .pre .rising;
-      within = rw (c .standing-at .ensures) (s .pre .below);
     }
 
 parts-of-requires : tie.Need-parts-of-requires
@@ -32,7 +31,7 @@ returns c =
     let s = c .before .before .before .before .before .before .before .before in
     c .parts-of .ensures
     ∙ rw (
-      before-is (s .args .s) (s .args .kind) (s .args .at) (s .args .part) 0 0 (c .before .before .before .before .standing-at .ensures)
+      before-is (s .args .s) (s .args .kind) (s .args .at) (s .args .part) 0 0 (s .pre .room) (c .before .before .before .before .standing-at .ensures)
           (c .before .before .before .read-indexes .ensures),
       c .before .before .before .before .before .mask-of .ensures,
     )

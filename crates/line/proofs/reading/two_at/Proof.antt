@@ -1,37 +1,66 @@
 -- `reading::two_at` meets its contract.
 -- Assumes nothing.
-use borrow.Author.Needs.{needs}
-use mathlib.Core.Path.{ap}
+use mathlib.Core.Path.{_≡_}
+use Prim.Native.Nat.{_+_, _*_, _≤_}
+use native.Mathlib.Nat.{lt-of-lt-of-le, mod-lt}
 use native.Mathlib.Omega.{arith}
-use Rattle.bits.specs.declared.stream.Values2.{Values2}
-use Rattle.bits.specs.Stream.{held}
-use Rattle.bits.proofs.On.{field-below}
+use borrow.Author.Needs.{needs}
+use lib.Pow.{pow-mono, pow-pos, shr-lt}
+use Rattle.laws.proofs.Words.{one-shl}
+use Rattle.line.proofs.fields.Halves.{first-of, second-of}
 use Rattle.line.proofs.reading.two_at.Statement.{statement}
 use Rattle.line.proofs.reading.two_at.Tie as tie
 
 standing-at-requires : tie.Need-standing-at-requires
 standing-at-requires c κs = search needs
 
-consume-2-requires : tie.Need-consume-2-requires
-consume-2-requires c κs = (omega arith, rw (c .standing-at .ensures) (omega arith))
+mul-take : tie.Need-mul-take
+mul-take c = search needs
 
-cast-t6 : tie.Need-cast-t6
-cast-t6 c =
-    let s = c .before .before .before in
-    record {
-      fits = rw (ap (λ (v : Values2). v .first) (c .before .consume-2 .ensures .same)) (field-below _ _ (s .args .width) 8 (s .pre .1));
-    }
+take-requires : tie.Need-take-requires
+take-requires c κs = search needs
 
-cast-t7 : tie.Need-cast-t7
-cast-t7 c =
-    let s = c .before .before .before .before in
-    record {
-      fits = rw (ap (λ (v : Values2). v .second) (c .before .before .consume-2 .ensures .same)) (field-below _ _ (s .args .width) 8 (s .pre .1));
-    }
+shl-t9 : tie.Need-shl-t9
+shl-t9 c = search needs
+
+rem-t10 : tie.Need-rem-t10
+rem-t10 c = let w = c .before .before .args .width in rw (one-shl w (omega arith)) (pow-pos w)
+
+cast-t11 : tie.Need-cast-t11
+cast-t11 c =
+    let s = c .before .before in
+    let w = s .args .width in
+    record { fits = rw (one-shl w (omega arith)) (lt-of-lt-of-le (mod-lt _ (pow-pos w)) (pow-mono {j = 8} (s .pre .1))) }
+
+shr-t13 : tie.Need-shr-t13
+shr-t13 c = search needs
+
+cast-t14 : tie.Need-cast-t14
+cast-t14 c =
+    let s = c .before .before in
+    let w = s .args .width in
+    let e : 2 * w ≡ w + w = omega arith in
+    record { fits = lt-of-lt-of-le (shr-lt w w (rw e at (c .take .ensures .small))) (pow-mono {j = 8} (s .pre .1)) }
 
 returns : tie.Need-returns
-unfolding held
-returns c = rw (c .before .before .consume-2 .ensures .same, c .before .before .before .standing-at .ensures)
+returns c =
+    let s = c .before .before in
+    let w = s .args .width in
+    let at = c .before .standing-at .ensures in
+    let r = c .take .ensures .same in
+    let room : s .args .at + 2 * w ≤ 128 = omega arith in
+    rw (one-shl w (omega arith), first-of (s .args .s) (s .args .at) w room at r, second-of (s .args .s) (s .args .at) w room at r)
 
 pub two-at-spec : {M : Type 1} → statement M
-two-at-spec = tie.close (tie.spec standing-at-requires consume-2-requires cast-t6 cast-t7 returns)
+two-at-spec =
+    tie.close
+    (tie.spec
+    standing-at-requires
+    mul-take
+    take-requires
+    shl-t9
+    rem-t10
+    cast-t11
+    shr-t13
+    cast-t14
+    returns)

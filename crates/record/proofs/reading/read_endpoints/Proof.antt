@@ -7,56 +7,34 @@ use Rattle.record.proofs.reading.read_endpoints.Statement.{statement}
 use Rattle.record.proofs.reading.read_endpoints.Tie as tie
 
 cast-count : tie.Need-cast-count
-cast-count c = omega (arith, small (c .before .pre .of-mode) .endpoints)
+cast-count c = omega (arith, small (c .before .pre) .endpoints)
 
 mul-take : tie.Need-mul-take
-mul-take c = omega (arith, small (c .before .before .pre .of-mode) .colours)
+mul-take c = omega (arith, small (c .before .before .pre) .colours)
 
 take-requires : tie.Need-take-requires
-take-requires c κs = let b = small (c .before .before .pre .of-mode) .colours in (omega (arith, b), omega (arith, b, c .before .before .pre .within))
+take-requires c κs = omega (arith, small (c .before .before .pre) .colours)
 
 mul-take-2 : tie.Need-mul-take-2
-mul-take-2 c = omega (arith, small (c .before .before .before .before .before .pre .of-mode) .colours)
+mul-take-2 c = omega (arith, small (c .before .before .before .before .before .pre) .colours)
 
 take-requires-2 : tie.Need-take-requires-2
-take-requires-2 c κs =
-    let b = small (c .before .before .before .before .before .pre .of-mode) .colours in
-    (omega (arith, b), rw (c .before .before .take .ensures .same) (omega (arith, b, c .before .before .before .before .before .pre .within)))
+take-requires-2 c κs = omega (arith, small (c .before .before .before .before .before .pre) .colours)
 
 mul-take-3 : tie.Need-mul-take-3
-mul-take-3 c = omega (arith, small (c .before .before .before .before .before .before .before .before .pre .of-mode) .colours)
+mul-take-3 c = omega (arith, small (c .before .before .before .before .before .before .before .before .pre) .colours)
 
 take-requires-3 : tie.Need-take-requires-3
-take-requires-3 c κs =
-    let b = small (c .before .before .before .before .before .before .before .before .pre .of-mode) .colours in (
-      omega (arith, b),
-      rw (c .before .before .take2 .ensures .same, c .before .before .before .before .before .take .ensures .same)
-          (omega (arith, b, c .before .before .before .before .before .before .before .before .pre .within)),
-    )
+take-requires-3 c κs = omega (arith, small (c .before .before .before .before .before .before .before .before .pre) .colours)
 
 mul-take-4 : tie.Need-mul-take-4
-mul-take-4 c = omega (arith, small (c .before .before .before .before .before .before .before .before .before .before .before .pre .of-mode) .alphas)
+mul-take-4 c = omega (arith, small (c .before .before .before .before .before .before .before .before .before .before .before .pre) .alphas)
 
 take-requires-4 : tie.Need-take-requires-4
-take-requires-4 c κs =
-    let b = small (c .before .before .before .before .before .before .before .before .before .before .before .pre .of-mode) in (
-      omega (arith, b .alphas),
-      rw (
-        c .before .before .take3 .ensures .same,
-        c .before .before .before .before .before .take2 .ensures .same,
-        c .before .before
-            .before .before .before .before .before .before .take .ensures .same,
-      )
-          (omega (
-            arith,
-            b .colours,
-            b .alphas,
-            c .before .before .before .before .before .before .before .before .before .before .before .pre .within,
-          )),
-    )
+take-requires-4 c κs = omega (arith, small (c .before .before .before .before .before .before .before .before .before .before .before .pre) .alphas)
 
 endpoints-of-requires : tie.Need-endpoints-of-requires
-endpoints-of-requires c κs = c .before .before .before .before .before .before .before .before .before .before .before .before .before .pre .of-mode
+endpoints-of-requires c κs = c .before .before .before .before .before .before .before .before .before .before .before .before .before .pre
 
 returns : tie.Need-returns
 returns c =

@@ -8,10 +8,10 @@ use Rattle.record.proofs.reading.read_p.Statement.{statement}
 use Rattle.record.proofs.reading.read_p.Tie as tie
 
 cast-take : tie.Need-cast-take
-cast-take c = omega (arith, small (c .before .pre .of-mode) .p)
+cast-take c = omega (arith, small (c .before .pre) .p)
 
 take-requires : tie.Need-take-requires
-take-requires c κs = let b = small (c .before .pre .of-mode) .p in (omega (arith, b), omega (arith, b, c .before .pre .within))
+take-requires c κs = omega (arith, small (c .before .pre) .p)
 
 part-of-requires : tie.Need-part-of-requires
 part-of-requires c κs = search needs

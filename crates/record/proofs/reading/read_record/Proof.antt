@@ -14,7 +14,7 @@ use Rattle.bits.proofs.On.{On}
 use Rattle.bc7_places.specs.Modes.{OfMode}
 use Rattle.bc7_places.proofs.modes.Bounds.{small}
 use Rattle.bc7_places.proofs.splits.Leads.{marker-on}
-use Rattle.record.proofs.reading.Standing.{first-room, p-room, partition-64, record-read, rise, second-room, the-split, values-room}
+use Rattle.record.proofs.reading.Standing.{partition-64, record-read, rise, the-split}
 use borrow.Author.Needs.{needs}
 use Rattle.record.proofs.reading.read_record.Statement.{statement}
 use Rattle.record.proofs.reading.read_record.Tie as tie
@@ -50,28 +50,13 @@ skip-requires : tie.Need-skip-requires
 skip-requires c κs = search needs
 
 read-split-requires : tie.Need-read-split-requires
-read-split-requires c κs =
-    record {
-      of-mode = of-mode (c .before .before);
-      within = rw (behind c .stands) (omega (arith, c .before .before .pre .low));
-    }
+read-split-requires c κs = of-mode (c .before .before)
 
 read-endpoints-requires : tie.Need-read-endpoints-requires
-read-endpoints-requires c κs =
-    let s = c .before .before .before in
-    record {
-      of-mode = of-mode s;
-      within = values-room _ (sixteen s) (s .pre .mode-is) (s .pre .low) (s .pre .mode-row-is) (behind (c .before)) (c .read-split .ensures);
-    }
+read-endpoints-requires c κs = of-mode (c .before .before .before)
 
 read-p-requires : tie.Need-read-p-requires
-read-p-requires c κs =
-    let s = c .before .before .before .before .before in
-    record {
-      of-mode = of-mode s;
-      within = p-room _ (sixteen s) (s .pre .mode-is) (s .pre .low) (s .pre .mode-row-is) (behind (c .before .before .before))
-          (c .before .before .read-split .ensures) (c .before .read-endpoints .ensures);
-    }
+read-p-requires c κs = of-mode (c .before .before .before .before .before)
 
 anchors-of-requires : tie.Need-anchors-of-requires
 anchors-of-requires c κs =
@@ -88,10 +73,6 @@ read-indexes-requires c κs =
       rising =
           rise _ (sixteen s) (s .pre .mode-is) (s .pre .low) (s .pre .mode-row-is) (split-of (c .before .before .before .before .before))
           (c .anchors-of .ensures);
-      within =
-          first-room _ (sixteen s) (s .pre .mode-is) (s .pre .low) (s .pre .mode-row-is) (behind (c .before .before .before .before .before .before))
-          (c .before .before .before .before .before .read-split .ensures) (c .before .before .before .before .read-endpoints .ensures)
-          (c .before .before .read-p .ensures);
     }
 
 parts-of-requires : tie.Need-parts-of-requires
@@ -106,11 +87,6 @@ read-second-requires c κs =
           rise _ (sixteen s) (s .pre .mode-is) (s .pre .low) (s .pre .mode-row-is)
           (split-of (c .before .before .before .before .before .before .before .before))
           (c .before .before .before .anchors-of .ensures);
-      within = second-room _ (sixteen s) (s .pre .mode-is) (s .pre .low) (s .pre .mode-row-is)
-          (behind (c .before .before .before .before .before .before .before .before .before))
-          (c .before .before .before .before .before .before .before .before .read-split .ensures)
-          (c .before .before .before .before .before .before .before .read-endpoints .ensures)
-          (c .before .before .before .before .before .read-p .ensures) _ (c .before .before .read-indexes .ensures);
     }
 
 returns : tie.Need-returns

@@ -18,7 +18,6 @@ read-indexes-requires c κs =
       least = second-bits (s .pre .of-mode) (c .if1 .left);
       most = small (s .pre .of-mode) .second;
       rising = s .pre .rising;
-      within = s .pre .within;
     }
 
 parts-of-requires : tie.Need-parts-of-requires

@@ -16,7 +16,7 @@ cast-result c = search needs
 
 returns : tie.Need-returns
 unfolding held field
-returns c = rw (c .window .ensures) (low-window _ 8 (omega arith))
+returns c = rw (c .window .ensures (omega arith)) (low-window _ 8 (omega arith))
 
 pub low-u8-spec : {M : Type 1} → statement M
 low-u8-spec = tie.close (tie.spec window-requires cast-result returns)

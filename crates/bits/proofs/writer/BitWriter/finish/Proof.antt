@@ -27,7 +27,7 @@ mul-t7 : tie.Need-mul-t7 Inv-loop μ-loop
 mul-t7 c = omega arith
 
 low-u8-requires : tie.Need-low-u8-requires Inv-loop μ-loop
-low-u8-requires c κs = tt
+low-u8-requires c κs = omega arith
 
 array-write-bytes : tie.Need-array-write-bytes Inv-loop μ-loop
 array-write-bytes c = omega arith

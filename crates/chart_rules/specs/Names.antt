@@ -1,0 +1,25 @@
+-- The names of the fields, one word each (docs/FIELDS.md has them as a table).
+-- Assumes nothing.
+use Prim.Native.Nat.{ℕ}
+use mathlib.Core.List.{List, [], _∷_, _++_}
+use lib.ListN.{getD}
+use Rattle.bc7_format.specs.Places.{Place, lead, index, pbit, value}
+use Rattle.listing_rules.specs.Text.{ascii, decimal}
+
+-- the marker counts the mode
+abbrev pub leadName : ℕ → List ℕ
+leadName k = getD (ascii "mode" ∷ ascii "partition" ∷ ascii "rotation" ∷ ascii "index-mode" ∷ []) k []
+
+abbrev pub channelName : ℕ → List ℕ
+channelName c = getD (ascii "red-" ∷ ascii "green-" ∷ ascii "blue-" ∷ ascii "alpha-" ∷ []) c []
+
+-- the set that is stored first is `index`, whatever the index mode says
+abbrev pub setName : ℕ → List ℕ
+setName a = getD (ascii "index-" ∷ ascii "second-" ∷ []) a []
+
+-- a value has its endpoint's number, an index its pixel's
+unfoldable pub nameOf : Place → List ℕ
+nameOf (lead k) = leadName k
+nameOf (value c e) = channelName c ++ decimal e
+nameOf (pbit k) = ascii "p-" ++ decimal k
+nameOf (index a q) = setName a ++ decimal q

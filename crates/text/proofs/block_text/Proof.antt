@@ -1,0 +1,60 @@
+-- `text::block_text` meets its contract.
+-- Assumes nothing.
+use native.Mathlib.Omega.{arith}
+use Rattle.laws.proofs.Padding.{written-then}
+use Rattle.listing_rules.specs.Text.{blockText}
+use borrow.Author.Needs.{needs}
+use Rattle.text.proofs.block_text.Statement.{statement}
+use Rattle.text.proofs.block_text.Tie as tie
+
+put-number-requires : tie.Need-put-number-requires
+put-number-requires c κs = search needs
+
+put-spaced-requires : tie.Need-put-spaced-requires
+put-spaced-requires c κs = search needs
+
+put-pixel-requires : tie.Need-put-pixel-requires
+put-pixel-requires c κs = search needs
+
+opacity-mark-requires : tie.Need-opacity-mark-requires
+opacity-mark-requires c κs = search needs
+
+put-requires : tie.Need-put-requires
+put-requires c κs = search needs
+
+put-requires-2 : tie.Need-put-requires-2
+put-requires-2 c κs = search needs
+
+put-requires-3 : tie.Need-put-requires-3
+put-requires-3 c κs = search needs
+
+same-length : tie.Need-same-length
+same-length c = search needs
+
+returns : tie.Need-returns
+unfolding blockText
+returns c =
+    let ended = c .before .before in
+    let mark = ended .before .before .before .before in
+    let space = mark .before .before .before .before in
+    let drawn = space .before .before .before .before .before in
+    let mode = drawn .before .before .before .before in
+    let number = mode .before .before .before .before in
+    let told = written-then (written-then (number .put-number .ensures .0) (mode .put-spaced .ensures .0)) (drawn .put-pixel .ensures .0) in
+    let marked = written-then (written-then told (space .put .ensures .0))
+    (rw (space .before .before .opacity-mark .ensures) at (mark .put2 .ensures .0)) in
+    (written-then marked (ended .put3 .ensures .0), omega arith)
+
+pub block-text-spec : {M : Type 1} → statement M
+block-text-spec =
+    tie.close
+    (tie.spec
+    put-number-requires
+    put-spaced-requires
+    put-pixel-requires
+    opacity-mark-requires
+    put-requires
+    put-requires-2
+    put-requires-3
+    same-length
+    returns)
