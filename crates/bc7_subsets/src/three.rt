@@ -3,7 +3,7 @@
 // Subsets 0 and 1 share words; the third has its own, whose other half no key reaches.
 ghost use mathlib.Core.Path.{_≡_};
 ghost use mathlib.Core.List.{[], _∷_};
-ghost use Prim.Native.Nat.{_+_, _-_, _*_, _^_, _≤_, _<_};
+ghost use Prim.Native.Nat.{_-_, _*_, _≤_, _<_};
 ghost use lib.Dec.{T};
 ghost use Rattle.bcn_format.specs.Partitions.{among};
 ghost use Rattle.bcn_format.specs.Indexes.{expanded};

@@ -1,8 +1,8 @@
 -- Reads one after the other: each is accepted where all the widths together have room, and stood behind those before it.
 -- Assumes nothing.
-use mathlib.Core.Path.{_≡_, refl, sym, ap, ap₂, _∙_}
+use mathlib.Core.Path.{_≡_, refl, sym, ap, _∙_}
 use mathlib.Core.List.{List, [], _∷_}
-use Prim.Native.Nat.{ℕ, zero, suc, _+_, _-_, _/_, _%_, _^_, _≤_, _<_}
+use Prim.Native.Nat.{ℕ, zero, suc, _+_, _-_, _≤_, _<_}
 use native.Mathlib.Nat.{add-zero, le-of-suc-le-suc, not-suc-le-zero}
 use native.Mathlib.Omega.{arith}
 use lib.ListN.{length, getD, take}
@@ -11,7 +11,7 @@ use Rattle.bits.specs.declared.stream.BitStream.{BitStream}
 use Rattle.bits.specs.declared.stream.Read.{Read}
 use Rattle.laws.specs.Digits.{split, total}
 use Rattle.bcn_format.specs.Block.{field}
-use Rattle.bits.specs.Stream.{On, Stood, readOf, readsOf}
+use Rattle.bits.specs.Stream.{On, Stood, readsOf}
 use Rattle.bits.proofs.On.{accepts, got, left, on-read, stood}
 
 -- THE LAW OF READS IN ORDER

@@ -1,8 +1,8 @@
 -- The reads that open a mode 4 block give `openingAt`, whichever way the stream goes from one to the next; and from a block's start each is accepted.
 -- Assumes nothing.
 use mathlib.Core.Path.{_≡_}
-use mathlib.Core.List.{List, [], _∷_}
-use Prim.Native.Nat.{ℕ, _≤_, _<_}
+use mathlib.Core.List.{[], _∷_}
+use Prim.Native.Nat.{ℕ}
 use native.Mathlib.Omega.{arith}
 use lib.Dec.{lit<}
 use Rattle.bits.specs.declared.stream.BitStream.{BitStream}

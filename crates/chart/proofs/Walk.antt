@@ -9,7 +9,7 @@ use Rattle.bc7_format.specs.declared.Split.{Split}
 use Rattle.laws.specs.Padding.{Written}
 use Rattle.laws.proofs.Padding.{written-none, written-then}
 use Rattle.bc7_format.specs.Places.{placeAt, placeCount, start, width}
-use Rattle.bc7_format.specs.Splits.{anchors, partition}
+use Rattle.bc7_format.specs.Splits.{partition}
 use Rattle.bc7_format.proofs.Starts.{start-next}
 use Rattle.bc7_places.specs.declared.splits.Anchors.{Anchors}
 use Rattle.bc7_places.specs.Splits.{anchorsOf, threeOf}

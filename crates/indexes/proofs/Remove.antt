@@ -3,11 +3,11 @@
 use mathlib.Core.Path.{_≡_, refl, sym, ap, ap₂, _∙_, subst}
 use mathlib.Core.Logic.{_≢_}
 use mathlib.Core.List.{List, [], _∷_}
-use Prim.Native.Nat.{ℕ, zero, suc, _+_, _-_, _*_, _/_, _%_, _^_, _≤_, _<_}
-use native.Mathlib.Nat.{lt-of-lt-of-le, mod-lt}
+use Prim.Native.Nat.{ℕ, zero, suc, _+_, _-_, _*_, _/_, _%_, _^_, _<_}
+use native.Mathlib.Nat.{mod-lt}
 use native.Mathlib.Omega.{arith}
 use lib.Arith.{digits-lt}
-use lib.Pow.{pow-add, pow-mono, pow-pos, shl-exact, shr-lt, shr-shr}
+use lib.Pow.{pow-add, pow-pos, shl-exact, shr-lt, shr-shr}
 use Rattle.laws.specs.Digits.{Fit, inserted, join, removed, split, total}
 use Rattle.laws.proofs.Digits.{join-lt, join-split, split-join}
 use Rattle.laws.proofs.Masks.{removed-inserted}

@@ -3,7 +3,7 @@
 // a mask beside the width; here an index is the rest by `1 << bits`.
 ghost use mathlib.Core.Path.{_≡_};
 ghost use mathlib.Core.List.{[], _∷_};
-ghost use Prim.Native.Nat.{_+_, _-_, _*_, _^_, _≤_, _<_};
+ghost use Prim.Native.Nat.{_+_, _-_, _*_, _≤_, _<_};
 ghost use Rattle.laws.specs.Digits.{inserted};
 ghost use Rattle.indexes.specs.Reading.{Anchors1, Anchors2, Anchors3, Compressed, Index, Insertable, indexesOf, newIndexes};
 use bits::stream::BitStream;

@@ -1,7 +1,7 @@
 // Indexes as they are stored, of the word of sixteen: the expansion's inverse. It is ours; the Rust only reads.
 ghost use mathlib.Core.Path.{_≡_};
 ghost use mathlib.Core.List.{[]};
-ghost use Prim.Native.Nat.{_+_, _-_, _*_, _^_, _≤_, _<_};
+ghost use Prim.Native.Nat.{_+_, _-_, _*_, _≤_, _<_};
 ghost use Rattle.laws.specs.Digits.{join, removed, split};
 ghost use Rattle.bcn_format.specs.Indexes.{anchorCount, anchorsOfKind, indexWidths};
 ghost use Rattle.indexes.specs.Reading.{IndexAt};

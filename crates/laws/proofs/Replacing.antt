@@ -2,10 +2,10 @@
 -- Assumes nothing.
 use mathlib.Core.Path.{_≡_, sym, ap, ap₂, _∙_}
 use Prim.Native.Nat.{ℕ, _+_, _-_, _*_, _/_, _%_, _^_, _≤_, _<_}
-use native.Mathlib.Nat.{add-assoc, add-comm, add-mul, div-eq-of-lt, lt-of-lt-of-le, mod-lt, mul-assoc, zero-add, zero-mul}
+use native.Mathlib.Nat.{add-comm, add-mul, div-eq-of-lt, mod-lt, mul-assoc, zero-mul}
 use native.Mathlib.Omega.{arith}
 use lib.Arith.{digits-lt}
-use lib.Pow.{field, high, low, mod-mod-pow, mod-pow-add, pow-add, pow-mono, pow-pos, shr-lt, shr-shr, split}
+use lib.Pow.{field, high, low, mod-mod-pow, mod-pow-add, pow-add, pow-pos, shr-lt, shr-shr, split}
 use Rattle.laws.specs.Digits.{replacedAt}
 use Rattle.laws.proofs.Putting.{at-zero}
 

@@ -3,11 +3,11 @@
 use mathlib.Core.Path.{_≡_, sym, ap, ap₂, _∙_}
 use Prim.Native.Nat.{ℕ, _+_, _-_, _*_, _/_, _%_, _^_, _≤_, _<_}
 use native.Mathlib.Nat.{add-assoc, add-comm, mul-assoc, mul-comm, add-mul, one-mul, mod-lt, mod-eq-of-lt, mul-add-div-right, mul-add-mod-self-right}
-use native.Mathlib.Nat.{div-add-mod', lt-of-le-of-lt, lt-of-lt-of-le, div-le-self, div-eq-of-lt}
+use native.Mathlib.Nat.{div-add-mod', lt-of-le-of-lt, div-le-self}
 use native.Mathlib.Omega.{arith}
 use lib.Dec.{lit<}
 use lib.Arith.{digits-lt}
-use lib.Pow.{pow-pos, pow-add, shl-exact, shr-lt, shl-lt, mod-mod-pow, low, high, shr-shr, pow-mono}
+use lib.Pow.{pow-pos, pow-add, shl-exact, shr-lt, shl-lt, mod-mod-pow, low, high, shr-shr}
 use lib.Bits.{bitOr, or-shifted-r}
 
 -- `1 << l` at 64 bits
@@ -76,12 +76,6 @@ window-high lo hi c hl hh h =
     sym (mod-eq-of-lt (lt-of-le-of-lt (div-le-self hi (2 ^ (c - 64))) hh))
     ∙ ap (λ (x : ℕ). x / 2 ^ (c - 64) % 2 ^ 64) (sym (high hi 64 hl))
     ∙ ap (λ (x : ℕ). x % 2 ^ 64) (rw e at (shr-shr (hi * 2 ^ 64 + lo) 64 (c - 64)))
-
-wide-lt : (lo hi : ℕ) → lo < 2 ^ 64 → hi < 2 ^ 64 → hi * 2 ^ 64 + lo < 2 ^ 128
-wide-lt lo hi hl hh = digits-lt {m = 2 ^ 64} {c = 2 ^ 64} hh hl
-
-pub window-none : (lo hi c : ℕ) → lo < 2 ^ 64 → hi < 2 ^ 64 → 128 ≤ c → 0 ≡ (hi * 2 ^ 64 + lo) / 2 ^ c % 2 ^ 64
-window-none lo hi c hl hh h = ap (λ (x : ℕ). x % 2 ^ 64) (sym (div-eq-of-lt (lt-of-lt-of-le (wide-lt lo hi hl hh) (pow-mono {i = 128} {j = c} h))))
 
 -- the low bits of a window, by a literal and by `1 << c`
 pub low-window : (n c : ℕ) → c ≤ 64 → n % 2 ^ 64 % 2 ^ c ≡ n % 2 ^ c

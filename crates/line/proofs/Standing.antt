@@ -20,7 +20,7 @@ use Rattle.laws.proofs.Joining.{table-same}
 use Rattle.bcn_format.specs.Block.{field}
 use Rattle.bc7_format.specs.Lines.{Line, indexSetOf, has, indexPlace, lineOf, own, pPlace, valuePlace}
 use Rattle.bc7_format.specs.Modes.{kindOfMode, lines, pCount}
-use Rattle.bc7_format.specs.Places.{Place, atPlace, inside, pos, width, psFrom, firstFrom, placeCount}
+use Rattle.bc7_format.specs.Places.{Place, atPlace, inside, pos, width, psFrom}
 use Rattle.bc7_format.specs.WellFormed.{WellFormed}
 use Rattle.bc7_format.proofs.Meaning.{index-set-lt}
 use Rattle.bc7_format.proofs.Modes.{good-index-mode, lines-le}

@@ -6,7 +6,6 @@ use mathlib.Core.List.{List, [], _∷_, _++_, map}
 use Prim.Native.Nat.{ℕ, _+_}
 use lib.ListN.{replicate}
 use Rattle.line_rules.specs.declared.Replacement.{Replacement}
-use Rattle.line_rules.specs.declared.Replaced.{Replaced}
 use Rattle.line_rules.specs.declared.LineRead.{LineRead}
 use Rattle.laws.specs.Refusals.{first}
 use Rattle.laws.specs.Tables.{table, tableFrom}

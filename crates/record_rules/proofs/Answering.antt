@@ -7,7 +7,6 @@ use Prim.Native.Nat.{ℕ, suc, _-_, _^_, _<_}
 use lib.Dec.{T, ltb, ltb→lt, lt→ltb}
 use lib.ListN.{replicate}
 use Rattle.record_rules.specs.declared.Record.{Record}
-use Rattle.record_rules.specs.declared.Packed.{Packed}
 use Rattle.bc7_format.specs.declared.Split.{Split}
 use Rattle.laws.specs.Refusals.{Given}
 use Rattle.laws.specs.Tables.{pick}

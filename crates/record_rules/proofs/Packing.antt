@@ -19,7 +19,7 @@ use Rattle.laws.specs.Tables.{pick, table}
 use Rattle.laws.proofs.Refusals.{Met, accepted-when}
 use Rattle.laws.proofs.Joining.{table-same}
 use Rattle.laws.proofs.Part.{getD-table, table-is}
-use Rattle.laws.proofs.Tests.{at, both-left, both-right}
+use Rattle.laws.proofs.Tests.{both-left, both-right}
 use Rattle.bcn_format.specs.Block.{eights}
 use Rattle.bc7_format.specs.Modes.{modeOf}
 use Rattle.bc7_format.specs.Places.{Place, blockOf, lead, index, inside, opened, pbit, value, width}

@@ -1,6 +1,6 @@
 -- WHAT HOLDS THE PROMISES TO C: of each call an accepted example and a refused one, through its promise. What stood before is nines.
 -- Assumes nothing.
-use mathlib.Core.Path.{_≡_, refl}
+use mathlib.Core.Path.{refl}
 use mathlib.Core.List.{List, [], _∷_, _++_}
 use Prim.Native.Nat.{ℕ, _+_, _*_}
 use lib.ListN.{replicate}

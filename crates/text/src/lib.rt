@@ -25,9 +25,7 @@ pub fn put_word(word: &[u8], at: usize, out: &mut [u8]) -> usize
     ensures { λ r. ⌜ Written (now (out .entry)) at (now (word .entry)) (now (out .exit)) r ⌝ }
     ensures { λ r. ⌜ r ≡ at + length (now (word .entry)) ⌝ }
 {
-    for i in 0..word.len() {
-        out[at + i] = word[i];
-    }
+    bytes::copy(word, &mut out[at..]);
     at + word.len()
 }
 

@@ -14,7 +14,7 @@ use Rattle.bc7_format.specs.declared.Split.the-variants.{Vector}
 use Rattle.laws.proofs.Tests.{at}
 use Rattle.bcn_format.specs.Block.{field}
 use Rattle.bc7_format.specs.Modes.{indexModeBits, kindOfMode, modeRow, partitionBits, rotationBits}
-use Rattle.bc7_format.specs.Splits.{ofKind, partition, splitAt}
+use Rattle.bc7_format.specs.Splits.{ofKind, splitAt}
 use Rattle.bits.specs.Stream.{held, skipped}
 use Rattle.bits.proofs.On.{On, got, on-read, on-skipped}
 use Rattle.bc7_places.specs.Modes.{modeRowOf}

@@ -1,6 +1,6 @@
 -- `read_opening_lent` meets its contract: a walk of its MIR, in which the stream is lent from its local four times. All that is known of the four functions is that they meet their contracts.
 -- Assumes nothing.
-use mathlib.Core.Path.{_≡_, refl, ap}
+use mathlib.Core.Path.{_≡_, refl}
 use mathlib.Core.List.{[], _∷_}
 use Prim.Native.Nat.{_+_, _≤_}
 use native.Mathlib.Omega.{arith}

@@ -4,7 +4,6 @@ use mathlib.Core.Path.{ap, _∙_}
 use Prim.Native.Nat.{_<_}
 use borrow.Author.Needs.{needs}
 use Rattle.bc7_format.specs.Splits.{rotation}
-use Rattle.bc7_places.specs.Modes.{OfMode}
 use Rattle.line.proofs.Opening.{the-split}
 use Rattle.nearest.proofs.rotation_in.Statement.{statement}
 use Rattle.nearest.proofs.rotation_in.Tie as tie

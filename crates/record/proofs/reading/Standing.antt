@@ -26,7 +26,7 @@ use Rattle.laws.specs.Tables.{pick, table, tableFrom}
 use Rattle.laws.proofs.Cases.{lt-or, pick-less}
 use Rattle.laws.proofs.Joining.{table-same}
 use Rattle.bcn_format.specs.Block.{eights, field, number}
-use Rattle.bc7_format.specs.Modes.{modeOf, alphaBits, channelBits, colourBits, endpointCount, firstBits, indexBits, kindOfMode, modeRow, pCount}
+use Rattle.bc7_format.specs.Modes.{modeOf, alphaBits, channelBits, colourBits, endpointCount, firstBits, indexBits, kindOfMode, pCount}
 use Rattle.bc7_format.specs.Modes.{indexModeBits, partitionBits, rotationBits, secondBits}
 use Rattle.bcn_format.specs.Partitions.{among}
 use Rattle.bc7_format.specs.Places.{Place, atPlace, index, inside, opened, pbit, pos, value, width, firstFrom, secondFrom}

@@ -1,11 +1,7 @@
 -- `spells`: one byte after the other.
 -- Assumes nothing.
-use mathlib.Core.Logic.{_≢_}
-use mathlib.Core.Path.{_≡_, ap, sym, _∙_}
-use Prim.Native.Nat.{ℕ}
 use borrow.Author.Needs.{needs}
 use borrow.Author.Tests.{eq-eqb, ne-eqb}
-use lib.Dec.{eqb}
 use Rattle.record_bytes.proofs.spells.Statement.{statement}
 use Rattle.record_bytes.proofs.spells.Tie as tie
 

@@ -1,6 +1,6 @@
 -- `rinchovek_bc7_replace_line`: what `replace_line` answers; where it refuses, the block that was lent is the one that it hands back.
 -- Assumes nothing.
-use mathlib.Core.Path.{_≡_, sym, ap, _∙_}
+use mathlib.Core.Path.{sym, ap, _∙_}
 use Rattle.line_rules.specs.declared.Replaced.{Replaced}
 use Rattle.line_rules.specs.Replace.{callOf, replaced}
 use Rattle.line_rules.proofs.Theorems.{refused-same}

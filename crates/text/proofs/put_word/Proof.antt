@@ -1,76 +1,55 @@
 -- `text::put_word` meets its contract.
 -- Assumes nothing.
-use native.Mathlib.Omega.{arith}
-use mathlib.Core.Path.{_≡_, refl, _∙_, ap}
-use Prim.Native.Nat.{_-_, _≤_}
-use lib.ListN.{length, take}
-use lib.Seq.{length-sets, sets, take-all}
-use Rattle.laws.proofs.Padding.{sets-next}
+use mathlib.Core.Path.{_≡_, refl, sym, ap, _∙_}
+use mathlib.Core.List.{List, _++_}
+use Prim.Native.Nat.{ℕ, _+_, _-_, _≤_}
+use native.Mathlib.Nat.{le-refl}
+use borrow.Author.Needs.{needs}
+use lib.ListN.{drop, length, take}
+use mathlib.Core.List.{append-assoc}
+use lib.Seq.{sets, sets-eq, take-all}
+use Rattle.laws.proofs.Over.{copied-over, over-spliced}
 use Rattle.text.proofs.put_word.Statement.{statement}
 use Rattle.text.proofs.put_word.Tie as tie
 
-abbrev Inv-loop : tie.InvT-loop
-Inv-loop word at out₀ i₀ i-end out i = (i ≤ length word) × (out ≡ sets out₀ at (take i word))
+sub-copy : tie.Need-sub-copy
+sub-copy c = search needs
 
-abbrev μ-loop : tie.MeasureT-loop
-μ-loop word at out₀ i₀ i-end out i = length word - i
+part-copy-start : tie.Need-part-copy-start
+part-copy-start c = search needs
 
-loop-holds : tie.Need-loop-holds Inv-loop μ-loop
-loop-holds c = (omega arith, refl)
+part-copy-end : tie.Need-part-copy-end
+part-copy-end c = search needs
 
-shared-slice-read-out : tie.Need-shared-slice-read-out Inv-loop μ-loop
-shared-slice-read-out c = omega arith
+copy-requires : tie.Need-copy-requires
+copy-requires c κs = search needs
 
-add-out : tie.Need-add-out Inv-loop μ-loop
-add-out c = omega arith
+add-result : tie.Need-add-result
+add-result c = search needs
 
-slice-write-out : tie.Need-slice-write-out Inv-loop μ-loop
-slice-write-out c = omega (
-  arith,
-  ap length (c .before .before .loop .inv .1),
-  length-sets (c .before .before .before .args .out .now)
-      (c .before .before .before .args .at) (take (c .before .before .loop .i) (c .before .before .before .args .word .now)),
-)
+same-length : tie.Need-same-length
+same-length c = search needs
 
-add-i : tie.Need-add-i Inv-loop μ-loop
-add-i c = omega arith
+-- what `bytes::copy` leaves is the word set in
+copied-sets : (l vs : List ℕ) (o : ℕ) → o + length vs ≤ length l
+    → take o l ++ ((take (length vs) vs ++ drop (length vs) (take (length l - o) (drop o l))) ++ drop (length l - o) (drop o l)) ≡ sets l o vs
+copied-sets l vs o h =
+    copied-over l vs o 0 h
+    ∙ over-spliced l vs o (length vs) 0 h (le-refl (length vs))
+    ∙ ap (λ (w : List ℕ). take o l ++ (w ++ drop (o + length vs) l)) (take-all (length vs) vs (le-refl (length vs)))
+    ∙ sym (append-assoc (take o l) vs (drop (o + length vs) l))
+    ∙ sym (sets-eq vs l o h)
 
-loop-less : tie.Need-loop-less Inv-loop μ-loop
-loop-less c = omega arith
-
-loop-again : tie.Need-loop-again Inv-loop μ-loop
-loop-again c = (omega arith, sets-next _ _ _ 0 (c .before .before .loop .i) (c .before .before .loop .inv .1) (omega arith))
-
-add-result : tie.Need-add-result Inv-loop μ-loop
-add-result c = omega arith
-
-same-length : tie.Need-same-length Inv-loop μ-loop
-same-length c = ap length (c .before .loop .inv .1) ∙ simp length-sets
-
-returns : tie.Need-returns Inv-loop μ-loop
+returns : tie.Need-returns
 returns c =
-    let a = c .before .before .args in (
+    let s = c .before .before .before .before .before .before in (
       record {
-        bytes = c .before .loop .inv .1 ∙ ap (sets (a .out .now) (a .at))
-            (take-all (c .before .loop .i) (a .word .now) (omega arith));
-        ends = omega arith;
+        bytes = rw (c .before .before .copy .ensures .1) (copied-sets (s .args .out .now) (s .args .word .now) (s .args .at) (s .pre));
+        ends = refl;
       },
-      omega arith,
+      refl,
     )
 
 pub put-word-spec : {M : Type 1} → statement M
 put-word-spec =
-    tie.close
-    (tie.spec
-    Inv-loop
-    μ-loop
-    loop-holds
-    shared-slice-read-out
-    add-out
-    slice-write-out
-    add-i
-    loop-less
-    loop-again
-    add-result
-    same-length
-    returns)
+    tie.close (tie.spec sub-copy part-copy-start part-copy-end copy-requires add-result same-length returns)

@@ -1,9 +1,6 @@
 -- `storing::stored_bits` meets its contract.
 -- Assumes nothing.
-use mathlib.Core.Path.{ap, sym}
-use Prim.Native.Nat.{ℕ, _-_, _*_}
 use borrow.Author.Needs.{needs}
-use lib.ListN.{length}
 use Rattle.indexes.proofs.Remove.{one-kind}
 use Rattle.indexes.proofs.storing.stored_bits.Statement.{statement}
 use Rattle.indexes.proofs.storing.stored_bits.Tie as tie

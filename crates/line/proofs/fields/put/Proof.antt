@@ -1,12 +1,9 @@
 -- `fields::put` meets its contract.
 -- Assumes nothing.
-use mathlib.Core.Path.{_≡_}
-use Prim.Native.Nat.{_+_, _*_, _/_, _%_, _^_}
 use native.Mathlib.Omega.{arith}
 use borrow.Author.Needs.{needs}
-use Rattle.laws.specs.Digits.{replacedAt}
 use Rattle.bits.specs.Stream.{held}
-use Rattle.line.proofs.fields.Halves.{InHigh, InLow, in-high, in-low, read-at}
+use Rattle.line.proofs.fields.Halves.{in-high, in-low, read-at}
 use Rattle.line.proofs.fields.put.Statement.{statement}
 use Rattle.line.proofs.fields.put.Tie as tie
 

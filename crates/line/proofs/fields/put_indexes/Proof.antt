@@ -3,7 +3,6 @@
 use mathlib.Core.Path.{_≡_, ap, ap₂, _∙_}
 use mathlib.Core.List.{[]}
 use Prim.Native.Nat.{ℕ}
-use native.Mathlib.Nat.{le-of-lt}
 use borrow.Author.Needs.{needs}
 use lib.Bits.{and-le-l}
 use Rattle.laws.specs.Digits.{join, replacedAt, split}

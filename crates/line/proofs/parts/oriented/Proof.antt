@@ -1,6 +1,6 @@
 -- `parts::oriented` meets its contract.
 -- Assumes nothing.
-use mathlib.Core.Path.{_≡_, sym, _∙_}
+use mathlib.Core.Path.{sym, _∙_}
 use borrow.Author.Tests.{eq-eqb, ne-eqb}
 use Rattle.line.specs.Parts.{storedAs}
 use borrow.Author.Needs.{needs}
