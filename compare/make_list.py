@@ -594,6 +594,31 @@ def exporting(dice, shared):
     return calls
 
 
+def reading_colour_heads(dice, shared):
+    """The calls of `H` for the most part: what was read there is read here, and nothing is said of colours."""
+    return [("h", *given) for _, *given in reading_heads(dice, shared)]
+
+
+def importing_colours(dice, shared):
+    """Limits and refusals of `I`; every file that is accepted under both formats; the formats beside 98 and 99."""
+    calls = []
+    for data in dds_files(dice):
+        for made in (data, *(with_number(data, DDS_FORMAT, 99 + more) for more in (0, 1) if model.read_dds(data)[0] == 0)):
+            calls += [("i", made, out) for out in outputs(dice, model.import_length(made)[1])]
+    data = (shared / "outside/bc7/nvtt_pil123rgba.dds").read_bytes()
+    return calls + [("i", data, dice.bytes(model.import_length(data)[1]))]
+
+
+def exporting_colours(dice, shared):
+    """The sheets of `X`, each under one of the three and every seventh under all; what is exported there and imported again."""
+    del shared
+    calls = []
+    for turn, sheet in enumerate(dds_sheets(dice)):
+        for colour in range(3) if turn % 7 == 0 else (turn % 3,):
+            calls += [("x", colour, sheet, out) for out in outputs(dice, model.export_length(sheet)[1])]
+    return calls
+
+
 def needing_for_import(dice, shared):
     del shared
     return [("d", data) for data in dds_files(dice)]
@@ -622,6 +647,9 @@ MAKERS = {
     "X": exporting,
     "d": needing_for_import,
     "s": needing_for_export,
+    "h": reading_colour_heads,
+    "i": importing_colours,
+    "x": exporting_colours,
 }
 
 
