@@ -595,7 +595,7 @@ def exporting(dice, shared):
 
 
 def reading_colour_heads(dice, shared):
-    """The calls of `H` for the most part: what was read there is read here, and nothing is said of colours."""
+    """As `H`, with what chance adds there: nothing of form 1 says a colour space."""
     return [("h", *given) for _, *given in reading_heads(dice, shared)]
 
 
@@ -610,7 +610,7 @@ def importing_colours(dice, shared):
 
 
 def exporting_colours(dice, shared):
-    """The sheets of `X`, each under one of the three and every seventh under all; what is exported there and imported again."""
+    """The sheets of `X`, each under one of the three colour spaces and every seventh under all."""
     del shared
     calls = []
     for turn, sheet in enumerate(dds_sheets(dice)):

@@ -50,7 +50,7 @@ int main(int count, char **words) {
     uint32_t refusal = (import ? rinchovek_dds_import_length : rinchovek_dds_export_length)(given, length, &needed);
     uint8_t *made = malloc(needed > 0 ? needed : 1);
     if (made == NULL) return 2;
-    uint32_t head[RINCHOVEK_COLOUR_HEAD_NUMBERS];
+    uint32_t head[RINCHOVEK_COLOUR_HEAD_NUMBERS] = {0};
     const uint32_t colour_space = srgb ? RINCHOVEK_SRGB : RINCHOVEK_UNSPECIFIED;
     if (refusal == RINCHOVEK_ACCEPTED)
         refusal = import ? rinchovek_dds_import_colour(given, length, made, needed, head)

@@ -17,10 +17,12 @@ use Rattle.laws.specs.Digits.{evenly}
 use Rattle.laws.specs.Refusals.{first}
 use Rattle.laws.specs.Tables.{table, tableFrom}
 use Rattle.dds_rules.specs.Header.{alphaMask, arraySize, bitCount, blueMask, canonicalHeader, caps, caps2, caps3, caps4, depth}
-use Rattle.dds_rules.specs.Header.{dimension, entries, format, formatCode, formatFlags, formatOf, formatSays, formatSize, greenMask, headerFlags, headerNumber}
+use Rattle.dds_rules.specs.Header.{dimension, entries, format, formatCode, formatFlags, formatOf, formatSays, formatSize, greenMask}
+use Rattle.dds_rules.specs.Header.{headerFlags, headerNumber}
 use Rattle.dds_rules.specs.Header.{headerSize, height, isTexture, linearSize, magic, mipCount, misc, misc2, numberAt, offset, redMask, reserved}
 use Rattle.dds_rules.specs.Header.{reserved2, width}
-use Rattle.dds_rules.specs.Files.{exportAfter, exportAfterBy, exportHead, exportLength, exportRefusal, exportRefusalBy, fileMadeBy, fileRefusalUpTo, headMade, importAfter, importAfterUpTo}
+use Rattle.dds_rules.specs.Files.{exportAfter, exportAfterBy, exportHead, exportLength, exportRefusal, exportRefusalBy, fileMadeBy}
+use Rattle.dds_rules.specs.Files.{fileRefusalUpTo, headMade, importAfter, importAfterUpTo}
 use Rattle.dds_rules.specs.Files.{importAnswer, importHead, importLength, importRefusal, importRefusalUpTo, numberedAfter, numberedRefusal}
 use Rattle.dds_rules.specs.Files.{said, sheetMade, wholeRefusalBy}
 
@@ -217,8 +219,9 @@ pub record Files : Type 0 where
 
 pub files-hold : Files
 unfolding evenly table tableFrom first numberAt entries headerNumber canonicalHeader isTexture headMade sheetMade fileRefusalUpTo importRefusalUpTo
-    importAfterUpTo wholeRefusalBy exportRefusalBy fileMadeBy exportAfterBy importLength exportLength importHead exportHead blocksOf sizeRefusalUpTo headBytes groups readHeadUpTo
-    headRefusalUpTo formIn widthIn heightIn readNumber readGroups raised formatSays importAnswer numberedRefusal numberedAfter colourOf colourRefusal
+    importAfterUpTo wholeRefusalBy exportRefusalBy fileMadeBy exportAfterBy importLength exportLength importHead exportHead blocksOf
+    sizeRefusalUpTo headBytes groups readHeadUpTo headRefusalUpTo formIn widthIn heightIn readNumber readGroups raised formatSays
+    importAnswer numberedRefusal numberedAfter colourOf colourRefusal
 files-hold = record {
   in-order = refl;
   headers = refl;

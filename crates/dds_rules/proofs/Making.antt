@@ -70,7 +70,8 @@ module _ (dds : List ℕ) where
   }
 
   -- and its file has the header of its head, and the blocks of the first file
-  pub file-again : Sized wide high → (c : ColourSpace) → fileMade (sheetMade dds) c ≡ canonicalHeader (under c (headMade dds)) ++ drop headerLength dds
+  pub file-again : Sized wide high → (c : ColourSpace)
+      → fileMade (sheetMade dds) c ≡ canonicalHeader (under c (headMade dds)) ++ drop headerLength dds
   unfolding fileMadeBy
   file-again z c =
       ap (λ (x : Head). canonicalHeader (under c x) ++ drop (x .start) (sheetMade dds)) (sheet-head z)

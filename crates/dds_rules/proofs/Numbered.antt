@@ -27,9 +27,9 @@ use Rattle.dds_rules.proofs.Refusing.{export-rules}
 pub numbered-rules : (s : List ℕ) (n room : ℕ) → Answers (numberedRefusal s n room) (numberedRules s n room)
 unfolding numberedRefusal
 numbered-rules s n room =
-    answers (rule by-answer λ a. rule (by-not-eqb tt (formIn s .value) form) λ b. rule by-answer λ c. rule by-answer λ d. rule (colour-test n) λ k. rule
-    (size-test limit (widthIn s .value) (heightIn s .value)) λ z. rule (by-not-eqb tt (length s) (wholeLength (readHead s))) λ l. rule
-    (by-not-eqb tt room (fileLength (readHead s))) λ r. none)
+    answers (rule by-answer λ a. rule (by-not-eqb tt (formIn s .value) form) λ b. rule by-answer λ c. rule by-answer λ d. rule
+    (colour-test n) λ k. rule (size-test limit (widthIn s .value) (heightIn s .value)) λ z. rule
+    (by-not-eqb tt (length s) (wholeLength (readHead s))) λ l. rule (by-not-eqb tt room (fileLength (readHead s))) λ r. none)
 
 -- a rule that holds may stand behind four others
 between : {a b c d n m : ℕ} {A B C D Q : Type 0} {rs : List Rule} → Q

@@ -18,7 +18,8 @@ use Rattle.head_rules.proofs.Theorems.{head-answers}
 use Rattle.laws.specs.Refusals.{Given, Rule, accepted, first, handed, here, refuse, then, unless}
 use Rattle.laws.proofs.Refusals.{Answers, accepted-when, answers, by-answer, by-not-eqb, exactly, none, rule, rules}
 use Rattle.dds_rules.specs.Header.{Another, Texture, fieldIn, height, width}
-use Rattle.dds_rules.specs.Files.{exportRefusal, exportRefusalBy, exportRules, fileLength, fileRefusal, fileRefusalUpTo, fileRules, headMade, importRefusal, importRefusalUpTo, importRules}
+use Rattle.dds_rules.specs.Files.{exportRefusal, exportRefusalBy, exportRules, fileLength, fileRefusal, fileRefusalUpTo, fileRules, headMade}
+use Rattle.dds_rules.specs.Files.{importRefusal, importRefusalUpTo, importRules}
 use Rattle.dds_rules.specs.Files.{headAs, wholeRefusal, wholeRefusalBy, wholeRules}
 use Rattle.dds_rules.proofs.Textures.{not-both, texture-test, whether}
 

@@ -18,12 +18,14 @@ use Rattle.head_rules.specs.Numbers.{Bytes}
 use Rattle.laws.specs.Refusals.{Given}
 use Rattle.laws.proofs.Refusals.{answer-0, exactly}
 use Rattle.dds_rules.specs.Header.{Another, canonicalHeader, headerLength}
-use Rattle.dds_rules.specs.Files.{exportAfter, exportAfterBy, exportLength, exportRefusal, exportRules, fileLength, fileMade, fileRules, headMade}
+use Rattle.dds_rules.specs.Files.{exportAfter, exportAfterBy, exportLength, exportRefusal, exportRules, fileLength, fileMade, fileRules}
+use Rattle.dds_rules.specs.Files.{headMade}
 use Rattle.dds_rules.specs.Files.{importAfter, importAfterUpTo, importAnswer, importLength, importRefusal, importRules, numberedAfter}
 use Rattle.dds_rules.specs.Files.{numberedRefusal, numberedRules, said, sheetMade, wholeRules}
 use Rattle.dds_rules.specs.Promises.{ExportNeeds, Exports, ExportsNumbered, ImportNeeds, Imports}
 use Rattle.dds_rules.proofs.Numbered.{numbered-rules}
-use Rattle.dds_rules.proofs.Refusing.{export-rules, exported-when, fifteen, file-rules, head-told, import-rules, imported-when, taken, taken-so, whole}
+use Rattle.dds_rules.proofs.Refusing.{export-rules, exported-when, fifteen, file-rules, head-told, import-rules, imported-when, taken}
+use Rattle.dds_rules.proofs.Refusing.{taken-so, whole}
 use Rattle.dds_rules.proofs.Refusing.{whole-rules, whole-so}
 use Rattle.dds_rules.proofs.Making.{file-again, file-taken, head-again, sheet-again, sheet-blocks, sheet-head, sheet-whole}
 

@@ -66,8 +66,8 @@ importAfterUpTo top dds out = pick (eqb (importRefusalUpTo top dds (length out))
 abbrev pub importAfter : List ℕ → List ℕ → List ℕ
 importAfter dds out = importAfterUpTo limit dds out
 
--- EXPORT under a colour space, of a sheet whose head was read as h, by whatever limit. 7, 8, 9 of the head, then 10, whatever the output; then 11, by the
--- output's length
+-- EXPORT under a colour space, of a sheet whose head was read as h, by whatever limit. 7, 8, 9 of the head, then 10, whatever the output;
+-- then 11, by the output's length
 unfoldable pub wholeRefusalBy : Head → List ℕ → ℕ
 wholeRefusalBy h s = first (h .refusal ∷ refuse 10 (not (eqb (length s) (wholeLength h))) ∷ [])
 

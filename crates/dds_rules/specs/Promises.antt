@@ -8,7 +8,8 @@ use lib.ListN.{length}
 use Rattle.dds_rules.specs.declared.Length.{Length}
 use Rattle.head_rules.specs.declared.ColourSpace.{ColourSpace}
 use Rattle.head_rules.specs.declared.Head.{Head}
-use Rattle.dds_rules.specs.Files.{exportAfter, exportLength, exportRefusal, importAfter, importAnswer, importLength, numberedAfter, numberedRefusal}
+use Rattle.dds_rules.specs.Files.{exportAfter, exportLength, exportRefusal, importAfter, importAnswer, importLength, numberedAfter}
+use Rattle.dds_rules.specs.Files.{numberedRefusal}
 
 abbrev pub Imports : List ℕ → List ℕ → Head → List ℕ → Type 0
 Imports dds before answer after = (answer ≡ importAnswer dds (length before)) × (after ≡ importAfter dds before)

@@ -249,7 +249,11 @@ pub extern "C" fn rinchovek_dds_import(dds: &[u8], sheet: &mut [u8]) -> u32
 
 // A DDS file as a sheet, and beside it the head with the colour space that the format says.
 #[no_mangle]
-pub extern "C" fn rinchovek_dds_import_colour(dds: &[u8], sheet: &mut [u8], head: &mut [u32; 4]) -> u32
+pub extern "C" fn rinchovek_dds_import_colour(
+    dds: &[u8],
+    sheet: &mut [u8],
+    head: &mut [u32; 4],
+) -> u32
     ensures { λ r. ⌜ ImportsColour (now (dds .entry)) (now (sheet .entry), now (head .entry)) r (now (sheet .exit), now (head .exit)) ⌝ }
 {
     let made = import_dds(dds, sheet);
@@ -271,7 +275,11 @@ pub extern "C" fn rinchovek_dds_export(sheet: &[u8], dds: &mut [u8]) -> u32
 
 // A sheet as a DDS file, under the number of a colour space.
 #[no_mangle]
-pub extern "C" fn rinchovek_dds_export_colour(sheet: &[u8], colour_space: u32, dds: &mut [u8]) -> u32
+pub extern "C" fn rinchovek_dds_export_colour(
+    sheet: &[u8],
+    colour_space: u32,
+    dds: &mut [u8],
+) -> u32
     ensures { λ r. ⌜ ExportsColour (now (sheet .entry)) «colour_space» (now (dds .entry)) r (now (dds .exit)) ⌝ }
 {
     export_numbered(sheet, colour_space, dds) as u32

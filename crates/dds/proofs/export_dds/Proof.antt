@@ -44,8 +44,8 @@ fill-requires c κs =
     let e = u .before in
     let o = e .before .before in
     let r = o .before .before in
-    export-fits _ _ (r .before .before .before .args .out .now) (r .read-sheet .ensures) (o .if1 .left) (u .under .ensures) (b .before .numbers-of .ensures)
-    (b .bytes-of .ensures) (e .if2 .left ∙ e .before .file-length .ensures)
+    export-fits _ _ (r .before .before .before .args .out .now) (r .read-sheet .ensures) (o .if1 .left) (u .under .ensures)
+    (b .before .numbers-of .ensures) (b .bytes-of .ensures) (e .if2 .left ∙ e .before .file-length .ensures)
 
 same-length : tie.Need-same-length
 same-length c = search needs
@@ -57,7 +57,8 @@ returns-3 c =
     let u = b .before .before in
     let e = u .before in
     let o = e .before .before in
-    export-filled _ _ _ (o .before .before .read-sheet .ensures) (o .if1 .left) (u .under .ensures) (b .before .numbers-of .ensures) (b .bytes-of .ensures)
+    export-filled _ _ _ (o .before .before .read-sheet .ensures) (o .if1 .left) (u .under .ensures) (b .before .numbers-of .ensures)
+    (b .bytes-of .ensures)
     (e .if2 .left ∙ e .before .file-length .ensures) (f .fill .ensures)
 
 pub export-dds-spec : {M : Type 1} → statement M

@@ -64,7 +64,8 @@ returns-3 c =
     let a = b .before in
     let t = texture _ (sym (a .before .before .is-texture .ensures) ∙ not-false _ (a .before .if1 .left)) in
     c .no-head3 .ensures ∙ no-length _ t (b .number-at2 .ensures) (a .number-at .ensures) (w .write-head .ensures) (d .before .if2 .left)
-    (d .wide .ensures .0) (f .format-says .ensures ∙ ap formatSays (f .before .number-at3 .ensures)) (λ l. c .before .if3 .taken (l ∙ sym (c .before .before .file-length .ensures)))
+    (d .wide .ensures .0) (f .format-says .ensures ∙ ap formatSays (f .before .number-at3 .ensures))
+    (λ l. c .before .if3 .taken (l ∙ sym (c .before .before .file-length .ensures)))
 
 returns-4 : tie.Need-returns-4
 returns-4 c =
