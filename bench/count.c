@@ -355,6 +355,8 @@ typedef u32 write_head(u32 width, u32 height, u8 *head, u32 *count);
 typedef u32 version(void);
 typedef u32 convert(const u8 *from, u64 length, u8 *to, u64 room);
 typedef u32 convert_length(const u8 *from, u64 length, u32 *needed);
+typedef u32 import_colour(const u8 *from, u64 length, u8 *to, u64 room, u32 *head);
+typedef u32 export_colour(const u8 *from, u64 length, u32 colour_space, u8 *to, u64 room);
 
 two_buffers rinchovek_bc7_unpack, rinchovek_bc7_pack;
 read_one rinchovek_bc7_read_line;
@@ -365,6 +367,9 @@ __attribute__((weak)) tell_opaque rinchovek_bc7_is_opaque;
 __attribute__((weak)) read_pixel rinchovek_bc7_pixel;
 __attribute__((weak)) convert rinchovek_dds_import, rinchovek_dds_export;
 __attribute__((weak)) convert_length rinchovek_dds_import_length, rinchovek_dds_export_length;
+__attribute__((weak)) import_colour rinchovek_dds_import_colour;
+__attribute__((weak)) export_colour rinchovek_dds_export_colour;
+__attribute__((weak)) read_head rinchovek_sheet_read_colour_head;
 replace_in rinchovek_sheet_replace_line;
 read_head rinchovek_sheet_read_head;
 write_head rinchovek_sheet_write_head;
@@ -387,11 +392,13 @@ static replace_in *volatile replace_in_call;
 static find_index *volatile nearest_call, *volatile exact_call;
 static tell_opaque *volatile tell_call;
 static read_pixel *volatile pixel_call;
-static read_head *volatile read_head_call;
+static read_head *volatile read_head_call, *volatile read_colour_head_call;
 static write_head *volatile write_head_call;
 static version *volatile version_call;
 static convert *volatile convert_call;
 static convert_length *volatile convert_length_call;
+static import_colour *volatile import_colour_call;
+static export_colour *volatile export_colour_call;
 
 static u32 no_two_buffers(const u8 *from, u8 *to) {
     __asm__ volatile("" ::"r"(from), "r"(to) : "memory");
@@ -450,6 +457,16 @@ static u32 no_convert_length(const u8 *from, u64 length, u32 *needed) {
     return 0;
 }
 
+static u32 no_import_colour(const u8 *from, u64 length, u8 *to, u64 space, u32 *numbers) {
+    __asm__ volatile("" ::"r"(from), "r"(length), "r"(to), "r"(space), "r"(numbers) : "memory");
+    return 0;
+}
+
+static u32 no_export_colour(const u8 *from, u64 length, u32 colour_space, u8 *to, u64 space) {
+    __asm__ volatile("" ::"r"(from), "r"(length), "r"(colour_space), "r"(to), "r"(space) : "memory");
+    return 0;
+}
+
 typedef u32 one_call(u32 i);
 
 static u32 unpack_one(u32 i) { return two_buffers_call(sheet_blocks + 16 * i, records + RECORD * i); }
@@ -479,8 +496,9 @@ static u32 tell_a_block(u32 i) {
     return 0;
 }
 
-static u32 head_numbers[3];
+static u32 head_numbers[4];
 static u32 read_a_head(u32 i) { return read_head_call(sheet, sizeof sheet - i % 2, head_numbers); }
+static u32 read_a_colour_head(u32 i) { return read_colour_head_call(sheet, sizeof sheet - i % 2, head_numbers); }
 static u32 write_a_head(u32 i) { return write_head_call(128 + i, 4, out, head_numbers); }
 
 static u32 ask_version(u32 i) {
@@ -507,7 +525,16 @@ static u32 ask_length(u32 i) {
     return convert_length_call(given, given_length, head_numbers);
 }
 
+/* in sRGB, and under a number that is none: the head is looked at before that is refused */
+enum { SRGB = 2 };
+static u32 export_srgb(u32 i) { return (void)i, export_colour_call(given, given_length, SRGB, file, room); }
+static u32 export_none(u32 i) { return (void)i, export_colour_call(given, given_length, SRGB + 1, file, room); }
+static u32 import_with_head(u32 i) { return (void)i, import_colour_call(given, given_length, again, room, head_numbers); }
+
 static void point_at_calls(int at_none) {
+    import_colour_call = at_none ? no_import_colour : rinchovek_dds_import_colour;
+    export_colour_call = at_none ? no_export_colour : rinchovek_dds_export_colour;
+    read_colour_head_call = at_none ? no_read_head : rinchovek_sheet_read_colour_head;
     convert_call = at_none ? no_convert : measured_convert;
     convert_length_call = at_none ? no_convert_length : measured_length;
     version_call = at_none ? no_version : rinchovek_version;
@@ -643,6 +670,25 @@ static void count_files(void) {
     say_file("rinchovek_dds_import_length", 0, rinchovek_dds_import_length, file, ALL, 0, 0);
 }
 
+static void say_colour(const char *name, one_call *call, const u8 *from, u64 from_length, u64 to_length, u32 refusal) {
+    given = from, given_length = from_length, room = to_length;
+    point_at_calls(0);
+    say_call(name, call, refusal);
+}
+
+/* The same with the colour space. */
+static void count_colours(void) {
+    static u8 one[3 + 16] = {0x01, 0x04, 0x04};
+    enum { ONE = DDS_HEADER + 16, ALL = DDS_HEADER + 16 * COUNTED };
+    say_call("rinchovek_sheet_read_colour_head, 256 by 4", read_a_colour_head, 0);
+    say_colour("rinchovek_dds_export_colour, sRGB, one block", export_srgb, one, sizeof one, ONE, 0);
+    say_colour("rinchovek_dds_import_colour, one block", import_with_head, file, ONE, sizeof one, 0);
+    say_colour("rinchovek_dds_export_colour, sRGB, 64 blocks", export_srgb, sheet, sizeof sheet, ALL, 0);
+    say_colour("rinchovek_dds_import_colour, 64 blocks", import_with_head, file, ALL, sizeof sheet, 0);
+    say_colour("rinchovek_dds_export_colour, refused with 18", export_none, sheet, sizeof sheet, ALL, 18);
+    say_colour("rinchovek_dds_import_colour, refused with 11", import_with_head, file, ALL, sizeof sheet - 1, 11);
+}
+
 static void count_writing(void) {
     make_sheet(MIXED);
     make_lines();
@@ -674,6 +720,7 @@ static void count_writing(void) {
         say_call("rinchovek_bc7_pixel, refused with 21", read_no_pixel, 21);
     }
     if (rinchovek_dds_import) count_files();
+    if (rinchovek_dds_import_colour) count_colours();
     say_call("rinchovek_bc7_replace_line, kept", replace_a_line, 0);
     say_call("rinchovek_sheet_replace_line, kept", replace_in_sheet, 0);
     turn_lines();

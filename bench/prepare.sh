@@ -8,6 +8,7 @@
 #       has_opacity yes where it has rinchovek_bc7_is_opaque, else empty
 #       has_pixels yes where it has rinchovek_bc7_pixel, else empty
 #       has_files  yes where it has rinchovek_dds_import, else empty
+#       has_colours  yes where it has rinchovek_dds_import_colour, else empty
 #       kit        the folder of the kit's clang and linker for this machine
 #       work       a fresh folder, removed at exit, with the published sources and reference.rs in it
 
@@ -38,6 +39,8 @@ prepare() {
     if grep -qaw rinchovek_bc7_pixel "$archive"; then has_pixels=yes; fi
     has_files=
     if grep -qaw rinchovek_dds_import "$archive"; then has_files=yes; fi
+    has_colours=
+    if grep -qaw rinchovek_dds_import_colour "$archive"; then has_colours=yes; fi
 
     place=${2:-$repository/../shared}
     for published in "$place/docs/src/src" "$place/src" "$place"; do

@@ -122,6 +122,10 @@ mod writing {
         fn rinchovek_dds_import(dds: *const u8, dds_length: usize, sheet: *mut u8, sheet_length: usize) -> u32;
         #[cfg(files)]
         fn rinchovek_dds_export(sheet: *const u8, sheet_length: usize, dds: *mut u8, dds_length: usize) -> u32;
+        #[cfg(colours)]
+        fn rinchovek_dds_import_colour(dds: *const u8, dds_length: usize, sheet: *mut u8, sheet_length: usize, head: &mut [u32; 4]) -> u32;
+        #[cfg(colours)]
+        fn rinchovek_dds_export_colour(sheet: *const u8, sheet_length: usize, colour_space: u32, dds: *mut u8, dds_length: usize) -> u32;
         #[cfg(files)]
         fn rinchovek_dds_import_length(dds: *const u8, dds_length: usize, sheet_length: *mut u32) -> u32;
         #[cfg(files)]
@@ -174,6 +178,19 @@ mod writing {
         });
     }
 
+    /// The same in sRGB, with the head that importing says.
+    #[cfg(colours)]
+    fn time_colours(sheet: &[u8]) {
+        let (mut dds, mut again, mut head) = (vec![0; 148 + sheet.len() - 4], vec![0; sheet.len()], [0; 4]);
+        nanoseconds("rinchovek_dds_export_colour, all blocks", 1, || unsafe {
+            rinchovek_dds_export_colour(sheet.as_ptr(), sheet.len(), 2, dds.as_mut_ptr(), dds.len())
+        });
+        nanoseconds("rinchovek_dds_import_colour, all blocks", 1, || unsafe {
+            rinchovek_dds_import_colour(dds.as_ptr(), dds.len(), again.as_mut_ptr(), again.len(), &mut head)
+        });
+        assert!(again == sheet && head[3] == 2, "a sheet that was exported is imported as another");
+    }
+
     pub fn time() {
         println!("\nNanoseconds a call, over {SMALL} mixed blocks again and again, {SMALL_ROUNDS} rounds, in cache");
         let blocks = make_blocks(SMALL, MIXED);
@@ -210,6 +227,8 @@ mod writing {
         });
         #[cfg(files)]
         time_files(&sheet);
+        #[cfg(colours)]
+        time_colours(&sheet);
         let replaced = |lines: &[Line], out: &mut [Block]| {
             every(&mut |i| unsafe { rinchovek_bc7_replace_line(&mut out[i], 0, &lines[i]) })
         };

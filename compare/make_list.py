@@ -635,6 +635,31 @@ def exporting(dice, shared):
     return calls
 
 
+def reading_colour_heads(dice, shared):
+    """As `H`, with what chance adds there: nothing of form 1 says a colour space."""
+    return [("h", *given) for _, *given in reading_heads(dice, shared)]
+
+
+def importing_colours(dice, shared):
+    """Limits and refusals of `I`; every file that is accepted under both formats; the formats beside 98 and 99."""
+    calls = []
+    for data in dds_files(dice):
+        for made in (data, *(with_number(data, DDS_FORMAT, 99 + more) for more in (0, 1) if model.read_dds(data)[0] == 0)):
+            calls += [("i", made, out) for out in outputs(dice, model.import_length(made)[1])]
+    data = (shared / "outside/bc7/nvtt_pil123rgba.dds").read_bytes()
+    return calls + [("i", data, dice.bytes(model.import_length(data)[1]))]
+
+
+def exporting_colours(dice, shared):
+    """The sheets of `X`, each under one of the three colour spaces and every seventh under all."""
+    del shared
+    calls = []
+    for turn, sheet in enumerate(dds_sheets(dice)):
+        for colour in range(3) if turn % 7 == 0 else (turn % 3,):
+            calls += [("x", colour, sheet, out) for out in outputs(dice, model.export_length(sheet)[1])]
+    return calls
+
+
 def needing_for_import(dice, shared):
     del shared
     return [("d", data) for data in dds_files(dice)]
@@ -688,6 +713,9 @@ MAKERS = {
     "s": needing_for_export,
     "Q": reading_pixels,
     "B": reading_bits,
+    "h": reading_colour_heads,
+    "i": importing_colours,
+    "x": exporting_colours,
 }
 
 

@@ -551,6 +551,38 @@ def export_dds(sheet, out):
 
 
 # ---------------------------------------------------------------------------------------------------------------------
+# M-107: the colour space. A head in memory has one; form 1 has no room for it, so of a sheet it is unspecified, and of a file what the format
+# says. Nothing else of import and export depends on it.
+UNSPECIFIED, LINEAR, SRGB = range(3)
+Head = namedtuple("Head", "width height start colour_space")
+NO_HEAD = Head(0, 0, 0, UNSPECIFIED)
+
+
+def read_colour_head(sheet):
+    """refusal, the head"""
+    refusal, *found = read_head(sheet)
+    return refusal, NO_HEAD if refusal else Head(*found, UNSPECIFIED)
+
+
+def import_colour(data, out):
+    """refusal, the head, the output afterwards: the head as it is read of that output, but for the colour space"""
+    refusal, sheet = import_dds(data, out)
+    if refusal:
+        return refusal, NO_HEAD, sheet
+    says = {BC7_UNORM: LINEAR, BC7_SRGB: SRGB}
+    return 0, Head(*read_head(sheet)[1:], says[DDS_STRUCT.unpack_from(data)[-5]]), sheet
+
+
+def export_colour(colour_space, sheet, out):
+    """refusal, the output afterwards"""
+    refusal, file = export_dds(sheet, out)
+    if refusal == 0 and colour_space == SRGB:
+        numbers = DDS_STRUCT.unpack_from(file)
+        file = DDS_STRUCT.pack(*numbers[:-5], BC7_SRGB, *numbers[-4:]) + file[DDS_HEADER:]
+    return refusal, file
+
+
+# ---------------------------------------------------------------------------------------------------------------------
 # The listing.
 @lru_cache(100_000)
 def listed(block, columns, rows):

@@ -21,10 +21,13 @@ A call is (letter, arguments..):
   s sheet            the length that exporting needs
   Q block pixel      one pixel
   B block kinds      reads of the bit reader, a byte each
+  h data             read a head, with its colour space
+  i dds out          import a DDS file, with the head
+  x colour sheet out export a sheet under a colour space, 0 to 2
 """
 import model
 
-LETTERS = "DUPRHWOSlrNEA" + "IXds" + "Q" + "B"
+LETTERS = "DUPRHWOSlrNEA" + "IXds" + "Q" + "B" + "hix"
 KINDS = ("whole", "two", "three", "vector")
 RECORD, REPLACEMENT, READ = 66, 26, 11
 LARGEST_LENGTH = 65536  # a longer slice ends the run
@@ -48,6 +51,11 @@ def record_from(data):
     return model.Record(data[0], (kind, *data[2:own]), tuple(data[4:RECORD])), data[own:4]
 
 
+def head_bytes(head):
+    """Width, height, start, and one byte for the colour space."""
+    return b"".join(map(number, head[:3])) + bytes([head.colour_space])
+
+
 def call_bytes(call):
     letter, *given = call
     if letter == "R":
@@ -62,7 +70,7 @@ def call_bytes(call):
         body = given[0] + number(given[1]) + number(given[2])
     elif letter == "B":
         body = given[0] + bytes([len(given[1])]) + bytes(given[1])
-    elif letter == "H":
+    elif letter in "Hh":
         body = bytes([len(given[0])]) + given[0]
     elif letter == "W":
         body = number(given[0]) + number(given[1])
@@ -74,10 +82,10 @@ def call_bytes(call):
         sheet, block, line, new = given
         assert len(sheet) <= LARGEST_LENGTH
         body = number(len(sheet)) + sheet + number(block) + number(line) + bytes(new)
-    elif letter in "IX":
-        data, out = given
+    elif letter in "IXix":
+        *colour, data, out = given
         assert len(data) <= LARGEST_LENGTH and len(out) <= LARGEST_LENGTH
-        body = number(len(data)) + number(len(out)) + data + out
+        body = bytes(colour) + number(len(data)) + number(len(out)) + data + out
     elif letter in "lds":
         assert len(given[0]) <= LARGEST_LENGTH
         body = number(len(given[0])) + given[0]
@@ -117,6 +125,9 @@ def model_answer(call):
     elif letter == "H":
         refusal, *found = model.read_head(given[0])
         rest = b"".join(map(number, found))
+    elif letter == "h":
+        refusal, head = model.read_colour_head(given[0])
+        rest = head_bytes(head)
     elif letter == "W":
         refusal, head = model.write_head(*given)
         rest = bytes([len(head)]) + head.ljust(7, b"\0")
@@ -124,6 +135,11 @@ def model_answer(call):
         refusal, rest = model.decode_row(*given)
     elif letter in "IX":
         refusal, rest = (model.import_dds if letter == "I" else model.export_dds)(*given)
+    elif letter == "i":
+        refusal, head, out = model.import_colour(*given)
+        rest = head_bytes(head) + out
+    elif letter == "x":
+        refusal, rest = model.export_colour(*given)
     elif letter in "ds":
         refusal, length = (model.import_length if letter == "d" else model.export_length)(*given)
         rest = number(length)

@@ -1,6 +1,6 @@
 /* Every call of include/rinchovek.h, from C: a row of a small sheet is decoded, one of its blocks is corrected, and the row is
  * decoded again; the other way round, which index gives a red; the same correction on the block alone; what happens to calls that
- * are refused; records and heads; which blocks are opaque; single pixels; the sheet as a DDS file and back. */
+ * are refused; records and heads; which blocks are opaque; single pixels; the sheet as a DDS file and back, in sRGB too. */
 #include "rinchovek.h"
 
 int printf(const char *format, ...);
@@ -153,8 +153,20 @@ int main(void) {
     show_bytes("sheet", again, HEAD + RINCHOVEK_BLOCK_BYTES);
     show_refusal("a sheet for a file", rinchovek_dds_import(sheet, sizeof sheet, again, sizeof again));
 
+    /* In sRGB the format is 99. Importing says so beside the sheet, which has no room for it. There is no colour space 3. */
+    uint32_t numbers[RINCHOVEK_COLOUR_HEAD_NUMBERS] = {0};
+    refusal = rinchovek_dds_export_colour(sheet, sizeof sheet, RINCHOVEK_SRGB, file, sizeof file);
+    printf("exported in sRGB: %u, format %u\n", refusal, file[128]);
+    refusal = rinchovek_dds_import_colour(file, sizeof file, again, sizeof again, numbers);
+    printf("imported: %u, %u by %u, blocks from %u, colour space %u\n", refusal, numbers[RINCHOVEK_HEAD_WIDTH],
+           numbers[RINCHOVEK_HEAD_HEIGHT], numbers[RINCHOVEK_HEAD_START], numbers[RINCHOVEK_HEAD_COLOUR_SPACE]);
+    refusal = rinchovek_sheet_read_colour_head(again, sizeof again, numbers);
+    printf("its head: %u, colour space %u\n", refusal, numbers[RINCHOVEK_HEAD_COLOUR_SPACE]);
+    show_refusal("colour space 3", rinchovek_dds_export_colour(sheet, sizeof sheet, 3, file, sizeof file));
+
     for (uint32_t number = RINCHOVEK_RESERVED_BLOCK; number <= RINCHOVEK_NOT_A_BC7_TEXTURE; number++)
         printf("%u: %s\n", number, rinchovek_refusal_text(number));
+    printf("%u: %s\n", RINCHOVEK_BAD_COLOUR_SPACE, rinchovek_refusal_text(RINCHOVEK_BAD_COLOUR_SPACE));
     printf("%u: %s\n", RINCHOVEK_NO_SUCH_PIXEL, rinchovek_refusal_text(RINCHOVEK_NO_SUCH_PIXEL));
     return 0;
 }

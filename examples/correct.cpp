@@ -20,8 +20,12 @@ enum class BlockNumber : uint32_t {};
 enum class LineNumber : uint32_t {};
 enum class PixelNumber : uint32_t {};
 
+// A number that is none of the three is refused with 18.
+enum class ColourSpace : uint32_t { unspecified = RINCHOVEK_UNSPECIFIED, linear = RINCHOVEK_LINEAR, srgb = RINCHOVEK_SRGB };
+
 struct Head {
     uint32_t width = 0, height = 0, start = 0;
+    ColourSpace colour_space = ColourSpace::unspecified;
 };
 
 // How much of a block is shown.
@@ -74,7 +78,19 @@ uint32_t read_head(const std::vector<uint8_t> &sheet, Head &head) {
     uint32_t numbers[RINCHOVEK_HEAD_NUMBERS] = {};
     uint32_t refusal = rinchovek_sheet_read_head(sheet.data(), sheet.size(), numbers);
     if (refusal == RINCHOVEK_ACCEPTED)
-        head = {numbers[RINCHOVEK_HEAD_WIDTH], numbers[RINCHOVEK_HEAD_HEIGHT], numbers[RINCHOVEK_HEAD_START]};
+        head = {numbers[RINCHOVEK_HEAD_WIDTH], numbers[RINCHOVEK_HEAD_HEIGHT], numbers[RINCHOVEK_HEAD_START], ColourSpace::unspecified};
+    return refusal;
+}
+
+Head colour_head(const uint32_t numbers[RINCHOVEK_COLOUR_HEAD_NUMBERS]) {
+    return {numbers[RINCHOVEK_HEAD_WIDTH], numbers[RINCHOVEK_HEAD_HEIGHT], numbers[RINCHOVEK_HEAD_START],
+            ColourSpace(numbers[RINCHOVEK_HEAD_COLOUR_SPACE])};
+}
+
+uint32_t read_colour_head(const std::vector<uint8_t> &sheet, Head &head) {
+    uint32_t numbers[RINCHOVEK_COLOUR_HEAD_NUMBERS] = {};
+    uint32_t refusal = rinchovek_sheet_read_colour_head(sheet.data(), sheet.size(), numbers);
+    if (refusal == RINCHOVEK_ACCEPTED) head = colour_head(numbers);
     return refusal;
 }
 
@@ -107,6 +123,23 @@ uint32_t export_dds(const std::vector<uint8_t> &sheet, std::vector<uint8_t> &fil
     if (refusal != RINCHOVEK_ACCEPTED) return refusal;
     file.resize(needed);
     return rinchovek_dds_export(sheet.data(), sheet.size(), file.data(), file.size());
+}
+
+// The same with the colour space: import says it in the head, export takes it.
+uint32_t import_dds(const std::vector<uint8_t> &file, std::vector<uint8_t> &sheet, Head &head) {
+    uint32_t needed = 0, refusal = rinchovek_dds_import_length(file.data(), file.size(), &needed);
+    if (refusal != RINCHOVEK_ACCEPTED) return refusal;
+    sheet.resize(needed);
+    uint32_t numbers[RINCHOVEK_COLOUR_HEAD_NUMBERS] = {};
+    refusal = rinchovek_dds_import_colour(file.data(), file.size(), sheet.data(), sheet.size(), numbers);
+    if (refusal == RINCHOVEK_ACCEPTED) head = colour_head(numbers);
+    return refusal;
+}
+
+uint32_t export_dds(const std::vector<uint8_t> &sheet, ColourSpace colour_space, std::vector<uint8_t> &file) {
+    uint32_t needed = 0, refusal = rinchovek_dds_export_length(sheet.data(), sheet.size(), &needed);
+    if (refusal == RINCHOVEK_ACCEPTED) file.resize(needed);
+    return rinchovek_dds_export_colour(sheet.data(), sheet.size(), uint32_t(colour_space), file.data(), file.size());
 }
 
 } // namespace rinchovek
@@ -232,7 +265,18 @@ int main() {
     show_bytes("sheet", again.data(), start + RINCHOVEK_BLOCK_BYTES);
     show_refusal("a sheet for a file", import_dds(sheet, again));
 
+    Head said;
+    refusal = export_dds(sheet, ColourSpace::srgb, file);
+    std::printf("exported in sRGB: %u, format %u\n", refusal, file[128]);
+    refusal = import_dds(file, again, said);
+    std::printf("imported: %u, %u by %u, blocks from %u, colour space %u\n", refusal, said.width, said.height, said.start,
+                uint32_t(said.colour_space));
+    refusal = read_colour_head(again, said);
+    std::printf("its head: %u, colour space %u\n", refusal, uint32_t(said.colour_space));
+    show_refusal("colour space 3", export_dds(sheet, ColourSpace(3), file));
+
     for (uint32_t number = RINCHOVEK_RESERVED_BLOCK; number <= RINCHOVEK_NOT_A_BC7_TEXTURE; number++)
         std::printf("%u: %s\n", number, rinchovek_refusal_text(number));
+    std::printf("%u: %s\n", unsigned(RINCHOVEK_BAD_COLOUR_SPACE), rinchovek_refusal_text(RINCHOVEK_BAD_COLOUR_SPACE));
     std::printf("%u: %s\n", unsigned(RINCHOVEK_NO_SUCH_PIXEL), rinchovek_refusal_text(RINCHOVEK_NO_SUCH_PIXEL));
 }

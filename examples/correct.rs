@@ -131,6 +131,15 @@ fn main() -> Result<(), Refusal> {
     show_bytes("sheet", &import_dds(&file)?[..start + 16]);
     show_refusal("a sheet for a file", &import_dds(&sheet));
 
+    // in sRGB the format is 99; importing says so beside the sheet, which has no room for it; there is no colour space 3
+    let file = export_colour(&sheet, ColourSpace::SRGB)?;
+    println!("exported in sRGB: 0, format {}", file[128]);
+    let (again, said, colour) = import_colour(&file)?;
+    println!("imported: 0, {} by {}, blocks from {}, colour space {}", said.width, said.height, said.start, colour.0);
+    let (_, colour) = read_colour_head(&again)?;
+    println!("its head: 0, colour space {}", colour.0);
+    show_refusal("colour space 3", &export_colour(&sheet, ColourSpace(3)));
+
     for refusal in Refusal::ALL {
         println!("{}: {refusal}", refusal.number());
     }

@@ -1,5 +1,6 @@
-/* dds import FILE SHEET: makes a sheet of a DDS file; dds export SHEET FILE: makes a DDS file of a sheet. Exit status 0 where it was made,
- * 1 where the input is refused, which is said, and 2 where a file can't be read or written. */
+/* dds import FILE SHEET: makes a sheet of a DDS file, and prints the colour space that the file says, `linear` or `sRGB`; dds export SHEET
+ * FILE: makes a DDS file of a sheet, and in sRGB with `srgb` behind. Exit status 0 where it was made, 1 where the input is refused, which is
+ * said, and 2 where a file can't be read or written. */
 #include "rinchovek.h"
 
 #include <stdio.h>
@@ -34,8 +35,9 @@ static int write_all(const char *name, const uint8_t *bytes, size_t length) {
 
 int main(int count, char **words) {
     const int import = count == 4 && strcmp(words[1], "import") == 0;
-    if (!import && (count != 4 || strcmp(words[1], "export") != 0)) {
-        fputs("dds import FILE SHEET, or dds export SHEET FILE\n", stderr);
+    const int srgb = count == 5 && strcmp(words[4], "srgb") == 0;
+    if (!import && ((count != 4 && !srgb) || strcmp(words[1], "export") != 0)) {
+        fputs("dds import FILE SHEET, or dds export SHEET FILE [srgb]\n", stderr);
         return 2;
     }
     size_t length;
@@ -48,7 +50,11 @@ int main(int count, char **words) {
     uint32_t refusal = (import ? rinchovek_dds_import_length : rinchovek_dds_export_length)(given, length, &needed);
     uint8_t *made = malloc(needed > 0 ? needed : 1);
     if (made == NULL) return 2;
-    if (refusal == RINCHOVEK_ACCEPTED) refusal = (import ? rinchovek_dds_import : rinchovek_dds_export)(given, length, made, needed);
+    uint32_t head[RINCHOVEK_COLOUR_HEAD_NUMBERS] = {0};
+    const uint32_t colour_space = srgb ? RINCHOVEK_SRGB : RINCHOVEK_UNSPECIFIED;
+    if (refusal == RINCHOVEK_ACCEPTED)
+        refusal = import ? rinchovek_dds_import_colour(given, length, made, needed, head)
+                         : rinchovek_dds_export_colour(given, length, colour_space, made, needed);
     if (refusal != RINCHOVEK_ACCEPTED) {
         fprintf(stderr, "dds: %s: refused with %u, %s\n", words[2], refusal, rinchovek_refusal_text(refusal));
         return 1;
@@ -57,5 +63,6 @@ int main(int count, char **words) {
         fprintf(stderr, "dds: %s can't be written\n", words[3]);
         return 2;
     }
+    if (import) puts(head[RINCHOVEK_HEAD_COLOUR_SPACE] == RINCHOVEK_SRGB ? "sRGB" : "linear");
     return 0;
 }

@@ -32,15 +32,18 @@ static void try_rows(void) {
 }
 
 static void try_null(void) {
-    uint32_t head[RINCHOVEK_HEAD_NUMBERS];
+    uint32_t head[RINCHOVEK_HEAD_NUMBERS], colour_head[RINCHOVEK_COLOUR_HEAD_NUMBERS];
     static const uint8_t replacement[RINCHOVEK_LINE_BYTES];
     expect("no sheet", rinchovek_sheet_read_head(NULL, 0, head), RINCHOVEK_BAD_NUMBER);
+    expect("no sheet", rinchovek_sheet_read_colour_head(NULL, 0, colour_head), RINCHOVEK_BAD_NUMBER);
     expect("no sheet", rinchovek_sheet_replace_line(NULL, 0, 0, 0, replacement), RINCHOVEK_BAD_NUMBER);
     expect("no blocks", rinchovek_sheet_decode_row(4, 4, 0, NULL, 0, out, 64), RINCHOVEK_WRONG_BLOCK_BYTES);
     expect("no output", rinchovek_sheet_decode_row(4, 4, 0, blocks, 16, NULL, 0), RINCHOVEK_WRONG_OUTPUT_LENGTH);
     expect("no file", rinchovek_dds_import(NULL, 0, NULL, 0), RINCHOVEK_NOT_A_BC7_TEXTURE);
+    expect("no file", rinchovek_dds_import_colour(NULL, 0, NULL, 0, colour_head), RINCHOVEK_NOT_A_BC7_TEXTURE);
     expect("no file", rinchovek_dds_import_length(NULL, 0, head), RINCHOVEK_NOT_A_BC7_TEXTURE);
     expect("no sheet", rinchovek_dds_export(NULL, 0, NULL, 0), RINCHOVEK_BAD_NUMBER);
+    expect("no sheet", rinchovek_dds_export_colour(NULL, 0, 3, NULL, 0), RINCHOVEK_BAD_NUMBER);
     expect("no sheet", rinchovek_dds_export_length(NULL, 0, head), RINCHOVEK_BAD_NUMBER);
 }
 
@@ -69,7 +72,7 @@ static void try_files(void) {
 static __attribute__((noinline)) void make_calls(uint8_t first, uint8_t others) {
     uint8_t sheet[RINCHOVEK_HEAD_BYTES + RINCHOVEK_BLOCK_BYTES], record[RINCHOVEK_RECORD_BYTES];
     uint8_t held[RINCHOVEK_LINE_BYTES], widths[RINCHOVEK_LINE_BYTES];
-    uint32_t head[RINCHOVEK_HEAD_NUMBERS], count = 0, index = 0;
+    uint32_t head[RINCHOVEK_COLOUR_HEAD_NUMBERS], count = 0, index = 0;
     rinchovek_sheet_write_head(4, 3, sheet, &count);
     uint8_t *block = sheet + count;
     for (int i = 0; i < RINCHOVEK_BLOCK_BYTES; i++) block[i] = i == 0 ? first : others;
@@ -86,12 +89,17 @@ static __attribute__((noinline)) void make_calls(uint8_t first, uint8_t others) 
     rinchovek_bc7_is_opaque(block, 4, 3);
     for (uint32_t pixel = 0; pixel <= RINCHOVEK_BLOCK_PIXELS; pixel++) rinchovek_bc7_pixel(block, pixel, widths);
     rinchovek_sheet_read_head(sheet, sizeof sheet, head);
+    rinchovek_sheet_read_colour_head(sheet, sizeof sheet, head);
     rinchovek_sheet_decode_row(4, 3, 0, block, RINCHOVEK_BLOCK_BYTES, out, 48);
     uint8_t file[RINCHOVEK_DDS_HEADER_BYTES + RINCHOVEK_BLOCK_BYTES];
     if (rinchovek_dds_export_length(sheet, count + RINCHOVEK_BLOCK_BYTES, &index) == RINCHOVEK_ACCEPTED && index == sizeof file)
         rinchovek_dds_export(sheet, count + RINCHOVEK_BLOCK_BYTES, file, sizeof file);
-    if (rinchovek_dds_import_length(file, sizeof file, &index) == RINCHOVEK_ACCEPTED)
+    for (uint32_t colour_space = RINCHOVEK_UNSPECIFIED; colour_space <= RINCHOVEK_SRGB + 1; colour_space++)
+        rinchovek_dds_export_colour(sheet, count + RINCHOVEK_BLOCK_BYTES, colour_space, file, sizeof file);
+    if (rinchovek_dds_import_length(file, sizeof file, &index) == RINCHOVEK_ACCEPTED) {
         rinchovek_dds_import(file, sizeof file, sheet, count + RINCHOVEK_BLOCK_BYTES);
+        rinchovek_dds_import_colour(file, sizeof file, sheet, count + RINCHOVEK_BLOCK_BYTES, head);
+    }
     rinchovek_version();
 }
 

@@ -18,6 +18,7 @@ extern "C" {
     fn rinchovek_bc7_is_opaque(block: *const u8, columns: u32, rows: u32) -> u32;
     fn rinchovek_bc7_pixel(block: *const u8, pixel: u32, rgba: *mut u8) -> u32;
     fn rinchovek_sheet_read_head(sheet: *const u8, length: usize, head: *mut u32) -> u32;
+    fn rinchovek_sheet_read_colour_head(sheet: *const u8, length: usize, head: *mut u32) -> u32;
     fn rinchovek_sheet_write_head(width: u32, height: u32, head: *mut u8, count: *mut u32) -> u32;
     fn rinchovek_sheet_decode_row(
         width: u32,
@@ -37,6 +38,20 @@ extern "C" {
     ) -> u32;
     fn rinchovek_dds_import(dds: *const u8, dds_length: usize, sheet: *mut u8, sheet_length: usize) -> u32;
     fn rinchovek_dds_export(sheet: *const u8, sheet_length: usize, dds: *mut u8, dds_length: usize) -> u32;
+    fn rinchovek_dds_import_colour(
+        dds: *const u8,
+        dds_length: usize,
+        sheet: *mut u8,
+        sheet_length: usize,
+        head: *mut u32,
+    ) -> u32;
+    fn rinchovek_dds_export_colour(
+        sheet: *const u8,
+        sheet_length: usize,
+        colour_space: u32,
+        dds: *mut u8,
+        dds_length: usize,
+    ) -> u32;
     fn rinchovek_dds_import_length(dds: *const u8, dds_length: usize, sheet_length: *mut u32) -> u32;
     fn rinchovek_dds_export_length(sheet: *const u8, sheet_length: usize, dds_length: *mut u32) -> u32;
 }
@@ -60,11 +75,12 @@ pub enum Refusal {
     PixelNotInLine = 13,
     NoExactIndex = 14,
     NotABc7Texture = 15,
+    BadColourSpace = 18,
     NoSuchPixel = 21,
 }
 
 impl Refusal {
-    pub const ALL: [Refusal; 16] = [
+    pub const ALL: [Refusal; 17] = [
         Refusal::ReservedBlock,
         Refusal::NoSuchLine,
         Refusal::ValueTooWide,
@@ -80,6 +96,7 @@ impl Refusal {
         Refusal::PixelNotInLine,
         Refusal::NoExactIndex,
         Refusal::NotABc7Texture,
+        Refusal::BadColourSpace,
         Refusal::NoSuchPixel,
     ];
 
@@ -106,6 +123,7 @@ impl fmt::Display for Refusal {
             Refusal::PixelNotInLine => "the pixel is not in the line",
             Refusal::NoExactIndex => "no index of the line gives exactly this colour",
             Refusal::NotABc7Texture => "the file is not a DDS file of one BC7 texture with one level",
+            Refusal::BadColourSpace => "there is no such colour space",
             Refusal::NoSuchPixel => "the block has no such pixel",
         })
     }
@@ -282,6 +300,17 @@ pub fn one_pixel(block: &Block, pixel: PixelNumber) -> Result<Color, Refusal> {
     answer(refusal, rgba)
 }
 
+/// What is known of a sheet's colours, by its number. Any other number than these is refused.
+#[derive(Clone, Copy, Debug, PartialEq, Eq)]
+pub struct ColourSpace(pub u32);
+
+#[allow(dead_code)] // a program need not name all three
+impl ColourSpace {
+    pub const UNSPECIFIED: ColourSpace = ColourSpace(0);
+    pub const LINEAR: ColourSpace = ColourSpace(1);
+    pub const SRGB: ColourSpace = ColourSpace(2);
+}
+
 /// Width and height in pixels, and where the first block starts in the sheet.
 #[derive(Clone, Copy, Debug, PartialEq, Eq)]
 pub struct Head {
@@ -314,6 +343,17 @@ pub fn read_head(sheet: &[u8]) -> Result<Head, Refusal> {
     let mut head = [0; 3];
     let refusal = unsafe { rinchovek_sheet_read_head(sheet.as_ptr(), sheet.len(), head.as_mut_ptr()) };
     answer(refusal, Head { width: head[0], height: head[1], start: head[2] as usize })
+}
+
+/// The head, and the colour space, of which a sheet of form 1 says nothing.
+pub fn read_colour_head(sheet: &[u8]) -> Result<(Head, ColourSpace), Refusal> {
+    let mut head = [0; 4];
+    let refusal = unsafe { rinchovek_sheet_read_colour_head(sheet.as_ptr(), sheet.len(), head.as_mut_ptr()) };
+    answer(refusal, colour_head(head))
+}
+
+fn colour_head(head: [u32; 4]) -> (Head, ColourSpace) {
+    (Head { width: head[0], height: head[1], start: head[2] as usize }, ColourSpace(head[3]))
 }
 
 pub fn write_head(width: u32, height: u32) -> Result<Vec<u8>, Refusal> {
@@ -362,4 +402,20 @@ pub fn export_dds(sheet: &[u8]) -> Result<Vec<u8>, Refusal> {
     let mut dds = vec![0; export_length(sheet)?];
     let refusal = unsafe { rinchovek_dds_export(sheet.as_ptr(), sheet.len(), dds.as_mut_ptr(), dds.len()) };
     answer(refusal, dds)
+}
+
+/// The sheet of a DDS file, and beside it its head and the colour space that the file says.
+pub fn import_colour(dds: &[u8]) -> Result<(Vec<u8>, Head, ColourSpace), Refusal> {
+    let (mut sheet, mut head) = (vec![0; import_length(dds)?], [0; 4]);
+    let (lent, length) = (sheet.as_mut_ptr(), sheet.len());
+    let refusal = unsafe { rinchovek_dds_import_colour(dds.as_ptr(), dds.len(), lent, length, head.as_mut_ptr()) };
+    let (head, colour_space) = colour_head(head);
+    answer(refusal, (sheet, head, colour_space))
+}
+
+/// The DDS file of a sheet under a colour space.
+pub fn export_colour(sheet: &[u8], colour_space: ColourSpace) -> Result<Vec<u8>, Refusal> {
+    let mut dds = vec![0; export_length(sheet).unwrap_or(0)];
+    let (lent, length) = (dds.as_mut_ptr(), dds.len());
+    answer(unsafe { rinchovek_dds_export_colour(sheet.as_ptr(), sheet.len(), colour_space.0, lent, length) }, dds)
 }

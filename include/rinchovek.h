@@ -41,7 +41,7 @@
 /* The version of this file. The major number is raised where a call goes, or answers otherwise what it accepted before; the minor
  * one where a call comes, or accepts what it refused before; the patch where neither is so. */
 #define RINCHOVEK_VERSION_MAJOR 1
-#define RINCHOVEK_VERSION_MINOR 5
+#define RINCHOVEK_VERSION_MINOR 6
 #define RINCHOVEK_VERSION_PATCH 0
 #define RINCHOVEK_VERSION (10000 * RINCHOVEK_VERSION_MAJOR + 100 * RINCHOVEK_VERSION_MINOR + RINCHOVEK_VERSION_PATCH)
 
@@ -54,6 +54,7 @@
 #define RINCHOVEK_LINE_BYTES 26
 #define RINCHOVEK_HEAD_BYTES 7 /* the most that a head has */
 #define RINCHOVEK_HEAD_NUMBERS 3 /* uint32_t */
+#define RINCHOVEK_COLOUR_HEAD_NUMBERS 4 /* uint32_t: those three, and the colour space */
 #define RINCHOVEK_LARGEST_SIDE 16384 /* pixels, of a sheet; 4,096 before version 1.4.0 */
 #define RINCHOVEK_DDS_HEADER_BYTES 148
 #define RINCHOVEK_STACK_BYTES 4096 /* found: 2,080 in rinchovek_bc7_pixel; below 2,048 in every other call, and in all before 1.5.0 */
@@ -109,12 +110,16 @@ enum rinchovek_line_offset {
     RINCHOVEK_LINE_INDEXES = 10         /* + pixel */
 };
 
-/* The three numbers of a head that was read. */
+/* The numbers of a head that was read. The calls whose names have `colour` in them write all four, the others the first three. */
 enum rinchovek_head_number {
-    RINCHOVEK_HEAD_WIDTH = 0,  /* pixels */
-    RINCHOVEK_HEAD_HEIGHT = 1, /* pixels */
-    RINCHOVEK_HEAD_START = 2   /* where the first block starts in the sheet */
+    RINCHOVEK_HEAD_WIDTH = 0,       /* pixels */
+    RINCHOVEK_HEAD_HEIGHT = 1,      /* pixels */
+    RINCHOVEK_HEAD_START = 2,       /* where the first block starts in the sheet */
+    RINCHOVEK_HEAD_COLOUR_SPACE = 3 /* enum rinchovek_colour_space */
 };
+
+/* What is known of a sheet's colours. A sheet of form 1 has no room for it: read, it is always unspecified. */
+enum rinchovek_colour_space { RINCHOVEK_UNSPECIFIED = 0, RINCHOVEK_LINEAR = 1, RINCHOVEK_SRGB = 2 };
 
 /* What a call answers. */
 enum rinchovek_refusal {
@@ -134,6 +139,7 @@ enum rinchovek_refusal {
     RINCHOVEK_PIXEL_NOT_IN_LINE = 13,   /* the pixel is of another line's subset, or 16 and up */
     RINCHOVEK_NO_EXACT_INDEX = 14,      /* no index of the line gives the pixel exactly what is wanted */
     RINCHOVEK_NOT_A_BC7_TEXTURE = 15,   /* the DDS file isn't one texture of two dimensions in BC7 with one level */
+    RINCHOVEK_BAD_COLOUR_SPACE = 18,    /* the number of the colour space is above 2 */
     RINCHOVEK_NO_SUCH_PIXEL = 21        /* the pixel number isn't below 16 */
 };
 
@@ -205,6 +211,10 @@ uint32_t rinchovek_bc7_pixel(const uint8_t block[RINCHOVEK_BLOCK_BYTES], uint32_
  * Refusals: 7 and 8 on the form, 7 on width and height, 9. */
 uint32_t rinchovek_sheet_read_head(const uint8_t *sheet, size_t length, uint32_t head[RINCHOVEK_HEAD_NUMBERS]);
 
+/* The same with four numbers: behind the start stands the colour space, which is RINCHOVEK_UNSPECIFIED for every sheet of form 1.
+ * Refusals: 7 and 8 on the form, 7 on width and height, 9. */
+uint32_t rinchovek_sheet_read_colour_head(const uint8_t *sheet, size_t length, uint32_t head[RINCHOVEK_COLOUR_HEAD_NUMBERS]);
+
 /* Writes the head of a sheet of this size, zeros behind it to all 7 bytes, and how many of them are the head's.
  * Refusals: 9. */
 uint32_t rinchovek_sheet_write_head(uint32_t width, uint32_t height, uint8_t head[RINCHOVEK_HEAD_BYTES], uint32_t *count);
@@ -226,7 +236,8 @@ uint32_t rinchovek_sheet_replace_line(uint8_t *sheet, size_t length, uint32_t bl
 
 /* DDS FILES, as office tools exchange them: RINCHOVEK_DDS_HEADER_BYTES of header with the DX10 extension, by Microsoft's guide, and behind
  * it the blocks row by row. Both ways the blocks are copied as they stand, so a sheet that was exported and imported again is the same
- * byte for byte. What stands in a file's header and has no place in a sheet is lost by importing; whether its colours are sRGB among it.
+ * byte for byte. What stands in a file's header and has no place in a sheet is lost by importing. Whether its colours are sRGB has none
+ * either: rinchovek_dds_import_colour says it beside the sheet, and rinchovek_dds_export_colour takes it.
  *
  * Refusal 15 says that a file isn't what can be imported: there are fewer than 148 bytes; or at a byte of the header stands another number
  * (32 bits, low byte first) than here. Nothing else in the header is looked at.
@@ -243,11 +254,22 @@ uint32_t rinchovek_sheet_replace_line(uint8_t *sheet, size_t length, uint32_t bl
  * Refusals: 15, 9, 10, 11. */
 uint32_t rinchovek_dds_import(const uint8_t *dds, size_t dds_length, uint8_t *sheet, size_t sheet_length);
 
+/* The same, and writes the head too: width, height and start as they are read of the sheet that was written, and the colour space that the
+ * file's format says, RINCHOVEK_LINEAR for 98 and RINCHOVEK_SRGB for 99.
+ * Refusals: 15, 9, 10, 11. */
+uint32_t rinchovek_dds_import_colour(const uint8_t *dds, size_t dds_length, uint8_t *sheet, size_t sheet_length,
+                                     uint32_t head[RINCHOVEK_COLOUR_HEAD_NUMBERS]);
+
 /* Writes the DDS file of a sheet: a header that says format 98 and has all that the table above asks for, then the sheet's blocks. Both
  * lengths are exact: the sheet has its head and 16 bytes for each block (10 otherwise), and the file as many as
  * rinchovek_dds_export_length writes, which is 148 and 16 for each block (11 otherwise).
  * Refusals: 7 and 8 on the form, 7 on width and height, 9, 10, 11. */
 uint32_t rinchovek_dds_export(const uint8_t *sheet, size_t sheet_length, uint8_t *dds, size_t dds_length);
+
+/* The same under a colour space: the header says format 99 for RINCHOVEK_SRGB, and 98 for the two others. Imported again, the file says
+ * what was given here; but RINCHOVEK_UNSPECIFIED comes back as RINCHOVEK_LINEAR, for 98 was written.
+ * Refusals: 7 and 8 on the form, 7 on width and height, 18, 9, 10, 11. */
+uint32_t rinchovek_dds_export_colour(const uint8_t *sheet, size_t sheet_length, uint32_t colour_space, uint8_t *dds, size_t dds_length);
 
 /* How long the output has to be: of importing this file the sheet, of exporting this sheet the file. Refused for what the call itself is
  * refused for, but for 11.
@@ -291,6 +313,7 @@ static inline const char *rinchovek_refusal_text(uint32_t refusal) {
     case RINCHOVEK_PIXEL_NOT_IN_LINE: return "the pixel is not in the line";
     case RINCHOVEK_NO_EXACT_INDEX: return "no index of the line gives exactly this colour";
     case RINCHOVEK_NOT_A_BC7_TEXTURE: return "the file is not a DDS file of one BC7 texture with one level";
+    case RINCHOVEK_BAD_COLOUR_SPACE: return "there is no such colour space";
     case RINCHOVEK_NO_SUCH_PIXEL: return "the block has no such pixel";
     default: return "no refusal of this version";
     }

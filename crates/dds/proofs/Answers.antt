@@ -5,11 +5,11 @@ use mathlib.Core.Logic.{_≢_}
 use mathlib.Core.Bool.{not}
 use mathlib.Core.List.{List, [], _∷_}
 use Prim.Native.Nat.{ℕ, _+_, _*_, _^_, _<_, _≤_}
-use native.Mathlib.Decide.{ℕ-discrete}
 use native.Mathlib.Omega.{arith}
 use borrow.Author.Tests.{eq-eqb, ne-eqb}
 use lib.Dec.{eqb}
 use lib.ListN.{length}
+use Rattle.head_rules.specs.declared.ColourSpace.{ColourSpace}
 use Rattle.head_rules.specs.declared.Head.{Head}
 use Rattle.head_rules.specs.Geometry.{blocksOf, wholeLength}
 use Rattle.head_rules.specs.Heads.{Sized, headOf, limit, readHead}
@@ -20,9 +20,10 @@ use Rattle.laws.specs.Refusals.{Given, accepted, first, here, refuse, then}
 use Rattle.laws.specs.Tables.{pick}
 use Rattle.laws.proofs.Refusals.{exactly}
 use Rattle.dds_rules.specs.Files.{exportAfterBy, exportHead, exportLength, exportRefusalBy, fileLength, fileMade, fileRefusal, fileRules}
-use Rattle.dds_rules.specs.Files.{headAs, headMade, importAfterUpTo, importHead, importLength, importRefusalUpTo, lengthAs, sheetMade, wholeRefusal}
+use Rattle.dds_rules.specs.Files.{headAs, headMade, importAfterUpTo, importAnswer, importHead, importLength, importRefusal, importRefusalUpTo}
+use Rattle.dds_rules.specs.Files.{lengthAs, sheetMade, wholeRefusal}
 use Rattle.dds_rules.specs.Promises.{Exports, Imports}
-use Rattle.dds_rules.proofs.Refusing.{Taken, Whole, file-rules, room-rules, taken, taken-so, whole, whole-handed, whole-so}
+use Rattle.dds_rules.proofs.Refusing.{Taken, Whole, file-rules, head-told, room-rules, taken, taken-so, whole, whole-handed, whole-so}
 use Rattle.dds_rules.proofs.Making.{head-short}
 
 -- WHAT THE READERS ANSWER
@@ -61,17 +62,6 @@ module _ (s : List ℕ) {x : Head} (is : x ≡ readHead s) where
       }))))
 
 -- WHAT A HEAD SAYS THAT WAS READ: the number, and where it is 0 the head
-module _ (r : ℕ) (h : Head) (same : r ≡ 0 → h .refusal ≡ 0) {x : Head} (e : x ≡ headAs r h) where
-  abbrev Told : Type 0
-  Told = (x .refusal ≡ r) × (r ≡ 0 → x ≡ h)
-
-  head-told : Told
-  head-told = go (ℕ-discrete r 0)
-    where
-      go : Dec (r ≡ 0) → Told
-      go (yes z) = let k : x ≡ h = e ∙ rw (eq-eqb r 0 z) in (ap (λ (y : Head). y .refusal) k ∙ same z ∙ sym z, λ q. k)
-      go (no n) = let k : x ≡ headOf r 0 0 0 = e ∙ rw (ne-eqb r 0 n) in (ap (λ (y : Head). y .refusal) k, λ q. absurd (n q))
-
 module _ (dds : List ℕ) {x : Head} (e : x ≡ importHead dds) where
   pub file-told : (x .refusal ≡ fileRefusal dds) × (fileRefusal dds ≡ 0 → x ≡ headMade dds)
   unfolding importHead headMade
@@ -103,43 +93,59 @@ module _ (r needed : ℕ) (made out : List ℕ) where
   done z l e = let g : answer ≡ 0 = exactly (room-rules r needed (length out)) 0 .1 (then z (then l accepted)) in (sym g, e ∙ sym (rw g))
 
 module _ (dds out : List ℕ) {x : Head} (e : x ≡ importHead dds) where
-  pub import-refused : x .refusal ≢ 0 → Imports dds out (x .refusal) out
+  -- the head that was read is the answer, where 11 is not
+  answered : importRefusal dds (length out) ≡ fileRefusal dds → x ≡ importAnswer dds (length out)
+  unfolding importHead importAnswer
+  answered q = e ∙ ap (λ (r : ℕ). headAs r (headMade dds)) (sym q)
+
+  pub import-refused : x .refusal ≢ 0 → Imports dds out x out
   unfolding importRefusalUpTo importAfterUpTo
-  import-refused ne = before-11 (fileRefusal dds) (wholeLength (headMade dds)) (sheetMade dds) out (file-told dds e .0) ne
+  import-refused ne =
+      let told = file-told dds e .0 in
+      let p = before-11 (fileRefusal dds) (wholeLength (headMade dds)) (sheetMade dds) out told ne in
+      (answered (sym (p .0) ∙ told), p .1)
 
   pub import-taken : x .refusal ≡ 0 → Taken dds × (x ≡ headMade dds)
   import-taken z = let q = sym (file-told dds e .0) ∙ z in (taken dds q, file-told dds e .1 q)
 
-  pub import-11 : x .refusal ≡ 0 → length out ≢ wholeLength x → Imports dds out 11 out
+  answered-11 : importRefusal dds (length out) ≡ 11 → headOf 11 0 0 0 ≡ importAnswer dds (length out)
+  unfolding importAnswer
+  answered-11 q = rw q
+
+  pub import-11 : x .refusal ≡ 0 → length out ≢ wholeLength x → {y : Head} → y ≡ headOf 11 0 0 0 → Imports dds out y out
   unfolding importRefusalUpTo importAfterUpTo
-  import-11 z ne =
-      eleven (fileRefusal dds) (wholeLength (headMade dds)) (sheetMade dds) out (sym (file-told dds e .0) ∙ z)
-      (λ l. ne (l ∙ ap (λ (h : Head). h .start + 16 * blocksOf h) (sym (import-taken z .1))))
+  import-11 z ne k =
+      let p = eleven (fileRefusal dds) (wholeLength (headMade dds)) (sheetMade dds) out (sym (file-told dds e .0) ∙ z)
+      (λ l. ne (l ∙ ap (λ (h : Head). h .start + 16 * blocksOf h) (sym (import-taken z .1)))) in
+      (k ∙ answered-11 (sym (p .0)), p .1)
 
-  pub import-done : x .refusal ≡ 0 → length out ≡ wholeLength x → {after : List ℕ} → after ≡ sheetMade dds → Imports dds out 0 after
+  pub import-done : x .refusal ≡ 0 → length out ≡ wholeLength x → {after : List ℕ} → after ≡ sheetMade dds → Imports dds out x after
   unfolding importRefusalUpTo importAfterUpTo
-  import-done z l =
-      done (fileRefusal dds) (wholeLength (headMade dds)) (sheetMade dds) out (sym (file-told dds e .0) ∙ z)
-      (l ∙ ap (λ (h : Head). h .start + 16 * blocksOf h) (import-taken z .1))
+  import-done z l f =
+      let told = sym (file-told dds e .0) ∙ z in
+      let p = done (fileRefusal dds) (wholeLength (headMade dds)) (sheetMade dds) out told
+      (l ∙ ap (λ (h : Head). h .start + 16 * blocksOf h) (import-taken z .1)) f in
+      (answered (sym (p .0) ∙ sym told), p .1)
 
-module _ (s out : List ℕ) {x : Head} (e : x ≡ exportHead s) where
-  pub export-refused : x .refusal ≢ 0 → Exports s out (x .refusal) out
-  unfolding exportRefusalBy exportAfterBy
-  export-refused ne = before-11 (wholeRefusal s) (fileLength (readHead s)) (fileMade s) out (sheet-told s e .0) ne
-
+module _ (s : List ℕ) {x : Head} (e : x ≡ exportHead s) where
   pub export-taken : x .refusal ≡ 0 → Whole s × (x ≡ readHead s)
   export-taken z = let q = sym (sheet-told s e .0) ∙ z in (whole s q, sheet-told s e .1 q)
 
-  pub export-11 : x .refusal ≡ 0 → length out ≢ fileLength x → Exports s out 11 out
+module _ (s : List ℕ) (c : ColourSpace) (out : List ℕ) {x : Head} (e : x ≡ exportHead s) where
+  pub export-refused : x .refusal ≢ 0 → Exports s c out (x .refusal) out
+  unfolding exportRefusalBy exportAfterBy
+  export-refused ne = before-11 (wholeRefusal s) (fileLength (readHead s)) (fileMade s c) out (sheet-told s e .0) ne
+
+  pub export-11 : x .refusal ≡ 0 → length out ≢ fileLength x → Exports s c out 11 out
   unfolding exportRefusalBy exportAfterBy
   export-11 z ne =
-      eleven (wholeRefusal s) (fileLength (readHead s)) (fileMade s) out (sym (sheet-told s e .0) ∙ z)
-      (λ l. ne (l ∙ ap fileLength (sym (export-taken z .1))))
+      eleven (wholeRefusal s) (fileLength (readHead s)) (fileMade s c) out (sym (sheet-told s e .0) ∙ z)
+      (λ l. ne (l ∙ ap fileLength (sym (export-taken s e z .1))))
 
-  pub export-done : x .refusal ≡ 0 → length out ≡ fileLength x → {after : List ℕ} → after ≡ fileMade s → Exports s out 0 after
+  pub export-done : x .refusal ≡ 0 → length out ≡ fileLength x → {after : List ℕ} → after ≡ fileMade s c → Exports s c out 0 after
   unfolding exportRefusalBy exportAfterBy
   export-done z l =
-      done (wholeRefusal s) (fileLength (readHead s)) (fileMade s) out (sym (sheet-told s e .0) ∙ z) (l ∙ ap fileLength (export-taken z .1))
+      done (wholeRefusal s) (fileLength (readHead s)) (fileMade s c) out (sym (sheet-told s e .0) ∙ z) (l ∙ ap fileLength (export-taken s e z .1))
 
 -- WHAT A CALL FOR THE LENGTH ANSWERS
 module _ (r needed : ℕ) where
@@ -176,12 +182,12 @@ module _ (s : List ℕ) {x : Head} (e : x ≡ exportHead s) where
 
   module _ (z : x .refusal ≡ 0) where
     pub export-sized : Sized (x .width) (x .height)
-    export-sized = sheet-sized s (export-taken s [] e z .1) z
+    export-sized = sheet-sized s (export-taken s e z .1) z
 
     pub export-length-is : {n : ℕ} → n ≡ fileLength x → record { refusal = 0; length = n } ≡ exportLength s
     unfolding exportLength
     export-length-is l =
-        length-is (wholeRefusal s) (fileLength (readHead s)) (sym (sheet-told s e .0) ∙ z) (l ∙ ap fileLength (export-taken s [] e z .1))
+        length-is (wholeRefusal s) (fileLength (readHead s)) (sym (sheet-told s e .0) ∙ z) (l ∙ ap fileLength (export-taken s e z .1))
 
 -- a length fits 32 bits
 pub blocks-fit : (x : Head) → Sized (x .width) (x .height) → 16 * blocksOf x < 2 ^ 31

@@ -9,17 +9,19 @@ use native.Mathlib.Omega.{arith}
 use borrow.Author.Tests.{eq-eqb}
 use lib.ListN.{length, drop, length-append, replicate, take}
 use lib.Seq.{take-all, take-append-seam}
+use Rattle.head_rules.specs.declared.ColourSpace.{ColourSpace}
 use Rattle.head_rules.specs.declared.Head.{Head}
 use Rattle.head_rules.specs.declared.HeadBytes.{HeadBytes}
 use Rattle.head_rules.specs.Geometry.{blocksOf, wholeLength}
-use Rattle.head_rules.specs.Heads.{Sized, headBytes, headOf, limit, readHead, sevenOf, sizeRefusal, writeHead}
+use Rattle.head_rules.specs.Heads.{Sized, headBytes, headOf, limit, readHead, sevenOf, sizeRefusal, under, writeHead}
 use Rattle.head_rules.proofs.Heading.{size-0}
 use Rattle.head_rules.proofs.Theorems.{head-not-written-when}
 use Rattle.laws.specs.Padding.{padded}
 use Rattle.laws.specs.Refusals.{Given, Rule, accepted, here, then, unless}
 use Rattle.laws.specs.Tables.{table}
 use Rattle.laws.proofs.Tests.{no-both}
-use Rattle.dds_rules.specs.Header.{Texture, bytesIn, canonicalHeader, fieldIn, headerLength, headerNumber, height, isTexture, width}
+use Rattle.dds_rules.specs.Header.{Texture, bytesIn, canonicalHeader, fieldIn, format, formatSays, headerLength, headerNumber, height, isTexture}
+use Rattle.dds_rules.specs.Header.{width}
 use Rattle.dds_rules.specs.Files.{exportHead, fileLength, fileMadeBy, headMade, importHead, sheetMade}
 use Rattle.dds_rules.specs.Promises.{Exports, Imports}
 use Rattle.dds_rules.proofs.Refusing.{Taken}
@@ -70,18 +72,18 @@ module _ (dds : List ℕ) {w h : ℕ} {b : HeadBytes} (t : Texture dds) (ew : w 
   pub no-size : b .refusal ≢ 0 → headOf (b .refusal) 0 0 0 ≡ importHead dds
   no-size ne = no-file dds (b .refusal) (then t (no-sides _ _ said ne)) ne
 
-  module _ (z : b .refusal ≡ 0) {n : ℕ} (en : n ≡ b .count) where
-    is-made : headOf 0 w h n ≡ headMade dds
+  module _ (z : b .refusal ≡ 0) {n : ℕ} (en : n ≡ b .count) {c : ColourSpace} (ec : c ≡ formatSays (fieldIn dds format)) where
+    is-made : under c (headOf 0 w h n) ≡ headMade dds
     unfolding headMade
     is-made =
-        ap (headOf 0 w h) (en ∙ counted w h e z)
-        ∙ ap₂ (λ (x y : ℕ). headOf 0 x y (length (headBytes x y))) ew eh
+        ap₂ (λ (k : ColourSpace) (m : ℕ). under k (headOf 0 w h m)) ec (en ∙ counted w h e z)
+        ∙ ap₂ (λ (x y : ℕ). under (formatSays (fieldIn dds format)) (headOf 0 x y (length (headBytes x y)))) ew eh
 
-    pub no-length : length dds ≢ fileLength (headOf 0 w h n) → headOf 10 0 0 0 ≡ importHead dds
+    pub no-length : length dds ≢ fileLength (under c (headOf 0 w h n)) → headOf 10 0 0 0 ≡ importHead dds
     no-length ne =
         no-file dds 10 (then t (then (sides _ _ said z) (here (λ l. ne (l ∙ ap fileLength (sym is-made)))))) (λ q. omega arith)
 
-    pub a-head : length dds ≡ fileLength (headOf 0 w h n) → headOf 0 w h n ≡ importHead dds
+    pub a-head : length dds ≡ fileLength (under c (headOf 0 w h n)) → under c (headOf 0 w h n) ≡ importHead dds
     a-head l = is-made ∙ a-file dds (record { texture = t; size = sides _ _ said z; long = l ∙ ap fileLength is-made })
 
 -- the sheet: the head's bytes, and the blocks
@@ -118,31 +120,32 @@ module _ (dds out : List ℕ) {x : Head} (e : x ≡ importHead dds) (z : x .refu
     omega (arith, l, take-dds .long, ap fileLength made),
   )
 
-  pub import-filled : {after : List ℕ} → after ≡ take (x .start) (b .bytes) ++ drop headerLength dds → Imports dds out 0 after
+  pub import-filled : {after : List ℕ} → after ≡ take (x .start) (b .bytes) ++ drop headerLength dds → Imports dds out x after
   import-filled f = import-done dds out e z l (f ∙ sheet-laid dds take-dds made eb)
 
 -- the file: the header, and the blocks
-module _ (s out : List ℕ) {x : Head} (e : x ≡ exportHead s) (z : x .refusal ≡ 0) {numbers header : List ℕ} (en : numbers ≡ table 37 (headerNumber x))
-    (eh : header ≡ table headerLength (bytesIn numbers)) (l : length out ≡ fileLength x) where
+module _ (s : List ℕ) (c : ColourSpace) (out : List ℕ) {x : Head} (e : x ≡ exportHead s) (z : x .refusal ≡ 0) {u : Head} (eu : u ≡ under c x)
+    {numbers header : List ℕ} (en : numbers ≡ table 37 (headerNumber u)) (eh : header ≡ table headerLength (bytesIn numbers))
+    (l : length out ≡ fileLength x) where
   abbrev known : x ≡ readHead s
-  known = export-taken s out e z .1
+  known = export-taken s e z .1
 
-  is-header : header ≡ canonicalHeader x
+  is-header : header ≡ canonicalHeader (under c x)
   unfolding canonicalHeader
-  is-header = eh ∙ ap (λ (ns : List ℕ). table headerLength (bytesIn ns)) en
+  is-header = eh ∙ ap (λ (ns : List ℕ). table headerLength (bytesIn ns)) (en ∙ ap (λ (h : Head). table 37 (headerNumber h)) eu)
 
   pub export-fits : (headerLength ≤ length header) × (x .start ≤ length s) × (length out + x .start ≡ headerLength + length s)
   export-fits =
-      let w = export-taken s out e z .0 .long ∙ ap (λ (h : Head). h .start + 16 * blocksOf h) (sym known) in (
-        omega (arith, ap length is-header, header-long x),
+      let w = export-taken s e z .0 .long ∙ ap (λ (h : Head). h .start + 16 * blocksOf h) (sym known) in (
+        omega (arith, ap length is-header, header-long (under c x)),
         omega (arith, w),
         omega (arith, w, l),
       )
 
-  pub export-filled : {after : List ℕ} → after ≡ take headerLength header ++ drop (x .start) s → Exports s out 0 after
+  pub export-filled : {after : List ℕ} → after ≡ take headerLength header ++ drop (x .start) s → Exports s c out 0 after
   unfolding fileMadeBy
   export-filled f =
-      export-done s out e z l
+      export-done s c out e z l
       (f ∙ ap (λ (t : List ℕ). t ++ drop (x .start) s)
-      (take-all headerLength header (omega (arith, ap length is-header, header-long x)) ∙ is-header)
-      ∙ ap (λ (h : Head). canonicalHeader h ++ drop (h .start) s) known)
+      (take-all headerLength header (omega (arith, ap length is-header, header-long (under c x))) ∙ is-header)
+      ∙ ap (λ (h : Head). canonicalHeader (under c h) ++ drop (h .start) s) known)

@@ -7,11 +7,15 @@ ghost use Prim.Native.Nat.{_+_, _<_, _≤_};
 ghost use lib.ListN.{drop, length, take};
 ghost use Rattle.head_rules.specs.Heads.{Sized, headOf};
 ghost use Rattle.laws.specs.Tables.{table};
-ghost use Rattle.dds_rules.specs.Header.{bytesIn, headerNumber, isTexture, numberAt};
+ghost use Rattle.dds_rules.specs.Header.{bytesIn, formatOf, formatSays, headerNumber, isTexture, numberAt};
 ghost use Rattle.dds_rules.specs.Files.{exportHead, fileLength, importHead};
-ghost use Rattle.dds_rules.specs.Promises.{ExportNeeds, Exports, ImportNeeds, Imports};
+ghost use Rattle.dds_rules.specs.Promises.{ExportNeeds, Exports, ExportsNumbered, ImportNeeds, Imports};
 use dds_rules::Length;
+use head_rules::ColourSpace;
 use head_rules::Head;
+use sheet_head::colours::colour_of;
+use sheet_head::colours::colour_refusal;
+use sheet_head::colours::under;
 use sheet_head::geometry::blocks_of;
 use sheet_head::geometry::whole_length;
 use sheet_head::read_head;
@@ -111,6 +115,26 @@ fn is_texture(dds: &[u8]) -> bool
     true
 }
 
+// The format that is written under a colour space, and the colour space that a format says.
+fn format_of(colour_space: ColourSpace) -> u32
+    ensures { λ r. ⌜ r ≡ formatOf «colour_space» ⌝ }
+{
+    match colour_space {
+        ColourSpace::Unspecified => BC7,
+        ColourSpace::Linear => BC7,
+        ColourSpace::Srgb => BC7_SRGB,
+    }
+}
+
+fn format_says(format: u32) -> ColourSpace
+    ensures { λ r. ⌜ r ≡ formatSays format ⌝ }
+{
+    if format == BC7_SRGB {
+        return ColourSpace::Srgb;
+    }
+    ColourSpace::Linear
+}
+
 fn no_head(refusal: u8) -> Head
     ensures { λ r. ⌜ r ≡ headOf refusal 0 0 0 ⌝ }
 {
@@ -119,6 +143,7 @@ fn no_head(refusal: u8) -> Head
         width: 0,
         height: 0,
         start: 0,
+        colour_space: ColourSpace::Unspecified,
     }
 }
 
@@ -130,7 +155,7 @@ fn file_length(head: Head) -> usize
     HEADER + 16 * blocks_of(head) as usize
 }
 
-// The head of the sheet that a file makes, or the first refusal that applies: 15, 9, 10.
+// The head that a file makes, or the first refusal that applies: 15, 9, 10.
 fn read_file(dds: &[u8]) -> Head
     ensures { λ r. ⌜ r ≡ importHead (now (dds .entry)) ⌝ }
 {
@@ -139,6 +164,7 @@ fn read_file(dds: &[u8]) -> Head
     }
     let height = number_at(dds, HEIGHT);
     let width = number_at(dds, WIDTH);
+    let colour_space = format_says(number_at(dds, FORMAT));
     let written = write_head(width, height);
     if written.refusal != 0 {
         return no_head(written.refusal);
@@ -148,6 +174,7 @@ fn read_file(dds: &[u8]) -> Head
         width: width,
         height: height,
         start: wide(written.count),
+        colour_space: colour_space,
     };
     if dds.len() != file_length(head) {
         return no_head(10);
@@ -174,6 +201,7 @@ fn numbers_of(head: Head) -> [u32; NUMBERS]
     requires { ⌜ Sized (head .width) (head .height) ⌝ }
     ensures { λ r. ⌜ r ≡ table 37 (headerNumber head) ⌝ }
 {
+    let colour_space = head.colour_space;
     [
         DDS, // magic
         124, // the header's size
@@ -207,7 +235,7 @@ fn numbers_of(head: Head) -> [u32; NUMBERS]
         0, // caps 3
         0, // caps 4
         0, // reserved
-        BC7, // format
+        format_of(colour_space), // format
         TWO_DIMENSIONS, // dimension
         0, // misc
         1, // array size
@@ -239,26 +267,27 @@ fn fill(head: &[u8], count: usize, from: &[u8], start: usize, out: &mut [u8])
     bytes::copy(&from[start..], &mut out[count..]);
 }
 
-// A file as a sheet of form 1: its head, then the blocks as they stand. A refused call leaves the output as it was.
-pub fn import_dds(dds: &[u8], out: &mut [u8]) -> u8
+// A file as a sheet of form 1: its head, then the blocks as they stand. The head is answered too, with the colour space that form 1 has
+// no room for. A refused call leaves the output as it was.
+pub fn import_dds(dds: &[u8], out: &mut [u8]) -> Head
     ensures { λ r. ⌜ Imports (now (dds .entry)) (now (out .entry)) r (now (out .exit)) ⌝ }
 {
     let head = read_file(dds);
     if head.refusal != 0 {
-        return head.refusal;
+        return head;
     }
     if out.len() != whole_length(head) {
-        return 11;
+        return no_head(11);
     }
     let written = write_head(head.width, head.height);
     let bytes = written.bytes;
     fill(&bytes, head.start as usize, dds, HEADER, out);
-    0
+    head
 }
 
-// A sheet as a file: the header, then the blocks as they stand. A refused call leaves the output as it was.
-pub fn export_dds(sheet: &[u8], out: &mut [u8]) -> u8
-    ensures { λ r. ⌜ Exports (now (sheet .entry)) (now (out .entry)) r (now (out .exit)) ⌝ }
+// A sheet as a file under a colour space: the header, then the blocks as they stand. A refused call leaves the output as it was.
+pub fn export_dds(sheet: &[u8], colour_space: ColourSpace, out: &mut [u8]) -> u8
+    ensures { λ r. ⌜ Exports (now (sheet .entry)) «colour_space» (now (out .entry)) r (now (out .exit)) ⌝ }
 {
     let head = read_sheet(sheet);
     if head.refusal != 0 {
@@ -267,9 +296,27 @@ pub fn export_dds(sheet: &[u8], out: &mut [u8]) -> u8
     if out.len() != file_length(head) {
         return 11;
     }
-    let header = bytes_of(numbers_of(head));
+    let header = bytes_of(numbers_of(under(colour_space, head)));
     fill(&header, HEADER, sheet, head.start as usize, out);
     0
+}
+
+// The same, for who has the colour space as a number. One that there is not is refused behind 7 and 8 of the sheet's head, and before 9.
+pub fn export_numbered(sheet: &[u8], number: u32, out: &mut [u8]) -> u8
+    ensures { λ r. ⌜ ExportsNumbered (now (sheet .entry)) number (now (out .entry)) r (now (out .exit)) ⌝ }
+{
+    let refusal = colour_refusal(number);
+    if refusal == 0 {
+        return export_dds(sheet, colour_of(number), out);
+    }
+    let head = read_head(sheet);
+    if head.refusal == 0 {
+        return refusal;
+    }
+    if head.refusal == 9 {
+        return refusal;
+    }
+    head.refusal
 }
 
 // The length of the output that importing needs.

@@ -6,7 +6,10 @@ use mathlib.Core.List.{List, [], _∷_, _++_, map}
 use Prim.Native.Nat.{ℕ, _/_}
 use lib.ListN.{drop, replicate, set, take}
 use lib.Seq.{sets}
+use Rattle.head_rules.specs.declared.ColourSpace.{ColourSpace}
+use Rattle.head_rules.specs.declared.ColourSpace.the-variants.{Unspecified, Linear, Srgb}
 use Rattle.head_rules.specs.declared.Head.{Head}
+use Rattle.head_rules.specs.Colours.{colourOf, colourRefusal}
 use Rattle.head_rules.specs.Geometry.{blocksOf}
 use Rattle.head_rules.specs.Heads.{formIn, headBytes, headRefusalUpTo, heightIn, readHeadUpTo, sizeRefusalUpTo, widthIn}
 use Rattle.head_rules.specs.Numbers.{groups, raised, readGroups, readNumber}
@@ -14,11 +17,14 @@ use Rattle.laws.specs.Digits.{evenly}
 use Rattle.laws.specs.Refusals.{first}
 use Rattle.laws.specs.Tables.{table, tableFrom}
 use Rattle.dds_rules.specs.Header.{alphaMask, arraySize, bitCount, blueMask, canonicalHeader, caps, caps2, caps3, caps4, depth}
-use Rattle.dds_rules.specs.Header.{dimension, entries, format, formatCode, formatFlags, formatSize, greenMask, headerFlags, headerNumber}
+use Rattle.dds_rules.specs.Header.{dimension, entries, format, formatCode, formatFlags, formatOf, formatSays, formatSize, greenMask}
+use Rattle.dds_rules.specs.Header.{headerFlags, headerNumber}
 use Rattle.dds_rules.specs.Header.{headerSize, height, isTexture, linearSize, magic, mipCount, misc, misc2, numberAt, offset, redMask, reserved}
 use Rattle.dds_rules.specs.Header.{reserved2, width}
-use Rattle.dds_rules.specs.Files.{exportAfter, exportAfterBy, exportHead, exportLength, exportRefusal, exportRefusalBy, fileMadeBy, fileRefusalUpTo, headMade, importAfter, importAfterUpTo}
-use Rattle.dds_rules.specs.Files.{importHead, importLength, importRefusal, importRefusalUpTo, sheetMade, wholeRefusalBy}
+use Rattle.dds_rules.specs.Files.{exportAfter, exportAfterBy, exportHead, exportLength, exportRefusal, exportRefusalBy, fileMadeBy}
+use Rattle.dds_rules.specs.Files.{fileRefusalUpTo, headMade, importAfter, importAfterUpTo}
+use Rattle.dds_rules.specs.Files.{importAnswer, importHead, importLength, importRefusal, importRefusalUpTo, numberedAfter, numberedRefusal}
+use Rattle.dds_rules.specs.Files.{said, sheetMade, wholeRefusalBy}
 
 abbrev zeros : ℕ → List ℕ
 zeros n = replicate n 0
@@ -26,8 +32,14 @@ zeros n = replicate n 0
 abbrev nines : ℕ → List ℕ
 nines n = replicate n 9
 
-abbrev head : ℕ → ℕ → ℕ → Head
-head w h start = record { refusal = 0; width = w; height = h; start = start }
+abbrev head : ColourSpace → ℕ → ℕ → ℕ → Head
+head c w h start = record { refusal = 0; width = w; height = h; start = start; «colour_space» = c }
+
+abbrev noHead : ℕ → Head
+noHead r = record { refusal = r; width = 0; height = 0; start = 0; «colour_space» = Unspecified }
+
+abbrev three : List ColourSpace
+three = Unspecified ∷ Linear ∷ Srgb ∷ []
 
 -- a number below 256
 abbrev small : ℕ → List ℕ
@@ -143,6 +155,35 @@ exports =
     call sheet53 179 11 ∷
     []
 
+-- a sheet, the number of its colour space, the output's length, and the answer: each is refused for what the next ones are refused for too,
+-- 18 behind every 7 and 8 and before 9
+pub record Numbered : Type 0 where
+  pub given : List ℕ
+  pub colour : ℕ
+  pub room : ℕ
+  pub answer : ℕ
+
+abbrev asked : List ℕ → ℕ → ℕ → ℕ → Numbered
+asked s c room n = record { given = s; colour = c; room = room; answer = n }
+
+abbrev pub numbered : List Numbered
+numbered =
+    asked sheet53 0 180 0 ∷
+    asked sheet53 2 180 0 ∷
+    asked [] 3 181 7 ∷
+    asked (0x02 ∷ 0x00 ∷ []) 3 181 8 ∷
+    asked (0x01 ∷ 0x80 ∷ []) 3 181 7 ∷
+    asked (0x01 ∷ 0x00 ∷ []) 3 181 7 ∷
+    asked (0x01 ∷ 0x00 ∷ 0x03 ∷ []) 3 181 18 ∷
+    asked (0x01 ∷ 0x00 ∷ 0x03 ∷ []) 2 181 9 ∷
+    asked (sheet53 ++ (0 ∷ [])) 3 181 18 ∷
+    asked (sheet53 ++ (0 ∷ [])) 2 181 10 ∷
+    asked sheet53 3 181 18 ∷
+    asked sheet53 3 180 18 ∷
+    asked sheet53 256 180 18 ∷
+    asked sheet53 2 181 11 ∷
+    []
+
 pub record Files : Type 0 where
   -- the fields by their numbers: those behind the eleven reserved ones start at 19
   pub in-order : map (λ f. offset f / 4)
@@ -150,35 +191,54 @@ pub record Files : Type 0 where
       formatSize ∷ formatFlags ∷ formatCode ∷ bitCount ∷ redMask ∷ greenMask ∷ blueMask ∷ alphaMask ∷
       caps ∷ caps2 ∷ caps3 ∷ caps4 ∷ reserved2 ∷ format ∷ dimension ∷ misc ∷ arraySize ∷ misc2 ∷ [])
       ≡ 0 ∷ 1 ∷ 2 ∷ 3 ∷ 4 ∷ 5 ∷ 6 ∷ 7 ∷ 8 ∷ 19 ∷ 20 ∷ 21 ∷ 22 ∷ 23 ∷ 24 ∷ 25 ∷ 26 ∷ 27 ∷ 28 ∷ 29 ∷ 30 ∷ 31 ∷ 32 ∷ 33 ∷ 34 ∷ 35 ∷ 36 ∷ []
-  pub header : canonicalHeader (head 5 3 3) ≡ header53
+  -- 98, but 99 for sRGB; and what a format says
+  pub headers : map (λ c. canonicalHeader (head c 5 3 3)) three ≡ header53 ∷ header53 ∷ set header53 128 99 ∷ []
+  pub formats : map formatOf three ≡ 98 ∷ 98 ∷ 99 ∷ []
+  pub formats-say : map formatSays (98 ∷ 99 ∷ []) ≡ Linear ∷ Srgb ∷ []
+  pub colours-back : map said three ≡ Linear ∷ Linear ∷ Srgb ∷ []
   -- 300 by 4,096: 75 columns and 1,024 rows, 1,228,800 bytes
-  pub header-sides : take 12 (drop 12 (canonicalHeader (head 300 4096 5)))
+  pub header-sides : take 12 (drop 12 (canonicalHeader (head Linear 300 4096 5)))
       ≡ 0x00 ∷ 0x10 ∷ 0x00 ∷ 0x00 ∷ 0x2C ∷ 0x01 ∷ 0x00 ∷ 0x00 ∷ 0x00 ∷ 0xC0 ∷ 0x12 ∷ 0x00 ∷ []
   pub number-low-byte-first : numberAt (9 ∷ 0x04 ∷ 0x03 ∷ 0x02 ∷ 0x81 ∷ 9 ∷ []) 1 ≡ 0x81020304
   pub imported : map (λ out. importAfter file53 out) (nines 35 ∷ nines 34 ∷ []) ≡ sheet53 ∷ nines 34 ∷ []
-  pub exported : map (λ out. exportAfter sheet53 out) (nines 180 ∷ nines 181 ∷ []) ≡ file53 ∷ nines 181 ∷ []
-  pub heads : importHead file53 ∷ exportHead sheet53 ∷ importHead [] ∷ exportHead [] ∷ []
-      ≡ head 5 3 3 ∷ head 5 3 3 ∷ record { refusal = 15; width = 0; height = 0; start = 0 } ∷
-      record { refusal = 7; width = 0; height = 0; start = 0 } ∷ []
+  pub imported-srgb : importAfter (but 128 99) (nines 35) ≡ sheet53
+  pub exported : map (λ out. exportAfter sheet53 Unspecified out) (nines 180 ∷ nines 181 ∷ []) ≡ file53 ∷ nines 181 ∷ []
+  pub exported-under : map (λ c. exportAfter sheet53 c (nines 180)) three ≡ file53 ∷ file53 ∷ but 128 99 ∷ []
+  pub exported-numbered : map (λ n. numberedAfter sheet53 n (nines 180)) (0 ∷ 1 ∷ 2 ∷ 3 ∷ []) ≡ file53 ∷ file53 ∷ but 128 99 ∷ nines 180 ∷ []
+  -- the answer of an import: linear for 98, sRGB for 99, and nothing where it is refused, for the file or for the output's length
+  pub answered : importAnswer file53 35 ∷ importAnswer (but 128 99) 35 ∷ importAnswer (but 128 99) 34 ∷ importAnswer (but 128 100) 35 ∷ []
+      ≡ head Linear 5 3 3 ∷ head Srgb 5 3 3 ∷ noHead 11 ∷ noHead 15 ∷ []
+  pub heads : importHead file53 ∷ importHead (but 128 99) ∷ exportHead sheet53 ∷ importHead [] ∷ exportHead [] ∷ []
+      ≡ head Linear 5 3 3 ∷ head Srgb 5 3 3 ∷ head Unspecified 5 3 3 ∷ noHead 15 ∷ noHead 7 ∷ []
   pub import-answers : map (λ c. importRefusal (c .given) (c .room)) imports ≡ map (λ c. c .answer) imports
   pub export-answers : map (λ c. exportRefusal (c .given) (c .room)) exports ≡ map (λ c. c .answer) exports
+  pub numbered-answers : map (λ c. numberedRefusal (c .given) (c .colour) (c .room)) numbered ≡ map (λ c. c .answer) numbered
   pub lengths : importLength file53 ∷ importLength header53 ∷ exportLength sheet53 ∷ exportLength [] ∷ []
       ≡ record { refusal = 0; length = 35 } ∷ record { refusal = 10; length = 0 } ∷
       record { refusal = 0; length = 180 } ∷ record { refusal = 7; length = 0 } ∷ []
 
 pub files-hold : Files
 unfolding evenly table tableFrom first numberAt entries headerNumber canonicalHeader isTexture headMade sheetMade fileRefusalUpTo importRefusalUpTo
-    importAfterUpTo wholeRefusalBy exportRefusalBy fileMadeBy exportAfterBy importLength exportLength importHead exportHead blocksOf sizeRefusalUpTo headBytes groups readHeadUpTo
-    headRefusalUpTo formIn widthIn heightIn readNumber readGroups raised
+    importAfterUpTo wholeRefusalBy exportRefusalBy fileMadeBy exportAfterBy importLength exportLength importHead exportHead blocksOf
+    sizeRefusalUpTo headBytes groups readHeadUpTo headRefusalUpTo formIn widthIn heightIn readNumber readGroups raised formatSays
+    importAnswer numberedRefusal numberedAfter colourOf colourRefusal
 files-hold = record {
   in-order = refl;
-  header = refl;
+  headers = refl;
+  formats = refl;
+  formats-say = refl;
+  colours-back = refl;
   header-sides = refl;
   number-low-byte-first = refl;
   imported = refl;
+  imported-srgb = refl;
   exported = refl;
+  exported-under = refl;
+  exported-numbered = refl;
+  answered = refl;
   heads = refl;
   import-answers = refl;
   export-answers = refl;
+  numbered-answers = refl;
   lengths = refl;
 }

@@ -9,6 +9,7 @@ use Prim.Native.Nat.{ℕ, _<_}
 use native.Mathlib.Omega.{arith}
 use lib.ListN.{length}
 use Rattle.laws.specs.Refusals.{first}
+use Rattle.head_rules.specs.declared.ColourSpace.{ColourSpace}
 use Rattle.head_rules.specs.declared.Head.{Head}
 use Rattle.head_rules.specs.Heads.{SizedUpTo, limit, oldLimit, readHead, readHeadUpTo}
 use Rattle.head_rules.proofs.Heading.{size-0, size-9}
@@ -29,15 +30,15 @@ module _ (dds out : List ℕ) where
   unfolding importAfterUpTo importRefusalUpTo fileRefusalUpTo first
   old-console-imports-nothing t n = rw (t, size-9 oldLimit _ _ n) (refl, refl)
 
-module _ (s out : List ℕ) where
+module _ (s : List ℕ) (c : ColourSpace) (out : List ℕ) where
   pub stored-sheets-export : readHeadUpTo oldLimit s .refusal ≡ 0
       → (exportRefusal s (length out) ≡ exportRefusalBy (readHeadUpTo oldLimit s) s (length out))
-      × (exportAfter s out ≡ exportAfterBy (readHeadUpTo oldLimit s) s out)
+      × (exportAfter s c out ≡ exportAfterBy (readHeadUpTo oldLimit s) c s out)
   stored-sheets-export e =
       let k = stored-heads-keep s e in
-      (ap (λ (h : Head). exportRefusalBy h s (length out)) k, ap (λ (h : Head). exportAfterBy h s out) k)
+      (ap (λ (h : Head). exportRefusalBy h s (length out)) k, ap (λ (h : Head). exportAfterBy h c s out) k)
 
   pub old-console-exports-nothing : readHead s .refusal ≡ 0 → (oldLimit < readHead s .width) ⊎ (oldLimit < readHead s .height)
-      → (exportRefusalBy (readHeadUpTo oldLimit s) s (length out) ≡ 9) × (exportAfterBy (readHeadUpTo oldLimit s) s out ≡ out)
+      → (exportRefusalBy (readHeadUpTo oldLimit s) s (length out) ≡ 9) × (exportAfterBy (readHeadUpTo oldLimit s) c s out ≡ out)
   unfolding exportAfterBy exportRefusalBy wholeRefusalBy first
   old-console-exports-nothing e above = rw (old-console-refuses s e above) (refl, refl)

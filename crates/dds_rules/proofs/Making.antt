@@ -1,20 +1,23 @@
 -- The sheet that a file makes, and the file that a sheet makes: their heads, their lengths and their blocks; and the way back.
 -- Assumes nothing.
-use mathlib.Core.Path.{_≡_, _∙_, ap, ap₂, sym}
+use mathlib.Core.Path.{_≡_, refl, _∙_, ap, ap₂, sym}
 use mathlib.Core.List.{List, _++_}
-use Prim.Native.Nat.{ℕ, _≤_}
+use Prim.Native.Nat.{ℕ, _^_, _<_, _≤_}
 use native.Mathlib.Omega.{arith}
 use lib.Dec.{lit<}
 use lib.ListN.{length, drop, length-append, length-drop}
 use lib.Seq.{drop-append-seam, drop-at}
+use Rattle.head_rules.specs.declared.ColourSpace.{ColourSpace}
+use Rattle.head_rules.specs.declared.ColourSpace.the-variants.{Unspecified, Linear, Srgb}
 use Rattle.head_rules.specs.declared.Head.{Head}
-use Rattle.head_rules.specs.Geometry.{wholeLength}
-use Rattle.head_rules.specs.Heads.{Sized, headBytes, headOf, readHead}
+use Rattle.head_rules.specs.Geometry.{blocksOf, wholeLength}
+use Rattle.head_rules.specs.Heads.{Sized, headBytes, headOf, readHead, under}
 use Rattle.head_rules.specs.Numbers.{Bytes}
 use Rattle.head_rules.proofs.Theorems.{head-one-form, head-read-back}
 use Rattle.head_rules.proofs.Writing.{few, one-byte}
-use Rattle.dds_rules.specs.Header.{Texture, canonicalHeader, entries, fieldIn, headerLength, headerNumber, height, width}
-use Rattle.dds_rules.specs.Files.{fileLength, fileMade, fileMadeBy, headMade, sheetMade}
+use Rattle.dds_rules.specs.Header.{Texture, canonicalHeader, entries, fieldIn, format, formatOf, formatSays, headerLength, headerNumber}
+use Rattle.dds_rules.specs.Header.{height, width}
+use Rattle.dds_rules.specs.Files.{fileLength, fileMade, fileMadeBy, headMade, said, sheetMade}
 use Rattle.dds_rules.proofs.Refusing.{Taken, Whole}
 use Rattle.dds_rules.proofs.Numbers.{header-long, number-back}
 
@@ -22,6 +25,21 @@ use Rattle.dds_rules.proofs.Numbers.{header-long, number-back}
 pub head-short : (w h : ℕ) → length (headBytes w h) ≤ 7
 unfolding headBytes
 head-short w h = simp length-append (omega (arith, one-byte, few 3 w, few 3 h))
+
+-- the format that is written is one of the two, and says what `said` does
+format-one : (c : ColourSpace) → (98 ≤ formatOf c) × (formatOf c ≤ 99)
+format-one Unspecified = (omega arith, omega arith)
+format-one Linear = (omega arith, omega arith)
+format-one Srgb = (omega arith, omega arith)
+
+format-small : (c : ColourSpace) → formatOf c < 2 ^ 32
+format-small c = omega (arith, format-one c .1)
+
+format-said : (c : ColourSpace) → formatSays (formatOf c) ≡ said c
+unfolding formatSays
+format-said Unspecified = refl
+format-said Linear = refl
+format-said Srgb = refl
 
 -- THE SHEET OF A FILE
 module _ (dds : List ℕ) where
@@ -31,7 +49,7 @@ module _ (dds : List ℕ) where
   abbrev high : ℕ
   high = fieldIn dds height
 
-  pub sheet-head : Sized wide high → readHead (sheetMade dds) ≡ headMade dds
+  pub sheet-head : Sized wide high → readHead (sheetMade dds) ≡ under Unspecified (headMade dds)
   unfolding sheetMade headMade
   sheet-head z = head-read-back wide high z (drop headerLength dds)
 
@@ -45,21 +63,22 @@ module _ (dds : List ℕ) where
 
   -- so it is a whole sheet
   pub sheet-whole : Taken dds → Whole (sheetMade dds)
-  unfolding headMade
+  unfolding headMade blocksOf
   sheet-whole t = record {
     told = ap (λ (x : Head). x .refusal) (sheet-head (t .size));
     long = sheet-long (t .long) ∙ ap (λ (x : Head). wholeLength x) (sym (sheet-head (t .size)));
   }
 
   -- and its file has the header of its head, and the blocks of the first file
-  pub file-again : Sized wide high → fileMade (sheetMade dds) ≡ canonicalHeader (headMade dds) ++ drop headerLength dds
+  pub file-again : Sized wide high → (c : ColourSpace)
+      → fileMade (sheetMade dds) c ≡ canonicalHeader (under c (headMade dds)) ++ drop headerLength dds
   unfolding fileMadeBy
-  file-again z =
-      ap (λ (x : Head). canonicalHeader x ++ drop (x .start) (sheetMade dds)) (sheet-head z)
-      ∙ ap (λ (l : List ℕ). canonicalHeader (headMade dds) ++ l) sheet-blocks
+  file-again z c =
+      ap (λ (x : Head). canonicalHeader (under c x) ++ drop (x .start) (sheetMade dds)) (sheet-head z)
+      ∙ ap (λ (l : List ℕ). canonicalHeader (under c (headMade dds)) ++ l) sheet-blocks
 
 -- THE FILE OF A SHEET
-module _ (s : List ℕ) (y : Bytes s) (w : Whole s) where
+module _ (s : List ℕ) (y : Bytes s) (w : Whole s) (c : ColourSpace) where
   abbrev head : Head
   head = readHead s
 
@@ -74,54 +93,63 @@ module _ (s : List ℕ) (y : Bytes s) (w : Whole s) where
       let e = ap length spelt ∙ length-append (headBytes (head .width) (head .height)) (drop (head .start) s) in
       omega (arith, e, length-drop (head .start) s, w .long)
 
-  pub file-long : length (fileMade s) ≡ fileLength head
+  pub file-long : length (fileMade s c) ≡ fileLength head
   unfolding fileMadeBy
-  file-long = length-append (canonicalHeader head) (drop (head .start) s) ∙ omega (arith, header-long head, length-drop (head .start) s, w .long)
+  file-long =
+      length-append (canonicalHeader (under c head)) (drop (head .start) s)
+      ∙ omega (arith, header-long (under c head), length-drop (head .start) s, w .long)
 
   -- the file's fields
-  width-back : fieldIn (fileMade s) width ≡ head .width
+  width-back : fieldIn (fileMade s c) width ≡ head .width
   unfolding fileMadeBy headerNumber entries
-  width-back = number-back head (drop (head .start) s) 4 (lit< tt) (omega (arith, size .within-wide))
+  width-back = number-back (under c head) (drop (head .start) s) 4 (lit< tt) (omega (arith, size .within-wide))
 
-  height-back : fieldIn (fileMade s) height ≡ head .height
+  height-back : fieldIn (fileMade s c) height ≡ head .height
   unfolding fileMadeBy headerNumber entries
-  height-back = number-back head (drop (head .start) s) 3 (lit< tt) (omega (arith, size .within-high))
+  height-back = number-back (under c head) (drop (head .start) s) 3 (lit< tt) (omega (arith, size .within-high))
 
-  file-texture : Texture (fileMade s)
+  format-back : fieldIn (fileMade s c) format ≡ formatOf c
+  unfolding fileMadeBy headerNumber entries
+  format-back = number-back (under c head) (drop (head .start) s) 32 (lit< tt) (format-small c)
+
+  file-texture : Texture (fileMade s c)
   unfolding fileMadeBy headerNumber entries
   file-texture =
-      let back = number-back head (drop (head .start) s) in
+      let back = number-back (under c head) (drop (head .start) s) in
       record {
         long = omega (arith, file-long);
         magic-is = back 0 (lit< tt) (lit< tt);
         header-size-is = back 1 (lit< tt) (lit< tt);
         format-size-is = back 19 (lit< tt) (lit< tt);
         code-is = back 21 (lit< tt) (lit< tt);
-        format-from = omega (arith, back 32 (lit< tt) (lit< tt));
-        format-to = omega (arith, back 32 (lit< tt) (lit< tt));
+        format-from = rw format-back (format-one c .0);
+        format-to = rw format-back (format-one c .1);
         dimension-is = back 33 (lit< tt) (lit< tt);
         array-size-is = back 35 (lit< tt) (lit< tt);
         few-levels = omega (arith, back 7 (lit< tt) (lit< tt));
         no-cube = rw (back 34 (lit< tt) (lit< tt));
       }
 
-  -- its sheet has the head that the first sheet has, and is that sheet
-  pub head-again : headMade (fileMade s) ≡ head
+  -- its head is the first sheet's under what the format says, and its sheet is that sheet
+  pub head-again : headMade (fileMade s c) ≡ under (said c) head
   unfolding headMade
   head-again =
-      ap₂ (λ (a b : ℕ). headOf 0 a b (length (headBytes a b))) width-back height-back
-      ∙ ap₂ (λ (r n : ℕ). headOf r (head .width) (head .height) n) (sym (w .told)) (sym starts)
+      ap₂ (λ (a b : ℕ). under (formatSays (fieldIn (fileMade s c) format)) (headOf 0 a b (length (headBytes a b)))) width-back height-back
+      ∙ ap (λ (k : ColourSpace). under k (headOf 0 (head .width) (head .height) (length (headBytes (head .width) (head .height)))))
+      (ap formatSays format-back ∙ format-said c)
+      ∙ ap₂ (λ (r n : ℕ). under (said c) (headOf r (head .width) (head .height) n)) (sym (w .told)) (sym starts)
 
-  pub file-taken : Taken (fileMade s)
+  pub file-taken : Taken (fileMade s c)
+  unfolding blocksOf
   file-taken = record {
     texture = file-texture;
     size = rw (width-back, height-back) size;
     long = file-long ∙ ap fileLength (sym head-again);
   }
 
-  pub sheet-again : sheetMade (fileMade s) ≡ s
+  pub sheet-again : sheetMade (fileMade s c) ≡ s
   unfolding sheetMade fileMadeBy
   sheet-again =
       ap₂ (λ (b l : List ℕ). b ++ l) (ap₂ headBytes width-back height-back)
-      (drop-at (canonicalHeader head) (drop (head .start) s) headerLength (header-long head))
+      (drop-at (canonicalHeader (under c head)) (drop (head .start) s) headerLength (header-long (under c head)))
       ∙ sym spelt

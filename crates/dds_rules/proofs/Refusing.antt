@@ -1,23 +1,39 @@
 -- When a file and a sheet are refused, and what is known of those that are not.
 -- Assumes nothing.
-use mathlib.Core.Path.{_≡_}
+use mathlib.Core.Path.{_≡_, _∙_, ap, sym}
 use mathlib.Core.Logic.{_↔_, ⊎-elim}
 use mathlib.Core.Bool.{not}
 use mathlib.Core.List.{List, [], _∷_}
 use Prim.Native.Nat.{ℕ, _<_}
+use native.Mathlib.Decide.{ℕ-discrete}
 use native.Mathlib.Omega.{arith}
+use borrow.Author.Tests.{eq-eqb, ne-eqb}
 use lib.Dec.{eqb, lit<}
 use lib.ListN.{length}
+use Rattle.head_rules.specs.declared.Head.{Head}
 use Rattle.head_rules.specs.Geometry.{wholeLength}
-use Rattle.head_rules.specs.Heads.{Sized, limit, readHead}
+use Rattle.head_rules.specs.Heads.{Sized, headOf, limit, readHead}
 use Rattle.head_rules.proofs.Heading.{size-test}
 use Rattle.head_rules.proofs.Theorems.{head-answers}
 use Rattle.laws.specs.Refusals.{Given, Rule, accepted, first, handed, here, refuse, then, unless}
 use Rattle.laws.proofs.Refusals.{Answers, accepted-when, answers, by-answer, by-not-eqb, exactly, none, rule, rules}
 use Rattle.dds_rules.specs.Header.{Another, Texture, fieldIn, height, width}
-use Rattle.dds_rules.specs.Files.{exportRefusal, exportRefusalBy, exportRules, fileLength, fileRefusal, fileRefusalUpTo, fileRules, headMade, importRefusal, importRefusalUpTo, importRules}
-use Rattle.dds_rules.specs.Files.{wholeRefusal, wholeRefusalBy, wholeRules}
+use Rattle.dds_rules.specs.Files.{exportRefusal, exportRefusalBy, exportRules, fileLength, fileRefusal, fileRefusalUpTo, fileRules, headMade}
+use Rattle.dds_rules.specs.Files.{importRefusal, importRefusalUpTo, importRules}
+use Rattle.dds_rules.specs.Files.{headAs, wholeRefusal, wholeRefusalBy, wholeRules}
 use Rattle.dds_rules.proofs.Textures.{not-both, texture-test, whether}
+
+-- what a head says that was answered: the number, and where it is 0 the head
+module _ (r : ℕ) (h : Head) (same : r ≡ 0 → h .refusal ≡ 0) {x : Head} (e : x ≡ headAs r h) where
+  abbrev Told : Type 0
+  Told = (x .refusal ≡ r) × (r ≡ 0 → x ≡ h)
+
+  pub head-told : Told
+  head-told = go (ℕ-discrete r 0)
+    where
+      go : Dec (r ≡ 0) → Told
+      go (yes z) = let k : x ≡ h = e ∙ rw (eq-eqb r 0 z) in (ap (λ (y : Head). y .refusal) k ∙ same z ∙ sym z, λ q. k)
+      go (no n) = let k : x ≡ headOf r 0 0 0 = e ∙ rw (ne-eqb r 0 n) in (ap (λ (y : Head). y .refusal) k, λ q. absurd (n q))
 
 -- each test and its rule
 pub file-rules : (dds : List ℕ) → Answers (fileRefusal dds) (fileRules dds)

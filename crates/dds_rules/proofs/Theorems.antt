@@ -1,7 +1,7 @@
 -- IMPORT AND EXPORT, in one place: there and back, block by block, and each refusal exactly when. `Bytes s` says that s is a list of bytes,
 -- which each slice of the code is.
 -- Assumes nothing.
-use mathlib.Core.Path.{_≡_, _∙_, ap, sym}
+use mathlib.Core.Path.{_≡_, refl, _∙_, ap, sym}
 use mathlib.Core.Logic.{_↔_, _≢_}
 use mathlib.Core.List.{List, _++_}
 use Prim.Native.Nat.{ℕ, _+_, _*_}
@@ -9,17 +9,23 @@ use borrow.Author.Tests.{ne-eqb}
 use lib.ListN.{length, drop, take, take-append-drop}
 use lib.Seq.{drop-drop}
 use Rattle.dds_rules.specs.declared.Length.{Length}
+use Rattle.head_rules.specs.declared.ColourSpace.{ColourSpace}
+use Rattle.head_rules.specs.declared.ColourSpace.the-variants.{Unspecified, Linear, Srgb}
 use Rattle.head_rules.specs.declared.Head.{Head}
 use Rattle.head_rules.specs.Geometry.{blocksOf, placeOf}
-use Rattle.head_rules.specs.Heads.{readHead}
+use Rattle.head_rules.specs.Heads.{headOf, readHead, under}
 use Rattle.head_rules.specs.Numbers.{Bytes}
 use Rattle.laws.specs.Refusals.{Given}
 use Rattle.laws.proofs.Refusals.{answer-0, exactly}
 use Rattle.dds_rules.specs.Header.{Another, canonicalHeader, headerLength}
-use Rattle.dds_rules.specs.Files.{exportAfter, exportAfterBy, exportLength, exportRefusal, exportRules, fileLength, fileMade, fileRules, headMade}
-use Rattle.dds_rules.specs.Files.{importAfter, importAfterUpTo, importLength, importRefusal, importRules, sheetMade, wholeRules}
-use Rattle.dds_rules.specs.Promises.{ExportNeeds, Exports, ImportNeeds, Imports}
-use Rattle.dds_rules.proofs.Refusing.{export-rules, exported-when, fifteen, file-rules, import-rules, imported-when, taken, taken-so, whole}
+use Rattle.dds_rules.specs.Files.{exportAfter, exportAfterBy, exportLength, exportRefusal, exportRules, fileLength, fileMade, fileRules}
+use Rattle.dds_rules.specs.Files.{headMade}
+use Rattle.dds_rules.specs.Files.{importAfter, importAfterUpTo, importAnswer, importLength, importRefusal, importRules, numberedAfter}
+use Rattle.dds_rules.specs.Files.{numberedRefusal, numberedRules, said, sheetMade, wholeRules}
+use Rattle.dds_rules.specs.Promises.{ExportNeeds, Exports, ExportsNumbered, ImportNeeds, Imports}
+use Rattle.dds_rules.proofs.Numbered.{numbered-rules}
+use Rattle.dds_rules.proofs.Refusing.{export-rules, exported-when, fifteen, file-rules, head-told, import-rules, imported-when, taken}
+use Rattle.dds_rules.proofs.Refusing.{taken-so, whole}
 use Rattle.dds_rules.proofs.Refusing.{whole-rules, whole-so}
 use Rattle.dds_rules.proofs.Making.{file-again, file-taken, head-again, sheet-again, sheet-blocks, sheet-head, sheet-whole}
 
@@ -28,44 +34,84 @@ imported-is : (dds out : List ℕ) → importRefusal dds (length out) ≡ 0 → 
 unfolding importAfterUpTo
 imported-is dds out e = answer-0 (sheetMade dds) out e
 
-exported-is : (s out : List ℕ) → exportRefusal s (length out) ≡ 0 → exportAfter s out ≡ fileMade s
+exported-is : (s : List ℕ) (c : ColourSpace) (out : List ℕ) → exportRefusal s (length out) ≡ 0 → exportAfter s c out ≡ fileMade s c
 unfolding exportAfterBy
-exported-is s out e = answer-0 (fileMade s) out e
+exported-is s c out e = answer-0 (fileMade s c) out e
 
--- THERE AND BACK: a sheet that was exported is imported again, and restored byte for byte, whatever stood in the outputs
-pub import-exported : (s : List ℕ) → Bytes s → (out back : List ℕ) → exportRefusal s (length out) ≡ 0 → length back ≡ length s
-    → (importRefusal (exportAfter s out) (length back) ≡ 0) × (importAfter (exportAfter s out) back ≡ s)
-import-exported s y out back e l =
-    let w = whole s (exported-when s (length out) .0 e .0) in
-    let again : importRefusal (fileMade s) (length back) ≡ 0 = imported-when (fileMade s) (length back) .1
-    (taken-so (fileMade s) (file-taken s y w), l ∙ w .long ∙ ap (λ (h : Head). h .start + 16 * blocksOf h) (sym (head-again s y w))) in
-    rw (exported-is s out e) (again, imported-is (fileMade s) back again ∙ sheet-again s y w)
+-- what import answers: its refusal, and the head that the file makes; or the refusal and nothing else
+pub import-answers : (dds : List ℕ) (room : ℕ) → importAnswer dds room .refusal ≡ importRefusal dds room
+unfolding importAnswer headMade
+import-answers dds room = head-told (importRefusal dds room) (headMade dds) (λ z. refl) refl .0
+
+pub import-answers-head : (dds : List ℕ) (room : ℕ) → importRefusal dds room ≡ 0 → importAnswer dds room ≡ headMade dds
+unfolding importAnswer
+import-answers-head dds room e = answer-0 (headMade dds) _ e
+
+pub refused-import-answers-none : (dds : List ℕ) (room : ℕ) → importRefusal dds room ≢ 0
+    → importAnswer dds room ≡ headOf (importRefusal dds room) 0 0 0
+unfolding importAnswer
+refused-import-answers-none dds room ne = rw (ne-eqb (importRefusal dds room) 0 ne)
+
+-- THERE AND BACK: a sheet that was exported, under whichever colour space, is imported again, and restored byte for byte, whatever stood in
+-- the outputs
+module _ (s : List ℕ) (y : Bytes s) (c : ColourSpace) (out back : List ℕ) (e : exportRefusal s (length out) ≡ 0) (l : length back ≡ length s) where
+  again : importRefusal (fileMade s c) (length back) ≡ 0
+  unfolding blocksOf
+  again =
+      let w = whole s (exported-when s (length out) .0 e .0) in
+      imported-when (fileMade s c) (length back) .1
+      (taken-so (fileMade s c) (file-taken s y w c), l ∙ w .long ∙ ap (λ (h : Head). h .start + 16 * blocksOf h) (sym (head-again s y w c)))
+
+  pub import-exported : (importRefusal (exportAfter s c out) (length back) ≡ 0) × (importAfter (exportAfter s c out) back ≡ s)
+  import-exported =
+      let w = whole s (exported-when s (length out) .0 e .0) in
+      rw (exported-is s c out e) (again, imported-is (fileMade s c) back again ∙ sheet-again s y w c)
+
+  -- and import answers its head, with the colour space that was given; but unspecified comes back as linear
+  pub head-exported : importAnswer (exportAfter s c out) (length back) ≡ under (said c) (readHead s)
+  head-exported =
+      let w = whole s (exported-when s (length out) .0 e .0) in
+      rw (exported-is s c out e) (import-answers-head (fileMade s c) (length back) again ∙ head-again s y w c)
+
+pub colour-comes-back : (c : ColourSpace) → c ≢ Unspecified → said c ≡ c
+colour-comes-back Unspecified n = absurd (n refl)
+colour-comes-back Linear n = refl
+colour-comes-back Srgb n = refl
+
+pub unspecified-comes-back-linear : said Unspecified ≡ Linear
+unspecified-comes-back-linear = refl
 
 -- AND BACK AGAIN: a file that was imported is exported again, with the header that export writes and the same blocks
-pub export-imported : (dds out back : List ℕ) → importRefusal dds (length out) ≡ 0 → length back ≡ length dds
+pub export-imported : (dds out : List ℕ) (c : ColourSpace) (back : List ℕ) → importRefusal dds (length out) ≡ 0 → length back ≡ length dds
     → (exportRefusal (importAfter dds out) (length back) ≡ 0)
-    × (exportAfter (importAfter dds out) back ≡ canonicalHeader (headMade dds) ++ drop headerLength dds)
-export-imported dds out back e l =
+    × (exportAfter (importAfter dds out) c back ≡ canonicalHeader (under c (headMade dds)) ++ drop headerLength dds)
+unfolding blocksOf
+export-imported dds out c back e l =
     let t = taken dds (imported-when dds (length out) .0 e .0) in
     let again : exportRefusal (sheetMade dds) (length back) ≡ 0 = exported-when (sheetMade dds) (length back) .1
     (whole-so (sheetMade dds) (sheet-whole dds t), l ∙ t .long ∙ ap fileLength (sym (sheet-head dds (t .size)))) in
-    rw (imported-is dds out e) (again, exported-is (sheetMade dds) back again ∙ file-again dds (t .size))
+    rw (imported-is dds out e) (again, exported-is (sheetMade dds) c back again ∙ file-again dds (t .size) c)
 
--- so byte for byte the file itself, where its header was as export writes it
+-- so byte for byte the file itself, where its header was as export writes it and the colour space is the one that import answered
 pub canonical-restored : (dds out back : List ℕ) → importRefusal dds (length out) ≡ 0 → length back ≡ length dds
-    → take headerLength dds ≡ canonicalHeader (headMade dds) → exportAfter (importAfter dds out) back ≡ dds
+    → take headerLength dds ≡ canonicalHeader (headMade dds) → exportAfter (importAfter dds out) (headMade dds .«colour_space») back ≡ dds
 canonical-restored dds out back e l c =
-    export-imported dds out back e l .1 ∙ ap (λ (h : List ℕ). h ++ drop headerLength dds) (sym c) ∙ take-append-drop headerLength dds
+    export-imported dds out (headMade dds .«colour_space») back e l .1 ∙ ap (λ (h : List ℕ). h ++ drop headerLength dds) (sym c)
+    ∙ take-append-drop headerLength dds
 
--- the head of the imported sheet is the one that the file makes, and its block b is the sixteen bytes at 148 + 16 b
-pub head-imported : (dds out : List ℕ) → importRefusal dds (length out) ≡ 0 → readHead (importAfter dds out) ≡ headMade dds
-head-imported dds out e = rw (imported-is dds out e) (sheet-head dds (taken dds (imported-when dds (length out) .0 e .0) .size))
+-- the head of the imported sheet is the one that import answers, but for the colour space, and its block b is the sixteen bytes at 148 + 16 b
+head-made : (dds out : List ℕ) → importRefusal dds (length out) ≡ 0 → readHead (importAfter dds out) ≡ under Unspecified (headMade dds)
+head-made dds out e = rw (imported-is dds out e) (sheet-head dds (taken dds (imported-when dds (length out) .0 e .0) .size))
+
+pub head-imported : (dds out : List ℕ) → importRefusal dds (length out) ≡ 0
+    → readHead (importAfter dds out) ≡ under Unspecified (importAnswer dds (length out))
+head-imported dds out e = head-made dds out e ∙ ap (under Unspecified) (sym (import-answers-head dds (length out) e))
 
 pub block-imported : (dds out : List ℕ) (b : ℕ) → importRefusal dds (length out) ≡ 0
     → take 16 (drop (placeOf (readHead (importAfter dds out)) b) (importAfter dds out)) ≡ take 16 (drop (headerLength + 16 * b) dds)
 unfolding placeOf
 block-imported dds out b e =
-    rw (head-imported dds out e, imported-is dds out e)
+    rw (head-made dds out e, imported-is dds out e)
     (ap (take 16)
     (sym (drop-drop (16 * b) (headMade dds .start) (sheetMade dds)) ∙ ap (drop (16 * b)) (sheet-blocks dds) ∙ drop-drop (16 * b) headerLength dds))
 
@@ -75,6 +121,10 @@ import-refused-when dds room = exactly (import-rules dds room)
 
 pub export-refused-when : (s : List ℕ) (room n : ℕ) → (exportRefusal s room ≡ n) ↔ Given (exportRules s room) n
 export-refused-when s room = exactly (export-rules s room)
+
+-- 18 stands behind 7 and 8 and before 9 (`numberedRules`)
+pub numbered-refused-when : (s : List ℕ) (n room m : ℕ) → (numberedRefusal s n room ≡ m) ↔ Given (numberedRules s n room) m
+numbered-refused-when s n room = exactly (numbered-rules s n room)
 
 -- 15 field by field: exactly when there are fewer than 148 bytes, or one of the fields that the request names is another
 pub fifteen-when : (dds : List ℕ) (room : ℕ) → (importRefusal dds room ≡ 15) ↔ Another dds
@@ -109,20 +159,34 @@ export-length-serves s room =
     )
 
 -- a refused call leaves the output as it was
-pub refused-import-leaves : (dds before : List ℕ) (answer : ℕ) (after : List ℕ) → Imports dds before answer after → answer ≢ 0 → after ≡ before
+pub refused-import-leaves : (dds before : List ℕ) (answer : Head) (after : List ℕ) → Imports dds before answer after → answer .refusal ≢ 0
+    → after ≡ before
 unfolding importAfterUpTo
-refused-import-leaves dds before answer after p ne = p .1 ∙ rw (ne-eqb (importRefusal dds (length before)) 0 (λ e. ne (p .0 ∙ e)))
+refused-import-leaves dds before answer after p ne =
+    p .1 ∙ rw (ne-eqb (importRefusal dds (length before)) 0
+    (λ e. ne (ap (λ (h : Head). h .refusal) (p .0) ∙ import-answers dds (length before) ∙ e)))
 
-pub refused-export-leaves : (s before : List ℕ) (answer : ℕ) (after : List ℕ) → Exports s before answer after → answer ≢ 0 → after ≡ before
+pub refused-export-leaves : (s : List ℕ) (c : ColourSpace) (before : List ℕ) (answer : ℕ) (after : List ℕ) → Exports s c before answer after
+    → answer ≢ 0 → after ≡ before
 unfolding exportAfterBy
-refused-export-leaves s before answer after p ne = p .1 ∙ rw (ne-eqb (exportRefusal s (length before)) 0 (λ e. ne (p .0 ∙ e)))
+refused-export-leaves s c before answer after p ne = p .1 ∙ rw (ne-eqb (exportRefusal s (length before)) 0 (λ e. ne (p .0 ∙ e)))
+
+pub refused-numbered-leaves : (s : List ℕ) (n : ℕ) (before : List ℕ) (answer : ℕ) (after : List ℕ) → ExportsNumbered s n before answer after
+    → answer ≢ 0 → after ≡ before
+unfolding numberedAfter
+refused-numbered-leaves s n before answer after p ne = p .1 ∙ rw (ne-eqb (numberedRefusal s n (length before)) 0 (λ e. ne (p .0 ∙ e)))
 
 -- any two results that a promise admits coincide
-pub determined-import : (dds before : List ℕ) (a b : ℕ) (x y : List ℕ) → Imports dds before a x → Imports dds before b y → (a ≡ b) × (x ≡ y)
+pub determined-import : (dds before : List ℕ) (a b : Head) (x y : List ℕ) → Imports dds before a x → Imports dds before b y → (a ≡ b) × (x ≡ y)
 determined-import dds before a b x y p q = (p .0 ∙ sym (q .0), p .1 ∙ sym (q .1))
 
-pub determined-export : (s before : List ℕ) (a b : ℕ) (x y : List ℕ) → Exports s before a x → Exports s before b y → (a ≡ b) × (x ≡ y)
-determined-export s before a b x y p q = (p .0 ∙ sym (q .0), p .1 ∙ sym (q .1))
+pub determined-export : (s : List ℕ) (c : ColourSpace) (before : List ℕ) (a b : ℕ) (x y : List ℕ) → Exports s c before a x → Exports s c before b y
+    → (a ≡ b) × (x ≡ y)
+determined-export s c before a b x y p q = (p .0 ∙ sym (q .0), p .1 ∙ sym (q .1))
+
+pub determined-export-numbered : (s : List ℕ) (n : ℕ) (before : List ℕ) (a b : ℕ) (x y : List ℕ) → ExportsNumbered s n before a x
+    → ExportsNumbered s n before b y → (a ≡ b) × (x ≡ y)
+determined-export-numbered s n before a b x y p q = (p .0 ∙ sym (q .0), p .1 ∙ sym (q .1))
 
 pub determined-import-length : (dds : List ℕ) (a b : Length) → ImportNeeds dds a → ImportNeeds dds b → a ≡ b
 determined-import-length dds a b p q = p ∙ sym q

@@ -1,29 +1,38 @@
 -- IMPORT AND EXPORT: what a DDS file becomes as a sheet, and a sheet as a DDS file; why either is refused, and how long the output has to be.
 -- Assumes nothing.
-use Prim.Native.Nat.{ℕ, _+_, _*_}
+use Prim.Native.Nat.{ℕ, _+_, _*_, _≤_}
 use mathlib.Core.Path.{_≡_}
 use mathlib.Core.Bool.{not}
 use mathlib.Core.List.{List, [], _∷_, _++_}
 use lib.Dec.{eqb}
 use lib.ListN.{length, drop}
 use Rattle.dds_rules.specs.declared.Length.{Length}
+use Rattle.head_rules.specs.declared.ColourSpace.{ColourSpace}
+use Rattle.head_rules.specs.declared.ColourSpace.the-variants.{Unspecified, Linear, Srgb}
 use Rattle.head_rules.specs.declared.Head.{Head}
+use Rattle.head_rules.specs.Colours.{colourOf, colourRefusal}
 use Rattle.head_rules.specs.Geometry.{blocksOf, wholeLength}
-use Rattle.head_rules.specs.Heads.{Sized, formIn, headBytes, headOf, headRules, heightIn, limit, readHead, sizeRefusalUpTo, widthIn}
-use Rattle.laws.specs.Refusals.{Rule, first, refuse, unless}
+use Rattle.head_rules.specs.Heads.{Sized, form, formIn, headBytes, headOf, headRules, heightIn, limit, readHead, sizeRefusal, sizeRefusalUpTo, under}
+use Rattle.head_rules.specs.Heads.{widthIn}
+use Rattle.laws.specs.Refusals.{Rule, first, handed, refuse, unless}
 use Rattle.laws.specs.Tables.{pick}
-use Rattle.dds_rules.specs.Header.{Texture, canonicalHeader, fieldIn, headerLength, height, isTexture, width}
+use Rattle.dds_rules.specs.Header.{Texture, canonicalHeader, fieldIn, format, formatSays, headerLength, height, isTexture, width}
 
 -- the bytes of a DDS file with the blocks of a sheet whose head is h
 abbrev pub fileLength : Head → ℕ
 fileLength h = headerLength + 16 * blocksOf h
 
--- IMPORT. The head of the sheet that a file makes: the file's sides, and the first block behind the bytes that writing them gives
+-- a head, or the refusal and zeros
+abbrev pub headAs : ℕ → Head → Head
+headAs r h = pick (eqb r 0) h (headOf r 0 0 0)
+
+-- IMPORT. The head that a file makes: the file's sides, the first block behind the bytes that writing them gives, and the colour space that
+-- the format says
 unfoldable pub headMade : List ℕ → Head
 headMade dds =
     let w = fieldIn dds width in
     let h = fieldIn dds height in
-    headOf 0 w h (length (headBytes w h))
+    under (formatSays (fieldIn dds format)) (headOf 0 w h (length (headBytes w h)))
 
 -- the sheet: its head, then the blocks as they stand in the file
 unfoldable pub sheetMade : List ℕ → List ℕ
@@ -47,15 +56,18 @@ importRefusalUpTo top dds room = first (fileRefusalUpTo top dds ∷ refuse 11 (n
 abbrev pub importRefusal : List ℕ → ℕ → ℕ
 importRefusal dds room = importRefusalUpTo limit dds room
 
--- the output afterwards
+-- the answer, and the output afterwards
+unfoldable pub importAnswer : List ℕ → ℕ → Head
+importAnswer dds room = headAs (importRefusal dds room) (headMade dds)
+
 unfoldable pub importAfterUpTo : ℕ → List ℕ → List ℕ → List ℕ
 importAfterUpTo top dds out = pick (eqb (importRefusalUpTo top dds (length out)) 0) (sheetMade dds) out
 
 abbrev pub importAfter : List ℕ → List ℕ → List ℕ
 importAfter dds out = importAfterUpTo limit dds out
 
--- EXPORT of a sheet whose head was read as h, by whatever limit. 7, 8, 9 of the head, then 10, whatever the output; then 11, by the
--- output's length
+-- EXPORT under a colour space, of a sheet whose head was read as h, by whatever limit. 7, 8, 9 of the head, then 10, whatever the output;
+-- then 11, by the output's length
 unfoldable pub wholeRefusalBy : Head → List ℕ → ℕ
 wholeRefusalBy h s = first (h .refusal ∷ refuse 10 (not (eqb (length s) (wholeLength h))) ∷ [])
 
@@ -69,18 +81,41 @@ abbrev pub exportRefusal : List ℕ → ℕ → ℕ
 exportRefusal s room = exportRefusalBy (readHead s) s room
 
 -- the file: the header, then the blocks as they stand in the sheet
-unfoldable pub fileMadeBy : Head → List ℕ → List ℕ
-fileMadeBy h s = canonicalHeader h ++ drop (h .start) s
+unfoldable pub fileMadeBy : Head → ColourSpace → List ℕ → List ℕ
+fileMadeBy h c s = canonicalHeader (under c h) ++ drop (h .start) s
 
-abbrev pub fileMade : List ℕ → List ℕ
-fileMade s = fileMadeBy (readHead s) s
+abbrev pub fileMade : List ℕ → ColourSpace → List ℕ
+fileMade s c = fileMadeBy (readHead s) c s
 
 -- the output afterwards
-unfoldable pub exportAfterBy : Head → List ℕ → List ℕ → List ℕ
-exportAfterBy h s out = pick (eqb (exportRefusalBy h s (length out)) 0) (fileMadeBy h s) out
+unfoldable pub exportAfterBy : Head → ColourSpace → List ℕ → List ℕ → List ℕ
+exportAfterBy h c s out = pick (eqb (exportRefusalBy h s (length out)) 0) (fileMadeBy h c s) out
 
-abbrev pub exportAfter : List ℕ → List ℕ → List ℕ
-exportAfter s out = exportAfterBy (readHead s) s out
+abbrev pub exportAfter : List ℕ → ColourSpace → List ℕ → List ℕ
+exportAfter s c out = exportAfterBy (readHead s) c s out
+
+-- what a file says that was exported under a colour space: unspecified comes back as linear
+abbrev pub said : ColourSpace → ColourSpace
+said Unspecified = Linear
+said Linear = Linear
+said Srgb = Srgb
+
+-- EXPORT UNDER A NUMBER, as C gives the colour space: 18 where it has none, behind 7 and 8 and before 9; otherwise as export
+unfoldable pub numberedRefusal : List ℕ → ℕ → ℕ → ℕ
+numberedRefusal s n room =
+    first
+    (formIn s .refusal
+    ∷ refuse 8 (not (eqb (formIn s .value) form))
+    ∷ widthIn s .refusal
+    ∷ heightIn s .refusal
+    ∷ colourRefusal n
+    ∷ sizeRefusal (widthIn s .value) (heightIn s .value)
+    ∷ refuse 10 (not (eqb (length s) (wholeLength (readHead s))))
+    ∷ refuse 11 (not (eqb room (fileLength (readHead s))))
+    ∷ [])
+
+unfoldable pub numberedAfter : List ℕ → ℕ → List ℕ → List ℕ
+numberedAfter s n out = pick (eqb (numberedRefusal s n (length out)) 0) (fileMade s (colourOf n)) out
 
 -- HOW LONG THE OUTPUT HAS TO BE: refused as the call itself is, but for 11
 abbrev pub lengthAs : ℕ → ℕ → Length
@@ -92,10 +127,7 @@ importLength dds = lengthAs (fileRefusal dds) (wholeLength (headMade dds))
 unfoldable pub exportLength : List ℕ → Length
 exportLength s = lengthAs (wholeRefusal s) (fileLength (readHead s))
 
--- what is known of a file and of a sheet before the output is looked at: the head, or the refusal and zeros
-abbrev pub headAs : ℕ → Head → Head
-headAs r h = pick (eqb r 0) h (headOf r 0 0 0)
-
+-- what is known of a file and of a sheet before the output is looked at
 unfoldable pub importHead : List ℕ → Head
 importHead dds = headAs (fileRefusal dds) (headMade dds)
 
@@ -118,3 +150,15 @@ wholeRules s = headRules (formIn s) (widthIn s) (heightIn s) ++ (unless 10 (leng
 
 abbrev pub exportRules : List ℕ → ℕ → List Rule
 exportRules s room = wholeRules s ++ (unless 11 (room ≡ fileLength (readHead s)) ∷ [])
+
+abbrev pub numberedRules : List ℕ → ℕ → ℕ → List Rule
+numberedRules s n room =
+    handed (formIn s .refusal) ∷
+    unless 8 (formIn s .value ≡ form) ∷
+    handed (widthIn s .refusal) ∷
+    handed (heightIn s .refusal) ∷
+    unless 18 (n ≤ 2) ∷
+    unless 9 (Sized (widthIn s .value) (heightIn s .value)) ∷
+    unless 10 (length s ≡ wholeLength (readHead s)) ∷
+    unless 11 (room ≡ fileLength (readHead s)) ∷
+    []

@@ -8,6 +8,8 @@ use mathlib.Core.Bool.{Bool}
 use mathlib.Core.List.{List, [], _∷_}
 use lib.Dec.{eqb, leb}
 use lib.ListN.{length, getD}
+use Rattle.head_rules.specs.declared.ColourSpace.{ColourSpace}
+use Rattle.head_rules.specs.declared.ColourSpace.the-variants.{Unspecified, Linear, Srgb}
 use Rattle.head_rules.specs.declared.Head.{Head}
 use Rattle.head_rules.specs.Geometry.{blocksOf}
 use Rattle.laws.specs.Digits.{evenly}
@@ -104,6 +106,15 @@ ddsMagic = 0x20534444
 abbrev pub dx10Code : ℕ
 dx10Code = 0x30315844
 
+-- THE FORMAT AND THE COLOUR SPACE: which of BC7's two formats export writes under each, and what a file's format says
+abbrev pub formatOf : ColourSpace → ℕ
+formatOf Unspecified = 98
+formatOf Linear = 98
+formatOf Srgb = 99
+
+unfoldable pub formatSays : ℕ → ColourSpace
+formatSays n = pick (eqb n 99) Srgb Linear
+
 unfoldable pub entries : Head → List Entry
 entries h =
     is magic ddsMagic ∷
@@ -117,7 +128,7 @@ entries h =
     is formatFlags 4 ∷
     is formatCode dx10Code ∷
     is caps 0x1000 ∷
-    is format 98 ∷
+    is format (formatOf (h .«colour_space»)) ∷
     is dimension 3 ∷
     is arraySize 1 ∷
     []

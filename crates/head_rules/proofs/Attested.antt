@@ -4,12 +4,15 @@ use mathlib.Core.Path.{_≡_, refl}
 use mathlib.Core.List.{List, [], _∷_, map}
 use Prim.Native.Nat.{ℕ}
 use Rattle.head_rules.specs.declared.Number.{Number}
+use Rattle.head_rules.specs.declared.ColourSpace.{ColourSpace}
+use Rattle.head_rules.specs.declared.ColourSpace.the-variants.{Unspecified, Linear, Srgb}
 use Rattle.head_rules.specs.declared.Head.{Head}
 use Rattle.head_rules.specs.declared.HeadBytes.{HeadBytes}
 use Rattle.laws.specs.Padding.{padded}
 use Rattle.laws.specs.Refusals.{first}
-use Rattle.head_rules.specs.Heads.{formIn, headBytes, headRefusalUpTo, heightIn, oldLimit, readHead, readHeadUpTo, sizeRefusalUpTo}
-use Rattle.head_rules.specs.Heads.{widthIn, writeHead}
+use Rattle.head_rules.specs.Colours.{colourNumber, colourOf, colourRefusal}
+use Rattle.head_rules.specs.Heads.{bytesOfHead, formIn, headBytes, headRefusalUpTo, heightIn, oldLimit, readHead, readHeadUpTo, sizeRefusalUpTo}
+use Rattle.head_rules.specs.Heads.{under, widthIn, writeHead}
 use Rattle.head_rules.specs.declared.Stage.the-variants.{Width}
 use Rattle.head_rules.specs.Geometry.{across, blocksOf, outLength, placeOf, rowLength, sideShown, wholeLength}
 use Rattle.head_rules.specs.Reader.{Reading, atForm, byteTaken, formTaken, groupTaken, heightTaken, lastTaken, readBy}
@@ -22,12 +25,16 @@ number n next = record { refusal = 0; value = n; next = next }
 abbrev none : Number
 none = record { refusal = 7; value = 0; next = 0 }
 
--- a head that was read, and one that was not
+-- a head that was read, and one that was not: form 1 says nothing of the colour space
 abbrev head : ℕ → ℕ → ℕ → Head
-head w h start = record { refusal = 0; width = w; height = h; start = start }
+head w h start = record { refusal = 0; width = w; height = h; start = start; «colour_space» = Unspecified }
 
 abbrev noHead : ℕ → Head
-noHead r = record { refusal = r; width = 0; height = 0; start = 0 }
+noHead r = record { refusal = r; width = 0; height = 0; start = 0; «colour_space» = Unspecified }
+
+-- a head that says something of it
+abbrev headSrgb : Head
+headSrgb = record { refusal = 0; width = 5; height = 6; start = 3; «colour_space» = Srgb }
 
 -- what was read byte by byte, and the bytes behind it
 abbrev reading : Head → List ℕ → Reading
@@ -57,6 +64,12 @@ pub record Heads : Type 0 where
       ≡ written 0 (0x01 ∷ 0x05 ∷ 0x06 ∷ 0 ∷ 0 ∷ 0 ∷ 0 ∷ []) 3 ∷ written 0 (0x01 ∷ 0x80 ∷ 0x80 ∷ 0x01 ∷ 0x80 ∷ 0x80 ∷ 0x01 ∷ []) 7 ∷
       written 9 (0 ∷ 0 ∷ 0 ∷ 0 ∷ 0 ∷ 0 ∷ 0 ∷ []) 0 ∷ written 9 (0 ∷ 0 ∷ 0 ∷ 0 ∷ 0 ∷ 0 ∷ 0 ∷ []) 0 ∷ written 9 (0 ∷ 0 ∷ 0 ∷ 0 ∷ 0 ∷ 0 ∷ 0 ∷ []) 0 ∷
       []
+  -- 0 unspecified, 1 linear, 2 sRGB, and no number above; the bytes of a head, whatever is said of its colours
+  pub colours-numbered : map colourNumber (Unspecified ∷ Linear ∷ Srgb ∷ []) ≡ 0 ∷ 1 ∷ 2 ∷ []
+  pub colours-of-numbers : map colourOf (0 ∷ 1 ∷ 2 ∷ []) ≡ Unspecified ∷ Linear ∷ Srgb ∷ []
+  pub colours-refused : map colourRefusal (0 ∷ 1 ∷ 2 ∷ 3 ∷ 256 ∷ 4294967295 ∷ []) ≡ 0 ∷ 0 ∷ 0 ∷ 18 ∷ 18 ∷ 18 ∷ []
+  pub colours-said : map (λ (c : ColourSpace). under c (head 5 6 3)) (Unspecified ∷ Srgb ∷ []) ≡ head 5 6 3 ∷ headSrgb ∷ []
+  pub colours-forgotten : map bytesOfHead (head 5 6 3 ∷ headSrgb ∷ []) ≡ (0x01 ∷ 0x05 ∷ 0x06 ∷ []) ∷ (0x01 ∷ 0x05 ∷ 0x06 ∷ []) ∷ []
   -- behind 01 and 85: the width is to come, 5 is its low group, and the form ended at 1
   pub a-state : byteTaken (byteTaken atForm 0x01) 0x85 ≡ record { stage = Width; low = 5; groups = 1; head = head 0 0 1 }
   pub heads-by-bytes : map (readBy atForm)
@@ -72,13 +85,18 @@ pub record Heads : Type 0 where
 
 pub heads-hold : Heads
 unfolding groups readGroups readNumber raised readHeadUpTo headRefusalUpTo formIn widthIn heightIn first sizeRefusalUpTo writeHead headBytes padded formTaken
-    heightTaken lastTaken groupTaken readBy blocksOf placeOf
+    heightTaken lastTaken groupTaken readBy blocksOf placeOf colourOf colourRefusal
 heads-hold = record {
   numbers-written = refl;
   numbers-read = refl;
   heads-read = refl;
   heads-read-before = refl;
   heads-written = refl;
+  colours-numbered = refl;
+  colours-of-numbers = refl;
+  colours-refused = refl;
+  colours-said = refl;
+  colours-forgotten = refl;
   a-state = refl;
   heads-by-bytes = refl;
   rounded-up = refl;

@@ -10,18 +10,20 @@ use native.Mathlib.Omega.{arith}
 use lib.ListN.{length, drop, length-append}
 use lib.Seq.{drop-drop, drop-append-seam, getD-drop}
 use Rattle.head_rules.specs.declared.Number.{Number}
+use Rattle.head_rules.specs.declared.ColourSpace.{ColourSpace}
+use Rattle.head_rules.specs.declared.ColourSpace.the-variants.{Unspecified}
 use Rattle.head_rules.specs.declared.Head.{Head}
 use Rattle.head_rules.specs.declared.HeadBytes.{HeadBytes}
 use Rattle.laws.specs.Refusals.{Given}
 use Rattle.laws.proofs.Cases.{lt-or}
 use Rattle.laws.proofs.Refusals.{Answers, accepted-when, alone, exactly}
-use Rattle.head_rules.specs.Heads.{ReadsHead, Sized, WritesHead, form, formIn, headBytes, headOf, headRefusal, headRules, heightIn, limit, oldLimit, readHead}
-use Rattle.head_rules.specs.Heads.{readHeadUpTo, sizeRefusal, sizeRules, widthIn, writeHead}
+use Rattle.head_rules.specs.Heads.{ReadsHead, Sized, WritesHead, bytesOfHead, form, formIn, headBytes, headOf, headRefusal, headRules, heightIn, limit, oldLimit, readHead}
+use Rattle.head_rules.specs.Heads.{readHeadUpTo, sizeRefusal, sizeRules, under, widthIn, writeHead}
 use Rattle.head_rules.specs.Numbers.{Bytes, found, groups, noNumber, numberBytes, numbersEnd, raised, readGroups, readNumber}
 use Rattle.head_rules.specs.Geometry.{across, blocksOf, placeOf, wholeLength}
 use Rattle.head_rules.specs.Reader.{atForm, readBy}
 use Rattle.head_rules.proofs.Bytewise.{bytes-behind-head, bytes-read-head}
-use Rattle.head_rules.proofs.Heading.{accepted, head-rules, refusal-is, size-test}
+use Rattle.head_rules.proofs.Heading.{accepted, head-rules, refusal-is, refused, size-test}
 use Rattle.head_rules.proofs.Limits.{head-kept, head-refused-before}
 use Rattle.head_rules.proofs.Reading.{every-number, raised-some, read-last, read-more, value-small}
 use Rattle.head_rules.proofs.Writing.{groups-last, groups-more, nothing, one-byte, written}
@@ -220,6 +222,20 @@ module _ (s : List ℕ) where
       let p = parts z in
       subst (λ (r : Head). Sized (r .width) (r .height) × (s ≡ headBytes (r .width) (r .height) ++ drop (r .start) s)) (accepted limit s z)
       (p .size, spelt s p y)
+
+-- FORM 1 HAS NO ROOM FOR A COLOUR SPACE: whatever the bytes, what is read of them says unspecified; the bytes are the same under each; and
+-- a head that was written is read back but for it
+pub form-1-unspecified : (s : List ℕ) → readHead s .«colour_space» ≡ Unspecified
+form-1-unspecified s =
+    ⊎-elim (λ z. sym (ap (λ (h : Head). h .«colour_space») (accepted limit s z)))
+    (λ p. sym (ap (λ (h : Head). h .«colour_space») (refused limit s (headRefusal s) refl (λ q. omega arith)))) (eq-zero-or-pos (headRefusal s))
+
+pub form-1-forgets : (h : Head) (a b : ColourSpace) → bytesOfHead (under a h) ≡ bytesOfHead (under b h)
+form-1-forgets h a b = refl
+
+pub read-back-unspecified : (w h : ℕ) → Sized w h → (c : ColourSpace) (rest : List ℕ)
+    → let x = under c (headOf 0 w h (length (headBytes w h))) in readHead (bytesOfHead x ++ rest) ≡ under Unspecified x
+read-back-unspecified w h z c rest = head-read-back w h z rest
 
 -- MAPS UP TO 16,384: a head that the old limit accepted is read as it was; of any other that is accepted now, a console with the old
 -- limit answers 9; and the largest side has three groups

@@ -7,6 +7,8 @@ use mathlib.Core.List.{List, [], _∷_, _++_}
 use lib.Dec.{eqb, leb}
 use lib.ListN.{length, replicate}
 use Rattle.head_rules.specs.declared.Number.{Number}
+use Rattle.head_rules.specs.declared.ColourSpace.{ColourSpace}
+use Rattle.head_rules.specs.declared.ColourSpace.the-variants.{Unspecified}
 use Rattle.head_rules.specs.declared.Head.{Head}
 use Rattle.head_rules.specs.declared.HeadBytes.{HeadBytes}
 use Rattle.laws.specs.Padding.{padded, stored}
@@ -83,8 +85,12 @@ headRefusalUpTo top s =
 abbrev pub headRefusal : List ℕ → ℕ
 headRefusal s = headRefusalUpTo limit s
 
+-- a head as form 1 says it, which has no room for a colour space; and a head under one
 abbrev pub headOf : ℕ → ℕ → ℕ → ℕ → Head
-headOf r w h start = record { refusal = r; width = w; height = h; start = start }
+headOf r w h start = record { refusal = r; width = w; height = h; start = start; «colour_space» = Unspecified }
+
+abbrev pub under : ColourSpace → Head → Head
+under c h = record { refusal = h .refusal; width = h .width; height = h .height; start = h .start; «colour_space» = c }
 
 -- reading a head, where the largest side is `top`: a console of before reads with `oldLimit`
 unfoldable pub readHeadUpTo : ℕ → List ℕ → Head
@@ -99,6 +105,10 @@ readHead s = readHeadUpTo limit s
 -- the bytes of a head
 unfoldable pub headBytes : ℕ → ℕ → List ℕ
 headBytes w h = numberBytes form ++ (numberBytes w ++ numberBytes h)
+
+-- and of a head in memory, whose colour space form 1 forgets
+abbrev pub bytesOfHead : Head → List ℕ
+bytesOfHead h = headBytes (h .width) (h .height)
 
 -- bytes with zeros behind, seven in all
 abbrev pub sevenOf : List ℕ → HeadBytes

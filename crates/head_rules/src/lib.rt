@@ -8,12 +8,20 @@ pub struct Number {
     pub next: usize,
 }
 
-// Width and height in pixels, and the place of the first block; zeros where the head is refused.
+// What is known of a sheet's colours. Bytes of form 1 have no room for it.
+pub enum ColourSpace {
+    Unspecified,
+    Linear,
+    Srgb,
+}
+
+// Width and height in pixels, the place of the first block, and the colour space; zeros and unspecified where the head is refused.
 pub struct Head {
     pub refusal: u8,
     pub width: u32,
     pub height: u32,
     pub start: u32,
+    pub colour_space: ColourSpace,
 }
 
 // The bytes of a head and their count, with zeros behind; zeros where the head is refused.

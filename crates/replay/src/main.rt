@@ -1,6 +1,6 @@
 // The test program: calls in on standard input, their answers out on standard output, until the input ends. A letter names
 // the call; docs/REPLAY.md has the bytes of each. A call that C has is made through the function for C, so that what is replayed
-// is what is shipped; the listing goes through its machine. Here only lengths and kinds that end the run are looked at.
+// is what is shipped; the listing goes through its machine. Here only lengths, kinds and colour spaces that end the run are looked at.
 ghost use Prim.Native.Nat.{_+_, _≤_, _<_};
 ghost use lib.ListN.{length};
 use bc7_places::places::PLACES;
@@ -19,10 +19,13 @@ use rinchovek::rinchovek_bc7_read_line;
 use rinchovek::rinchovek_bc7_replace_line;
 use rinchovek::rinchovek_bc7_unpack;
 use rinchovek::rinchovek_dds_export;
+use rinchovek::rinchovek_dds_export_colour;
 use rinchovek::rinchovek_dds_export_length;
 use rinchovek::rinchovek_dds_import;
+use rinchovek::rinchovek_dds_import_colour;
 use rinchovek::rinchovek_dds_import_length;
 use rinchovek::rinchovek_sheet_decode_row;
+use rinchovek::rinchovek_sheet_read_colour_head;
 use rinchovek::rinchovek_sheet_read_head;
 use rinchovek::rinchovek_sheet_replace_line;
 use rinchovek::rinchovek_sheet_write_head;
@@ -218,9 +221,28 @@ fn pixel_call() -> bool {
     write_pixel(&rgba)
 }
 
-fn read_head_of(sheet: &mut [u8]) -> bool {
+// The four numbers of a head, of which the colour space is one byte.
+fn write_colour_head(head: [u32; 4]) {
+    write_u32(head[0]);
+    write_u32(head[1]);
+    write_u32(head[2]);
+    write_small(head[3]);
+}
+
+fn read_colour_head_of(sheet: &[u8]) -> bool {
+    let mut head = [0u32; 4];
+    write_small(rinchovek_sheet_read_colour_head(sheet, &mut head));
+    write_colour_head(head);
+    true
+}
+
+// A head with its colour space or without it: both are asked for in the same bytes.
+fn read_head_of(colour: bool, sheet: &mut [u8]) -> bool {
     if !filled(sheet) {
         return false;
+    }
+    if colour {
+        return read_colour_head_of(sheet);
     }
     let mut head = [0u32; 3];
     write_small(rinchovek_sheet_read_head(sheet, &mut head));
@@ -230,14 +252,14 @@ fn read_head_of(sheet: &mut [u8]) -> bool {
     true
 }
 
-fn read_head_call() -> bool {
+fn read_head_call(colour: bool) -> bool {
     let mut length = [0u8; 1];
     if !filled(&mut length) {
         return false;
     }
     let n = wide(length[0]) as usize;
     let mut sheet = [0u8; 256];
-    read_head_of(&mut sheet[..n])
+    read_head_of(colour, &mut sheet[..n])
 }
 
 fn write_head_call() -> bool {
@@ -357,32 +379,62 @@ fn list_call() -> bool {
     list_call_of(&mut sheet[..end])
 }
 
-// A DDS file imported, or a sheet exported: both are asked for in the same bytes. What stands in the output before is read too.
-fn dds_call_of(export: bool, given: &mut [u8], out: &mut [u8]) -> bool {
+// A DDS file imported, or a sheet exported, each also with a colour space.
+enum DdsCall {
+    Import,
+    Export,
+    ImportColour,
+    ExportColour(u8),
+}
+
+fn import_of(given: &[u8], out: &mut [u8]) -> bool {
+    write_small(rinchovek_dds_import(given, out));
+    io::write_all(STDOUT_FILENO, out)
+}
+
+fn export_of(given: &[u8], out: &mut [u8]) -> bool {
+    write_small(rinchovek_dds_export(given, out));
+    io::write_all(STDOUT_FILENO, out)
+}
+
+fn import_colour_of(given: &[u8], out: &mut [u8]) -> bool {
+    let mut head = [0u32; 4];
+    write_small(rinchovek_dds_import_colour(given, out, &mut head));
+    write_colour_head(head);
+    io::write_all(STDOUT_FILENO, out)
+}
+
+fn export_colour_of(colour_space: u8, given: &[u8], out: &mut [u8]) -> bool {
+    write_small(rinchovek_dds_export_colour(given, wide(colour_space), out));
+    io::write_all(STDOUT_FILENO, out)
+}
+
+// All are asked for in the same bytes. What stands in the output before is read too.
+fn dds_call_of(asked: DdsCall, given: &mut [u8], out: &mut [u8]) -> bool {
     if !filled(given) {
         return false;
     }
     if !filled(out) {
         return false;
     }
-    if export {
-        write_small(rinchovek_dds_export(given, out));
-        return io::write_all(STDOUT_FILENO, out);
+    match asked {
+        DdsCall::Import => import_of(given, out),
+        DdsCall::Export => export_of(given, out),
+        DdsCall::ImportColour => import_colour_of(given, out),
+        DdsCall::ExportColour(colour_space) => export_colour_of(colour_space, given, out),
     }
-    write_small(rinchovek_dds_import(given, out));
-    io::write_all(STDOUT_FILENO, out)
 }
 
 // What is given is n bytes, and the output m.
-fn dds_call_within(export: bool, n: usize, m: usize) -> bool
+fn dds_call_within(asked: DdsCall, n: usize, m: usize) -> bool
     requires { ⌜ (n ≤ 65536) × (m ≤ 65536) ⌝ }
 {
     let mut given = [0u8; 65536];
     let mut out = [0u8; 65536];
-    dds_call_of(export, &mut given[..n], &mut out[..m])
+    dds_call_of(asked, &mut given[..n], &mut out[..m])
 }
 
-fn dds_call(export: bool) -> bool {
+fn dds_call(asked: DdsCall) -> bool {
     let mut lengths = [0u8; 8];
     if !filled(&mut lengths) {
         return false;
@@ -395,7 +447,18 @@ fn dds_call(export: bool) -> bool {
     if MOST < m {
         return false;
     }
-    dds_call_within(export, n as usize, m as usize)
+    dds_call_within(asked, n as usize, m as usize)
+}
+
+fn export_colour_call() -> bool {
+    let mut colour_space = [0u8; 1];
+    if !filled(&mut colour_space) {
+        return false;
+    }
+    if 2 < colour_space[0] {
+        return false;
+    }
+    dds_call(DdsCall::ExportColour(colour_space[0]))
 }
 
 // The length that importing needs, or exporting.
@@ -508,7 +571,8 @@ fn call(letter: u8) -> bool {
         b'U' => unpack_call(),
         b'P' => pack_call(),
         b'R' => replace_call(),
-        b'H' => read_head_call(),
+        b'H' => read_head_call(false),
+        b'h' => read_head_call(true),
         b'W' => write_head_call(),
         b'O' => row_call(),
         b'S' => sheet_call(),
@@ -517,8 +581,10 @@ fn call(letter: u8) -> bool {
         b'N' => index_call(false),
         b'E' => index_call(true),
         b'A' => opacity_call(),
-        b'I' => dds_call(false),
-        b'X' => dds_call(true),
+        b'I' => dds_call(DdsCall::Import),
+        b'X' => dds_call(DdsCall::Export),
+        b'i' => dds_call(DdsCall::ImportColour),
+        b'x' => export_colour_call(),
         b'd' => length_call(false),
         b's' => length_call(true),
         b'Q' => pixel_call(),

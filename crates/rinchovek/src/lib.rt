@@ -3,14 +3,16 @@
 // C caller has to know; `rt staticlib rinchovek` writes the archive.
 ghost use Rattle.rinchovek_rules.specs.Promises.{Decodes, Packs, ReadsLine, Replaces, Unpacks, Versions, DecodesRow, ReadsHead, ReplacesIn};
 ghost use Rattle.rinchovek_rules.specs.Promises.{FindsExact, FindsNearest, ReadsPixel, TellsOpaque, WritesHead};
-ghost use Rattle.rinchovek_rules.specs.Promises.{ExportNeeds, ExportsDds, ImportNeeds, ImportsDds};
+ghost use Rattle.rinchovek_rules.specs.Promises.{ExportNeeds, ExportsColour, ExportsDds, ImportNeeds, ImportsColour, ImportsDds, ReadsColourHead};
 use bc7::decode_bc7_block;
 use bc7_places::places::PLACES;
 use bc7_plain::pixel_of;
 use dds::export_dds;
 use dds::export_length;
+use dds::export_numbered;
 use dds::import_dds;
 use dds::import_length;
+use head_rules::ColourSpace;
 use line::read_line;
 use line::replace_line;
 use nearest::exact_index;
@@ -23,12 +25,13 @@ use record_bytes::replacement_bytes;
 use record_bytes::replacement_of;
 use sheet::decode_row;
 use sheet::replace_in_sheet;
+use sheet_head::colours::number_of;
 use sheet_head::read_head;
 use sheet_head::write_head;
 
 // Which version of the calls and their answers this is: 10000 times the major number, 100 times the minor one, and the patch. The
 // header has the same three.
-const VERSION: u32 = 10500;
+const VERSION: u32 = 10600;
 
 #[no_mangle]
 pub extern "C" fn rinchovek_version() -> u32
@@ -189,6 +192,20 @@ pub extern "C" fn rinchovek_sheet_read_head(sheet: &[u8], head: &mut [u32; 3]) -
     0
 }
 
+// The same, and the number of the colour space, which is 0 for a sheet of form 1: it has no room for one.
+#[no_mangle]
+pub extern "C" fn rinchovek_sheet_read_colour_head(sheet: &[u8], head: &mut [u32; 4]) -> u32
+    ensures { λ r. ⌜ ReadsColourHead (now (sheet .entry)) (now (head .entry)) r (now (head .exit)) ⌝ }
+{
+    let read = read_head(sheet);
+    if read.refusal != 0 {
+        return read.refusal as u32;
+    }
+    let colour_space = read.colour_space;
+    *head = [read.width, read.height, read.start, number_of(colour_space)];
+    0
+}
+
 // The bytes of a head, zeros behind, and how many of the seven they are.
 #[no_mangle]
 pub extern "C" fn rinchovek_sheet_write_head(
@@ -241,15 +258,46 @@ pub extern "C" fn rinchovek_sheet_replace_line(
 pub extern "C" fn rinchovek_dds_import(dds: &[u8], sheet: &mut [u8]) -> u32
     ensures { λ r. ⌜ ImportsDds (now (dds .entry)) (now (sheet .entry)) r (now (sheet .exit)) ⌝ }
 {
-    import_dds(dds, sheet) as u32
+    let head = import_dds(dds, sheet);
+    head.refusal as u32
 }
 
-// A sheet as a DDS file.
+// A DDS file as a sheet, and beside it the head with the colour space that the format says.
+#[no_mangle]
+pub extern "C" fn rinchovek_dds_import_colour(
+    dds: &[u8],
+    sheet: &mut [u8],
+    head: &mut [u32; 4],
+) -> u32
+    ensures { λ r. ⌜ ImportsColour (now (dds .entry)) (now (sheet .entry), now (head .entry)) r (now (sheet .exit), now (head .exit)) ⌝ }
+{
+    let made = import_dds(dds, sheet);
+    if made.refusal != 0 {
+        return made.refusal as u32;
+    }
+    let colour_space = made.colour_space;
+    *head = [made.width, made.height, made.start, number_of(colour_space)];
+    0
+}
+
+// A sheet as a DDS file that says nothing of sRGB.
 #[no_mangle]
 pub extern "C" fn rinchovek_dds_export(sheet: &[u8], dds: &mut [u8]) -> u32
     ensures { λ r. ⌜ ExportsDds (now (sheet .entry)) (now (dds .entry)) r (now (dds .exit)) ⌝ }
 {
-    export_dds(sheet, dds) as u32
+    export_dds(sheet, ColourSpace::Unspecified, dds) as u32
+}
+
+// A sheet as a DDS file, under the number of a colour space.
+#[no_mangle]
+pub extern "C" fn rinchovek_dds_export_colour(
+    sheet: &[u8],
+    colour_space: u32,
+    dds: &mut [u8],
+) -> u32
+    ensures { λ r. ⌜ ExportsColour (now (sheet .entry)) «colour_space» (now (dds .entry)) r (now (dds .exit)) ⌝ }
+{
+    export_numbered(sheet, colour_space, dds) as u32
 }
 
 // The length of the sheet that a DDS file makes.

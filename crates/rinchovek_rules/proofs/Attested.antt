@@ -3,7 +3,7 @@
 use mathlib.Core.Path.{refl}
 use mathlib.Core.List.{List, [], _∷_, _++_}
 use Prim.Native.Nat.{ℕ, _+_, _*_}
-use lib.ListN.{replicate}
+use lib.ListN.{replicate, set}
 use Rattle.laws.specs.Padding.{padded}
 use Rattle.laws.specs.Refusals.{first}
 use Rattle.laws.specs.Tables.{implies, over, table, tableFrom}
@@ -25,6 +25,7 @@ use Rattle.line_rules.proofs.Attested.{after7, bytesGiven}
 use Rattle.nearest_rules.specs.Nearest.{channelDistance, distance, drawnWith, exactIndex, exactRefusal, inLine, indexCount, leastAt, nearestIndex}
 use Rattle.nearest_rules.specs.Nearest.{nearestRefusal, squared, withIndex, zeroAt}
 use Rattle.opacity_rules.specs.Opacity.{isVisible, opaque, passes}
+use Rattle.head_rules.specs.Colours.{colourOf, colourRefusal}
 use Rattle.pixel_rules.specs.Pixels.{pixelRead, pixelRefusal}
 use Rattle.head_rules.specs.Geometry.{blocksOf, placeOf}
 use Rattle.head_rules.specs.Heads.{formIn, headBytes, headRefusalUpTo, heightIn, readHeadUpTo, sizeRefusalUpTo, widthIn, writeHead}
@@ -35,11 +36,11 @@ use Rattle.sheet_rules.proofs.Attested.{lower, lowerScanlines, small, smallRepl
 use Rattle.rinchovek_rules.specs.Promises.{Decodes, Gives, Packs, ReadsLine, Replaces, Unpacks, Versions, DecodesRow, ReadsHead, ReplacesIn}
 use Rattle.rinchovek_rules.specs.Promises.{FindsExact, FindsNearest, ReadsPixel, TellsOpaque, WritesHead}
 use Rattle.laws.specs.Digits.{evenly}
-use Rattle.dds_rules.specs.Header.{canonicalHeader, entries, headerNumber, isTexture, numberAt}
+use Rattle.dds_rules.specs.Header.{canonicalHeader, entries, formatSays, headerNumber, isTexture, numberAt}
 use Rattle.dds_rules.specs.Files.{exportAfterBy, exportLength, exportRefusalBy, fileMadeBy, fileRefusalUpTo, headMade, importAfterUpTo, importLength}
-use Rattle.dds_rules.specs.Files.{importRefusalUpTo, sheetMade, wholeRefusalBy}
+use Rattle.dds_rules.specs.Files.{importRefusalUpTo, numberedAfter, numberedRefusal, sheetMade, wholeRefusalBy}
 use Rattle.dds_rules.proofs.Attested.{file53, header53, sheet53}
-use Rattle.rinchovek_rules.specs.Promises.{ExportNeeds, ExportsDds, ImportNeeds, ImportsDds}
+use Rattle.rinchovek_rules.specs.Promises.{ExportNeeds, ExportsColour, ExportsDds, ImportNeeds, ImportsColour, ImportsDds, ReadsColourHead}
 
 abbrev zeros : ℕ → List ℕ
 zeros n = replicate n 0
@@ -72,12 +73,16 @@ bytesGiven6 = 1 ∷ 2 ∷ 3 ∷ 4 ∷ 5 ∷ 6 ∷ 7 ∷ 8 ∷ 1 ∷ 0 ∷ 8 ∷ 
 abbrev graded6 : List ℕ
 graded6 = 0x40 ∷ (zeros 5 ++ (0xFE ∷ 0x80 ∷ 0x00 ∷ 0x00 ∷ 0x00 ∷ 0x0F ∷ zeros 4))
 
+-- the file of the small DDS example in sRGB
+abbrev srgb53 : List ℕ
+srgb53 = set file53 128 99
+
 -- both sides of each clause compute to the same
 computed : {A : Type 0} {refusal : ℕ} {left : A} → Gives refusal left refusal left
 computed = record { answers = refl; leaves = refl }
 
 pub record Calls : Type 0 where
-  pub version : Versions (10000 * 1 + 100 * 5 + 0)
+  pub version : Versions (10000 * 1 + 100 * 6 + 0)
   pub decodes : Decodes block4 (half4 ++ half4)
   pub decodes-reserved : Decodes (zeros 16) (replicate 16 (rgba 0 0 0 0))
   pub unpacks : Unpacks block4 (nines 66) 0 (bytes4 3)
@@ -98,6 +103,8 @@ pub record Calls : Type 0 where
   pub reads-pixel-not : ReadsPixel block4 16 (nines 4) 21 (nines 4)
   pub reads-head : ReadsHead small (nines 3) 0 (5 ∷ 6 ∷ 3 ∷ [])
   pub reads-head-not : ReadsHead (0x02 ∷ []) (nines 3) 8 (nines 3)
+  pub reads-colour-head : ReadsColourHead small (nines 4) 0 (5 ∷ 6 ∷ 3 ∷ 0 ∷ [])
+  pub reads-colour-head-not : ReadsColourHead (0x02 ∷ []) (nines 4) 8 (nines 4)
   pub writes-head : WritesHead 5 6 (nines 7, 9) 0 (0x01 ∷ 0x05 ∷ 0x06 ∷ zeros 4, 3)
   pub writes-head-not : WritesHead 5 16385 (nines 7, 9) 9 (nines 7, 9)
   pub decodes-row : DecodesRow 5 6 1 lower (nines 40) 0 lowerScanlines
@@ -108,6 +115,14 @@ pub record Calls : Type 0 where
   pub imports-dds-not : ImportsDds header53 (nines 35) 10 (nines 35)
   pub exports-dds : ExportsDds sheet53 (nines 180) 0 file53
   pub exports-dds-not : ExportsDds sheet53 (nines 35) 11 (nines 35)
+  pub imports-linear : ImportsColour file53 (nines 35, nines 4) 0 (sheet53, 5 ∷ 3 ∷ 3 ∷ 1 ∷ [])
+  pub imports-srgb : ImportsColour srgb53 (nines 35, nines 4) 0 (sheet53, 5 ∷ 3 ∷ 3 ∷ 2 ∷ [])
+  pub imports-colour-not : ImportsColour srgb53 (nines 34, nines 4) 11 (nines 34, nines 4)
+  pub exports-unspecified : ExportsColour sheet53 0 (nines 180) 0 file53
+  pub exports-srgb : ExportsColour sheet53 2 (nines 180) 0 srgb53
+  pub exports-colour-not : ExportsColour sheet53 3 (nines 35) 18 (nines 35)
+  pub exports-colour-not-9 : ExportsColour (0x01 ∷ 0x00 ∷ 0x03 ∷ []) 3 (nines 35) 18 (nines 35)
+  pub exports-colour-not-8 : ExportsColour file53 3 (nines 35) 8 (nines 35)
   pub import-needs : ImportNeeds file53 9 0 35
   pub import-needs-not : ImportNeeds sheet53 9 15 9
   pub export-needs : ExportNeeds sheet53 9 0 180
@@ -125,7 +140,7 @@ unfolding padded first over table tableFrom weights weightOf drawn promoted eigh
     distance drawnWith exactIndex exactRefusal inLine indexCount leastAt nearestIndex nearestRefusal squared withIndex zeroAt
     implies isVisible passes opaque pixelRefusal pixelRead
     evenly numberAt entries headerNumber canonicalHeader isTexture headMade sheetMade fileRefusalUpTo importRefusalUpTo importAfterUpTo wholeRefusalBy
-    exportRefusalBy fileMadeBy exportAfterBy importLength exportLength
+    exportRefusalBy fileMadeBy exportAfterBy importLength exportLength formatSays numberedRefusal numberedAfter colourOf colourRefusal
 calls-hold = record {
   version = refl;
   decodes = refl;
@@ -148,6 +163,8 @@ calls-hold = record {
   reads-pixel-not = computed;
   reads-head = computed;
   reads-head-not = computed;
+  reads-colour-head = computed;
+  reads-colour-head-not = computed;
   writes-head = computed;
   writes-head-not = computed;
   decodes-row = computed;
@@ -158,6 +175,14 @@ calls-hold = record {
   imports-dds-not = computed;
   exports-dds = computed;
   exports-dds-not = computed;
+  imports-linear = computed;
+  imports-srgb = computed;
+  imports-colour-not = computed;
+  exports-unspecified = computed;
+  exports-srgb = computed;
+  exports-colour-not = computed;
+  exports-colour-not-9 = computed;
+  exports-colour-not-8 = computed;
   import-needs = computed;
   import-needs-not = computed;
   export-needs = computed;

@@ -1,2 +1,3 @@
 pub mod Attested
+pub mod Importing
 pub mod Theorems

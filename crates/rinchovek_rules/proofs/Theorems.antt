@@ -13,10 +13,12 @@ use Rattle.sheet_rules.proofs.Theorems.{refused-row-leaves, refused-sheet-leave
 use Rattle.pixel_rules.specs.declared.PixelRead.{PixelRead}
 use Rattle.pixel_rules.specs.Pixels.{pixelRead}
 use Rattle.pixel_rules.proofs.Theorems.{pixel-accepted, pixel-of-the-sixteen}
-use Rattle.dds_rules.proofs.Theorems.{refused-export-leaves, refused-import-leaves}
+use Rattle.head_rules.specs.declared.ColourSpace.the-variants.{Unspecified}
+use Rattle.dds_rules.specs.Files.{importAfterUpTo}
+use Rattle.dds_rules.proofs.Theorems.{refused-export-leaves, refused-numbered-leaves}
 use Rattle.rinchovek_rules.specs.Promises.{Decodes, Determined, Gives, Packs, ReadsLine, Replaces, Unpacks, Versions, Writes, DecodesRow}
 use Rattle.rinchovek_rules.specs.Promises.{ReadsHead, ReadsPixel, FindsExact, FindsNearest, ReplacesIn, TellsOpaque, WritesHead}
-use Rattle.rinchovek_rules.specs.Promises.{ExportNeeds, ExportsDds, ImportNeeds, ImportsDds}
+use Rattle.rinchovek_rules.specs.Promises.{ExportNeeds, ExportsColour, ExportsDds, ImportNeeds, ImportsColour, ImportsDds, ReadsColourHead}
 
 one-given : {A : Type 0} (refusal : ℕ) (left : A) → Determined (Gives refusal left)
 one-given refusal left a b x y p q = (p .answers ∙ sym (q .answers), p .leaves ∙ sym (q .leaves))
@@ -56,6 +58,9 @@ determined-bc7-pixel block pixel before = one-given _ _
 pub determined-sheet-read-head : (sheet before : List ℕ) → Determined (ReadsHead sheet before)
 determined-sheet-read-head sheet before = one-given _ _
 
+pub determined-sheet-read-colour-head : (sheet before : List ℕ) → Determined (ReadsColourHead sheet before)
+determined-sheet-read-colour-head sheet before = one-given _ _
+
 pub determined-sheet-write-head : (width height : ℕ) (before : List ℕ × ℕ) → Determined (WritesHead width height before)
 determined-sheet-write-head width height before = one-given _ _
 
@@ -70,6 +75,12 @@ determined-dds-import dds before = one-given _ _
 
 pub determined-dds-export : (sheet before : List ℕ) → Determined (ExportsDds sheet before)
 determined-dds-export sheet before = one-given _ _
+
+pub determined-dds-import-colour : (dds : List ℕ) (before : List ℕ × List ℕ) → Determined (ImportsColour dds before)
+determined-dds-import-colour dds before = one-given _ _
+
+pub determined-dds-export-colour : (sheet : List ℕ) (number : ℕ) (before : List ℕ) → Determined (ExportsColour sheet number before)
+determined-dds-export-colour sheet number before = one-given _ _
 
 pub determined-dds-import-length : (dds : List ℕ) (before : ℕ) → Determined (ImportNeeds dds before)
 determined-dds-import-length dds before = one-given _ _
@@ -112,6 +123,9 @@ refused-bc7-pixel-leaves block pixel before = refused-leaves _ _ before
 pub refused-sheet-read-head-leaves : (sheet before : List ℕ) → Leaves before (ReadsHead sheet before)
 refused-sheet-read-head-leaves sheet before = refused-leaves _ _ before
 
+pub refused-sheet-read-colour-head-leaves : (sheet before : List ℕ) → Leaves before (ReadsColourHead sheet before)
+refused-sheet-read-colour-head-leaves sheet before = refused-leaves _ _ before
+
 pub refused-sheet-write-head-leaves : (width height : ℕ) (before : List ℕ × ℕ) → Leaves before (WritesHead width height before)
 refused-sheet-write-head-leaves width height before = refused-leaves _ _ before
 
@@ -124,10 +138,18 @@ refused-sheet-replace-line-leaves sheet block line bytes answer after p ne =
     refused-sheet-leaves sheet (record { block = block; line = line; given = replacementOf bytes }) answer after (p .answers, p .leaves) ne
 
 pub refused-dds-import-leaves : (dds before : List ℕ) → Leaves before (ImportsDds dds before)
-refused-dds-import-leaves dds before answer after p ne = refused-import-leaves dds before answer after (p .answers, p .leaves) ne
+unfolding importAfterUpTo
+refused-dds-import-leaves dds before = refused-leaves _ _ before
 
 pub refused-dds-export-leaves : (sheet before : List ℕ) → Leaves before (ExportsDds sheet before)
-refused-dds-export-leaves sheet before answer after p ne = refused-export-leaves sheet before answer after (p .answers, p .leaves) ne
+refused-dds-export-leaves sheet before answer after p ne = refused-export-leaves sheet Unspecified before answer after (p .answers, p .leaves) ne
+
+pub refused-dds-import-colour-leaves : (dds : List ℕ) (before : List ℕ × List ℕ) → Leaves before (ImportsColour dds before)
+refused-dds-import-colour-leaves dds before = refused-leaves _ _ before
+
+pub refused-dds-export-colour-leaves : (sheet : List ℕ) (number : ℕ) (before : List ℕ) → Leaves before (ExportsColour sheet number before)
+refused-dds-export-colour-leaves sheet number before answer after p ne =
+    refused-numbered-leaves sheet number before answer after (p .answers, p .leaves) ne
 
 pub refused-dds-import-length-leaves : (dds : List ℕ) (before : ℕ) → Leaves before (ImportNeeds dds before)
 refused-dds-import-length-leaves dds before = refused-leaves _ _ before

@@ -8,7 +8,9 @@ use lib.Dec.{eqb}
 use lib.ListN.{length}
 use Rattle.laws.specs.Tables.{pick}
 use Rattle.bc7_format.specs.Lines.{pixels}
+use Rattle.head_rules.specs.declared.ColourSpace.the-variants.{Unspecified}
 use Rattle.head_rules.specs.declared.Head.{Head}
+use Rattle.head_rules.specs.Colours.{colourNumber}
 use Rattle.head_rules.specs.Heads.{readHead, writeHead}
 use Rattle.line_rules.specs.declared.LineRead.{LineRead}
 use Rattle.line_rules.specs.Read.{lineRead, replacementBytes, replacementOf}
@@ -20,7 +22,8 @@ use Rattle.sheet_rules.specs.Sheets.{sheetAfter, sheetRefusal}
 use Rattle.nearest_rules.specs.Nearest.{exactIndex, nearestIndex}
 use Rattle.opacity_rules.specs.Opacity.{opaque}
 use Rattle.pixel_rules.specs.Pixels.{pixelRead}
-use Rattle.dds_rules.specs.Files.{exportAfter, exportLength, exportRefusal, importAfter, importLength, importRefusal}
+use Rattle.dds_rules.specs.Files.{exportAfter, exportLength, exportRefusal, headMade, importAfter, importLength, importRefusal, numberedAfter}
+use Rattle.dds_rules.specs.Files.{numberedRefusal, sheetMade}
 
 -- this number is answered, and this is left
 pub record Gives {A : Type 0} (refusal : ℕ) (left : A) (answer : ℕ) (after : A) : Type 0 where
@@ -31,9 +34,9 @@ pub record Gives {A : Type 0} (refusal : ℕ) (left : A) (answer : ℕ) (after :
 abbrev pub Writes : {A : Type 0} → ℕ → A → A → ℕ → A → Type 0
 Writes refusal value before = Gives refusal (pick (eqb refusal 0) value before)
 
--- version 1.5.0: major, minor and patch, with two digits for each of the last two
+-- version 1.6.0: major, minor and patch, with two digits for each of the last two
 abbrev pub Versions : ℕ → Type 0
-Versions answer = answer ≡ 10500
+Versions answer = answer ≡ 10600
 
 abbrev pub Decodes : List ℕ → List (List ℕ) → Type 0
 Decodes block after = after ≡ pixels block
@@ -78,6 +81,13 @@ headNumbers head = head .width ∷ head .height ∷ head .start ∷ []
 abbrev pub ReadsHead : List ℕ → List ℕ → ℕ → List ℕ → Type 0
 ReadsHead sheet before = Writes (readHead sheet .refusal) (headNumbers (readHead sheet)) before
 
+-- the same, and behind them the colour space by its number
+abbrev pub colourHeadNumbers : Head → List ℕ
+colourHeadNumbers head = head .width ∷ head .height ∷ head .start ∷ colourNumber (head .«colour_space») ∷ []
+
+abbrev pub ReadsColourHead : List ℕ → List ℕ → ℕ → List ℕ → Type 0
+ReadsColourHead sheet before = Writes (readHead sheet .refusal) (colourHeadNumbers (readHead sheet)) before
+
 -- the head's bytes and their count
 abbrev pub WritesHead : ℕ → ℕ → List ℕ × ℕ → ℕ → List ℕ × ℕ → Type 0
 WritesHead width height before = Writes (writeHead width height .refusal) (writeHead width height .bytes, writeHead width height .count) before
@@ -94,7 +104,14 @@ abbrev pub ImportsDds : List ℕ → List ℕ → ℕ → List ℕ → Type 0
 ImportsDds dds before = Gives (importRefusal dds (length before)) (importAfter dds before)
 
 abbrev pub ExportsDds : List ℕ → List ℕ → ℕ → List ℕ → Type 0
-ExportsDds sheet before = Gives (exportRefusal sheet (length before)) (exportAfter sheet before)
+ExportsDds sheet before = Gives (exportRefusal sheet (length before)) (exportAfter sheet Unspecified before)
+
+-- imported with the head, which is written beside the sheet; and exported under the number of a colour space
+abbrev pub ImportsColour : List ℕ → List ℕ × List ℕ → ℕ → List ℕ × List ℕ → Type 0
+ImportsColour dds before = Writes (importRefusal dds (length (before .0))) (sheetMade dds, colourHeadNumbers (headMade dds)) before
+
+abbrev pub ExportsColour : List ℕ → ℕ → List ℕ → ℕ → List ℕ → Type 0
+ExportsColour sheet number before = Gives (numberedRefusal sheet number (length before)) (numberedAfter sheet number before)
 
 abbrev pub ImportNeeds : List ℕ → ℕ → ℕ → ℕ → Type 0
 ImportNeeds dds before = Writes (importLength dds .refusal) (importLength dds .length) before

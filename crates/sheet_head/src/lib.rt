@@ -16,6 +16,7 @@ use head_rules::HeadBytes;
 use head_rules::HeadReader;
 use head_rules::Number;
 
+pub mod colours;
 pub mod geometry;
 pub mod reader;
 

@@ -9,6 +9,7 @@ ghost use Rattle.head_rules.specs.Reader.{numberIn, refusedWith};
 use crate::FORM;
 use crate::size_refusal;
 use crate::wide;
+use head_rules::ColourSpace;
 use head_rules::Head;
 use head_rules::HeadReader;
 use head_rules::Stage;
@@ -33,6 +34,7 @@ fn known(width: u32, height: u32, start: u32) -> Head
         width: width,
         height: height,
         start: start,
+        colour_space: ColourSpace::Unspecified,
     }
 }
 
@@ -54,6 +56,7 @@ pub fn refused_with(refusal: u8) -> HeadReader
             width: 0,
             height: 0,
             start: 0,
+            colour_space: ColourSpace::Unspecified,
         },
     )
 }

@@ -15,7 +15,7 @@ use Rattle.bc7_format.specs.Lines.{pixels, rotated, shown, turned, valuePlace, 
 use Rattle.bc7_format.specs.Places.{atPlace, blockOf, listOf, opened, placeAt, pos, width, widths}
 use Rattle.bc7_format.specs.Splits.{splitAt, splitOf}
 use Rattle.head_rules.specs.Geometry.{across, blocksOf, placeOf, sideShown}
-use Rattle.head_rules.specs.Heads.{formIn, headRefusalUpTo, heightIn, readHeadUpTo, sizeRefusalUpTo, widthIn}
+use Rattle.head_rules.specs.Heads.{formIn, headOf, headRefusalUpTo, heightIn, readHeadUpTo, sizeRefusalUpTo, widthIn}
 use Rattle.head_rules.specs.Numbers.{raised, readGroups, readNumber}
 use Rattle.line_rules.specs.Replace.{after, indexFits, lineFits, lineGiven, oriented, ownWidth, pFits, put, refusal, refusalIn, replaced, valueFits}
 use Rattle.sheet_rules.specs.Pictures.{picture, pictureByte}
@@ -130,7 +130,7 @@ sheetClaims =
 
 pub record Sheets : Type 0 where
   pub columns : map across (1 ∷ 4 ∷ 5 ∷ 4096 ∷ []) ≡ 1 ∷ 1 ∷ 2 ∷ 1024 ∷ []
-  pub in-all : blocksOf (record { refusal = 0; width = 9; height = 6; start = 3 }) ≡ 6
+  pub in-all : blocksOf (headOf 0 9 6 3) ≡ 6
   pub scanlines : map (sideShown 6) (0 ∷ 1 ∷ 2 ∷ []) ≡ 4 ∷ 2 ∷ 0 ∷ []
   pub picture-shown : picture 5 6 (drop 3 small) ≡ upperScanlines ++ lowerScanlines
   pub blocks : map (blockIn small) (0 ∷ 1 ∷ 2 ∷ 3 ∷ []) ≡ shade10 ∷ shade20 ∷ shade30 ∷ shade40 ∷ []

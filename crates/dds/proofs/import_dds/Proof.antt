@@ -16,10 +16,15 @@ returns c = import-refused _ _ (c .before .before .read-file .ensures) (c .if1 .
 whole-length-requires : tie.Need-whole-length-requires
 whole-length-requires c κs = import-sized _ (c .before .before .read-file .ensures) (c .if1 .left)
 
+no-head-requires : tie.Need-no-head-requires
+no-head-requires c κs = search needs
+
 returns-2 : tie.Need-returns-2
 returns-2 c =
-    let o = c .before .before in
-    import-11 _ _ (o .before .before .read-file .ensures) (o .if1 .left) (λ l. c .if2 .taken (l ∙ sym (c .before .whole-length .ensures)))
+    let i = c .before in
+    let o = i .before .before in
+    import-11 _ _ (o .before .before .read-file .ensures) (o .if1 .left) (λ l. i .if2 .taken (l ∙ sym (i .before .whole-length .ensures)))
+    (c .no-head .ensures)
 
 write-head-requires : tie.Need-write-head-requires
 write-head-requires c κs = search needs
@@ -58,6 +63,7 @@ import-dds-spec =
     read-file-requires
     returns
     whole-length-requires
+    no-head-requires
     returns-2
     write-head-requires
     slice-aggregate-fill

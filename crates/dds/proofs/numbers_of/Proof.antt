@@ -10,11 +10,14 @@ use Rattle.dds.proofs.numbers_of.Tie as tie
 blocks-of-requires : tie.Need-blocks-of-requires
 blocks-of-requires c κs = search needs
 
-mul-t3 : tie.Need-mul-t3
-mul-t3 c = search needs
+mul-t4 : tie.Need-mul-t4
+mul-t4 c = search needs
+
+format-of-requires : tie.Need-format-of-requires
+format-of-requires c κs = search needs
 
 returns : tie.Need-returns
-returns c = numbers-laid (c .before .args .head) _ (ap (λ (n : ℕ). 16 * n) (c .blocks-of .ensures .0))
+returns c = let b = c .before in numbers-laid (b .before .args .head) _ _ (ap (λ (n : ℕ). 16 * n) (b .blocks-of .ensures .0)) (c .format-of .ensures)
 
 pub numbers-of-spec : {M : Type 1} → statement M
-numbers-of-spec = tie.close (tie.spec blocks-of-requires mul-t3 returns)
+numbers-of-spec = tie.close (tie.spec blocks-of-requires mul-t4 format-of-requires returns)

@@ -1,8 +1,9 @@
 -- `read_file` meets its contract.
 -- Assumes nothing.
-use mathlib.Core.Path.{_∙_, sym}
+use mathlib.Core.Path.{_∙_, ap, sym}
 use native.Mathlib.Omega.{arith}
 use borrow.Author.Tests.{not-false, not-true}
+use Rattle.dds_rules.specs.Header.{formatSays}
 use Rattle.dds_rules.proofs.Textures.{texture}
 use Rattle.dds.proofs.Reading.{a-head, another, no-length, no-size, sides}
 use borrow.Author.Needs.{needs}
@@ -24,6 +25,13 @@ number-at-requires c κs = omega (arith, texture _ (sym (c .before .is-texture .
 number-at-requires-2 : tie.Need-number-at-requires-2
 number-at-requires-2 c κs = omega (arith, texture _ (sym (c .before .before .is-texture .ensures) ∙ not-false _ (c .before .if1 .left)) .long)
 
+number-at-requires-3 : tie.Need-number-at-requires-3
+number-at-requires-3 c κs =
+    let a = c .before .before in omega (arith, texture _ (sym (a .before .is-texture .ensures) ∙ not-false _ (a .if1 .left)) .long)
+
+format-says-requires : tie.Need-format-says-requires
+format-says-requires c κs = search needs
+
 write-head-requires : tie.Need-write-head-requires
 write-head-requires c κs = search needs
 
@@ -33,9 +41,10 @@ no-head-requires-2 c κs = search needs
 returns-2 : tie.Need-returns-2
 returns-2 c =
     let w = c .before .before .before in
-    let a = w .before .before in
+    let b = w .before .before .before in
+    let a = b .before in
     let t = texture _ (sym (a .before .before .is-texture .ensures) ∙ not-false _ (a .before .if1 .left)) in
-    c .no-head2 .ensures ∙ no-size _ t (w .before .number-at2 .ensures) (a .number-at .ensures) (w .write-head .ensures) (c .before .if2 .taken)
+    c .no-head2 .ensures ∙ no-size _ t (b .number-at2 .ensures) (a .number-at .ensures) (w .write-head .ensures) (c .before .if2 .taken)
 
 wide-requires : tie.Need-wide-requires
 wide-requires c κs = search needs
@@ -50,19 +59,24 @@ returns-3 : tie.Need-returns-3
 returns-3 c =
     let d = c .before .before .before in
     let w = d .before .before .before in
-    let a = w .before .before in
+    let f = w .before in
+    let b = f .before .before in
+    let a = b .before in
     let t = texture _ (sym (a .before .before .is-texture .ensures) ∙ not-false _ (a .before .if1 .left)) in
-    c .no-head3 .ensures ∙ no-length _ t (w .before .number-at2 .ensures) (a .number-at .ensures) (w .write-head .ensures) (d .before .if2 .left)
-    (d .wide .ensures .0) (λ l. c .before .if3 .taken (l ∙ sym (c .before .before .file-length .ensures)))
+    c .no-head3 .ensures ∙ no-length _ t (b .number-at2 .ensures) (a .number-at .ensures) (w .write-head .ensures) (d .before .if2 .left)
+    (d .wide .ensures .0) (f .format-says .ensures ∙ ap formatSays (f .before .number-at3 .ensures))
+    (λ l. c .before .if3 .taken (l ∙ sym (c .before .before .file-length .ensures)))
 
 returns-4 : tie.Need-returns-4
 returns-4 c =
     let d = c .before .before in
     let w = d .before .before .before in
-    let a = w .before .before in
+    let f = w .before in
+    let b = f .before .before in
+    let a = b .before in
     let t = texture _ (sym (a .before .before .is-texture .ensures) ∙ not-false _ (a .before .if1 .left)) in
-    a-head _ t (w .before .number-at2 .ensures) (a .number-at .ensures) (w .write-head .ensures) (d .before .if2 .left) (d .wide .ensures .0)
-    (c .if3 .left ∙ c .before .file-length .ensures)
+    a-head _ t (b .number-at2 .ensures) (a .number-at .ensures) (w .write-head .ensures) (d .before .if2 .left) (d .wide .ensures .0)
+    (f .format-says .ensures ∙ ap formatSays (f .before .number-at3 .ensures)) (c .if3 .left ∙ c .before .file-length .ensures)
 
 pub read-file-spec : {M : Type 1} → statement M
 read-file-spec =
@@ -73,6 +87,8 @@ read-file-spec =
     returns
     number-at-requires
     number-at-requires-2
+    number-at-requires-3
+    format-says-requires
     write-head-requires
     no-head-requires-2
     returns-2
