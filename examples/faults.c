@@ -1,6 +1,6 @@
 /* What can happen to the client between writing and renaming, without a change of its source: the linker puts these two in the place of
- * rename and fsync (--wrap). Each says on standard error that it was called; FAULT=kill ends the program before it renames, as a kill
- * would, and FAULT=disk is a disk that doesn't take what was written. */
+ * rename and fsync (--wrap). Each says on standard error that it was called. FAULT=kill ends the program before it renames, as a kill
+ * would; FAULT=disk is a disk that doesn't take what was written, and FAULT=folder one that doesn't take the new name. */
 #include <errno.h>
 #include <stdio.h>
 #include <string.h>
@@ -23,8 +23,9 @@ int __wrap_rename(const char *from, const char *to) {
 }
 
 int __wrap_fsync(int file) {
+    static int calls;
     fputs("fsync\n", stderr);
-    if (!is_fault("disk")) return __real_fsync(file);
+    if (!is_fault(calls++ == 0 ? "disk" : "folder")) return __real_fsync(file);
     errno = 5; /* EIO */
     return -1;
 }

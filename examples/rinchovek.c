@@ -1,7 +1,7 @@
 /* rinchovek: a link map brought in from a DDS file, looked at, corrected and brought out again. `rinchovek --help` says by which commands.
  * It stands on include/rinchovek.h and the C library alone.
  *
- * A file is written beside its place under another name, brought to the disk, and only then renamed: whoever looks finds the old bytes or
+ * A file is written under another name beside the old one, brought to the disk, and only then renamed: whoever looks finds the old bytes or
  * the new ones, whole, also after a full disk, a kill or a power cut. A command that fails leaves the file as it was, its time stamp too. */
 #define _XOPEN_SOURCE 700 /* realpath, mkstemp */
 #include "rinchovek.h"
@@ -77,7 +77,7 @@ static struct bytes read_file(const char *name) {
 /* A file that is being written. */
 struct output {
     const char *name; /* as it was given */
-    char *place;      /* where it will stand: a symbolic link is followed, and stays */
+    char *target;     /* where it will stand: a symbolic link is followed, and stays */
     int file;
 };
 
@@ -87,19 +87,19 @@ static struct output start_file(const char *name) {
     const mode_t mask = umask(0);
     umask(mask);
     mode_t mode = 0666 & ~mask;
-    if (to.place != NULL) {
-        if (stat(to.place, &about) != 0 || access(to.place, W_OK) != 0) fail_by_system(name, "can't be written");
+    if (to.target != NULL) {
+        if (stat(to.target, &about) != 0 || access(to.target, W_OK) != 0) fail_by_system(name, "can't be written");
         if (!S_ISREG(about.st_mode)) fail(name, "can't be written: it is no plain file");
         mode = about.st_mode & 07777;
     } else if (errno == ENOENT) {
-        to.place = strdup(name);
+        to.target = strdup(name);
     } else {
         fail_by_system(name, "can't be written");
     }
     static const char ending[] = ".XXXXXX";
-    char *beside = to.place != NULL ? malloc(strlen(to.place) + sizeof ending) : NULL;
+    char *beside = to.target != NULL ? malloc(strlen(to.target) + sizeof ending) : NULL;
     if (beside == NULL) fail("the memory", "is too small");
-    strcat(strcpy(beside, to.place), ending);
+    strcat(strcpy(beside, to.target), ending);
     to.file = mkstemp(beside);
     if (to.file < 0) fail_by_system(name, "can't be written");
     unfinished = beside;
@@ -115,17 +115,17 @@ static void put(const struct output *to, const void *bytes, size_t length) {
     }
 }
 
-/* Brings it to the disk, then to its place, then the folder of that place to the disk. */
+/* Brings it to the disk, then to its name, then the folder of that name to the disk. */
 static void finish_file(struct output *to) {
-    if (fsync(to->file) != 0 || close(to->file) != 0 || rename(unfinished, to->place) != 0) fail_by_system(to->name, "can't be written");
+    if (fsync(to->file) != 0 || close(to->file) != 0 || rename(unfinished, to->target) != 0) fail_by_system(to->name, "can't be written");
     free(unfinished);
     unfinished = NULL;
-    char *slash = strrchr(to->place, '/');
-    if (slash != NULL) slash[slash == to->place ? 1 : 0] = '\0';
-    const int folder = open(slash != NULL ? to->place : ".", O_RDONLY | O_DIRECTORY);
+    char *slash = strrchr(to->target, '/');
+    if (slash != NULL) slash[slash == to->target ? 1 : 0] = '\0';
+    const int folder = open(slash != NULL ? to->target : ".", O_RDONLY | O_DIRECTORY);
     if (folder < 0 || fsync(folder) != 0) fail_by_system(to->name, "is written, and may not be on the disk yet");
     close(folder);
-    free(to->place);
+    free(to->target);
 }
 
 static void write_file(const char *name, struct bytes file) {
@@ -233,19 +233,19 @@ static struct sheet read_sheet(const char *name) {
 }
 
 /* A line of a block of a sheet. */
-struct place {
+struct found {
     struct sheet sheet;
     uint32_t block, line;
     uint8_t *bytes; /* of the block */
     uint8_t held[RINCHOVEK_LINE_BYTES], widths[RINCHOVEK_LINE_BYTES];
 };
 
-static struct place find(const char *name, uint32_t block, uint32_t line) {
-    struct place place = {.sheet = read_sheet(name), .block = block, .line = line};
-    if (block >= place.sheet.blocks) check(name, RINCHOVEK_BEYOND_SHEET);
-    place.bytes = place.sheet.file.at + place.sheet.start + (size_t)RINCHOVEK_BLOCK_BYTES * block;
-    check(name, rinchovek_bc7_read_line(place.bytes, line, place.held, place.widths));
-    return place;
+static struct found find(const char *name, uint32_t block, uint32_t line) {
+    struct found found = {.sheet = read_sheet(name), .block = block, .line = line};
+    if (block >= found.sheet.blocks) check(name, RINCHOVEK_BEYOND_SHEET);
+    found.bytes = found.sheet.file.at + found.sheet.start + (size_t)RINCHOVEK_BLOCK_BYTES * block;
+    check(name, rinchovek_bc7_read_line(found.bytes, line, found.held, found.widths));
+    return found;
 }
 
 /* What a block draws at a pixel, in words. */
@@ -263,12 +263,12 @@ static struct colour drawn(const uint8_t block[RINCHOVEK_BLOCK_BYTES], uint32_t 
 }
 
 /* Replaces the line in the sheet, and the sheet in its file. Answers whether the pair was turned: read again, the line differs then. */
-static int replace_there(const struct place *place, const uint8_t replacement[RINCHOVEK_LINE_BYTES]) {
+static int replace_there(const struct found *found, const uint8_t replacement[RINCHOVEK_LINE_BYTES]) {
     uint8_t stored[RINCHOVEK_LINE_BYTES], widths[RINCHOVEK_LINE_BYTES];
-    const uint32_t block = place->block, line = place->line;
-    const struct sheet sheet = place->sheet;
+    const uint32_t block = found->block, line = found->line;
+    const struct sheet sheet = found->sheet;
     check(sheet.name, rinchovek_sheet_replace_line(sheet.file.at, sheet.file.length, block, line, replacement));
-    check(sheet.name, rinchovek_bc7_read_line(place->bytes, line, stored, widths));
+    check(sheet.name, rinchovek_bc7_read_line(found->bytes, line, stored, widths));
     write_file(sheet.name, sheet.file);
     return memcmp(stored, replacement, sizeof stored) != 0;
 }
@@ -330,10 +330,10 @@ static void draw_picture(struct given given) {
     const uint8_t *blocks = sheet.file.at + sheet.start;
     uint8_t *out = room_for(NULL, rinchovek_row_pixels(sheet.width, sheet.height, 0));
     struct output to = start_file(given.file[1]);
-    char head[96];
-    const int length = snprintf(head, sizeof head, "P7\nWIDTH %u\nHEIGHT %u\nDEPTH 4\nMAXVAL 255\nTUPLTYPE RGB_ALPHA\nENDHDR\n", sheet.width,
+    char header[96];
+    const int length = snprintf(header, sizeof header, "P7\nWIDTH %u\nHEIGHT %u\nDEPTH 4\nMAXVAL 255\nTUPLTYPE RGB_ALPHA\nENDHDR\n", sheet.width,
                                 sheet.height);
-    put(&to, head, (size_t)length);
+    put(&to, header, (size_t)length);
     for (uint32_t row = 0; row < (sheet.height + 3) / 4; row++, blocks += blocks_length) {
         const size_t out_length = rinchovek_row_pixels(sheet.width, sheet.height, row);
         check(sheet.name, rinchovek_sheet_decode_row(sheet.width, sheet.height, row, blocks, blocks_length, out, out_length));
@@ -345,46 +345,46 @@ static void draw_picture(struct given given) {
 }
 
 static void show_line(struct given given) {
-    const struct place place = find(given.file[0], given.number[0], given.number[1]);
+    const struct found found = find(given.file[0], given.number[0], given.number[1]);
     uint8_t record[RINCHOVEK_RECORD_BYTES];
-    check(given.file[0], rinchovek_bc7_unpack(place.bytes, record));
-    printf("# block %u, line %u: mode %u\n", place.block, place.line, record[RINCHOVEK_RECORD_MODE]);
-    print_line(place.held, place.widths);
-    free(place.sheet.file.at);
+    check(given.file[0], rinchovek_bc7_unpack(found.bytes, record));
+    printf("# block %u, line %u: mode %u\n", found.block, found.line, record[RINCHOVEK_RECORD_MODE]);
+    print_line(found.held, found.widths);
+    free(found.sheet.file.at);
 }
 
 static void show_nearest(struct given given) {
-    struct place place = find(given.file[0], given.number[0], given.number[1]);
-    const uint32_t line = place.line, pixel = given.number[2];
+    struct found found = find(given.file[0], given.number[0], given.number[1]);
+    const uint32_t line = found.line, pixel = given.number[2];
     uint8_t wanted[RINCHOVEK_PIXEL_BYTES];
     uint32_t index = 0;
     for (int channel = 0; channel < RINCHOVEK_PIXEL_BYTES; channel++) wanted[channel] = (uint8_t)given.number[3 + channel];
-    check(given.file[0], rinchovek_bc7_nearest_index(place.bytes, line, pixel, wanted, &index));
-    place.held[RINCHOVEK_LINE_INDEXES + pixel] = (uint8_t)index;
-    check(given.file[0], rinchovek_bc7_replace_line(place.bytes, line, place.held)); /* in memory, to see what it draws */
-    printf("index %u\npixel %s\n", index, drawn(place.bytes, pixel).words);
-    free(place.sheet.file.at);
+    check(given.file[0], rinchovek_bc7_nearest_index(found.bytes, line, pixel, wanted, &index));
+    found.held[RINCHOVEK_LINE_INDEXES + pixel] = (uint8_t)index;
+    check(given.file[0], rinchovek_bc7_replace_line(found.bytes, line, found.held)); /* in memory, to see what it draws */
+    printf("index %u\npixel %s\n", index, drawn(found.bytes, pixel).words);
+    free(found.sheet.file.at);
 }
 
 static void set_index(struct given given) {
-    struct place place = find(given.file[0], given.number[0], given.number[1]);
+    struct found found = find(given.file[0], given.number[0], given.number[1]);
     const uint32_t pixel = given.number[2], index = given.number[3];
     const size_t at = RINCHOVEK_LINE_INDEXES + (size_t)pixel;
-    if (pixel >= RINCHOVEK_BLOCK_PIXELS || place.widths[at] == 0) check(given.file[0], RINCHOVEK_PIXEL_NOT_IN_LINE);
-    const struct colour before = drawn(place.bytes, pixel);
-    const uint32_t was = place.held[at];
-    place.held[at] = (uint8_t)index;
-    const int turned = replace_there(&place, place.held);
-    printf("index %u, was %u\npair %s\npixel %s, was %s\n", index, was, in_words(turned), drawn(place.bytes, pixel).words, before.words);
-    free(place.sheet.file.at);
+    if (pixel >= RINCHOVEK_BLOCK_PIXELS || found.widths[at] == 0) check(given.file[0], RINCHOVEK_PIXEL_NOT_IN_LINE);
+    const struct colour before = drawn(found.bytes, pixel);
+    const uint32_t was = found.held[at];
+    found.held[at] = (uint8_t)index;
+    const int turned = replace_there(&found, found.held);
+    printf("index %u, was %u\npair %s\npixel %s, was %s\n", index, was, in_words(turned), drawn(found.bytes, pixel).words, before.words);
+    free(found.sheet.file.at);
 }
 
 static void replace_line(struct given given) {
-    const struct place place = find(given.file[0], given.number[0], given.number[1]);
+    const struct found found = find(given.file[0], given.number[0], given.number[1]);
     uint8_t replacement[RINCHOVEK_LINE_BYTES];
-    read_line(place.widths, replacement);
-    printf("pair %s\n", in_words(replace_there(&place, replacement)));
-    free(place.sheet.file.at);
+    read_line(found.widths, replacement);
+    printf("pair %s\n", in_words(replace_there(&found, replacement)));
+    free(found.sheet.file.at);
 }
 
 /* Of its arguments f is a file, n any number, b a number from 0 to 255, and c a colour space, which may be left out. */
@@ -421,7 +421,8 @@ static void print_help(void) {
            "A dot in place of a number is what the line hasn't got, as pixels of another line. Behind # stands a remark: `line` prints how many\n"
            "bits each number has. Spaces and newlines part the words, as many as you like.\n"
            "\n"
-           "A file is changed whole or not at all. Where two commands change one file at the same time, the later one wins.\n"
+           "A file is changed whole or not at all. What a kill leaves stands beside it, its name a dot and six letters longer. Where two commands\n"
+           "change one file at the same time, the later one wins.\n"
            "\n"
            "Exit status: 0 done; 1 refused, with the number of the refusal (docs/REFUSALS.md); 2 a file can't be read or written, or the command\n"
            "is wrong.\n");

@@ -37,19 +37,19 @@ def client(*words, given=""):
 
 
 def picture(sheet):
-    """Width, and the rows of pixels over the grey ground."""
+    """The scanlines, over the grey ground."""
     pam = sheet.with_suffix(".pam")
     client("picture", sheet, pam)
-    head, _, pixels = pam.read_bytes().partition(b"ENDHDR\n")
-    width, height = (int(head.split(name)[1].split()[0]) for name in (b"WIDTH", b"HEIGHT"))
-    rows = []
+    header, _, pixels = pam.read_bytes().partition(b"ENDHDR\n")
+    width, height = (int(header.split(name)[1].split()[0]) for name in (b"WIDTH", b"HEIGHT"))
+    scanlines = []
     for y in range(height):
-        row = []
+        scanline = []
         for at in range(4 * width * y, 4 * width * (y + 1), 4):
             alpha = pixels[at + 3]
-            row.append(tuple(rounded((channel * alpha + GROUND * (255 - alpha)) // 255) for channel in pixels[at : at + 3]))
-        rows.append(row)
-    return rows
+            scanline.append(tuple(rounded((channel * alpha + GROUND * (255 - alpha)) // 255) for channel in pixels[at : at + 3]))
+        scanlines.append(scanline)
+    return scanlines
 
 
 def three_maps(folder):
@@ -80,37 +80,38 @@ def rounded(channel):
     return min(channel // STEP * STEP + STEP // 2, 255)
 
 
-def framed(rows, left, top, width, height):
+def framed(scanlines, left, top, width, height):
     """A frame around these pixels."""
     for x in range(left - 1, left + width + 1):
-        rows[top - 1][x] = rows[top + height][x] = INK
+        scanlines[top - 1][x] = scanlines[top + height][x] = INK
     for y in range(top - 1, top + height + 1):
-        rows[y][left - 1] = rows[y][left + width] = INK
+        scanlines[y][left - 1] = scanlines[y][left + width] = INK
 
 
-def composed(rows):
+def composed(scanlines):
     """The map, and below it the cutout enlarged, with a frame around the block."""
-    across = (len(rows[0]) + 3) // 4
+    across = (len(scanlines[0]) + 3) // 4
     column, row = BLOCK % across * 4, BLOCK // across * 4
-    large = [[colour for colour in line[CUT_LEFT : CUT_LEFT + CUT_WIDTH] for _ in range(SCALE)] for line in rows[CUT_TOP : CUT_TOP + CUT_HEIGHT]]
-    large = [list(line) + [line[-1]] * (len(rows[0]) - len(line)) for line in large for _ in range(SCALE)]
+    cut = [scanline[CUT_LEFT : CUT_LEFT + CUT_WIDTH] for scanline in scanlines[CUT_TOP : CUT_TOP + CUT_HEIGHT]]
+    wide = [[colour for colour in scanline for _ in range(SCALE)] for scanline in cut]
+    large = [scanline + [scanline[-1]] * (len(scanlines[0]) - len(scanline)) for scanline in wide for _ in range(SCALE)]
     framed(large, (column - CUT_LEFT) * SCALE, (row - CUT_TOP) * SCALE, 4 * SCALE, 4 * SCALE)
-    framed(rows, CUT_LEFT, CUT_TOP, CUT_WIDTH, CUT_HEIGHT)
-    return rows + [[PAPER] * len(rows[0])] * 4 + large
+    framed(scanlines, CUT_LEFT, CUT_TOP, CUT_WIDTH, CUT_HEIGHT)
+    return scanlines + [[PAPER] * len(scanlines[0])] * 4 + large
 
 
-def png(rows):
-    palette = sorted({colour for row in rows for colour in row})
+def png(scanlines):
+    palette = sorted({colour for scanline in scanlines for colour in scanline})
     assert len(palette) <= 256
     number = {colour: i for i, colour in enumerate(palette)}
 
     def chunk(name, data):
         return struct.pack(">I", len(data)) + name + data + struct.pack(">I", zlib.crc32(name + data))
 
-    head = struct.pack(">IIBBBBB", len(rows[0]), len(rows), 8, 3, 0, 0, 0)
-    lines = b"".join(b"\0" + bytes(number[colour] for colour in row) for row in rows)
-    return b"\x89PNG\r\n\x1a\n" + chunk(b"IHDR", head) + chunk(b"PLTE", bytes(c for colour in palette for c in colour)) + chunk(
-        b"IDAT", zlib.compress(lines, 9)) + chunk(b"IEND", b"")
+    header = struct.pack(">IIBBBBB", len(scanlines[0]), len(scanlines), 8, 3, 0, 0, 0)
+    unpacked = b"".join(b"\0" + bytes(number[colour] for colour in scanline) for scanline in scanlines)
+    return b"\x89PNG\r\n\x1a\n" + chunk(b"IHDR", header) + chunk(b"PLTE", bytes(c for colour in palette for c in colour)) + chunk(
+        b"IDAT", zlib.compress(unpacked, 9)) + chunk(b"IEND", b"")
 
 
 # ---------------------------------------------------------------------------------------------------------------------
@@ -193,7 +194,7 @@ if __name__ == "__main__":
         sys.exit("usage: make_pictures.py [--check] CLIENT")
     CLIENT = str(Path(sys.argv[-1]).resolve())
     with tempfile.TemporaryDirectory() as name:
-        made = dict(zip(("map.png", "corrected.png", "lost_turn.png"), (png(composed(rows)) for rows in three_maps(Path(name)))))
+        made = dict(zip(("map.png", "corrected.png", "lost_turn.png"), (png(composed(scanlines)) for scanlines in three_maps(Path(name)))))
         made["bits.svg"] = svg(BLOCK_C, corrected_c(Path(name)))
     for name, data in made.items():
         if not check:
