@@ -117,15 +117,15 @@ def png(scanlines):
 # ---------------------------------------------------------------------------------------------------------------------
 # The bits of block C.
 
-CELL, LEFT, TALL = 14, 74, 18  # pixels of the drawing: a bit, what stands before the first, a row
+CELL, LEFT, TALL = 15, 66, 18  # pixels of the drawing: a bit, what stands before the first, a row
 
 
 def fields():
     """Name, first bit and width of each field of mode 6 in stored order."""
     yield "mode", 0, 7
-    names = ["%s %d" % (channel, end) for end in range(2) for channel in ("red", "green", "blue", "alpha")]
+    names = ["%s-%d" % (channel, end) for end in range(2) for channel in ("red", "green", "blue", "alpha")]
     for number, bit, width in model.layout(6, ("whole",)):
-        yield names[number] if number < 8 else "p" if number < model.FIRST else "i%d" % (number - model.FIRST), bit, width
+        yield names[number] if number < 8 else "p" if number < model.FIRST else "index-%d" % (number - model.FIRST), bit, width
 
 
 def corrected_c(folder):
@@ -158,7 +158,7 @@ def svg(before, after):
             values = [number >> first & (1 << width) - 1 for number in numbers]
             fill = "#ffd9a0" if values[0] != values[1] else "#eef0f4"
             drawn.append('<rect x="%g" y="%g" width="%g" height="%g" fill="%s" stroke="#888"/>' % (x, top + TALL, wide, 3 * TALL, fill))
-            text(x + wide / 2, top + TALL + 13, name, ' text-anchor="middle"')
+            text(x + wide / 2, top + TALL + 13, name, ' text-anchor="middle" font-size="10.5"')
             for bit in range(start, end):
                 both = [number >> bit & 1 for number in numbers]
                 for row, value in enumerate(both):
