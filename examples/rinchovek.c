@@ -2,7 +2,8 @@
  * It stands on include/rinchovek.h and the C library alone.
  *
  * A file is written under another name beside the old one, brought to the disk, and only then renamed: whoever looks finds the old bytes or
- * the new ones, whole, also after a full disk, a kill or a power cut. A command that fails leaves the file as it was, its time stamp too. */
+ * the new ones, whole, also after a full disk, a kill or a power cut. What is refused, or can't be written, leaves the file as it was, its time
+ * stamp too. */
 #define _XOPEN_SOURCE 700 /* realpath, mkstemp */
 #include "rinchovek.h"
 
