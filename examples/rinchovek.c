@@ -276,24 +276,9 @@ static int replace_there(const struct found *found, const uint8_t replacement[RI
 
 static const char *in_words(int turned) { return turned ? "turned" : "as given"; }
 
-/* ---- colour spaces: these two functions are all that knows how a DDS file says one */
-
-static const char *const colour_spaces[] = {"unspecified", "linear", "srgb"};
-enum { LINEAR = 1, SRGB = 2, FORMAT_BYTE = 128, FORMAT_LINEAR = 98, FORMAT_SRGB = 99 };
-
-static uint32_t import_with_colour(struct bytes dds, struct bytes sheet, uint32_t *colour_space) {
-    const uint32_t refusal = rinchovek_dds_import(dds.at, dds.length, sheet.at, sheet.length);
-    if (refusal == RINCHOVEK_ACCEPTED) *colour_space = dds.at[FORMAT_BYTE] == FORMAT_SRGB ? SRGB : LINEAR;
-    return refusal;
-}
-
-static uint32_t export_with_colour(struct bytes sheet, uint32_t colour_space, struct bytes dds) {
-    const uint32_t refusal = rinchovek_dds_export(sheet.at, sheet.length, dds.at, dds.length);
-    if (refusal == RINCHOVEK_ACCEPTED) dds.at[FORMAT_BYTE] = colour_space == SRGB ? FORMAT_SRGB : FORMAT_LINEAR;
-    return refusal;
-}
-
 /* ---- the commands */
+
+static const char *const colour_spaces[] = {"unspecified", "linear", "srgb"}; /* by enum rinchovek_colour_space */
 
 /* What a command was given: its files, and its numbers in their order. */
 struct given {
@@ -303,12 +288,12 @@ struct given {
 
 static void import_dds(struct given given) {
     const struct bytes dds = read_file(given.file[0]);
-    uint32_t length = 0, colour_space = 0;
+    uint32_t length = 0, head[RINCHOVEK_COLOUR_HEAD_NUMBERS] = {0};
     check(given.file[0], rinchovek_dds_import_length(dds.at, dds.length, &length));
     const struct bytes sheet = {room_for(NULL, length), length};
-    check(given.file[0], import_with_colour(dds, sheet, &colour_space));
+    check(given.file[0], rinchovek_dds_import_colour(dds.at, dds.length, sheet.at, sheet.length, head));
     write_file(given.file[1], sheet);
-    printf("%s\n", colour_spaces[colour_space]);
+    printf("%s\n", colour_spaces[head[RINCHOVEK_HEAD_COLOUR_SPACE]]);
     free(dds.at);
     free(sheet.at);
 }
@@ -319,7 +304,7 @@ static void export_dds(struct given given) {
     uint32_t length = 0;
     check(given.file[0], rinchovek_dds_export_length(sheet.at, sheet.length, &length));
     const struct bytes dds = {room_for(NULL, length), length};
-    check(given.file[0], export_with_colour(sheet, colour_space, dds));
+    check(given.file[0], rinchovek_dds_export_colour(sheet.at, sheet.length, colour_space, dds.at, dds.length));
     write_file(given.file[1], dds);
     free(sheet.at);
     free(dds.at);
@@ -449,7 +434,7 @@ static struct given take(const struct command *command, int count, char **words)
             continue;
         }
         if (*kind == 'c') {
-            *number = strcmp(word, colour_spaces[SRGB]) == 0 ? SRGB : LINEAR;
+            *number = strcmp(word, colour_spaces[RINCHOVEK_SRGB]) == 0 ? RINCHOVEK_SRGB : RINCHOVEK_LINEAR;
             if (strcmp(word, colour_spaces[*number]) != 0) fail_by_usage(command);
         } else if (!is_number(word, *kind == 'b' ? UINT8_MAX : UINT32_MAX, number)) {
             fprintf(stderr, "rinchovek: \"%s\" is no number from 0 to %u\n", word, *kind == 'b' ? UINT8_MAX : UINT32_MAX);
