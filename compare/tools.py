@@ -22,19 +22,45 @@ def build_oracle(docs_src):
     return [str(out)]
 
 
-def program(name):
-    """The command that starts target/bin/NAME, or None where it isn't built. The kit links programs for x86-64; its
-    own loader and C library start them, on Arm under its emulator."""
-    path = ROOT / "target" / "bin" / name
-    if not path.exists():
-        return None
+def toolchain():
+    """The folder of the kit's compiler, linker, C library and emulator for this machine."""
+    guide = subprocess.run(["rt", "doc"], stdout=subprocess.PIPE, check=True, text=True).stdout.strip()
+    return Path(guide).parent.parent / "on" / platform.machine() / "toolchain"
+
+
+def started(path):
+    """The command that starts a program that the kit has linked, for x86-64: by the kit's loader and C library, on Arm under its emulator."""
     if shutil.which("rt") is None:
         return [str(path)]
-    guide = subprocess.run(["rt", "doc"], stdout=subprocess.PIPE, check=True, text=True).stdout.strip()
-    kit = Path(guide).parent.parent / "on" / platform.machine() / "toolchain"
+    kit = toolchain()
     emulator = kit / "bin" / "qemu-x86_64"
     start = [str(emulator)] if os.access(emulator, os.X_OK) else []
     return [*start, str(kit / "lib" / "ld-linux-x86-64.so.2"), "--library-path", str(kit / "lib"), str(path)]
+
+
+def program(name):
+    """The command that starts target/bin/NAME, or None where it isn't built."""
+    path = ROOT / "target" / "bin" / name
+    return started(path) if path.exists() else None
+
+
+def pixel_filter():
+    """The second decoder as a filter over the archive, or None where there is no archive (`rt staticlib rinchovek`) or no kit."""
+    archive = ROOT / "target" / "staticlib" / "librinchovek.a"
+    if not archive.exists() or shutil.which("rt") is None:
+        return None
+    kit, out = toolchain(), BUILT / "pixel_filter"
+    lib, headers, part = kit / "lib", BUILT / "include", out.with_suffix(".o")
+    headers.mkdir(parents=True, exist_ok=True)
+    (headers / "stddef.h").write_text("typedef unsigned long size_t;\n")
+    (headers / "stdint.h").write_text("typedef unsigned char uint8_t; typedef unsigned uint32_t;\n")
+    compile_words = ["--target=x86_64-linux-gnu", "-nostdinc", "-isystem", headers, "-I", ROOT / "include", "-O2", "-c", HERE / "pixel_filter.c", "-o", part]
+    subprocess.run([kit / "bin" / "clang", *compile_words], check=True)
+    before = [lib / name for name in ("Scrt1.o", "crti.o", "crtbeginS.o")]
+    behind = [lib / name for name in ("libc.so.6", "libc_nonshared.a", "ld-linux-x86-64.so.2", "libgcc.a", "crtendS.o", "crtn.o")]
+    link_words = ["-pie", "-dynamic-linker", lib / "ld-linux-x86-64.so.2", "-o", out, *before, part, archive, *behind]
+    subprocess.run([kit / "bin" / "ld.lld", *link_words], check=True)
+    return started(out)
 
 
 def through(command, data, timeout=600):
