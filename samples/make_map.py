@@ -26,6 +26,15 @@ SEED = 109
 STATION = (168, 128)
 TOWERS = (((188, 110), 150), ((152, 148), 130), ((150, 106), 170))  # places of two by two, and metres
 
+
+def total(values):
+    """The sum from the left, rounded at each step. Python's own rounds otherwise from 3.12 on, and the map would be another."""
+    so_far = 0
+    for value in values:
+        so_far += value
+    return so_far
+
+
 # ---------------------------------------------------------------------------------------------------------------------
 # The terrain and what is seen of it.
 
@@ -128,17 +137,17 @@ def pixels():
 def ends_of(points):
     """The two ends of the points along the axis on which they lie apart most."""
     channels = range(len(points[0]))
-    middle = [sum(point[c] for point in points) / len(points) for c in channels]
+    middle = [total(point[c] for point in points) / len(points) for c in channels]
     apart = [[point[c] - middle[c] for c in channels] for point in points]
-    axis = max(apart, key=lambda d: sum(v * v for v in d))
+    axis = max(apart, key=lambda d: total(v * v for v in d))
     for _ in range(3):
-        along = [sum(d[c] * axis[c] for c in channels) for d in apart]
-        axis = [sum(t * d[c] for t, d in zip(along, apart)) for c in channels]
-        length = math.sqrt(sum(v * v for v in axis))
+        along = [total(d[c] * axis[c] for c in channels) for d in apart]
+        axis = [total(t * d[c] for t, d in zip(along, apart)) for c in channels]
+        length = math.sqrt(total(v * v for v in axis))
         if length == 0:
             return middle, middle
         axis = [v / length for v in axis]
-    along = [sum(d[c] * axis[c] for c in channels) for d in apart]
+    along = [total(d[c] * axis[c] for c in channels) for d in apart]
     return tuple([middle[c] + t * axis[c] for c in channels] for t in (min(along), max(along)))
 
 
@@ -174,7 +183,7 @@ def fitted_line(mode, split, number, wanted):
     tried = []
     for ps in choices:
         both = [stored(end, widths, p) for end, p in zip(ends, ps)]
-        away = sum((a - b) ** 2 for (_, as_drawn), end in zip(both, ends) for a, b in zip(as_drawn, end))
+        away = total((a - b) * (a - b) for (_, as_drawn), end in zip(both, ends) for a, b in zip(as_drawn, end))
         tried.append((away, ps, both))
     _, ps, both = min(tried)
     for end, (values, as_drawn) in enumerate(both):
@@ -185,7 +194,7 @@ def fitted_line(mode, split, number, wanted):
     palette = [[((64 - w) * a + w * b + 32) // 64 for a, b in zip(*drawn)] for w in model.WEIGHTS[line.index_width]]
     error = 0
     for pixel, point in zip(line.pixels, points):
-        away, index = min((sum((a - b) ** 2 for a, b in zip(colour, point)), index) for index, colour in enumerate(palette))
+        away, index = min((total((a - b) * (a - b) for a, b in zip(colour, point)), index) for index, colour in enumerate(palette))
         given[10 + pixel] = index
         error += away
     return error, given
@@ -194,7 +203,7 @@ def fitted_line(mode, split, number, wanted):
 def fitted(mode, split, wanted):
     """Error, mode, split and lines."""
     found = [fitted_line(mode, split, number, wanted) for number in range(model.MODES[mode].lines)]
-    return sum(error for error, _ in found), mode, split, [given for _, given in found]
+    return total(error for error, _ in found), mode, split, [given for _, given in found]
 
 
 def likely_partitions(mode, wanted, count):
@@ -202,12 +211,12 @@ def likely_partitions(mode, wanted, count):
     kind = model.MODES[mode].kind
 
     def apart(partition):
-        total = 0
+        spread = 0
         for line in model.lines(mode, (kind, partition)):
             for c in range(4):
                 values = [wanted[pixel][c] for pixel in line.pixels]
-                total += sum(v * v for v in values) - sum(values) ** 2 / len(values)
-        return total
+                spread += total(v * v for v in values) - total(values) * total(values) / len(values)
+        return spread
 
     return [(kind, partition) for partition in sorted(range(1 << model.MODES[mode].split_bits[0]), key=apart)[:count]]
 
@@ -270,14 +279,14 @@ def files(wanted):
 def report(wanted, blocks):
     """What is drawn against what was meant, in words."""
     said = tools.through(REPLAY, b"".join(protocol.call_bytes(("D", block)) for block in blocks))
-    across, worst, total = model.in_blocks(WIDTH), 0, 0
+    across, worst, off = model.in_blocks(WIDTH), 0, 0
     for (x, y), colour in wanted.items():
         at = 64 * (y // 4 * across + x // 4) + 4 * (y % 4 * 4 + x % 4)
         away = [abs(a - b) for a, b in zip(said[at : at + 4], colour)]
-        worst, total = max(worst, *away), total + sum(away)
+        worst, off = max(worst, *away), off + total(away)
     modes = Counter(map(model.mode_of, blocks))
     return "blocks by mode: %s; a channel is off by %d at the most, by %.2f on average" % (
-        ", ".join("%d: %d" % item for item in sorted(modes.items())), worst, total / (4 * len(wanted)))
+        ", ".join("%d: %d" % item for item in sorted(modes.items())), worst, off / (4 * len(wanted)))
 
 
 if __name__ == "__main__":
