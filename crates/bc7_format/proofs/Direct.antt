@@ -5,10 +5,10 @@ use mathlib.Core.Logic.{_≢_}
 use mathlib.Core.Bool.{true}
 use Prim.Native.Nat.{ℕ, _<_}
 use borrow.Author.Tests.{eqb-false, not-true}
+use Rattle.bc7_format.specs.declared.Place.{Place}
 use Rattle.bc7_format.specs.declared.Split.{Split}
 use Rattle.bc7_format.specs.Lines.{Line, has, indexPlace, isDrawn, lineAt, lineOf, meansStored, own, pPlace, rotated, shown, valuePlace}
 use Rattle.bc7_format.specs.Modes.{channelBits, lines, pCount}
-use Rattle.bc7_format.specs.Places.{Place}
 use Rattle.bc7_format.specs.Splits.{rotation}
 use Rattle.bc7_format.specs.WellFormed.{WellFormed}
 use Rattle.bc7_format.proofs.Meaning.{good-rotation, has-index, has-p, has-value, means-ext, rotated-lt}

@@ -8,13 +8,14 @@ use native.Mathlib.Nat.{eq-or-lt-of-le, le-of-lt, le-refl}
 use native.Mathlib.Omega.{arith}
 use lib.Dec.{T, eqb, eqb→eq}
 use lib.ListN.{getD}
+use Rattle.bc7_format.specs.declared.Place.{Place}
 use Rattle.bc7_format.specs.declared.Split.{Split}
 use Rattle.laws.specs.Digits.{total}
 use Rattle.laws.specs.Tables.{table, tableFrom}
 use Rattle.laws.proofs.Rows.{digit, take-table, total-more, total-room}
 use Rattle.laws.proofs.Tests.{at}
 use Rattle.bc7_format.specs.Modes.{endpointCount, modeRow}
-use Rattle.bc7_format.specs.Places.{Place, atPlace, inside, placeAt, pos, width, widths, placeCount, firstFrom}
+use Rattle.bc7_format.specs.Places.{atPlace, inside, placeAt, pos, width, widths, placeCount, firstFrom}
 use Rattle.bc7_format.specs.Splits.{anchors}
 use Rattle.bc7_format.proofs.Places.{placeAt-pos, pos-lt}
 unfoldable pub use Rattle.bc7_format.specs.Places.{start}

@@ -8,31 +8,33 @@ use native.Mathlib.Omega.{arith}
 use borrow.Author.Tests.{le-ltb, lt-ltb}
 use lib.Dec.{eqb, ltb}
 use lib.ListN.{getD}
+use Rattle.bc7_format.specs.declared.Place.{Place}
+use Rattle.bc7_format.specs.declared.Place.the-variants.{Lead, Value, PBit, Index}
 use Rattle.bc7_format.specs.declared.Split.{Split}
 use Rattle.bc7_places.specs.declared.modes.ModeRow.{ModeRow}
 use Rattle.laws.specs.Tables.{pick}
 use Rattle.bcn_format.specs.Partitions.{among}
 use Rattle.bc7_format.specs.Modes.{indexBits}
-use Rattle.bc7_format.specs.Places.{Place, firstFrom, lead, index, pbit, placeAt, psFrom, value, valuesFrom, width}
+use Rattle.bc7_format.specs.Places.{firstFrom, placeAt, psFrom, valuesFrom, width}
 use Rattle.bc7_format.specs.Splits.{anchors, leadBits, partition}
 use Rattle.bc7_places.specs.Modes.{IsRow}
 use Rattle.bc7_places.specs.Splits.{anchorsOf, threeOf}
 use Rattle.bc7_places.proofs.splits.AnchorPixels.{three-are}
 
 module _ (i : ℕ) where
-  pub is-lead : i < valuesFrom → placeAt i ≡ lead i
+  pub is-lead : i < valuesFrom → placeAt i ≡ Lead i
   unfolding placeAt
   is-lead h = rw (lt-ltb i valuesFrom h)
 
-  pub is-value : valuesFrom ≤ i → i < psFrom → placeAt i ≡ value ((i - valuesFrom) / 6) ((i - valuesFrom) % 6)
+  pub is-value : valuesFrom ≤ i → i < psFrom → placeAt i ≡ Value ((i - valuesFrom) / 6) ((i - valuesFrom) % 6)
   unfolding placeAt
   is-value h l = rw (le-ltb i valuesFrom h, lt-ltb i psFrom l)
 
-  pub is-p-bit : psFrom ≤ i → i < firstFrom → placeAt i ≡ pbit (i - psFrom)
+  pub is-p-bit : psFrom ≤ i → i < firstFrom → placeAt i ≡ PBit (i - psFrom)
   unfolding placeAt
   is-p-bit h l = rw (le-ltb i valuesFrom (omega arith), le-ltb i psFrom h, lt-ltb i firstFrom l)
 
-  pub is-index : firstFrom ≤ i → placeAt i ≡ index ((i - firstFrom) / 16) ((i - firstFrom) % 16)
+  pub is-index : firstFrom ≤ i → placeAt i ≡ Index ((i - firstFrom) / 16) ((i - firstFrom) % 16)
   unfolding placeAt
   is-index h = rw (le-ltb i valuesFrom (omega arith), le-ltb i psFrom (omega arith), le-ltb i firstFrom h)
 
@@ -65,7 +67,7 @@ no-width false e = sym e
 -- three anchors are the split's
 pub three-wide : (m : ℕ) (s : Split) → partition s < 64 → (x : Place) → width m (threeOf (anchorsOf s)) x ≡ width m (anchors s) x
 unfolding width
-three-wide m s h (lead k) = refl
-three-wide m s h (value c e) = refl
-three-wide m s h (pbit k) = refl
-three-wide m s h (index a q) = ap (λ (t : Bool). pick t (indexBits m a - 1) (indexBits m a)) (three-are s h q)
+three-wide m s h (Lead k) = refl
+three-wide m s h (Value c e) = refl
+three-wide m s h (PBit k) = refl
+three-wide m s h (Index a q) = ap (λ (t : Bool). pick t (indexBits m a - 1) (indexBits m a)) (three-are s h q)

@@ -11,13 +11,14 @@ use native.Mathlib.Omega.{arith}
 use borrow.Author.Tests.{eq-eqb, eqb-true}
 use lib.Dec.{T, eqb, leb, leb→le, ltb, lt→ltb}
 use lib.ListN.{length, length-append}
+use Rattle.bc7_format.specs.declared.Place.{Place}
 use Rattle.bc7_format.specs.declared.Split.{Split}
 use Rattle.bc7_format.specs.declared.Split.the-variants.{Whole, Two, Three, Vector}
 use Rattle.laws.specs.Tables.{below, implies, pick, table, tableFrom}
 use Rattle.laws.proofs.Cases.{lt-or}
 use Rattle.laws.proofs.Tests.{at, eqb-of, implied}
 use Rattle.bc7_format.specs.Modes.{endpointCount, kindOfMode, modeRow, partitionBits}
-use Rattle.bc7_format.specs.Places.{Place, placeAt, placeCount, start, width, widths}
+use Rattle.bc7_format.specs.Places.{placeAt, placeCount, start, width, widths}
 use Rattle.bc7_format.specs.Splits.{anchors, kindOf, partition}
 use Rattle.bc7_format.proofs.Places.{width-le}
 use Rattle.listing_rules.specs.Text.{ascii, decimal, digitsIn}

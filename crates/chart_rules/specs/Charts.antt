@@ -7,12 +7,13 @@ use mathlib.Core.List.{List, [], _∷_, _++_}
 use mathlib.Core.Logic.{_≢_}
 use lib.Dec.{eqb}
 use lib.ListN.{length}
+use Rattle.bc7_format.specs.declared.Place.{Place}
 use Rattle.laws.specs.Padding.{padded}
 use Rattle.laws.specs.Refusals.{Rule, first, refuse, unless}
 use Rattle.laws.specs.Tables.{pick}
 use Rattle.bc7_format.specs.declared.Split.{Split}
 use Rattle.bc7_format.specs.Modes.{modeOf}
-use Rattle.bc7_format.specs.Places.{Place, placeAt, placeCount, start, width}
+use Rattle.bc7_format.specs.Places.{placeAt, placeCount, start, width}
 use Rattle.bc7_format.specs.Splits.{anchors, splitOf}
 use Rattle.listing_rules.specs.Text.{newline, refusedText, spaced}
 use Rattle.chart_rules.specs.declared.Chart.{Chart}

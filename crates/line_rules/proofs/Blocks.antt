@@ -9,6 +9,7 @@ use native.Mathlib.Nat.{eq-or-lt-of-le}
 use native.Mathlib.Omega.{arith}
 use borrow.Author.Tests.{eqb-true, eq-eqb, ne-eqb}
 use lib.Dec.{T, eqb}
+use Rattle.bc7_format.specs.declared.Place.{Place}
 use Rattle.bc7_format.specs.declared.Split.{Split}
 use Rattle.laws.specs.Digits.{Fit}
 use Rattle.laws.specs.Refusals.{first}
@@ -16,7 +17,7 @@ use Rattle.laws.specs.Tables.{pick}
 use Rattle.bcn_format.specs.Block.{eights, trailing}
 use Rattle.bc7_format.specs.Modes.{modeOf}
 use Rattle.bc7_format.specs.Lines.{draws, has, isDrawn, laid, meansShown, pixel, rotated, shown, withLine}
-use Rattle.bc7_format.specs.Places.{Place, blockOf, inside, opened}
+use Rattle.bc7_format.specs.Places.{blockOf, inside, opened}
 use Rattle.bc7_format.specs.Splits.{rotation, splitOf}
 use Rattle.bc7_format.specs.WellFormed.{WellFormed}
 use Rattle.bc7_format.proofs.Lens.{shown-ext, shown-none, shown-other}

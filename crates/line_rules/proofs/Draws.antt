@@ -7,12 +7,14 @@ use Prim.Native.Nat.{ℕ, _^_, _<_}
 use native.Mathlib.Omega.{arith}
 use borrow.Author.Tests.{eqb-true, eqb-false, eq-eqb}
 use lib.Dec.{T, eqb, eqb→eq}
+use Rattle.bc7_format.specs.declared.Place.{Place}
+use Rattle.bc7_format.specs.declared.Place.the-variants.{Lead}
 use Rattle.bc7_format.specs.declared.Split.{Split}
 use Rattle.laws.specs.Tables.{both}
 use Rattle.laws.proofs.Tests.{at, both-left, both-right, both-true}
 use Rattle.bc7_format.specs.Lines.{draws, isDrawn, lineAt, rotated}
 use Rattle.bc7_format.specs.Modes.{alphaBits, modeRow, rotationBits}
-use Rattle.bc7_format.specs.Places.{Place, lead, width}
+use Rattle.bc7_format.specs.Places.{width}
 use Rattle.bc7_format.specs.Splits.{rotation}
 use Rattle.bc7_format.specs.WellFormed.{WellFormed}
 use Rattle.bc7_format.proofs.Modes.{good-parts}
@@ -43,8 +45,8 @@ pub no-rotation : {m : ℕ} {s : Split} {f : Place → ℕ} → WellFormed m s f
 unfolding width
 no-rotation {m} {s} {f} g h =
     let e : rotationBits m ≡ 0 = eqb→eq _ 0 (both-left (eqb (rotationBits m) 0) _ (few-bits m h)) in
-    let l : f (lead 2) < 1 = subst (λ (w : ℕ). f (lead 2) < 2 ^ w) e (g .fits (lead 2) tt) in
-    good-parts g .1 ∙ (let z : f (lead 2) ≡ 0 = omega arith in z)
+    let l : f (Lead 2) < 1 = subst (λ (w : ℕ). f (Lead 2) < 2 ^ w) e (g .fits (Lead 2) tt) in
+    good-parts g .1 ∙ (let z : f (Lead 2) ≡ 0 = omega arith in z)
 
 pub no-alpha : (m : ℕ) → m < 4 → isDrawn m 3 ≡ false
 no-alpha m h = rw (eq-eqb (alphaBits m) 0 (eqb→eq _ 0 (both-right (eqb (rotationBits m) 0) (eqb (alphaBits m) 0) (few-bits m h))))

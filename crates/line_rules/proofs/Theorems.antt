@@ -7,6 +7,7 @@ use mathlib.Core.List.{List, _∷_, _++_}
 use Prim.Native.Nat.{ℕ, _<_}
 use lib.Dec.{T}
 use lib.ListN.{length, getD}
+use Rattle.bc7_format.specs.declared.Place.{Place}
 use Rattle.line_rules.specs.declared.Replacement.{Replacement}
 use Rattle.line_rules.specs.declared.Replaced.{Replaced}
 use Rattle.line_rules.specs.declared.LineRead.{LineRead}
@@ -18,7 +19,7 @@ use Rattle.bcn_format.specs.Block.{eights}
 use Rattle.bc7_format.specs.Modes.{modeOf, lines}
 use Rattle.bc7_format.specs.Lines.{draws, has, laid, meansShown, pixel, pixels}
 use Rattle.bcn_format.specs.Partitions.{among}
-use Rattle.bc7_format.specs.Places.{Place, inside, opened}
+use Rattle.bc7_format.specs.Places.{inside, opened}
 use Rattle.bc7_format.specs.Splits.{splitOf}
 use Rattle.bc7_format.proofs.Opening.{opened-good}
 use Rattle.bc7_format.proofs.Reserved.{open-mode, reserved-mode, zero-byte}

@@ -10,6 +10,7 @@ use borrow.Author.Tests.{le-ltb, lt-ltb}
 use lib.Arith.{le-zero}
 use lib.Dec.{eqb, ltb}
 use lib.ListN.{getD, length}
+use Rattle.bc7_format.specs.declared.Place.the-variants.{Lead, Value, PBit, Index}
 use Rattle.record_rules.specs.declared.Record.{Record}
 use Rattle.bc7_places.specs.declared.splits.Anchors.{Anchors}
 use Rattle.bc7_places.specs.declared.modes.ModeRow.{ModeRow}
@@ -24,7 +25,7 @@ use Rattle.laws.proofs.RowParts.{rows-join, rows-total, tail-join, tail-total}
 use Rattle.laws.proofs.Rows.{fit-table, total-same}
 use Rattle.bc7_format.specs.Modes.{channelBits, endpointCount, indexBits, pCount, partitionBits, secondBits}
 use Rattle.bcn_format.specs.Partitions.{among}
-use Rattle.bc7_format.specs.Places.{blockOf, lead, index, listOf, pbit, placeAt, pos, value, width, widths, valuesFrom, psFrom, firstFrom, secondFrom}
+use Rattle.bc7_format.specs.Places.{blockOf, listOf, placeAt, pos, width, widths, valuesFrom, psFrom, firstFrom, secondFrom}
 use Rattle.bc7_format.specs.Places.{placeCount}
 use Rattle.bcn_format.specs.Block.{bytesOf}
 use Rattle.bc7_format.specs.Splits.{anchors, indexMode, kindOf, partition, rotation}
@@ -48,7 +49,7 @@ module _ {r : Record} {row : ModeRow} (p : Packable r row) where
 
   part-fits : partition (r .split) < 2 ^ partitionBits (r .mode)
   unfolding says width
-  part-fits = p .fits (lead 1) tt
+  part-fits = p .fits (Lead 1) tt
 
   pub part-64 : partition (r .split) < 64
   part-64 = low-partition (r .mode) _ (p .low) part-fits
@@ -160,9 +161,9 @@ module _ {r : Record} {row : ModeRow} (p : Packable r row) where
 
   -- the values of channel c
   module _ (c : ℕ) (hc : c < 4) where
-    value-place : (j : ℕ) → j < 6 → placeAt (valuesFrom + 6 * c + j) ≡ value c j
+    value-place : (j : ℕ) → j < 6 → placeAt (valuesFrom + 6 * c + j) ≡ Value c j
     unfolding pos
-    value-place j h = rw (add-assoc valuesFrom (6 * c) j) (placeAt-pos (value c j) (inside-value hc h))
+    value-place j h = rw (add-assoc valuesFrom (6 * c) j) (placeAt-pos (Value c j) (inside-value hc h))
 
     pub value-wide : (j : ℕ) → j < 6 → wide r (valuesFrom + 6 * c + j) ≡ pick (ltb j (endpointCount (r .mode))) (channelBits (r .mode) c) 0
     unfolding width
@@ -202,9 +203,9 @@ module _ {r : Record} {row : ModeRow} (p : Packable r row) where
         channel-next = group-next (valuesFrom + 6 * c) 6 (omega arith) eb joined size
 
   -- the p bits
-  p-place : (j : ℕ) → j < 6 → placeAt (psFrom + j) ≡ pbit j
+  p-place : (j : ℕ) → j < 6 → placeAt (psFrom + j) ≡ PBit j
   unfolding pos
-  p-place j h = placeAt-pos (pbit j) (inside-pbit h)
+  p-place j h = placeAt-pos (PBit j) (inside-pbit h)
 
   pub p-wide : (j : ℕ) → j < 6 → wide r (psFrom + j) ≡ pick (ltb j (pCount (r .mode))) 1 0
   unfolding width
@@ -235,9 +236,9 @@ module _ {r : Record} {row : ModeRow} (p : Packable r row) where
 
   -- the indexes of set a
   module _ (a : ℕ) (ha : a < 2) where
-    index-place : (q : ℕ) → q < 16 → placeAt (firstFrom + 16 * a + q) ≡ index a q
+    index-place : (q : ℕ) → q < 16 → placeAt (firstFrom + 16 * a + q) ≡ Index a q
     unfolding pos
-    index-place q h = rw (add-assoc firstFrom (16 * a) q) (placeAt-pos (index a q) (inside-index ha h))
+    index-place q h = rw (add-assoc firstFrom (16 * a) q) (placeAt-pos (Index a q) (inside-index ha h))
 
     abbrev stored : List ℕ
     stored = indexWidths (indexBits (r .mode) a) (anchors (r .split))
@@ -246,7 +247,7 @@ module _ {r : Record} {row : ModeRow} (p : Packable r row) where
     unfolding width indexWidths
     set-wide = table-same 0 16 _ _ (λ q h. sym (ap (width (r .mode) (anchors (r .split))) (index-place q h)))
 
-    module _ (vs : List ℕ) (long : length vs ≡ 16) (ev : (q : ℕ) → q < 16 → says r (index a q) ≡ getD vs q 0) where
+    module _ (vs : List ℕ) (long : length vs ≡ 16) (ev : (q : ℕ) → q < 16 → says r (Index a q) ≡ getD vs q 0) where
       set-said : vs ≡ table 16 (λ q. said r (firstFrom + 16 * a + q))
       set-said = sym (table-is 16 _ vs long (λ q h. ap (says r) (index-place q h) ∙ ev q h))
 
@@ -275,7 +276,7 @@ module _ {r : Record} {row : ModeRow} (p : Packable r row) where
     anchors-are = rw (kind-is, ea) (anchors-kind (r .split) part-64)
 
     module _ (k : ℕ) (hk : k < 2) {w : ℕ} (ew : w ≡ indexBits (r .mode) k) (hw : 0 < w) (vs : List ℕ) (long : length vs ≡ 16)
-        (ev : (q : ℕ) → q < 16 → says r (index k q) ≡ getD vs q 0) where
+        (ev : (q : ℕ) → q < 16 → says r (Index k q) ≡ getD vs q 0) where
       abbrev at-anchors : List ℕ
       at-anchors = indexWidths w (anchorsOfKind (row .kind) (a .b) (a .c))
 
