@@ -205,12 +205,11 @@ module _ {m : ℕ} {s : Split} {f : Place → ℕ} (g : WellFormed m s f) (l : �
         mode-row = record { mode = m; low = g .mode; is = er };
         start = rw aq (lead-low m (g .mode));
         line = l3;
-        small = part-small;
-        red = rw fields-are (low 0 (omega arith));
-        green = rw fields-are (low 1 (omega arith));
-        blue = rw fields-are (low 2 (omega arith));
-        alpha = rw fields-are (low 3 (omega arith));
-        p-start = rw fields-are low-p;
+        red = record { start = rw fields-are (low 0 (omega arith)); width = part-small .colour };
+        green = record { start = rw fields-are (low 1 (omega arith)); width = part-small .colour };
+        blue = record { start = rw fields-are (low 2 (omega arith)); width = part-small .colour };
+        alpha = record { start = rw fields-are (low 3 (omega arith)); width = part-small .alpha };
+        p = record { start = rw fields-are low-p; line = l3; width = part-small .p };
         set = rw (fields-are, er) (record {
           least = omega (arith, is .least);
           most = is .most;

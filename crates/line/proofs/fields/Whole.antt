@@ -254,11 +254,14 @@ module _ {m : ℕ} {s : Split} {f : Place → ℕ} (g : WellFormed m s f) (l : �
               rw fields-are
               (pair 3 (x .alpha) 3 7 (at .alpha) (omega arith) refl (is .alpha-small) refl (ist .value 0 3 (omega arith) (omega arith))
               (ist .value 1 3 (omega arith) (omega arith)));
-          p-start = rw fields-are p-at-low;
-          p-width = is .p-small;
-          p-first = rw (ist .p 0 (omega arith)) (o-p 0 (omega arith));
-          p-second = rw (ist .p 1 (omega arith)) (o-p 1 (omega arith));
-          p-there = λ m1. sym p-is ∙ rw (ne-eqb (pCount m) 0 (two-of-1 m m1));
+          p = record {
+            start = rw fields-are p-at-low;
+            line = l3;
+            width = is .p-small;
+            first = rw (ist .p 0 (omega arith)) (o-p 0 (omega arith));
+            second = rw (ist .p 1 (omega arith)) (o-p 1 (omega arith));
+            there = λ m1. sym p-is ∙ rw (ne-eqb (pCount m) 0 (two-of-1 m m1));
+          };
           set = rw (values-are, fields-are, er) ready-set;
         }
 

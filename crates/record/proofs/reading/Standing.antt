@@ -32,7 +32,7 @@ use Rattle.bc7_format.specs.Modes.{modeOf, alphaBits, channelBits, colourBits, 
 use Rattle.bc7_format.specs.Modes.{indexModeBits, partitionBits, rotationBits, secondBits}
 use Rattle.bcn_format.specs.Partitions.{among}
 use Rattle.bc7_format.specs.Places.{atPlace, inside, opened, pos, width, firstFrom, secondFrom}
-use Rattle.bc7_format.specs.Splits.{anchors, kindOf, partition, splitAt, splitOf}
+use Rattle.bc7_format.specs.Splits.{anchors, kindOf, partition, splitOf}
 use Rattle.bc7_format.proofs.Modes.{by-subset, good-64}
 use Rattle.bc7_format.proofs.Opening.{good-kind, opened-good}
 use Rattle.bc7_format.proofs.Places.{inside-index, inside-pbit, inside-value}
@@ -48,10 +48,9 @@ use Rattle.bc7_format.specs.Fields.{leadEnd, valueStart}
 use Rattle.bc7_format.proofs.Fields.{begins, bit-at, first-start, index-at, value-at, valuesEnd}
 use Rattle.record_rules.specs.Records.{made, recordOf}
 use Rattle.bc7_places.specs.Modes.{OfMode, modeRowOf}
-use Rattle.bc7_places.specs.Splits.{anchorsOf, splitRead}
+use Rattle.bc7_places.specs.Splits.{IsLead, anchorsOf}
 use Rattle.bc7_places.proofs.modes.Bounds.{second-bits, small}
 use Rattle.record.specs.Reading.{channelOf, endpointsOf, endpointsRead, pRead, secondRead}
-use Rattle.bc7_places.proofs.splits.Leads.{split-is, split-on}
 use Rattle.bc7_places.proofs.splits.AnchorPixels.{anchors-kind, anchors-rise}
 
 -- a part of a field is a field
@@ -243,15 +242,11 @@ module _ (bs : List ℕ) (sixteen : Fit eights bs) {m : ℕ} (em : m ≡ modeOf 
   pub of-mode : OfMode row
   of-mode = record { mode = m; low = hm; is = er }
 
-  module _ {s : Split} (es : s ≡ splitAt m n) where
-    is-split : s ≡ splitOf bs
-    unfolding splitOf
-    is-split = es ∙ ap (λ (m : ℕ). splitAt m n) em
-
+  module _ {s : Split} (is-split : s ≡ splitOf bs) where
     low : modeOf bs < 8
     low = subst (λ (m : ℕ). m < 8) em hm
 
-    pub partition-64 : partition s < 64
+    partition-64 : partition s < 64
     partition-64 = subst (λ (s : Split). partition s < 64) (sym is-split) (good-64 (opened-good bs sixteen low))
 
     kind : row .kind ≡ kindOf s
@@ -313,16 +308,12 @@ module _ (bs : List ℕ) (sixteen : Fit eights bs) {m : ℕ} (em : m ≡ modeOf 
           (rw e at (let f : start m s firstFrom + (16 * row .first - anchorCount (row .kind)) ≤ 128 = rw (er, first-start m s hm) (first-fits m hm) in f)) o)
 
   -- the reads one after the other
-  module _ {t : BitStream} (o : On n (m + 1) t) {h : ReadSplit} (eh : h ≡ splitRead row t) where
+  module _ {h : ReadSplit} (lead : IsLead bs h) where
     abbrev s : Split
     s = h .split
 
-    pub the-split : h .split ≡ splitAt m n
-    the-split = split-is m hm er o eh
-
     lead-on : On n (leadEnd m) (h .stream)
-    unfolding leadEnd
-    lead-on = subst (λ (a : ℕ). On n a (h .stream)) (omega arith) (split-on m hm er o eh)
+    lead-on = subst (λ (m : ℕ). On n (leadEnd m) (h .stream)) (sym em) (lead .stands)
 
     module _ {v : ReadEndpoints} (ev : v ≡ endpointsRead row (h .stream)) where
       values-behind : On n (valuesEnd m) (v .stream)
@@ -336,11 +327,11 @@ module _ (bs : List ℕ) (sixteen : Fit eights bs) {m : ℕ} (em : m ≡ modeOf 
             → set ≡ newIndexes (row .first) (anchorsOfKind (row .kind) (a .b) (a .c)) (p .stream) (16 * row .first - anchorCount (row .kind))
             → {first second : List ℕ} → first ≡ table 16 (part (set .indexes .uncompressed) (row .first)) → second ≡ secondRead row a (set .stream)
             → record { mode = m; split = h .split; endpoints = v .endpoints; p = p .p; first = first; second = second } ≡ recordOf bs
-        unfolding recordOf made opened
+        unfolding recordOf made opened splitOf
         record-read {a} ea {set} eset {first} {second} ef eg =
             let s : Split = h .split in
             let e1 : v .endpoints ≡ table 24 (λ i. atPlace m s n (Value (i % 4) (i / 4))) = rw (ev, er) (values-stand m s n hm lead-on) in
             let e2 : p .p ≡ table 6 (λ k. atPlace m s n (PBit k)) = rw (ep, er) (ps-stand m s n hm values-behind (p-fits m hm)) in
-            let e3 : first ≡ table 16 (λ q. atPlace m s n (Index 0 q)) = ef ∙ rw eset (first-stands the-split ea p-behind) in
-            let e4 : second ≡ table 16 (λ q. atPlace m s n (Index 1 q)) = eg ∙ second-stands the-split ea (second-on the-split ea p-behind eset) in
-            rw (e1, e2, e3, e4) (ap₂ (λ (m : ℕ) (s : Split). made m s (atPlace m s n)) em (is-split the-split))
+            let e3 : first ≡ table 16 (λ q. atPlace m s n (Index 0 q)) = ef ∙ rw eset (first-stands (lead .split) ea p-behind) in
+            let e4 : second ≡ table 16 (λ q. atPlace m s n (Index 1 q)) = eg ∙ second-stands (lead .split) ea (second-on (lead .split) ea p-behind eset) in
+            rw (e1, e2, e3, e4) (ap₂ (λ (m : ℕ) (s : Split). made m s (atPlace m s n)) em (lead .split))

@@ -1,12 +1,12 @@
--- `stored_width` meets its contract.
+-- `places::stored_width` meets its contract.
 -- Assumes nothing.
 use borrow.Author.Tests.{eq-eqb, ne-eqb}
 use Rattle.bcn_format.specs.Partitions.{among}
 use Rattle.bc7_places.specs.Splits.{threeOf}
-use Rattle.chart.proofs.Placing.{no-width}
+use Rattle.bc7_places.proofs.places.Widths.{no-width}
 use borrow.Author.Needs.{needs}
-use Rattle.chart.proofs.stored_width.Statement.{statement}
-use Rattle.chart.proofs.stored_width.Tie as tie
+use Rattle.bc7_places.proofs.places.stored_width.Statement.{statement}
+use Rattle.bc7_places.proofs.places.stored_width.Tie as tie
 
 returns : tie.Need-returns
 returns c = no-width (among (c .before .args .pixel) (threeOf (c .before .args .anchors))) (c .if1 .taken)

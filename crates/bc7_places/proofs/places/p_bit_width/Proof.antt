@@ -1,8 +1,8 @@
--- `p_bit_width` meets its contract.
+-- `places::p_bit_width` meets its contract.
 -- Assumes nothing.
 use borrow.Author.Tests.{le-ltb, lt-ltb}
-use Rattle.chart.proofs.p_bit_width.Statement.{statement}
-use Rattle.chart.proofs.p_bit_width.Tie as tie
+use Rattle.bc7_places.proofs.places.p_bit_width.Statement.{statement}
+use Rattle.bc7_places.proofs.places.p_bit_width.Tie as tie
 
 returns : tie.Need-returns
 returns c = rw (lt-ltb _ _ (c .if1 .taken))

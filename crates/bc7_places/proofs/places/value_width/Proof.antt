@@ -1,8 +1,8 @@
--- `value_width` meets its contract.
+-- `places::value_width` meets its contract.
 -- Assumes nothing.
 use borrow.Author.Tests.{eq-eqb, le-ltb, lt-ltb, ne-eqb}
-use Rattle.chart.proofs.value_width.Statement.{statement}
-use Rattle.chart.proofs.value_width.Tie as tie
+use Rattle.bc7_places.proofs.places.value_width.Statement.{statement}
+use Rattle.bc7_places.proofs.places.value_width.Tie as tie
 
 returns : tie.Need-returns
 returns c = rw (le-ltb _ _ (c .if1 .taken))
