@@ -1,9 +1,8 @@
 -- `text::block_text` meets its contract.
 -- Assumes nothing.
-use native.Mathlib.Omega.{arith}
-use Rattle.laws.proofs.Padding.{written-then}
 use Rattle.listing_rules.specs.Text.{blockText}
 use borrow.Author.Needs.{needs}
+use Rattle.text.proofs.Puts.{puts-then}
 use Rattle.text.proofs.block_text.Statement.{statement}
 use Rattle.text.proofs.block_text.Tie as tie
 
@@ -40,10 +39,10 @@ returns c =
     let drawn = space .before .before .before .before .before in
     let mode = drawn .before .before .before .before in
     let number = mode .before .before .before .before in
-    let told = written-then (written-then (number .put-number .ensures .0) (mode .put-spaced .ensures .0)) (drawn .put-pixel .ensures .0) in
-    let marked = written-then (written-then told (space .put .ensures .0))
-    (rw (space .before .before .opacity-mark .ensures) at (mark .put2 .ensures .0)) in
-    (written-then marked (ended .put3 .ensures .0), omega arith)
+    let told = puts-then (puts-then (number .put-number .ensures) (mode .put-spaced .ensures)) (drawn .put-pixel .ensures) in
+    let marked = puts-then (puts-then told (space .put .ensures))
+    (rw (space .before .before .opacity-mark .ensures) at (mark .put2 .ensures)) in
+    puts-then marked (ended .put3 .ensures)
 
 pub block-text-spec : {M : Type 1} → statement M
 block-text-spec =

@@ -1,9 +1,8 @@
 -- `text::put_pixel` meets its contract.
 -- Assumes nothing.
-use native.Mathlib.Omega.{arith}
-use Rattle.laws.proofs.Padding.{written-then}
 use Rattle.listing_rules.specs.Text.{channels}
 use borrow.Author.Needs.{needs}
+use Rattle.text.proofs.Puts.{puts-then}
 use Rattle.text.proofs.put_pixel.Statement.{statement}
 use Rattle.text.proofs.put_pixel.Tie as tie
 
@@ -41,8 +40,8 @@ returns c =
     let blue = alpha .before .before .before .before in
     let green = blue .before .before .before .before in
     let red = green .before .before .before .before in
-    let both = written-then (red .put-spaced .ensures .0) (green .put-spaced2 .ensures .0) in
-    (written-then (written-then both (blue .put-spaced3 .ensures .0)) (alpha .put-spaced4 .ensures .0), omega arith)
+    let both = puts-then (red .put-spaced .ensures) (green .put-spaced2 .ensures) in
+    puts-then (puts-then both (blue .put-spaced3 .ensures)) (alpha .put-spaced4 .ensures)
 
 pub put-pixel-spec : {M : Type 1} → statement M
 put-pixel-spec =

@@ -1,9 +1,9 @@
 -- `text::sheet_text` meets its contract.
 -- Assumes nothing.
 use native.Mathlib.Omega.{arith}
-use Rattle.laws.proofs.Padding.{written-then}
 use Rattle.listing_rules.specs.Text.{ascii, sheetText}
 use borrow.Author.Needs.{needs}
+use Rattle.text.proofs.Puts.{puts-then, puts-within}
 use Rattle.text.proofs.sheet_text.Statement.{statement}
 use Rattle.text.proofs.sheet_text.Tie as tie
 
@@ -35,9 +35,8 @@ returns c =
     let high = ended .before .before .before .before in
     let space = high .before .before .before .before in
     let wide = space .before .before .before .before in
-    let told = written-then (written-then (wide .before .before .before .before .put-word .ensures .0) (wide .put-number .ensures .0))
-    (space .put .ensures .0) in
-    (written-then (written-then told (high .put-number2 .ensures .0)) (ended .put2 .ensures .0), omega arith)
+    let told = puts-then (puts-then (wide .before .before .before .before .put-word .ensures) (wide .put-number .ensures)) (space .put .ensures) in
+    puts-within (puts-then (puts-then told (high .put-number2 .ensures)) (ended .put2 .ensures)) 40 (omega arith)
 
 pub sheet-text-spec : {M : Type 1} → statement M
 sheet-text-spec =
