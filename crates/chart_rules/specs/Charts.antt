@@ -1,6 +1,6 @@
 -- What is printed of an input: the fields of a block in stored order, each with its first bit and its width; or a refusal.
 -- Assumes nothing.
-use Prim.Native.Nat.{ℕ, zero, suc}
+use Prim.Native.Nat.{ℕ, zero, suc, _≤_}
 use mathlib.Core.Path.{_≡_}
 use mathlib.Core.Bool.{not}
 use mathlib.Core.List.{List, [], _∷_, _++_}
@@ -60,3 +60,11 @@ charted r t = record { refusal = r; length = length t; text = padded textRoom t 
 -- the promise
 abbrev pub Charts : List ℕ → Chart → Type 0
 Charts bs r = r ≡ charted (chartRefusal bs) (chart bs)
+
+-- an answer is c, and its length is within the room of the text, as whoever writes it has to know; so is that of a chart
+pub record Answers (c r : Chart) : Type 0 where
+  pub is : r ≡ c
+  pub within : r .length ≤ textRoom
+
+abbrev pub ChartsWithin : List ℕ → Chart → Type 0
+ChartsWithin bs = Answers (charted (chartRefusal bs) (chart bs))
