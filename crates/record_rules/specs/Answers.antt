@@ -1,9 +1,11 @@
--- Which answer packing gives, in document 01's words.
+-- Which answer taking apart and packing give, in document 01's words.
 -- Assumes nothing.
 use mathlib.Core.Path.{_≡_}
 use mathlib.Core.List.{List, [], _∷_}
+use mathlib.Core.Logic.{_≢_}
 use Prim.Native.Nat.{ℕ, _-_, _^_, _<_, _≤_}
 use lib.Dec.{T}
+use lib.ListN.{getD}
 use Rattle.bc7_format.specs.declared.Place.{Place}
 use Rattle.bc7_format.specs.declared.Place.the-variants.{Index}
 use Rattle.record_rules.specs.declared.Record.{Record}
@@ -13,6 +15,10 @@ use Rattle.bcn_format.specs.Partitions.{among}
 use Rattle.bc7_format.specs.Places.{inside, width}
 use Rattle.bc7_format.specs.Splits.{anchors, kindOf}
 use Rattle.record_rules.specs.Records.{says}
+
+-- the rule of taking apart: the block isn't reserved
+abbrev pub apartRules : List ℕ → List Rule
+apartRules bs = unless 1 (getD bs 0 0 ≢ 0) ∷ []
 
 -- no value needs more than its width, an anchor's index being taken at its full width
 abbrev pub Within : Record → Type 0
