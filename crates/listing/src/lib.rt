@@ -255,8 +255,8 @@ fn list_run(head: Head, from: u32, came: &[u8], at: usize, out: &mut [u8]) -> us
         (Written (now (out .entry)) at (textInBlocks head from (now (came .entry))) (now (out .exit)) r)
         ⌝ }
 {
-    let lines = list_blocks(head, from, came, at, out);
-    refuse_unless(came.len() == 16 * run_of(head, from) as usize, lines, out)
+    let texts = list_blocks(head, from, came, at, out);
+    refuse_unless(came.len() == 16 * run_of(head, from) as usize, texts, out)
 }
 
 // What is said of what came, to a place of the output; the place behind it.
