@@ -7,7 +7,9 @@ use Rattle.indexes.proofs.storing.compressed.Statement.{statement}
 use Rattle.indexes.proofs.storing.compressed.Tie as tie
 
 compress-single-index-requires : tie.Need-compress-single-index-requires
-compress-single-index-requires c κs = let s = c .before .pre in record { least = s .least; most = s .most; pixel = s .rising .two (c .if1 .taken) .1 }
+compress-single-index-requires c κs =
+    let s = c .before .pre in
+    record { least = s .least; most = s .most; pixel = s .rising .two (c .if1 .taken) .1 }
 
 compress-single-index-requires-2 : tie.Need-compress-single-index-requires-2
 compress-single-index-requires-2 c κs = search needs
