@@ -13,7 +13,7 @@ pub record ShortField (start width : ℕ) : Type 0 where
   pub inside : start + width ≤ 128
   pub short : width ≤ 8
 
--- a place of the table of modes
+-- a row of the table of modes, and which column of it
 pub record InTable (m k : ℕ) : Type 0 where
   pub mode : m < 8
   pub column : k < 10
