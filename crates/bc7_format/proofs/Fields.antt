@@ -110,8 +110,9 @@ module _ (m : ℕ) (s : Split) (a : ℕ) (ha : a < 2) where
 
   -- a word of indexes, read whole and expanded
   pub index-at : (n q : ℕ) → q < 16
-      → part (expanded (indexBits m a) (anchors s) (field n (start m s (firstFrom + (16 * a + 0))) (total (indexWidths (indexBits m a) (anchors s)))))
-      (indexBits m a) q ≡ atPlace m s n (Index a q)
+      → let bits = indexBits m a in
+      let stored = field n (start m s (firstFrom + (16 * a + 0))) (total (indexWidths bits (anchors s))) in
+      part (expanded bits (anchors s) stored) bits q ≡ atPlace m s n (Index a q)
   unfolding field expanded pos width
   index-at n q hq =
       let w : ℕ = indexBits m a in

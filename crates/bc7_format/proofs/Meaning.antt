@@ -114,7 +114,8 @@ module _ {m : ℕ} {s : Split} {f : Place → ℕ} (g : WellFormed m s f) where
       either v false = (v .least2, v .most2)
 
       go : (b : Bool) → isVector s ≡ b
-          → (2 ≤ indexBits m (pick b (pick (eqb l 0) (indexMode s) (1 - indexMode s)) 0)) × (indexBits m (pick b (pick (eqb l 0) (indexMode s) (1 - indexMode s)) 0) ≤ 4)
+          → let bits = indexBits m (pick b (pick (eqb l 0) (indexMode s) (1 - indexMode s)) 0) in
+          (2 ≤ bits) × (bits ≤ 4)
       go true e = either (good-vector g e) (eqb (pick (eqb l 0) (indexMode s) (1 - indexMode s)) 0)
       go false e = (good-subset g e .least, good-subset g e .most)
 

@@ -103,7 +103,8 @@ fit-list m s f h = fit-table placeCount _ _ (λ k l. h (placeAt k) (inside-place
 
 pub fit-at : (m : ℕ) (s : Split) (vs : List ℕ) → Fit (widths m s) vs → (x : Place) → T (inside x) → getD vs (pos x) 0 < 2 ^ width m (anchors s) x
 unfolding widths
-fit-at m s vs f x h = rw (getD-table placeCount (λ i. width m (anchors s) (placeAt i)) 0 (pos x) (pos-lt x h), placeAt-pos x h) at (fit-get f (pos x))
+fit-at m s vs f x h =
+    rw (getD-table placeCount (λ i. width m (anchors s) (placeAt i)) 0 (pos x) (pos-lt x h), placeAt-pos x h) at (fit-get f (pos x))
 
 pub length-widths : (m : ℕ) (s : Split) → length (widths m s) ≡ placeCount
 unfolding widths

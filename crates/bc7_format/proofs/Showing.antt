@@ -97,11 +97,13 @@ module _ (m : ℕ) (s : Split) (n : ℕ) (g : WellFormed m s (atPlace m s n)) (q
       let a : ℕ = indexSetOf s (lineAt s q d) in
       let bits = line-bits g (lineAt s q d) in
       let two : a < 2 = index-set-lt s (lineAt s q d) (good-index-mode g) in
-      let narrow : pick (among q (anchors s)) (indexBits m a - 1) (indexBits m a) ≤ indexBits m a = pick-less (among q (anchors s)) (indexBits m a) in
+      let narrow : pick (among q (anchors s)) (indexBits m a - 1) (indexBits m a) ≤ indexBits m a =
+      pick-less (among q (anchors s)) (indexBits m a) in
       weight-le (indexBits m a) _ (bits .0) (bits .1) (lt-of-lt-of-le (g .fits (Index a q) (inside-index two hq)) (pow-mono narrow))
 
   both-ends : (b : Bool) → isDrawn m d ≡ b
-      → pick b (meansStored m s (lineAt s q d) (plainLine m s (lineAt s q d) (atPlace m s n)) q d) 255 ≡ drawn (endByte m n (2 * subset s q + 0) d) (endByte m n (2 * subset s q + 1) d) weight
+      → pick b (meansStored m s (lineAt s q d) (plainLine m s (lineAt s q d) (atPlace m s n)) q d) 255
+      ≡ drawn (endByte m n (2 * subset s q + 0) d) (endByte m n (2 * subset s q + 1) d) weight
   unfolding meansStored plainLine weight lineBits indexPlace endByte
   both-ends true dr = ap₂ (λ (x y : ℕ). drawn x y weight) (end-is 0 (omega arith) dr) (end-is 1 (omega arith) dr)
   both-ends false dr = rw dr (sym (opaque weight weight-64))

@@ -32,7 +32,8 @@ at-field m s n x h =
     ∙ ap₂ (λ (b w : ℕ). n / 2 ^ b % 2 ^ w) (sym (start-is m s (pos x) (le-of-lt (pos-lt x h)))) (ap (width m (anchors s)) (placeAt-pos x h))
 
 pub start-next : (m : ℕ) (s : Split) (i : ℕ) → i < placeCount → start m s (suc i) ≡ start m s i + width m (anchors s) (placeAt i)
-start-next m s i h = start-is m s (suc i) h ∙ total-more i _ ∙ ap (λ (b : ℕ). b + width m (anchors s) (placeAt i)) (sym (start-is m s i (le-of-lt h)))
+start-next m s i h =
+    start-is m s (suc i) h ∙ total-more i _ ∙ ap (λ (b : ℕ). b + width m (anchors s) (placeAt i)) (sym (start-is m s i (le-of-lt h)))
 
 -- what stands before a place ends where that starts
 pub start-room : (m : ℕ) (s : Split) (i j : ℕ) → i < j → j ≤ placeCount → start m s i + width m (anchors s) (placeAt i) ≤ start m s j

@@ -5,8 +5,8 @@ use Prim.Native.Nat.{ℕ, _+_, _-_, _*_}
 use lib.ListN.{getD}
 use Rattle.bc7_format.specs.declared.Place.the-variants.{Lead, Value, PBit, Index}
 use Rattle.bcn_format.specs.Indexes.{anchorCount}
-use Rattle.bc7_format.specs.Modes.{alphaBits, colourBits, endpointCount, firstBits, indexModeBits, kindOfMode, pCount, partitionBits, rotationBits}
-use Rattle.bc7_format.specs.Modes.{secondBits}
+use Rattle.bc7_format.specs.Modes.{alphaBits, colourBits, endpointCount, firstBits, indexModeBits, kindOfMode, pCount, partitionBits}
+use Rattle.bc7_format.specs.Modes.{rotationBits, secondBits}
 use Rattle.bc7_format.specs.Places.{pos}
 
 -- Decoding has a function for each mode, with literal widths: the partition, or the rotation and the index mode; of red, green, blue and

@@ -35,6 +35,7 @@ use Rattle.drawing.specs.declared.keys.Keys.{Keys}
 use Rattle.drawing.specs.Keys.{keyAt, keysOf}
 use Rattle.drawing.proofs.keys.KeyWords.{key-at}
 use Rattle.bc7_format.specs.Places.{firstFrom}
+use Rattle.bc7_subsets.specs.Asked.{Anchored2, Anchored3}
 
 -- a number among two or three that is none of the others is the last
 pub last-of-2 : (m a b : ℕ) → T (among m (a ∷ b ∷ [])) → m ≢ a → m ≡ b
@@ -91,6 +92,14 @@ module _ {w id set : ℕ} (hid : id < 64) (most : w ≤ 3) where
         let a = anchors-in3 id hid in
         rw (e, second-of3 w id hid most least, third-of3 w id hid most least)
         (record { are = a .are; above = a .above; next = a .next; last = a .last })
+
+  -- so its indexes can be read
+  module _ (least : 2 ≤ w) where
+    pub anchored-2 : set ≡ partitionWord2 w id → Anchored2 w set
+    anchored-2 e = let f = fixes-2 (omega arith) e in record { least = least; most = most; above = f .above; pixel = f .last }
+
+    pub anchored-3 : set ≡ partitionWord3 w id → Anchored3 w set
+    anchored-3 e = let f = fixes-3 least e in record { least = least; most = most; above = f .above; rising = f .next; pixel = f .last }
 
 -- a mode with subsets: the indexes are read where they start, and pixels looked up by their keys
 module _ (m n b : ℕ) (hm : m < 8) (eb : firstBits m ≡ b) (least : 2 ≤ b) (most : b ≤ 3) {id set : ℕ} (hid : id < 64)

@@ -18,9 +18,8 @@ use Rattle.laws.specs.Refusals.{first}
 use Rattle.laws.specs.Tables.{table, tableFrom}
 use Rattle.dds_rules.specs.Header.{alphaMask, arraySize, bitCount, blueMask, canonicalHeader, caps, caps2, caps3, caps4, depth}
 use Rattle.dds_rules.specs.Header.{dimension, entries, format, formatCode, formatFlags, formatOf, formatSays, formatSize, greenMask}
-use Rattle.dds_rules.specs.Header.{headerFlags, headerNumber}
-use Rattle.dds_rules.specs.Header.{headerSize, height, isTexture, linearSize, magic, mipCount, misc, misc2, numberAt, offset, redMask, reserved}
-use Rattle.dds_rules.specs.Header.{reserved2, width}
+use Rattle.dds_rules.specs.Header.{headerFlags, headerNumber, headerSize, height, isTexture, linearSize, magic, mipCount, misc, misc2}
+use Rattle.dds_rules.specs.Header.{numberAt, offset, redMask, reserved, reserved2, width}
 use Rattle.dds_rules.specs.Files.{exportAfter, exportAfterBy, exportHead, exportLength, exportRefusal, exportRefusalBy, fileMadeBy}
 use Rattle.dds_rules.specs.Files.{fileRefusalUpTo, headMade, importAfter, importAfterUpTo}
 use Rattle.dds_rules.specs.Files.{importAnswer, importHead, importLength, importRefusal, importRefusalUpTo, numberedAfter, numberedRefusal}

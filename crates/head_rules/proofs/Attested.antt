@@ -11,8 +11,8 @@ use Rattle.head_rules.specs.declared.HeadBytes.{HeadBytes}
 use Rattle.laws.specs.Padding.{padded}
 use Rattle.laws.specs.Refusals.{first}
 use Rattle.head_rules.specs.Colours.{colourNumber, colourOf, colourRefusal}
-use Rattle.head_rules.specs.Heads.{bytesOfHead, formIn, headBytes, headRefusalUpTo, heightIn, oldLimit, readHead, readHeadUpTo, sizeRefusalUpTo}
-use Rattle.head_rules.specs.Heads.{under, widthIn, writeHead}
+use Rattle.head_rules.specs.Heads.{bytesOfHead, formIn, headBytes, headRefusalUpTo, heightIn, oldLimit, readHead, readHeadUpTo}
+use Rattle.head_rules.specs.Heads.{sizeRefusalUpTo, under, widthIn, writeHead}
 use Rattle.head_rules.specs.declared.Stage.the-variants.{Width}
 use Rattle.head_rules.specs.Geometry.{across, blocksOf, outLength, placeOf, rowLength, sideShown, wholeLength}
 use Rattle.head_rules.specs.Reader.{Reading, atForm, byteTaken, formTaken, groupTaken, heightTaken, lastTaken, readBy}
@@ -84,8 +84,8 @@ pub record Heads : Type 0 where
       ≡ 6 ∷ 51 ∷ 99 ∷ 32 ∷ 60 ∷ []
 
 pub heads-hold : Heads
-unfolding groups readGroups readNumber raised readHeadUpTo headRefusalUpTo formIn widthIn heightIn first sizeRefusalUpTo writeHead headBytes padded formTaken
-    heightTaken lastTaken groupTaken readBy blocksOf placeOf colourOf colourRefusal
+unfolding groups readGroups readNumber raised readHeadUpTo headRefusalUpTo formIn widthIn heightIn first sizeRefusalUpTo writeHead
+    headBytes padded formTaken heightTaken lastTaken groupTaken readBy blocksOf placeOf colourOf colourRefusal
 heads-hold = record {
   numbers-written = refl;
   numbers-read = refl;

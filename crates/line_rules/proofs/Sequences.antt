@@ -27,8 +27,8 @@ use Rattle.bc7_format.proofs.Opening.{block-ext, block-opened}
 use Rattle.line_rules.specs.Calls.{afterAll, isAccepted, isOf, last, lastOfEach, seen}
 use Rattle.line_rules.specs.Replace.{Call, after, oriented, refusal}
 use Rattle.line_rules.proofs.Accepting.{accepted-is}
-use Rattle.line_rules.proofs.Blocks.{after-mode, after-sixteen, after-split, given-drawn, others-kept, places-kept, places-stored, reserved-or}
-use Rattle.line_rules.proofs.Blocks.{reserved-same, same-refusal, unchanged}
+use Rattle.line_rules.proofs.Blocks.{after-mode, after-sixteen, after-split, given-drawn, others-kept, places-kept, places-stored}
+use Rattle.line_rules.proofs.Blocks.{reserved-or, reserved-same, same-refusal, unchanged}
 use Rattle.line_rules.proofs.Draws.{drawn-by-one}
 
 -- what no call changes

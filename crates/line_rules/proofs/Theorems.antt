@@ -166,7 +166,8 @@ pub same-last-calls : (bs : List ℕ) → Fit eights bs → (cs ds : List Call)
 same-last-calls = same-lasts
 
 -- and every channel that line l draws shows what the last accepted call of l means, or what the first block shows where there is none
-pub last-call-is-seen : (bs : List ℕ) → Fit eights bs → (cs : List Call) (l q ch : ℕ) → q < 16 → ch < 4 → draws (modeOf bs) (splitOf bs) l q ch ≡ true
+pub last-call-is-seen : (bs : List ℕ) → Fit eights bs → (cs : List Call) (l q ch : ℕ) → q < 16 → ch < 4
+    → draws (modeOf bs) (splitOf bs) l q ch ≡ true
     → pixel (afterAll bs cs) q ch ≡ seen (modeOf bs) (splitOf bs) l q ch (pixel bs q ch) (last (modeOf bs) (splitOf bs) l cs)
 last-call-is-seen bs h cs l q ch hq hc d = sequence-draws (modeOf bs) (splitOf bs) l q ch hq hc d cs bs (first-stays bs h)
 

@@ -39,7 +39,8 @@ rising p (a ∷ l) = both (ltb p a) (rising a l)
 
 -- a string of sixteen digits below 2 ^ b, of which n are marked, none of them the first; and none is 3
 sound : ℕ → ℕ → String → Bool
-sound b n s = both (fits (replicate 16 b) (digits s)) (both (eqb (howMany 3 (digits s)) 0) (both (eqb (length (marks 0 s)) n) (rising 0 (marks 0 s))))
+sound b n s =
+    both (fits (replicate 16 b) (digits s)) (both (eqb (howMany 3 (digits s)) 0) (both (eqb (length (marks 0 s)) n) (rising 0 (marks 0 s))))
 
 sound2 : T (below 64 (λ a. sound 1 1 (getD strings2 a "")))
 unfolding sound fits rising digits marks strings2

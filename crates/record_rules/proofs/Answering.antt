@@ -32,7 +32,8 @@ fits-at m an f e x h =
 pub fits-of : (m : ℕ) (an : List ℕ) (f : Place → ℕ) → ((x : Place) → T (inside x) → f x < 2 ^ width m an x) → fits m an f ≡ true
 unfolding fits
 fits-of m an f h =
-    T-true _ (below-intro placeCount (λ i. ltb (f (placeAt i)) (2 ^ width m an (placeAt i))) (λ k l. lt→ltb _ _ (h (placeAt k) (inside-placeAt k l))))
+    T-true _
+    (below-intro placeCount (λ i. ltb (f (placeAt i)) (2 ^ width m an (placeAt i))) (λ k l. lt→ltb _ _ (h (placeAt k) (inside-placeAt k l))))
 
 module _ (r : Record) where
   abbrev m : ℕ

@@ -51,10 +51,13 @@ pub anchors-rise : (s : Split) → partition s < 64 → Rising (kindOf s) (ancho
 anchors-rise Whole h = record { two = λ e. absurd (let z : ⊥ = omega arith in z); three = λ e. absurd (let z : ⊥ = omega arith in z) }
 anchors-rise (Two a) h =
     let x = anchors-in2 a h in
-    record { two = λ e. rw (x .are) (x .above, x .last); three = λ e. absurd (let z : ⊥ = omega arith in z) }
+    record { two = λ e. rw (x .are) (record { above = x .above; pixel = x .last }); three = λ e. absurd (let z : ⊥ = omega arith in z) }
 anchors-rise (Three a) h =
     let x = anchors-in3 a h in
-    record { two = λ e. absurd (let z : ⊥ = omega arith in z); three = λ e. rw (x .are) (x .above, x .next, x .last) }
+    record {
+      two = λ e. absurd (let z : ⊥ = omega arith in z);
+      three = λ e. rw (x .are) (record { above = x .above; rising = x .next; pixel = x .last });
+    }
 anchors-rise (Vector r i) h = record { two = λ e. absurd (let z : ⊥ = omega arith in z); three = λ e. absurd (let z : ⊥ = omega arith in z) }
 
 pub anchors-low : (s : Split) → partition s < 64 → ArePixels (anchorsOf s)

@@ -33,7 +33,7 @@ use Rattle.bc7_format.proofs.Modes.{by-subset}
 use Rattle.bc7_format.proofs.Places.{inside-index, inside-pbit, inside-placeAt, inside-value, placeAt-pos, total-128}
 use Rattle.bcn_format.specs.Indexes.{Rising, anchorCount, anchorsOfKind, indexWidths}
 use Rattle.indexes.proofs.Remove.{size-kind}
-use Rattle.bits.specs.Writer.{pushed, writerOf, written}
+use Rattle.bits.specs.Writer.{Pushable, pushed, writerOf, written}
 use Rattle.bits.proofs.Puts.{pushes-ask, pushes-more, pushes-none, pushes-written, written-of}
 use Rattle.laws.proofs.Words.{one-shl}
 use Rattle.record_rules.specs.Records.{says}
@@ -69,15 +69,17 @@ module _ {r : Record} {row : ModeRow} (p : Packable r row) where
   -- a group of k places from i on: what a push asks, and what it gives
   module _ (i k : ℕ) (room : i + k ≤ placeCount) {b : BitWriter} (eb : b ≡ upto r i) {x n : ℕ}
       (ex : x ≡ join (table k (λ j. wide r (i + j))) (table k (λ j. said r (i + j)))) (en : n ≡ total (table k (λ j. wide r (i + j)))) where
-    pub group-asks : (x < 2 ^ n) × (b .at + n ≤ 128) × (written b < 2 ^ b .at)
+    pub group-asks : Pushable b x n
     unfolding upto
     group-asks =
-        rw (ex, en, eb) (
-          join-lt (fit-table k (λ j. wide r (i + j)) (λ j. said r (i + j)) (λ j l. each (i + j) (omega arith))),
-          rw (← (rows-total i k (wide r) (said r))) (room-128 (i + k) room),
-          rw (written-of (join (table i (wide r)) (table i (said r))) (total (table i (wide r))))
-              (join-lt (fit-table i (wide r) (said r) (λ j l. each j (omega arith)))),
-        )
+        rw (ex, en, eb)
+        (record {
+          fits = join-lt (fit-table k (λ j. wide r (i + j)) (λ j. said r (i + j)) (λ j l. each (i + j) (omega arith)));
+          room = rw (← (rows-total i k (wide r) (said r))) (room-128 (i + k) room);
+          below =
+              rw (written-of (join (table i (wide r)) (table i (said r))) (total (table i (wide r))))
+              (join-lt (fit-table i (wide r) (said r) (λ j l. each j (omega arith))));
+        })
 
     pub group-next : {c : BitWriter} → c ≡ pushed b x n → c ≡ upto r (i + k)
     unfolding upto
@@ -93,7 +95,7 @@ module _ {r : Record} {row : ModeRow} (p : Packable r row) where
 
   -- one place
   module _ (i : ℕ) (h : i < placeCount) {b : BitWriter} (eb : b ≡ upto r i) {v w : ℕ} (ev : v ≡ said r i) (ew : w ≡ wide r i) where
-    pub place-asks : (v < 2 ^ w) × (b .at + w ≤ 128) × (written b < 2 ^ b .at)
+    pub place-asks : Pushable b v w
     unfolding upto
     place-asks = rw (ev, ew) (pushes-ask (wide r) (said r) placeCount each i h eb (le-of-eq all-128))
 
@@ -196,7 +198,7 @@ module _ {r : Record} {row : ModeRow} (p : Packable r row) where
         size : row .endpoints * w ≡ total (table 6 (λ j. wide r (valuesFrom + 6 * c + j)))
         size = run-size (valuesFrom + 6 * c) (omega arith) (row .endpoints) w values (small of-mode .endpoints) wides value-said
 
-        pub channel-asks : (x < 2 ^ (row .endpoints * w)) × (b .at + row .endpoints * w ≤ 128) × (written b < 2 ^ b .at)
+        pub channel-asks : Pushable b x (row .endpoints * w)
         channel-asks = group-asks (valuesFrom + 6 * c) 6 (omega arith) eb joined size
 
         pub channel-next : {d : BitWriter} → d ≡ pushed b x (row .endpoints * w) → d ≡ upto r (valuesFrom + 6 * c + 6)
@@ -228,7 +230,7 @@ module _ {r : Record} {row : ModeRow} (p : Packable r row) where
     bits-size : row .p ≡ total (table 6 (λ j. wide r (psFrom + j)))
     bits-size = sym (mul-one (row .p)) ∙ run-size psFrom (omega arith) (row .p) 1 (λ k. getD (r .p) k 0) (small of-mode .p) bits-wide p-said
 
-    pub bits-ask : (x < 2 ^ row .p) × (b .at + row .p ≤ 128) × (written b < 2 ^ b .at)
+    pub bits-ask : Pushable b x (row .p)
     bits-ask = group-asks psFrom 6 (omega arith) eb bits-joined bits-size
 
     pub bits-next : {d : BitWriter} → d ≡ pushed b x (row .p) → d ≡ upto r firstFrom
@@ -294,7 +296,7 @@ module _ {r : Record} {row : ModeRow} (p : Packable r row) where
 
       module _ {b : BitWriter} (eb : b ≡ upto r (firstFrom + 16 * k)) where
         pub set-asks : (b .at + (16 * w - anchorCount (row .kind)) ≤ 128) × (written b < 2 ^ b .at)
-        set-asks = let g = group-asks (firstFrom + 16 * k) 16 (omega arith) eb values-are bits-are in (g .1, g .2)
+        set-asks = let g = group-asks (firstFrom + 16 * k) 16 (omega arith) eb values-are bits-are in (g .room, g .below)
 
         pub set-next : {d : BitWriter} → d ≡ pushed b (join at-anchors vs) (16 * w - anchorCount (row .kind)) → d ≡ upto r (firstFrom + 16 * k + 16)
         set-next = group-next (firstFrom + 16 * k) 16 (omega arith) eb values-are bits-are

@@ -39,7 +39,12 @@ decompress-single-index-requires-3 c κs =
     let first = after-2 w (s .pre .anchors .least) (s .args .compressed) (x .result) (s .pre .enough) (x .ensures) in
     let second : s .args .p2-fixup < 15 = omega (arith, s .pre .anchors .rising, s .pre .anchors .pixel) in
     let below = after-1 w (s .pre .anchors .least) (x .result) (s .args .p2-fixup) (y .result) second first (y .ensures) in
-    record { least = s .pre .anchors .least; most = s .pre .anchors .most; pixel = s .pre .anchors .pixel; room = spare-bit w 1 (y .result) (s .pre .anchors .most) (omega arith) below }
+    record {
+      least = s .pre .anchors .least;
+      most = s .pre .anchors .most;
+      pixel = s .pre .anchors .pixel;
+      room = spare-bit w 1 (y .result) (s .pre .anchors .most) (omega arith) below;
+    }
 
 returns : tie.Need-returns
 returns c =
