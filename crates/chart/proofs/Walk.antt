@@ -51,8 +51,8 @@ module _ (m : ℕ) (s : Split) (out₀ : List ℕ) where
         record { text = subst (λ (k : ℕ). Written out₀ 0 (placesText m s k) out at) all (w .text); within = omega (arith, at-most) }
 
   -- the next place: its width by three anchors is its own, and its bits are there
-  module _ (asked : SplitOfMode m s) {i : ℕ} (h : i < placeCount) {out : List ℕ} {at bit w : ℕ} {an : Anchors} {x : Place} (so-far : Walked i out at bit)
-      (ea : an ≡ anchorsOf s) (ex : x ≡ placeAt i) (ew : w ≡ width m (threeOf an) x) where
+  module _ (asked : SplitOfMode m s) {i : ℕ} (h : i < placeCount) {out : List ℕ} {at bit w : ℕ} {an : Anchors} {x : Place}
+      (so-far : Walked i out at bit) (ea : an ≡ anchorsOf s) (ex : x ≡ placeAt i) (ew : w ≡ width m (threeOf an) x) where
     pub width-is : w ≡ wide m s i
     width-is = ew ∙ ap₂ (λ (a : Anchors) (y : Place). width m (threeOf a) y) ea ex ∙ three-wide m s (few m s asked) (placeAt i)
 

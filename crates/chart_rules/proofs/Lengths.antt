@@ -49,7 +49,8 @@ room m i = pick (eqb (width m [] (placeAt i)) 0) 0 (length (nameOf (placeAt i)) 
 narrow : (m i : ℕ) → m < 8 → i < placeCount → width m [] (placeAt i) ≤ 8
 unfolding width placeAt modeRow endpointCount
 narrow m i hm hi =
-    leb→le _ 8 (at placeCount (λ i. leb (width m [] (placeAt i)) 8) (at 8 (λ m. below placeCount (λ i. leb (width m [] (placeAt i)) 8)) tt m hm) i hi)
+    leb→le _ 8
+    (at placeCount (λ i. leb (width m [] (placeAt i)) 8) (at 8 (λ m. below placeCount (λ i. leb (width m [] (placeAt i)) 8)) tt m hm) i hi)
 
 rooms : ℕ → ℕ → ℕ
 rooms m zero = 0

@@ -47,11 +47,11 @@ pub listings-hold : map listing (sheet (replicate 16 0) ∷ sheet (replicate 17 
     ("sheet 5 6" ∷ "0 3 3 5 7 255 o" ∷ "1 6 1 1 1 255 o" ∷ "2 4 11 29 44 28 -" ∷ "refused 10" ∷ []) ∷
     ("refused 8" ∷ []) ∷
     [])
-unfolding text listingBy blocksListing listed blocksText blockListed readHeadUpTo headRefusalUpTo formIn widthIn heightIn readNumber readGroups raised first
-    sizeRefusalUpTo blocksOf blockAt sheetText refusedText blockText channels opacityMark decimal digitsIn ascii table tableFrom digits marks strings2
-    strings3 subset2 subset3 anchors2 anchors3 weights weightOf drawn promoted eight modeRow kindOfMode endpointCount placeAt pos width widths
-    trailing number modeOf splitAt splitOf atPlace opened has valuePlace pPlace indexSetOf indexPlace own lineOf lineBits meansStored rotated lineAt
-    shown pixel pixels implies isVisible passes opaque opaqueIn
+unfolding text listingBy blocksListing listed blocksText blockListed readHeadUpTo headRefusalUpTo formIn widthIn heightIn readNumber
+    readGroups raised first sizeRefusalUpTo blocksOf blockAt sheetText refusedText blockText channels opacityMark decimal digitsIn ascii
+    table tableFrom digits marks strings2 strings3 subset2 subset3 anchors2 anchors3 weights weightOf drawn promoted eight modeRow
+    kindOfMode endpointCount placeAt pos width widths trailing number modeOf splitAt splitOf atPlace opened has valuePlace pPlace indexSetOf
+    indexPlace own lineOf lineBits meansStored rotated lineAt shown pixel pixels implies isVisible passes opaque opaqueIn
 listings-hold = refl
 
 -- the runs of blocks in sheets of 4,096 by 4 and of 4,100 by 8 pixels, 1,024 and 1,025 blocks wide: from the first block, from another, from the

@@ -89,7 +89,8 @@ unfolding nameOf
 returns-2 c =
     let number = c .before .before in
     let word = number .before .before .before .before in
-    rw (word .before .before .before .place2 .given .1) (puts-within (puts-then (word .put-channel .ensures) (number .put-few .ensures)) 11 (omega arith))
+    rw (word .before .before .before .place2 .given .1)
+    (puts-within (puts-then (word .put-channel .ensures) (number .put-few .ensures)) 11 (omega arith))
 
 same-length-3 : tie.Need-same-length-3
 same-length-3 c = search needs
@@ -110,7 +111,8 @@ unfolding nameOf
 returns-4 c =
     let number = c .before .before in
     let word = number .before .before .before .before in
-    rw (word .before .before .before .place4 .given .1) (puts-within (puts-then (word .put-set .ensures) (number .put-few3 .ensures)) 11 (omega arith))
+    rw (word .before .before .before .place4 .given .1)
+    (puts-within (puts-then (word .put-set .ensures) (number .put-few3 .ensures)) 11 (omega arith))
 
 pub put-name-spec : {M : Type 1} → statement M
 put-name-spec =

@@ -197,7 +197,8 @@ module _ {m : ℕ} {s : Split} {f : Place → ℕ} (g : WellFormed m s f) (l : �
           (let z : start m s (psFrom + l) - start m s (psFrom + l) ≡ 0 = omega arith in
           rw (z, bit, own-laid m s l o f (PBit l) mine, ← here, laid-p-1 m l o e1) (ap (λ (c : ℕ). c % 2) (div-one (o .p 0)) ∙ mod-eq-of-lt h0))
 
-      others : (x : Place) → T (inside x) → psFrom ≤ pos x → pos x < firstFrom → (pos x < psFrom + l) ⊎ (psFrom + l + 1 ≤ pos x) → has m s l x ≡ false
+      others : (x : Place) → T (inside x) → psFrom ≤ pos x → pos x < firstFrom → (pos x < psFrom + l) ⊎ (psFrom + l + 1 ≤ pos x)
+          → has m s l x ≡ false
       others x i p q r =
           not-so (has m s l x) (λ t.
           let (k, ex) = p-only x i p q t in
@@ -240,7 +241,8 @@ module _ {m : ℕ} {s : Split} {f : Place → ℕ} (g : WellFormed m s f) (l : �
       holds x i p q =
           let k : ℕ = pos x - (firstFrom + 16 * a) in
           let hk : k < 16 = omega arith in
-          subst (λ (x : Place). v / 2 ^ (start m s (pos x) - start m s (firstFrom + (16 * a + 0))) % 2 ^ width m (anchors s) x ≡ withLine m s l o f x)
+          subst
+          (λ (x : Place). v / 2 ^ (start m s (pos x) - start m s (firstFrom + (16 * a + 0))) % 2 ^ width m (anchors s) x ≡ withLine m s l o f x)
           (pos-one (Index a k) x (inside-index ha hk) i (let z : firstFrom + (16 * a + k) ≡ pos x = omega arith in z)) (at-pixel k hk)
 
       others : (x : Place) → T (inside x) → firstFrom ≤ pos x → pos x < placeCount

@@ -168,7 +168,8 @@ module _ {m : ℕ} {s : Split} {f : Place → ℕ} (g : WellFormed m s f) (l : �
         e1 : p1 ≡ o .p 1
         e1 = ist .p 1 (omega arith)
 
-        others : m ≢ 1 → twoPut n (at .p + 2 * l) (x .p) p0 p1 ≡ replacedAt n (start m s (pos (pPlace m l 0))) (2 * x .p) (o .p 1 * 2 ^ x .p + o .p 0)
+        others : m ≢ 1
+            → twoPut n (at .p + 2 * l) (x .p) p0 p1 ≡ replacedAt n (start m s (pos (pPlace m l 0))) (2 * x .p) (o .p 1 * 2 ^ x .p + o .p 0)
         others n1 = either (ℕ-discrete (pCount m) 0)
           where
             none : x .p ≡ 0 → (b : ℕ) → replacedAt n b (2 * x .p) (o .p 1 * 2 ^ x .p + o .p 0) ≡ n

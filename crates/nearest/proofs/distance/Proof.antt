@@ -33,7 +33,8 @@ returns : tie.Need-returns
 unfolding distanceAt
 returns c =
     let f = c .before .before .before in
-    rw (f .far .ensures .is, c .before .before .far2 .ensures .is, c .before .far3 .ensures .is, c .far4 .ensures .is, f .before .weight-64 .ensures .is)
+    let b = c .before in
+    rw (f .far .ensures .is, b .before .far2 .ensures .is, b .far3 .ensures .is, c .far4 .ensures .is, f .before .weight-64 .ensures .is)
 
 pub distance-spec : {M : Type 1} → statement M
 distance-spec =

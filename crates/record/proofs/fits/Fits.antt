@@ -100,7 +100,8 @@ module _ (r : Record) {row : ModeRow} (hm : r .mode < 8) (er : row ≡ modeRowOf
   pub second-from : Within r → allFit 16 (λ q. getD (r .second) q 0) (λ q. row .second) ≡ true
   unfolding says width
   second-from w =
-      rw er (fits-all 16 (λ q. getD (r .second) q 0) (λ q. modeRowOf (r .mode) .second) (λ q l. w (Index 1 q) (inside-index {a = 1} (omega arith) l)))
+      rw er
+      (fits-all 16 (λ q. getD (r .second) q 0) (λ q. modeRowOf (r .mode) .second) (λ q l. w (Index 1 q) (inside-index {a = 1} (omega arith) l)))
 
   -- and back
   module _ (s : splitFits (r .split) row ≡ true) (v : allFit 24 (λ i. getD (r .endpoints) i 0) (valueBits row) ≡ true)

@@ -95,8 +95,8 @@ module _ (m : ℕ) (hm : m < 8) where
   second-fits =
       let x : ℕ = endpointCount m * colourBits m in
       let y : ℕ = endpointCount m * alphaBits m in
-      let f : suc m + (0 + firstSize + pCount m + y + x + x + x + (partitionBits m + rotationBits m + indexModeBits m)) + (16 * secondBits m - 1) ≤ 128 =
-      taking-fits m 7 hm in
+      let lead : ℕ = partitionBits m + rotationBits m + indexModeBits m in
+      let f : suc m + (0 + firstSize + pCount m + y + x + x + x + lead) + (16 * secondBits m - 1) ≤ 128 = taking-fits m 7 hm in
       omega (arith, values-end m)
 
   first-fits : valuesEnd m + pCount m + firstSize ≤ 128
@@ -304,8 +304,9 @@ module _ (bs : List ℕ) (sixteen : Fit eights bs) {m : ℕ} (em : m ≡ modeOf 
           ≡ table 16 (λ q. atPlace m s n (Index 0 q))
       first-stands o =
           let e : row .first ≡ firstBits m = ap (λ (r : ModeRow). r .first) er in
+          let fits : start m s firstFrom + (16 * row .first - anchorCount (row .kind)) ≤ 128 = rw (er, first-start m s hm) (first-fits m hm) in
           rw e (set-stands m s n hm 0 (omega arith) _ anchors-are (rw e at (set-size (row .first) (omega (arith, small of-mode .least))))
-          (rw e at (let f : start m s firstFrom + (16 * row .first - anchorCount (row .kind)) ≤ 128 = rw (er, first-start m s hm) (first-fits m hm) in f)) o)
+          (rw e at fits) o)
 
   -- the reads one after the other
   module _ {h : ReadSplit} (lead : IsLead bs h) where
@@ -333,5 +334,6 @@ module _ (bs : List ℕ) (sixteen : Fit eights bs) {m : ℕ} (em : m ≡ modeOf 
             let e1 : v .endpoints ≡ table 24 (λ i. atPlace m s n (Value (i % 4) (i / 4))) = rw (ev, er) (values-stand m s n hm lead-on) in
             let e2 : p .p ≡ table 6 (λ k. atPlace m s n (PBit k)) = rw (ep, er) (ps-stand m s n hm values-behind (p-fits m hm)) in
             let e3 : first ≡ table 16 (λ q. atPlace m s n (Index 0 q)) = ef ∙ rw eset (first-stands (lead .split) ea p-behind) in
-            let e4 : second ≡ table 16 (λ q. atPlace m s n (Index 1 q)) = eg ∙ second-stands (lead .split) ea (second-on (lead .split) ea p-behind eset) in
+            let e4 : second ≡ table 16 (λ q. atPlace m s n (Index 1 q)) =
+            eg ∙ second-stands (lead .split) ea (second-on (lead .split) ea p-behind eset) in
             rw (e1, e2, e3, e4) (ap₂ (λ (m : ℕ) (s : Split). made m s (atPlace m s n)) em (lead .split))

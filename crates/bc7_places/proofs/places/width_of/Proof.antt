@@ -49,7 +49,8 @@ returns-4 : tie.Need-returns-4
 unfolding width
 returns-4 c =
     let full = c .before in
-    rw (full .before .before .place4 .given .1) (c .stored-width .ensures ∙ rw (full .index-width .ensures, full .before .before .before .before .pre .is))
+    let arm = full .before .before in
+    rw (arm .place4 .given .1) (c .stored-width .ensures ∙ rw (full .index-width .ensures, arm .before .before .pre .is))
 
 pub width-of-spec : {M : Type 1} → statement M
 width-of-spec =

@@ -32,7 +32,8 @@ push-requires c κs =
 returns : tie.Need-returns
 returns c =
     let s = c .before .before .before .before in
-    channel-next (s .pre .packs) _ (s .pre .channel) (s .pre .width-is) (s .pre .before) (c .before .before .channel-word .ensures) (c .push .ensures)
+    channel-next (s .pre .packs) _ (s .pre .channel) (s .pre .width-is) (s .pre .before) (c .before .before .channel-word .ensures)
+    (c .push .ensures)
 
 pub push-channel-spec : {M : Type 1} → statement M
 push-channel-spec =
