@@ -2,8 +2,9 @@
 -- Assumes nothing.
 use mathlib.Core.Path.{_≡_}
 use mathlib.Core.List.{List}
-use Prim.Native.Nat.{ℕ, _≤_, _<_}
+use Prim.Native.Nat.{ℕ, _≤_}
 use lib.Dec.{T}
+use Rattle.bcn_format.specs.Indexes.{OneFixup, TwoFixups}
 use Rattle.bcn_format.specs.Partitions.{among}
 use Rattle.bits.specs.declared.stream.BitStream.{BitStream}
 use Rattle.partitions.specs.Words.{anchorIn2, secondIn3, thirdIn3}
@@ -17,12 +18,9 @@ pub record AtMarker (modes : List ℕ) (m : ℕ) (s : BitStream) : Type 0 where
 pub record Anchored2 (bits set : ℕ) : Type 0 where
   pub least : 2 ≤ bits
   pub most : bits ≤ 3
-  pub above : 0 < anchorIn2 set
-  pub pixel : anchorIn2 set < 16
+  pub fixup : OneFixup (anchorIn2 set)
 
 pub record Anchored3 (bits set : ℕ) : Type 0 where
   pub least : 2 ≤ bits
   pub most : bits ≤ 3
-  pub above : 0 < secondIn3 set
-  pub rising : secondIn3 set < thirdIn3 set
-  pub pixel : thirdIn3 set < 16
+  pub fixups : TwoFixups (secondIn3 set) (thirdIn3 set)

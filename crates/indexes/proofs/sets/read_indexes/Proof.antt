@@ -13,8 +13,7 @@ cast-new-p2 c = omega (arith, c .before .pre .rising .two (c .if1 .taken) .pixel
 new-p2-requires : tie.Need-new-p2-requires
 new-p2-requires c κs =
     let s = c .before in
-    let r = s .pre .rising .two (c .if1 .taken) in
-    record { least = s .pre .least; most = s .pre .most; above = r .above; pixel = r .pixel }
+    record { least = s .pre .least; most = s .pre .most; fixup = s .pre .rising .two (c .if1 .taken) }
 
 returns : tie.Need-returns
 returns c = c .new-p2 .ensures ∙ rw (c .before .if1 .taken)
@@ -28,14 +27,7 @@ cast-new-p3-2 c = omega (arith, c .before .before .pre .rising .three (c .if2 .t
 new-p3-requires : tie.Need-new-p3-requires
 new-p3-requires c κs =
     let s = c .before .before in
-    let r = s .pre .rising .three (c .if2 .taken) in
-    record {
-      least = s .pre .least;
-      most = s .pre .most;
-      above = r .above;
-      rising = r .rising;
-      pixel = r .pixel;
-    }
+    record { least = s .pre .least; most = s .pre .most; fixups = s .pre .rising .three (c .if2 .taken) }
 
 returns-2 : tie.Need-returns-2
 returns-2 c = c .new-p3 .ensures ∙ rw (c .before .if2 .taken)
