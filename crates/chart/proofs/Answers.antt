@@ -19,7 +19,7 @@ use Rattle.bc7_format.specs.Modes.{modeOf}
 use Rattle.bc7_format.specs.Places.{placeCount}
 use Rattle.bc7_format.specs.Splits.{splitOf}
 use Rattle.bc7_format.proofs.Opening.{good-kind, good-partition, opened-good}
-use Rattle.listing_rules.specs.Text.{refusedText}
+use Rattle.laws.specs.Text.{refusedText}
 use Rattle.text.specs.Puts.{Puts}
 use Rattle.chart_rules.specs.Charts.{Answers, Charts, chartRefusal, charted, placesText, textRoom}
 use Rattle.chart_rules.proofs.Theorems.{accepted-prints, not-sixteen, refused-prints-only}

@@ -5,7 +5,7 @@ ghost use lib.ListN.{length};
 ghost use Rattle.laws.specs.Padding.{Written};
 ghost use Rattle.bc7_format.specs.Places.{placeCount};
 ghost use Rattle.bc7_format.specs.Splits.{splitOf};
-ghost use Rattle.listing_rules.specs.Text.{refusedText};
+ghost use Rattle.laws.specs.Text.{refusedText};
 ghost use Rattle.text.specs.Puts.{Puts};
 ghost use Rattle.chart_rules.specs.Names.{channelName, leadName, nameOf, setName};
 ghost use Rattle.chart_rules.specs.Charts.{Answers, ChartsWithin, charted, fieldText, placesText, textRoom, wantedBytes};

@@ -21,8 +21,8 @@ use Rattle.bc7_format.specs.Modes.{endpointCount, kindOfMode, modeRow, partitio
 use Rattle.bc7_format.specs.Places.{placeAt, placeCount, start, width, widths}
 use Rattle.bc7_format.specs.Splits.{anchors, kindOf, partition}
 use Rattle.bc7_format.proofs.Places.{width-le}
-use Rattle.listing_rules.specs.Text.{ascii, decimal, digitsIn}
-use Rattle.listing_rules.proofs.text.Decimal.{one-digit, three-digits, two-digits}
+use Rattle.laws.specs.Text.{ascii, decimal, digitsIn}
+use Rattle.laws.proofs.Decimal.{one-digit, three-digits, two-digits}
 use Rattle.chart_rules.specs.Charts.{fieldText, placeText, placesText, textMost}
 use Rattle.chart_rules.specs.Names.{nameOf}
 use Rattle.chart_rules.proofs.Standing.{start-low, wide}

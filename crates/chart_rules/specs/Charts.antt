@@ -15,7 +15,7 @@ use Rattle.bc7_format.specs.declared.Split.{Split}
 use Rattle.bc7_format.specs.Modes.{modeOf}
 use Rattle.bc7_format.specs.Places.{placeAt, placeCount, start, width}
 use Rattle.bc7_format.specs.Splits.{anchors, splitOf}
-use Rattle.listing_rules.specs.Text.{newline, refusedText, spaced}
+use Rattle.laws.specs.Text.{newline, refusedText, spaced}
 use Rattle.chart_rules.specs.declared.Chart.{Chart}
 use Rattle.chart_rules.specs.Names.{nameOf}
 

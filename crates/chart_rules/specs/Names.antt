@@ -5,7 +5,7 @@ use mathlib.Core.List.{List, [], _∷_, _++_}
 use lib.ListN.{getD}
 use Rattle.bc7_format.specs.declared.Place.{Place}
 use Rattle.bc7_format.specs.declared.Place.the-variants.{Lead, Value, PBit, Index}
-use Rattle.listing_rules.specs.Text.{ascii, decimal}
+use Rattle.laws.specs.Text.{ascii, decimal}
 
 -- the marker counts the mode
 abbrev pub leadName : ℕ → List ℕ

@@ -8,6 +8,7 @@ use Prim.Native.Nat.{ℕ, _<_}
 use lib.Dec.{T}
 use lib.ListN.{length, getD}
 use Rattle.bc7_format.specs.declared.Place.{Place}
+use Rattle.bc7_format.proofs.FullAlpha.{full-alpha}
 use Rattle.line_rules.specs.declared.Replacement.{Replacement}
 use Rattle.line_rules.specs.declared.Replaced.{Replaced}
 use Rattle.line_rules.specs.declared.LineRead.{LineRead}
@@ -28,7 +29,7 @@ use Rattle.line_rules.specs.Calls.{afterAll, last, lastOfEach, seen}
 use Rattle.line_rules.specs.Read.{TooWide, givenAs, lineRead, readRules, turnedIn}
 use Rattle.line_rules.specs.Replace.{Call, after, callOf, lineGiven, oriented, refusal, replaced, replacedAs, topSet}
 use Rattle.line_rules.proofs.Accepting.{on-block}
-use Rattle.line_rules.proofs.Blocks.{after-mode, after-sixteen, after-split, full-alpha, given-drawn, others-kept, places-kept, places-stored}
+use Rattle.line_rules.proofs.Blocks.{after-mode, after-sixteen, after-split, given-drawn, others-kept, places-kept, places-stored}
 use Rattle.line_rules.proofs.Blocks.{same-refusal, unchanged}
 use Rattle.line_rules.proofs.Draws.{drawn-by-one}
 use Rattle.line_rules.proofs.OwnWidths.{own-widths}

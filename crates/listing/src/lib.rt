@@ -16,6 +16,8 @@ ghost use Rattle.listing_rules.specs.Machine.{nextInBlocks, nextOf, runOf, spar
 ghost use Rattle.text.specs.Puts.{Puts};
 ghost use Rattle.listing.specs.Asked.{BlockAsked, BlocksAsked, HeadAsked, NextAsked, RunAsked, WithinBlocks};
 ghost use Rattle.listing.specs.Promised.{GoesOnReady, ListsSheet, Spares, Starts, TakesNext, TellsRun, WantsFew};
+use crate::texts::block_text;
+use crate::texts::sheet_text;
 use bc7::decode_bc7_block;
 use bc7_places::modes::mode_of;
 use head_rules::Head;
@@ -29,9 +31,9 @@ use sheet_head::geometry::blocks_of;
 use sheet_head::reader::has_ended;
 use sheet_head::reader::refused_with;
 use sheet_head::reader::take_byte;
-use text::block_text;
 use text::refused_text;
-use text::sheet_text;
+
+pub mod texts;
 
 // A row of blocks is taken in runs of so many blocks at the most, and a program needs a buffer for one run.
 const MOST_IN_RUN: u32 = 1024;

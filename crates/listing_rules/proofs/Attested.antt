@@ -6,6 +6,7 @@ use mathlib.Core.List.{List, [], _∷_, _++_, map}
 use Prim.Native.Nat.{ℕ}
 use Prim.Native.String.{String}
 use lib.ListN.{replicate}
+use Rattle.laws.proofs.Attested.{text}
 use Rattle.laws.specs.Refusals.{first}
 use Rattle.laws.specs.Tables.{implies, table, tableFrom}
 use Rattle.bc7_format.specs.Modes.{modeOf, endpointCount, kindOfMode, modeRow}
@@ -20,16 +21,12 @@ use Rattle.bc7_format.proofs.Examples.{block3, block4}
 use Rattle.head_rules.specs.Geometry.{blocksOf}
 use Rattle.head_rules.specs.Heads.{formIn, headRefusalUpTo, heightIn, readHead, readHeadUpTo, sizeRefusalUpTo, widthIn}
 use Rattle.head_rules.specs.Numbers.{raised, readGroups, readNumber}
-use Rattle.listing_rules.specs.Text.{ascii, blockText, channels, decimal, digitsIn, opacityMark, refusedText, sheetText}
+use Rattle.laws.specs.Text.{ascii, decimal, digitsIn, refusedText}
+use Rattle.listing_rules.specs.Text.{blockText, channels, opacityMark, sheetText}
 use Rattle.opacity_rules.specs.Opacity.{isVisible, opaque, opaqueIn, passes}
 use Rattle.sheet_rules.specs.Rows.{blockAt}
 use Rattle.listing_rules.specs.Machine.{runOf}
 use Rattle.listing_rules.specs.Listing.{blockListed, blocksListing, blocksText, listed, listing, listingBy}
-
--- texts; 10 ends each
-unfoldable pub text : List String → List ℕ
-text [] = []
-text (s ∷ more) = ascii s ++ (10 ∷ []) ++ text more
 
 -- mode 6: all pixels have alpha 255 but pixel 1, in the second column, which has 0
 abbrev block6 : List ℕ

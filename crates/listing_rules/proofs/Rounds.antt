@@ -22,7 +22,8 @@ use Rattle.head_rules.proofs.Blocks.{few-blocks}
 use Rattle.head_rules.specs.Reader.{Going, Reading, atForm, byteTaken, hasEnded, readBy, refusedWith}
 use Rattle.head_rules.proofs.Bytewise.{Stepped, going-start, not-far, read-byte, read-cut, read-ended, stepped, stepped-refused}
 use Rattle.head_rules.proofs.Theorems.{fold-leaves-the-blocks, read-head-is-the-fold}
-use Rattle.listing_rules.specs.Text.{refusedText, sheetText}
+use Rattle.laws.specs.Text.{refusedText}
+use Rattle.listing_rules.specs.Text.{sheetText}
 use Rattle.listing_rules.specs.Listing.{blocksListing, blocksText, listed, listing, unlessExact}
 use Rattle.listing_rules.specs.Machine.{InBlocks, Ready, ReadyIn, Run, atHead, atStart, begun, blocksPhase, ended, headText, inBlocks}
 use Rattle.listing_rules.specs.Machine.{nextAtHead, nextIn, nextInBlocks, nextOf, over, takenOf, textAtHead, textIn, textInBlocks, textOf}

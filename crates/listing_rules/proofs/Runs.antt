@@ -14,7 +14,8 @@ use Rattle.laws.specs.Tables.{pick}
 use Rattle.head_rules.specs.declared.Head.{Head}
 use Rattle.head_rules.specs.Geometry.{across, blocksOf}
 use Rattle.head_rules.specs.Heads.{readHead}
-use Rattle.listing_rules.specs.Text.{refusedText, sheetText}
+use Rattle.laws.specs.Text.{refusedText}
+use Rattle.listing_rules.specs.Text.{sheetText}
 use Rattle.sheet_rules.specs.Rows.{blockAt}
 use Rattle.listing_rules.specs.Listing.{blockListed, blocksListing, blocksText, listed, listing, listingBy}
 use Rattle.listing_rules.specs.Machine.{InBlocks, mostInRun, runOf}

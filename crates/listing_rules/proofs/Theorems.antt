@@ -21,7 +21,8 @@ use Rattle.head_rules.specs.Geometry.{blocksOf}
 use Rattle.head_rules.specs.Heads.{formIn, headRefusalUpTo, heightIn, oldLimit, readHead, readHeadUpTo, sizeRefusalUpTo, widthIn}
 use Rattle.head_rules.proofs.Theorems.{old-console-refuses, stored-heads-keep}
 use Rattle.head_rules.specs.Numbers.{raised, readGroups, readNumber}
-use Rattle.listing_rules.specs.Text.{ascii, blockText, channels, decimal, digitsIn, newline, opacityMark, refusedText, sheetText}
+use Rattle.laws.specs.Text.{ascii, decimal, digitsIn, newline, refusedText}
+use Rattle.listing_rules.specs.Text.{blockText, channels, opacityMark, sheetText}
 use Rattle.opacity_rules.specs.Opacity.{isVisible, opaque, opaqueIn, passes}
 use Rattle.sheet_rules.specs.Rows.{blockAt}
 use Rattle.listing_rules.specs.declared.Machine.{Machine}

@@ -1,11 +1,9 @@
-// Texts written straight to a place of the output: words, numbers in decimal, single spaces, and the end of the line. Each function
-// answers the place behind what it wrote, and no other byte changes. What a listing says of a sheet or a block stands here; which blocks
-// are listed is said in `listing`, and what a bit chart says in `chart`.
-ghost use mathlib.Core.Path.{_≡_};
+// Texts written straight to a place of the output: words, numbers in decimal, single spaces, and a refusal. Each function answers the place
+// behind what it wrote, and no other byte changes. What a listing prints of a sheet is said in `listing`, and what a bit chart in `chart`.
 ghost use mathlib.Core.List.{[], _∷_};
 ghost use Prim.Native.Nat.{_+_, _%_, _<_, _≤_};
 ghost use lib.ListN.{length};
-ghost use Rattle.listing_rules.specs.Text.{blockText, channels, decimal, lastFour, opacityMark, refusedText, sheetText, spaced};
+ghost use Rattle.laws.specs.Text.{decimal, lastFour, refusedText, spaced};
 ghost use Rattle.text.specs.Puts.{Puts};
 
 // One byte.
@@ -66,7 +64,7 @@ pub fn put_few(n: u32, at: usize, out: &mut [u8]) -> usize
 }
 
 // A number, four digits at a time: a number of 32 bits has at most ten.
-fn put_number(n: u32, at: usize, out: &mut [u8]) -> usize
+pub fn put_number(n: u32, at: usize, out: &mut [u8]) -> usize
     requires { ⌜ at + 12 ≤ length (now out) ⌝ }
     ensures { λ r. ⌜ Puts 12 (now (out .entry)) at (decimal n) (now (out .exit)) r ⌝ }
 {
@@ -90,51 +88,6 @@ pub fn put_spaced(n: u8, at: usize, out: &mut [u8]) -> usize
 {
     let next = put(b' ', at, out);
     put_few(n as u32, next, out)
-}
-
-// A pixel's four channels.
-fn put_pixel(pixel: [u8; 4], at: usize, out: &mut [u8]) -> usize
-    requires { ⌜ at + 20 ≤ length (now out) ⌝ }
-    ensures { λ r. ⌜ Puts 20 (now (out .entry)) at (channels pixel) (now (out .exit)) r ⌝ }
-{
-    let green = put_spaced(pixel[0], at, out);
-    let blue = put_spaced(pixel[1], green, out);
-    let alpha = put_spaced(pixel[2], blue, out);
-    put_spaced(pixel[3], alpha, out)
-}
-
-// The first text of a listing: `sheet`, width and height.
-pub fn sheet_text(width: u32, height: u32, at: usize, out: &mut [u8]) -> usize
-    requires { ⌜ at + 40 ≤ length (now out) ⌝ }
-    ensures { λ r. ⌜ Puts 40 (now (out .entry)) at (sheetText width height) (now (out .exit)) r ⌝ }
-{
-    let wide = put_number(width, put_word(b"sheet ", at, out), out);
-    let high = put_number(height, put(b' ', wide, out), out);
-    put(b'\n', high, out)
-}
-
-fn opacity_mark(opaque: bool) -> u8
-    ensures { λ r. ⌜ r ≡ opacityMark opaque ⌝ }
-{
-    if opaque { b'o' } else { b'-' }
-}
-
-// The text of a block: its number, its mode, the four channels of its pixel 0, and its opacity mark.
-pub fn block_text(
-    number: u32,
-    mode: u8,
-    pixel: [u8; 4],
-    opaque: bool,
-    at: usize,
-    out: &mut [u8],
-) -> usize
-    requires { ⌜ at + 40 ≤ length (now out) ⌝ }
-    ensures { λ r. ⌜ Puts 40 (now (out .entry)) at (blockText number mode pixel opaque) (now (out .exit)) r ⌝ }
-{
-    let numbered = put_number(number, at, out);
-    let drawn = put_pixel(pixel, put_spaced(mode, numbered, out), out);
-    let marked = put(opacity_mark(opaque), put(b' ', drawn, out), out);
-    put(b'\n', marked, out)
 }
 
 // The text of a refusal.

@@ -1,7 +1,7 @@
 -- `put_name` meets its contract.
 -- Assumes nothing.
 use native.Mathlib.Omega.{arith}
-use Rattle.listing_rules.specs.Text.{ascii}
+use Rattle.laws.specs.Text.{ascii}
 use Rattle.chart_rules.specs.Names.{nameOf}
 use Rattle.text.proofs.Puts.{puts-then, puts-within}
 use Rattle.chart.proofs.Inside.{channel-low, endpoint-low, lead-low, p-bit-low, pixel-low, set-low}

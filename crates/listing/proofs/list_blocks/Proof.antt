@@ -7,7 +7,7 @@ use lib.ListN.{length}
 use Rattle.laws.proofs.Padding.{written-long}
 use Rattle.listing_rules.specs.Listing.{listed}
 use Rattle.listing_rules.proofs.Rounds.{few-in-all}
-use Rattle.listing.proofs.Texts.{Texts, texts-more, texts-none}
+use Rattle.listing.proofs.Listed.{Texts, texts-more, texts-none}
 use Rattle.listing.proofs.list_blocks.Statement.{statement}
 use Rattle.listing.proofs.list_blocks.Tie as tie
 

@@ -1,7 +1,7 @@
 -- `text::put_few` meets its contract.
 -- Assumes nothing.
 use native.Mathlib.Omega.{arith}
-use Rattle.listing_rules.proofs.text.Decimal.{four-digits, one-digit, three-digits, two-digits}
+use Rattle.laws.proofs.Decimal.{four-digits, one-digit, three-digits, two-digits}
 use borrow.Author.Needs.{needs}
 use Rattle.text.proofs.Puts.{puts-then, puts-within}
 use Rattle.text.proofs.put_few.Statement.{statement}

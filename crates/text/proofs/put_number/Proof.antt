@@ -2,7 +2,7 @@
 -- Assumes nothing.
 use native.Mathlib.Omega.{arith}
 use Prim.Native.Nat.{_/_}
-use Rattle.listing_rules.proofs.text.Decimal.{four-more}
+use Rattle.laws.proofs.Decimal.{four-more}
 use borrow.Author.Needs.{needs}
 use Rattle.text.proofs.Puts.{puts-then, puts-within}
 use Rattle.text.proofs.put_number.Statement.{statement}

@@ -1,7 +1,7 @@
 -- `text::refused_text` meets its contract.
 -- Assumes nothing.
 use native.Mathlib.Omega.{arith}
-use Rattle.listing_rules.specs.Text.{ascii, refusedText}
+use Rattle.laws.specs.Text.{ascii, refusedText}
 use borrow.Author.Needs.{needs}
 use Rattle.text.proofs.Puts.{puts-then, puts-within}
 use Rattle.text.proofs.refused_text.Statement.{statement}

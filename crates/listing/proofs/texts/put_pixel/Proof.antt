@@ -1,10 +1,10 @@
--- `text::put_pixel` meets its contract.
+-- `texts::put_pixel` meets its contract.
 -- Assumes nothing.
 use Rattle.listing_rules.specs.Text.{channels}
 use borrow.Author.Needs.{needs}
 use Rattle.text.proofs.Puts.{puts-then}
-use Rattle.text.proofs.put_pixel.Statement.{statement}
-use Rattle.text.proofs.put_pixel.Tie as tie
+use Rattle.listing.proofs.texts.put_pixel.Statement.{statement}
+use Rattle.listing.proofs.texts.put_pixel.Tie as tie
 
 array-read-put-spaced : tie.Need-array-read-put-spaced
 array-read-put-spaced c = search needs

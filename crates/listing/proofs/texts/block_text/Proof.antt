@@ -1,10 +1,10 @@
--- `text::block_text` meets its contract.
+-- `texts::block_text` meets its contract.
 -- Assumes nothing.
 use Rattle.listing_rules.specs.Text.{blockText}
 use borrow.Author.Needs.{needs}
 use Rattle.text.proofs.Puts.{puts-then}
-use Rattle.text.proofs.block_text.Statement.{statement}
-use Rattle.text.proofs.block_text.Tie as tie
+use Rattle.listing.proofs.texts.block_text.Statement.{statement}
+use Rattle.listing.proofs.texts.block_text.Tie as tie
 
 put-number-requires : tie.Need-put-number-requires
 put-number-requires c κs = search needs

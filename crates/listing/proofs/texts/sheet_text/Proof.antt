@@ -1,11 +1,12 @@
--- `text::sheet_text` meets its contract.
+-- `texts::sheet_text` meets its contract.
 -- Assumes nothing.
 use native.Mathlib.Omega.{arith}
-use Rattle.listing_rules.specs.Text.{ascii, sheetText}
+use Rattle.laws.specs.Text.{ascii}
+use Rattle.listing_rules.specs.Text.{sheetText}
 use borrow.Author.Needs.{needs}
 use Rattle.text.proofs.Puts.{puts-then, puts-within}
-use Rattle.text.proofs.sheet_text.Statement.{statement}
-use Rattle.text.proofs.sheet_text.Tie as tie
+use Rattle.listing.proofs.texts.sheet_text.Statement.{statement}
+use Rattle.listing.proofs.texts.sheet_text.Tie as tie
 
 slice-aggregate-put-word : tie.Need-slice-aggregate-put-word
 slice-aggregate-put-word c = search needs

@@ -1,8 +1,8 @@
--- `text::opacity_mark` meets its contract.
+-- `texts::opacity_mark` meets its contract.
 -- Assumes nothing.
 use Rattle.listing_rules.specs.Text.{opacityMark}
-use Rattle.text.proofs.opacity_mark.Statement.{statement}
-use Rattle.text.proofs.opacity_mark.Tie as tie
+use Rattle.listing.proofs.texts.opacity_mark.Statement.{statement}
+use Rattle.listing.proofs.texts.opacity_mark.Tie as tie
 
 returns : tie.Need-returns
 unfolding opacityMark

@@ -7,8 +7,8 @@ use Prim.Native.Nat.{ℕ, zero, suc, _+_, _-_, _*_, _/_, _%_, _^_, _<_, _≤_}
 use native.Mathlib.Nat.{div-lt-iff-lt-mul, pow-suc}
 use native.Mathlib.Omega.{arith}
 use borrow.Author.Tests.{lt-ltb, le-ltb}
 use Rattle.laws.proofs.Cases.{lt-or}
-use Rattle.listing_rules.specs.Text.{decimal, digitsIn, lastFour}
+use Rattle.laws.specs.Text.{decimal, digitsIn, lastFour}
 
 digits-last : (k n : ℕ) → n < 10 → digitsIn (suc k) n ≡ (48 + n % 10) ∷ []
 unfolding digitsIn
