@@ -5,6 +5,7 @@ use mathlib.Core.Path.{_≡_, refl}
 use mathlib.Core.List.{List, [], _∷_, _++_, map}
 use Prim.Native.Nat.{ℕ, _+_, _*_}
 use lib.ListN.{replicate}
+use Rattle.bc7_format.specs.declared.Place.the-variants.{PBit}
 use Rattle.bc7_format.specs.declared.Split.the-variants.{Two}
 use Rattle.laws.specs.Tables.{table, tableFrom}
 use Rattle.bcn_format.specs.Block.{number, trailing}
@@ -13,7 +14,7 @@ use Rattle.bcn_format.specs.Drawing.{drawn, promoted, weightOf, weights}
 use Rattle.bc7_format.specs.Lines.{eight, Line, indexSetOf, has, indexPlace, laid, lineAt, lineBits, lineOf, meansStored, own, pPlace, pixel}
 use Rattle.bc7_format.specs.Lines.{rotated, shown, turned, valuePlace, withLine}
 use Rattle.bcn_format.specs.Partitions.{anchors2, anchors3, digits, marks, strings2, strings3, subset2, subset3}
-use Rattle.bc7_format.specs.Places.{atPlace, listOf, opened, pbit, placeAt, pos, width, widths}
+use Rattle.bc7_format.specs.Places.{atPlace, listOf, opened, placeAt, pos, width, widths}
 use Rattle.bc7_format.specs.Splits.{splitAt, splitOf}
 use Rattle.bc7_format.proofs.Examples.{block0, block3, block4, block7}
 
@@ -67,7 +68,7 @@ pub record LineTurnedAndPut : Type 0 where
       ++ (replicate 8 99 ++ (8 ∷ 9 ∷ 10 ∷ 11 ∷ 12 ∷ 13 ∷ 14 ∷ 15 ∷ []))
       ++ replicate 16 99
   -- in mode 1 its one p bit is the first's
-  pub put-p : map (withLine 1 (Two 13) 1 counted (λ x. 99)) (pbit 0 ∷ pbit 1 ∷ pbit 2 ∷ []) ≡ 99 ∷ 4 ∷ 99 ∷ []
+  pub put-p : map (withLine 1 (Two 13) 1 counted (λ x. 99)) (PBit 0 ∷ PBit 1 ∷ PBit 2 ∷ []) ≡ 99 ∷ 4 ∷ 99 ∷ []
 
 pub line-turned-and-put : LineTurnedAndPut
 unfolding table tableFrom listOf placeAt width modeRow endpointCount has withLine laid turned subset2 digits strings2

@@ -5,13 +5,15 @@ use mathlib.Core.Path.{_≡_, refl}
 use mathlib.Core.List.{List, [], _∷_, map}
 use Prim.Native.Nat.{ℕ}
 use lib.Dec.{eqb}
+use Rattle.bc7_format.specs.declared.Place.{Place}
+use Rattle.bc7_format.specs.declared.Place.the-variants.{Lead}
 use Rattle.bc7_format.specs.declared.Split.{Split}
 use Rattle.bc7_format.specs.declared.Split.the-variants.{Whole, Two, Three, Vector}
 use Rattle.laws.specs.Tables.{pick, table, tableFrom}
 use Rattle.bc7_format.specs.Lines.{indexSetOf, has, indexPlace, pPlace, valuePlace}
 use Rattle.bc7_format.specs.Modes.{endpointCount, lines, modeRow}
 use Rattle.bcn_format.specs.Partitions.{anchors2, anchors3, digits, marks, strings2, strings3, subset2, subset3}
-use Rattle.bc7_format.specs.Places.{Place, lead, placeAt, pos, start, width, widths}
+use Rattle.bc7_format.specs.Places.{placeAt, pos, start, width, widths}
 use Rattle.bc7_format.specs.Splits.{anchors}
 
 -- where the places start that line l has
@@ -46,7 +48,7 @@ chart m s b ls = record { mode = m; split = s; split-bits = b; of-lines = ls }
 -- by the definitions
 pub chartOf : ℕ → Split → Chart
 chartOf m s =
-    chart m s (splitStarts m s (lead 1 ∷ lead 2 ∷ lead 3 ∷ []))
+    chart m s (splitStarts m s (Lead 1 ∷ Lead 2 ∷ Lead 3 ∷ []))
     (table (lines m) (λ l.
     line
     (starts m s l

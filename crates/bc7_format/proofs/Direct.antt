@@ -5,10 +5,10 @@ use mathlib.Core.Logic.{_≢_}
 use mathlib.Core.Bool.{true}
 use Prim.Native.Nat.{ℕ, _<_}
 use borrow.Author.Tests.{eqb-false, not-true}
+use Rattle.bc7_format.specs.declared.Place.{Place}
 use Rattle.bc7_format.specs.declared.Split.{Split}
 use Rattle.bc7_format.specs.Lines.{Line, has, indexPlace, isDrawn, lineAt, lineOf, meansStored, own, pPlace, rotated, shown, valuePlace}
 use Rattle.bc7_format.specs.Modes.{channelBits, lines, pCount}
-use Rattle.bc7_format.specs.Places.{Place}
 use Rattle.bc7_format.specs.Splits.{rotation}
 use Rattle.bc7_format.specs.WellFormed.{WellFormed}
 use Rattle.bc7_format.proofs.Meaning.{good-rotation, has-index, has-p, has-value, means-ext, rotated-lt}
@@ -28,7 +28,9 @@ own-is m s l f x h = rw h
 
 -- a decoder reads the places of the line that draws, and nothing else
 pub shown-direct : {m : ℕ} {s : Split} {f : Place → ℕ} → WellFormed m s f → (q c : ℕ) → q < 16 → c < 4 → isDrawn m (rotated (rotation s) c) ≡ true
-    → shown m s f q c ≡ meansStored m s (lineAt s q (rotated (rotation s) c)) (plainLine m s (lineAt s q (rotated (rotation s) c)) f) q (rotated (rotation s) c)
+    → let d = rotated (rotation s) c in
+    let l = lineAt s q d in
+    shown m s f q c ≡ meansStored m s l (plainLine m s l f) q d
 unfolding shown lineOf plainLine lineAt
 shown-direct {m} {s} {f} g q c hq hc dr = rw dr (means-ext m s l _ _ q d values ps ix)
   where

@@ -8,12 +8,14 @@ use Prim.Native.Nat.{ℕ, _<_}
 use native.Mathlib.Omega.{arith}
 use borrow.Author.Tests.{eqb-true, eqb-false, eq-eqb, ne-eqb, not-true}
 use lib.Dec.{T, eqb}
+use Rattle.bc7_format.specs.declared.Place.{Place}
+use Rattle.bc7_format.specs.declared.Place.the-variants.{Lead}
 use Rattle.bc7_format.specs.declared.Split.{Split}
 use Rattle.laws.specs.Tables.{pick}
 use Rattle.laws.proofs.Tests.{T-true, both-true, true-T}
 use Rattle.bc7_format.specs.Lines.{Line, has, indexPlace, isDrawn, laid, lineAt, lineOf, lineOfPlace, meansStored, own, pPlace, rotated, shown}
 use Rattle.bc7_format.specs.Lines.{valuePlace, withLine}
-use Rattle.bc7_format.specs.Places.{Place, lead, inside, width}
+use Rattle.bc7_format.specs.Places.{inside, width}
 use Rattle.bc7_format.specs.Splits.{rotation}
 
 module _ (m : ℕ) (s : Split) where
@@ -34,11 +36,11 @@ module _ (m : ℕ) (s : Split) where
   has-one l k x d p q = d (sym (has-parts l x p .2) ∙ has-parts k x q .2)
 
   -- the lead belongs to no line
-  pub has-lead : (l k : ℕ) → l < 9 → has m s l (lead k) ≡ false
-  has-lead l k h = go (has m s l (lead k)) refl
+  pub has-lead : (l k : ℕ) → l < 9 → has m s l (Lead k) ≡ false
+  has-lead l k h = go (has m s l (Lead k)) refl
     where
-      go : (b : Bool) → has m s l (lead k) ≡ b → b ≡ false
-      go true e = absurd (let z : 9 ≡ l = has-parts l (lead k) e .2 in let y : ⊥ = omega arith in y)
+      go : (b : Bool) → has m s l (Lead k) ≡ b → b ≡ false
+      go true e = absurd (let z : 9 ≡ l = has-parts l (Lead k) e .2 in let y : ⊥ = omega arith in y)
       go false e = refl
 
   -- SET, then SET of another line: they trade places

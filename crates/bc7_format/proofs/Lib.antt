@@ -8,6 +8,7 @@ pub mod Chart
 pub mod Places
 pub mod Opening
 pub mod Reserved
+pub mod FullAlpha
 pub mod Modes
 pub mod Starts
 pub mod ReadsFit

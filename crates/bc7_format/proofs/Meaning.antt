@@ -9,6 +9,8 @@ use native.Mathlib.Omega.{arith}
 use borrow.Author.Tests.{eqb-true, eqb-false, eq-eqb, ne-eqb, lt-ltb}
 use lib.Dec.{eqb, ltb, lt→ltb, leb, leb→le}
 use lib.Pow.{pow-mono}
+use Rattle.bc7_format.specs.declared.Place.{Place}
+use Rattle.bc7_format.specs.declared.Place.the-variants.{Lead, Value, PBit, Index}
 use Rattle.bc7_format.specs.declared.Split.{Split}
 use Rattle.laws.specs.Tables.{pick}
 use Rattle.laws.proofs.Cases.{pick-lt}
@@ -16,7 +18,7 @@ use Rattle.laws.proofs.Tests.{at}
 use Rattle.bcn_format.specs.Drawing.{drawn, weightOf}
 use Rattle.bc7_format.specs.Lines.{eight, Line, indexSetOf, has, indexPlace, laid, lineBits, meansStored, pPlace, rotated, turned, valuePlace}
 use Rattle.bc7_format.specs.Modes.{channelBits, endpointCount, firstBits, indexBits, lines, modeRow, pCount, rotationBits, secondBits}
-use Rattle.bc7_format.specs.Places.{Place, lead, index, pbit, value, width}
+use Rattle.bc7_format.specs.Places.{width}
 use Rattle.bc7_format.specs.Splits.{indexMode, isVector, rotation, subset}
 use Rattle.bc7_format.specs.WellFormed.{WellFormed}
 use Rattle.bcn_format.proofs.Drawing.{symmetric}
@@ -100,7 +102,7 @@ two-bits m h = leb→le _ 2 (at 8 (λ m. leb (rotationBits m) 2) tt m h)
 module _ {m : ℕ} {s : Split} {f : Place → ℕ} (g : WellFormed m s f) where
   pub good-rotation : rotation s < 4
   unfolding width
-  good-rotation = subst (λ (r : ℕ). r < 4) (sym (good-parts g .1)) (lt-of-lt-of-le (g .fits (lead 2) tt) (pow-mono (two-bits m (g .mode))))
+  good-rotation = subst (λ (r : ℕ). r < 4) (sym (good-parts g .1)) (lt-of-lt-of-le (g .fits (Lead 2) tt) (pow-mono (two-bits m (g .mode))))
 
   -- the width of a line's indexes
   pub line-bits : (l : ℕ) → (2 ≤ lineBits m s l) × (lineBits m s l ≤ 4)
@@ -112,7 +114,8 @@ module _ {m : ℕ} {s : Split} {f : Place → ℕ} (g : WellFormed m s f) where
       either v false = (v .least2, v .most2)
 
       go : (b : Bool) → isVector s ≡ b
-          → (2 ≤ indexBits m (pick b (pick (eqb l 0) (indexMode s) (1 - indexMode s)) 0)) × (indexBits m (pick b (pick (eqb l 0) (indexMode s) (1 - indexMode s)) 0) ≤ 4)
+          → let bits = indexBits m (pick b (pick (eqb l 0) (indexMode s) (1 - indexMode s)) 0) in
+          (2 ≤ bits) × (bits ≤ 4)
       go true e = either (good-vector g e) (eqb (pick (eqb l 0) (indexMode s) (1 - indexMode s)) 0)
       go false e = (good-subset g e .least, good-subset g e .most)
 
@@ -126,13 +129,13 @@ module _ {m : ℕ} {s : Split} {f : Place → ℕ} (g : WellFormed m s f) where
         wide : (e : ℕ) → e < endpointCount m → pick (ltb e (endpointCount m)) (channelBits m c) 0 ≢ 0
         wide e h = rw (lt-ltb e (endpointCount m) h) hb
 
-        go : (v : Bool) → isVector s ≡ v → has m s l (value c (pick v k (2 * l + k))) ≡ true
+        go : (v : Bool) → isVector s ≡ v → has m s l (Value c (pick v k (2 * l + k))) ≡ true
         go true e =
-            has-intro m s l (value c k) (inside-value {e = k} hc (omega arith))
+            has-intro m s l (Value c k) (inside-value {e = k} hc (omega arith))
             (wide k (omega (arith, good-vector g e .ends))) (rw e (hv e))
         go false e =
             let y = good-subset g e in
-            has-intro m s l (value c (2 * l + k)) (inside-value {e = 2 * l + k} hc (omega arith))
+            has-intro m s l (Value c (2 * l + k)) (inside-value {e = 2 * l + k} hc (omega arith))
             (wide (2 * l + k) (omega arith)) (rw e (let z : (2 * l + k) / 2 ≡ l = omega arith in z))
 
     pub has-p : (k : ℕ) → k < 2 → pCount m ≢ 0 → has m s l (pPlace m l k) ≡ true
@@ -145,18 +148,18 @@ module _ {m : ℕ} {s : Split} {f : Place → ℕ} (g : WellFormed m s f) where
         c : (pick (eqb m 1) (lines m) (2 * lines m) ≡ pCount m) × (lines m ≤ 3)
         c = p-count m (g .mode) n
 
-        go : (b : Bool) → eqb m 1 ≡ b → has m s l (pbit (pick b l (2 * l + k))) ≡ true
+        go : (b : Bool) → eqb m 1 ≡ b → has m s l (PBit (pick b l (2 * l + k))) ≡ true
         go true e =
             let d : lines m ≡ pCount m = rw e at (c .0) in
-            has-intro m s l (pbit l) (lt→ltb l 6 (omega (arith, c .1))) (some l (omega arith)) (rw e refl)
+            has-intro m s l (PBit l) (lt→ltb l 6 (omega (arith, c .1))) (some l (omega arith)) (rw e refl)
         go false e =
             let d : 2 * lines m ≡ pCount m = rw e at (c .0) in
-            has-intro m s l (pbit (2 * l + k)) (lt→ltb (2 * l + k) 6 (omega (arith, c .1))) (some (2 * l + k) (omega arith))
+            has-intro m s l (PBit (2 * l + k)) (lt→ltb (2 * l + k) 6 (omega (arith, c .1))) (some (2 * l + k) (omega arith))
             (rw e (let z : (2 * l + k) / 2 ≡ l = omega arith in z))
 
     pub has-index : (q : ℕ) → q < 16 → (isVector s ≡ false → subset s q ≡ l) → has m s l (indexPlace s l q) ≡ true
     unfolding indexPlace width lineBits indexSetOf
-    has-index q hq sub = has-intro m s l (index (indexSetOf s l) q) (inside-index (index-set-lt s l (good-index-mode g)) hq) some mine
+    has-index q hq sub = has-intro m s l (Index (indexSetOf s l) q) (inside-index (index-set-lt s l (good-index-mode g)) hq) some mine
       where
         some : indexBits m (indexSetOf s l) ≢ 0
         some z = omega (arith, line-bits l .0)

@@ -11,6 +11,8 @@ use borrow.Author.Tests.{eq-eqb}
 use lib.Dec.{T, eqb, eqb→eq, leb, leb→le, lit<, ltb, ltb→lt}
 use lib.ListN.{getD}
 use lib.Pow.{pow-mono}
+use Rattle.bc7_format.specs.declared.Place.{Place}
+use Rattle.bc7_format.specs.declared.Place.the-variants.{Lead}
 use Rattle.bc7_format.specs.declared.Split.{Split}
 use Rattle.bc7_format.specs.declared.Split.the-variants.{Whole, Two, Three, Vector}
 use Rattle.laws.specs.Tables.{below, implies, pick}
@@ -19,7 +21,7 @@ use Rattle.bc7_format.specs.Lines.{anchorOf}
 use Rattle.bcn_format.specs.Partitions.{firstIn, among, anchors2, anchors3, digits, marks, or, strings2, strings3, subset2, subset3}
 use Rattle.bc7_format.specs.Modes.{endpointCount, firstBits, indexModeBits, kindOfMode, lines, modeRow, pCount, partitionBits, rotationBits}
 use Rattle.bc7_format.specs.Modes.{secondBits, modeOf}
-use Rattle.bc7_format.specs.Places.{Place, lead, width}
+use Rattle.bc7_format.specs.Places.{width}
 use Rattle.bc7_format.specs.Splits.{anchors, indexMode, isVector, kindOf, ofKind, partition, rotation, subset}
 use Rattle.bc7_format.specs.WellFormed.{WellFormed}
 use Rattle.bc7_format.proofs.Opening.{good-kind, good-partition}
@@ -41,11 +43,11 @@ parts (suc (suc (suc (suc (suc (suc (suc zero))))))) h a r i ha hr hi = omega ar
 parts (suc (suc (suc (suc (suc (suc (suc (suc m)))))))) h a r i ha hr hi = absurd (let z : ⊥ = omega arith in z)
 
 module _ {m : ℕ} {s : Split} {f : Place → ℕ} (g : WellFormed m s f) where
-  pub good-parts : (partition s ≡ f (lead 1)) × (rotation s ≡ f (lead 2)) × (indexMode s ≡ f (lead 3))
+  pub good-parts : (partition s ≡ f (Lead 1)) × (rotation s ≡ f (Lead 2)) × (indexMode s ≡ f (Lead 3))
   unfolding width
   good-parts =
-      subst (λ (s : Split). (partition s ≡ f (lead 1)) × (rotation s ≡ f (lead 2)) × (indexMode s ≡ f (lead 3))) (g .splits)
-      (parts m (g .mode) (f (lead 1)) (f (lead 2)) (f (lead 3)) (g .fits (lead 1) tt) (g .fits (lead 2) tt) (g .fits (lead 3) tt))
+      subst (λ (s : Split). (partition s ≡ f (Lead 1)) × (rotation s ≡ f (Lead 2)) × (indexMode s ≡ f (Lead 3))) (g .splits)
+      (parts m (g .mode) (f (Lead 1)) (f (Lead 2)) (f (Lead 3)) (g .fits (Lead 1) tt) (g .fits (Lead 2) tt) (g .fits (Lead 3) tt))
 
 pub record BySubset (m : ℕ) : Type 0 where
   pub second : secondBits m ≡ 0
@@ -134,7 +136,7 @@ module _ {m : ℕ} {s : Split} {f : Place → ℕ} (g : WellFormed m s f) where
   pub good-index-mode : indexMode s < 2
   unfolding width
   good-index-mode =
-      subst (λ (i : ℕ). i < 2) (sym (good-parts g .2)) (lt-of-lt-of-le (g .fits (lead 3) tt) (pow-mono (one-bit m (g .mode))))
+      subst (λ (i : ℕ). i < 2) (sym (good-parts g .2)) (lt-of-lt-of-le (g .fits (Lead 3) tt) (pow-mono (one-bit m (g .mode))))
 
   pub good-64 : partition s < 64
   good-64 = lt-of-lt-of-le (good-partition g) (pow-mono (six-bits m (g .mode)))

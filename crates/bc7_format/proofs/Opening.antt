@@ -8,6 +8,8 @@ use native.Mathlib.Omega.{arith}
 use lib.Dec.{T, eqb, eqb→eq, ltb, ltb→lt, lt→ltb, lit<}
 use lib.ListN.{getD}
 use lib.Pow.{mod-mod-pow, low, pow-pos}
+use Rattle.bc7_format.specs.declared.Place.{Place}
+use Rattle.bc7_format.specs.declared.Place.the-variants.{Lead}
 use Rattle.bc7_format.specs.declared.Split.{Split}
 use Rattle.laws.specs.Digits.{Fit, join, more, split, total}
 use Rattle.laws.specs.Tables.{below, implies, table, tableFrom}
@@ -16,7 +18,7 @@ use Rattle.laws.proofs.Rows.{length-split}
 use Rattle.laws.proofs.Tests.{at, eqb-of, implied}
 use Rattle.bcn_format.specs.Block.{bytesOf, eights, number, trailing}
 use Rattle.bc7_format.specs.Modes.{modeOf, kindOfMode, modeRow, partitionBits}
-use Rattle.bc7_format.specs.Places.{Place, atPlace, blockOf, lead, inside, listOf, opened, placeAt, pos, width, widths}
+use Rattle.bc7_format.specs.Places.{atPlace, blockOf, inside, listOf, opened, placeAt, pos, width, widths}
 use Rattle.bc7_format.specs.Splits.{leadBits, kindOf, ofKind, partition, splitAt, splitOf}
 use Rattle.bc7_format.specs.WellFormed.{WellFormed}
 use Rattle.bc7_format.proofs.Places.{at-list, fit-at, fit-list, length-widths, list-at, list-ext, total-128}
@@ -39,13 +41,13 @@ partition-of (suc (suc (suc k))) a r i = omega arith
 
 module _ {m : ℕ} {s : Split} {f : Place → ℕ} (g : WellFormed m s f) where
   pub good-kind : kindOf s ≡ kindOfMode m
-  good-kind = rw (← (g .splits)) (kind-of (kindOfMode m) (f (lead 1)) (f (lead 2)) (f (lead 3)) (kind-below m (g .mode)))
+  good-kind = rw (← (g .splits)) (kind-of (kindOfMode m) (f (Lead 1)) (f (Lead 2)) (f (Lead 3)) (kind-below m (g .mode)))
 
   pub good-partition : partition s < 2 ^ partitionBits m
   unfolding width
   good-partition =
-      let h : f (lead 1) < 2 ^ partitionBits m = g .fits (lead 1) tt in
-      let l : partition s ≤ f (lead 1) = rw (← (g .splits)) (partition-of (kindOfMode m) (f (lead 1)) (f (lead 2)) (f (lead 3))) in
+      let h : f (Lead 1) < 2 ^ partitionBits m = g .fits (Lead 1) tt in
+      let l : partition s ≤ f (Lead 1) = rw (← (g .splits)) (partition-of (kindOfMode m) (f (Lead 1)) (f (Lead 2)) (f (Lead 3))) in
       omega arith
 
   pub good-total : total (widths m s) ≡ 128
@@ -106,12 +108,12 @@ has-marker b hb h =
     (at 256 (λ b. implies (ltb (trailing 8 b) 8) (eqb (b % 2 ^ suc (trailing 8 b)) (2 ^ trailing 8 b))) mode-marker b hb) (lt→ltb _ 8 h))
 
 module _ {m : ℕ} {s : Split} {f : Place → ℕ} (g : WellFormed m s f) where
-  first-four : (k : ℕ) → k < 4 → getD (split (leadBits m) (shut g)) k 0 ≡ f (lead k)
+  first-four : (k : ℕ) → k < 4 → getD (split (leadBits m) (shut g)) k 0 ≡ f (Lead k)
   unfolding widths table tableFrom placeAt width pos shut
-  first-four zero h = ap (λ (l : List ℕ). getD l 0 0) (fields g) ∙ at-list f (lead 0) tt
-  first-four (suc zero) h = ap (λ (l : List ℕ). getD l 1 0) (fields g) ∙ at-list f (lead 1) tt
-  first-four (suc (suc zero)) h = ap (λ (l : List ℕ). getD l 2 0) (fields g) ∙ at-list f (lead 2) tt
-  first-four (suc (suc (suc zero))) h = ap (λ (l : List ℕ). getD l 3 0) (fields g) ∙ at-list f (lead 3) tt
+  first-four zero h = ap (λ (l : List ℕ). getD l 0 0) (fields g) ∙ at-list f (Lead 0) tt
+  first-four (suc zero) h = ap (λ (l : List ℕ). getD l 1 0) (fields g) ∙ at-list f (Lead 1) tt
+  first-four (suc (suc zero)) h = ap (λ (l : List ℕ). getD l 2 0) (fields g) ∙ at-list f (Lead 2) tt
+  first-four (suc (suc (suc zero))) h = ap (λ (l : List ℕ). getD l 3 0) (fields g) ∙ at-list f (Lead 3) tt
   first-four (suc (suc (suc (suc k)))) h = absurd (let z : ⊥ = omega arith in z)
 
   pub mode-block : modeOf (blockOf m s f) ≡ m

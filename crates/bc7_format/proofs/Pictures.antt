@@ -9,6 +9,7 @@ use native.Mathlib.Omega.{arith}
 use lib.Dec.{T, eqb}
 use lib.ListN.{getD}
 use lib.Pow.{pow-pos}
+use Rattle.bc7_format.specs.declared.Place.the-variants.{Index}
 use Rattle.bc7_format.specs.declared.Split.{Split}
 use Rattle.bc7_format.specs.declared.Split.the-variants.{Three, Two, Vector, Whole}
 use Rattle.laws.specs.Digits.{total}
@@ -19,7 +20,7 @@ use Rattle.bcn_format.specs.Block.{field}
 use Rattle.bcn_format.specs.Drawing.{drawn, weightOf}
 use Rattle.bc7_format.specs.Lines.{indexSetOf, lineAt, rotated}
 use Rattle.bc7_format.specs.Modes.{firstBits, indexBits}
-use Rattle.bc7_format.specs.Places.{atPlace, index, firstFrom}
+use Rattle.bc7_format.specs.Places.{atPlace, firstFrom}
 use Rattle.bc7_format.specs.Splits.{anchors, isVector, splitAt, subset}
 use Rattle.bc7_format.proofs.Meaning.{rotated-lt}
 use Rattle.bc7_format.proofs.Starts.{start}
@@ -45,13 +46,13 @@ four-ext f g h = λ i. h 0 (omega arith) i ∷ h 1 (omega arith) i ∷ h 2 (omeg
 
 -- the word of the indexes of set a
 pub indexes-at : (m : ℕ) (s : Split) (a n b t : ℕ) (an : List ℕ) {x : ℕ} → a < 2 → indexBits m a ≡ b → anchors s ≡ an → total (indexWidths b an) ≡ t
-    → x ≡ expanded b an (field n (start m s (firstFrom + (16 * a + 0))) t) → (q : ℕ) → q < 16 → part x b q ≡ atPlace m s n (index a q)
+    → x ≡ expanded b an (field n (start m s (firstFrom + (16 * a + 0))) t) → (q : ℕ) → q < 16 → part x b q ≡ atPlace m s n (Index a q)
 indexes-at m s a n b t an ha eb ea et ex q hq = rw (ex, ← et, ← ea, ← eb) (index-at m s a ha n q hq)
 
 -- where there are subsets
 flat-direct : (m : ℕ) (s : Split) (n q c : ℕ) → isVector s ≡ false
     → direct m s n q c ≡ drawn (endByte m n (2 * subset s q + 0) c) (endByte m n (2 * subset s q + 1) c)
-    (weightOf (firstBits m) (atPlace m s n (index 0 q)))
+    (weightOf (firstBits m) (atPlace m s n (Index 0 q)))
 unfolding direct rotated indexSetOf
 flat-direct m Whole n q c e = refl
 flat-direct m (Two a) n q c e = refl
@@ -64,7 +65,7 @@ colourBetween m n b l = between b (four (endByte m n (2 * l + 0))) (four (endByt
 
 -- a mode with subsets, whose pixels are looked up: each finds the colour of its subset at its index
 looked-up : (m n b : ℕ) (s : Split) (p : List (List ℕ)) → firstBits m ≡ b → splitAt m n ≡ s → isVector s ≡ false → (x : ℕ) (place : ℕ → ℕ)
-    → ((q : ℕ) → q < 16 → part x b q ≡ atPlace m s n (index 0 q))
+    → ((q : ℕ) → q < 16 → part x b q ≡ atPlace m s n (Index 0 q))
     → ((q : ℕ) → q < 16 → getD p (place q) [] ≡ colourBetween m n b (subset s q) (part x b q))
     → painted place p ≡ directPixels m n
 unfolding painted directPixels between
@@ -82,7 +83,7 @@ pub record Palette (m n b k t : ℕ) (p : List (List ℕ)) : Type 0 where
 pub keyed-law : (m n b k t : ℕ) (s : Split) {p : List (List ℕ)} → firstBits m ≡ b → splitAt m n ≡ s → isVector s ≡ false
     → ((q : ℕ) → q < 16 → subset s q < k) → Palette m n b k t p → (x : ℕ) (place : ℕ → ℕ)
     → ((q : ℕ) → q < 16 → place q ≡ part x b q * 2 ^ t + subset s q)
-    → ((q : ℕ) → q < 16 → part x b q ≡ atPlace m s n (index 0 q))
+    → ((q : ℕ) → q < 16 → part x b q ≡ atPlace m s n (Index 0 q))
     → painted place p ≡ directPixels m n
 keyed-law m n b k t s {p} eb es flat subsets palette x place places indexes =
     looked-up m n b s p eb es flat x place indexes (λ q hq.
@@ -121,7 +122,7 @@ module _ (r : ℕ) (colours alphas : List (List ℕ)) (h : r < 4) where
 module _ (m n r i : ℕ) (hr : r < 4) (es : splitAt m n ≡ Vector r i) where
   -- all pixels by the indexes of set a
   abbrev pub shade : ℕ → ℕ → ℕ → ℕ
-  shade a q c = drawn (endByte m n 0 c) (endByte m n 1 c) (weightOf (indexBits m a) (atPlace m (Vector r i) n (index a q)))
+  shade a q c = drawn (endByte m n 0 c) (endByte m n 1 c) (weightOf (indexBits m a) (atPlace m (Vector r i) n (Index a q)))
 
   abbrev pub Picture : ℕ → List (List ℕ) → Type 0
   Picture a picture = (q : ℕ) → q < 16 → getD picture q [] ≡ four (shade a q)

@@ -9,6 +9,8 @@ use borrow.Author.Tests.{lt-ltb, le-ltb}
 use lib.Dec.{T, eqb, eqb→eq, ltb, ltb→lt, lt→ltb}
 use lib.ListN.{length, getD}
 use lib.Seq.{ext-getD}
+use Rattle.bc7_format.specs.declared.Place.{Place}
+use Rattle.bc7_format.specs.declared.Place.the-variants.{Lead, Value, PBit, Index}
 use Rattle.bc7_format.specs.declared.Split.{Split}
 use Rattle.bc7_format.specs.declared.Split.the-variants.{Whole, Two, Three, Vector}
 use Rattle.laws.specs.Digits.{Fit, total}
@@ -21,42 +23,42 @@ use Rattle.laws.proofs.Rows.{fit-table}
 use Rattle.laws.proofs.Tests.{at, both-intro, both-left, both-right}
 use Rattle.bc7_format.specs.Modes.{endpointCount, indexBits, kindOfMode, modeRow, partitionBits}
 use Rattle.bcn_format.specs.Partitions.{among, anchors2, anchors3, digits, marks, strings2, strings3}
-use Rattle.bc7_format.specs.Places.{Place, lead, index, inside, listOf, pbit, placeAt, pos, value, width, widths, valuesFrom, psFrom, firstFrom}
+use Rattle.bc7_format.specs.Places.{inside, listOf, placeAt, pos, width, widths, valuesFrom, psFrom, firstFrom}
 use Rattle.bc7_format.specs.Places.{placeCount}
 use Rattle.bc7_format.specs.Splits.{anchors, indexMode, kindOf, ofKind, partition, rotation}
 
 -- the places that code names are there
-pub inside-value : {c e : ℕ} → c < 4 → e < 6 → T (inside (value c e))
+pub inside-value : {c e : ℕ} → c < 4 → e < 6 → T (inside (Value c e))
 inside-value {c} {e} hc he = both-intro (ltb c 4) (ltb e 6) (lt→ltb c 4 hc) (lt→ltb e 6 he)
 
-pub inside-pbit : {k : ℕ} → k < 6 → T (inside (pbit k))
+pub inside-pbit : {k : ℕ} → k < 6 → T (inside (PBit k))
 inside-pbit {k} h = lt→ltb k 6 h
 
-pub inside-index : {a q : ℕ} → a < 2 → q < 16 → T (inside (index a q))
+pub inside-index : {a q : ℕ} → a < 2 → q < 16 → T (inside (Index a q))
 inside-index {a} {q} ha hq = both-intro (ltb a 2) (ltb q 16) (lt→ltb a 2 ha) (lt→ltb q 16 hq)
 
 pub pos-lt : (x : Place) → T (inside x) → pos x < placeCount
 unfolding pos
-pos-lt (lead k) h = omega (arith, ltb→lt k 4 h)
-pos-lt (value c e) h = omega (arith, ltb→lt c 4 (both-left (ltb c 4) (ltb e 6) h), ltb→lt e 6 (both-right (ltb c 4) (ltb e 6) h))
-pos-lt (pbit k) h = omega (arith, ltb→lt k 6 h)
-pos-lt (index a q) h = omega (arith, ltb→lt a 2 (both-left (ltb a 2) (ltb q 16) h), ltb→lt q 16 (both-right (ltb a 2) (ltb q 16) h))
+pos-lt (Lead k) h = omega (arith, ltb→lt k 4 h)
+pos-lt (Value c e) h = omega (arith, ltb→lt c 4 (both-left (ltb c 4) (ltb e 6) h), ltb→lt e 6 (both-right (ltb c 4) (ltb e 6) h))
+pos-lt (PBit k) h = omega (arith, ltb→lt k 6 h)
+pos-lt (Index a q) h = omega (arith, ltb→lt a 2 (both-left (ltb a 2) (ltb q 16) h), ltb→lt q 16 (both-right (ltb a 2) (ltb q 16) h))
 
 pub placeAt-pos : (x : Place) → T (inside x) → placeAt (pos x) ≡ x
 unfolding pos placeAt
-placeAt-pos (lead k) h = rw (lt-ltb k valuesFrom (ltb→lt k 4 h))
-placeAt-pos (value c e) h =
+placeAt-pos (Lead k) h = rw (lt-ltb k valuesFrom (ltb→lt k 4 h))
+placeAt-pos (Value c e) h =
     let hc : c < 4 = ltb→lt c 4 (both-left (ltb c 4) (ltb e 6) h) in
     let he : e < 6 = ltb→lt e 6 (both-right (ltb c 4) (ltb e 6) h) in
     let i : ℕ = valuesFrom + (6 * c + e) in
     rw (le-ltb (valuesFrom + (6 * c + e)) valuesFrom (omega arith), lt-ltb (valuesFrom + (6 * c + e)) psFrom (omega arith))
-    (ap₂ value (let z : (valuesFrom + (6 * c + e) - valuesFrom) / 6 ≡ c = omega arith in z)
+    (ap₂ Value (let z : (valuesFrom + (6 * c + e) - valuesFrom) / 6 ≡ c = omega arith in z)
     (let z : (valuesFrom + (6 * c + e) - valuesFrom) % 6 ≡ e = omega arith in z))
-placeAt-pos (pbit k) h =
+placeAt-pos (PBit k) h =
     let hk : k < 6 = ltb→lt k 6 h in
     rw (le-ltb (psFrom + k) valuesFrom (omega arith), le-ltb (psFrom + k) psFrom (omega arith), lt-ltb (psFrom + k) firstFrom (omega arith))
-    (ap pbit (let z : psFrom + k - psFrom ≡ k = omega arith in z))
-placeAt-pos (index a q) h =
+    (ap PBit (let z : psFrom + k - psFrom ≡ k = omega arith in z))
+placeAt-pos (Index a q) h =
     let ha : a < 2 = ltb→lt a 2 (both-left (ltb a 2) (ltb q 16) h) in
     let hq : q < 16 = ltb→lt q 16 (both-right (ltb a 2) (ltb q 16) h) in
     rw (
@@ -64,7 +66,7 @@ placeAt-pos (index a q) h =
       le-ltb (firstFrom + (16 * a + q)) psFrom (omega arith),
       le-ltb (firstFrom + (16 * a + q)) firstFrom (omega arith),
     )
-    (ap₂ index (let z : (firstFrom + (16 * a + q) - firstFrom) / 16 ≡ a = omega arith in z)
+    (ap₂ Index (let z : (firstFrom + (16 * a + q) - firstFrom) / 16 ≡ a = omega arith in z)
     (let z : (firstFrom + (16 * a + q) - firstFrom) % 16 ≡ q = omega arith in z))
 
 pub pos-placeAt : (i : ℕ) → i < placeCount → pos (placeAt i) ≡ i
@@ -101,7 +103,8 @@ fit-list m s f h = fit-table placeCount _ _ (λ k l. h (placeAt k) (inside-place
 
 pub fit-at : (m : ℕ) (s : Split) (vs : List ℕ) → Fit (widths m s) vs → (x : Place) → T (inside x) → getD vs (pos x) 0 < 2 ^ width m (anchors s) x
 unfolding widths
-fit-at m s vs f x h = rw (getD-table placeCount (λ i. width m (anchors s) (placeAt i)) 0 (pos x) (pos-lt x h), placeAt-pos x h) at (fit-get f (pos x))
+fit-at m s vs f x h =
+    rw (getD-table placeCount (λ i. width m (anchors s) (placeAt i)) 0 (pos x) (pos-lt x h), placeAt-pos x h) at (fit-get f (pos x))
 
 pub length-widths : (m : ℕ) (s : Split) → length (widths m s) ≡ placeCount
 unfolding widths
@@ -110,10 +113,10 @@ length-widths m s = length-table placeCount _
 -- an anchor's width is no more than the full one
 pub width-le : (m : ℕ) (an : List ℕ) (x : Place) → width m an x ≤ width m [] x
 unfolding width
-width-le m an (lead k) = le-refl _
-width-le m an (value c e) = le-refl _
-width-le m an (pbit k) = le-refl _
-width-le m an (index a q) = pick-less (among q an) (indexBits m a)
+width-le m an (Lead k) = le-refl _
+width-le m an (Value c e) = le-refl _
+width-le m an (PBit k) = le-refl _
+width-le m an (Index a q) = pick-less (among q an) (indexBits m a)
 
 -- the total
 all-128 : T (below 8 (λ m. below (2 ^ partitionBits m) (λ a. eqb (total (widths m (ofKind (kindOfMode m) a 0 0))) 128)))

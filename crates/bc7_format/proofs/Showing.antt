@@ -10,6 +10,7 @@ use native.Mathlib.Omega.{arith}
 use borrow.Author.Tests.{ne-eqb}
 use lib.Dec.{T, eqb}
 use lib.Pow.{pow-mono}
+use Rattle.bc7_format.specs.declared.Place.the-variants.{Value, PBit, Index}
 use Rattle.bc7_format.specs.declared.Split.{Split}
 use Rattle.bc7_format.specs.declared.Split.the-variants.{Whole, Two, Three, Vector}
 use Rattle.laws.specs.Digits.{Fit}
@@ -22,7 +23,7 @@ use Rattle.bcn_format.specs.Drawing.{drawn, weightOf}
 use Rattle.bc7_format.specs.Lines.{eight, indexSetOf, indexPlace, isDrawn, lineAt, lineBits, lineOf, meansStored, pPlace, pixel, pixels}
 use Rattle.bc7_format.specs.Lines.{rotated, shown, valuePlace}
 use Rattle.bcn_format.specs.Partitions.{among}
-use Rattle.bc7_format.specs.Places.{atPlace, index, opened, pbit, value, width}
+use Rattle.bc7_format.specs.Places.{atPlace, opened, width}
 use Rattle.bc7_format.specs.Splits.{anchors, isVector, rotation, splitAt, splitOf, subset}
 use Rattle.bc7_format.specs.WellFormed.{WellFormed}
 use Rattle.bc7_format.proofs.Direct.{plainLine, shown-direct}
@@ -61,20 +62,20 @@ module _ (m : ℕ) (s : Split) (n : ℕ) (g : WellFormed m s (atPlace m s n)) (q
 
   -- its endpoint k: the value, and the p where the mode has one
   value-is : (b : Bool) → isVector s ≡ b → (k : ℕ) → k < 2
-      → atPlace m s n (value d (pick b k (2 * drawing b + k))) ≡ field n (valueStart m d (2 * subset s q + k)) (channelBits m d)
+      → atPlace m s n (Value d (pick b k (2 * drawing b + k))) ≡ field n (valueStart m d (2 * subset s q + k)) (channelBits m d)
   value-is true e k hk =
       let z : k ≡ 2 * subset s q + k = omega (arith, vector-subset s q e) in
-      ap (λ (x : ℕ). atPlace m s n (value d x)) z ∙ value-at m s n (g .mode) d _ hd (omega (arith, good-vector g e .ends, vector-subset s q e))
+      ap (λ (x : ℕ). atPlace m s n (Value d x)) z ∙ value-at m s n (g .mode) d _ hd (omega (arith, good-vector g e .ends, vector-subset s q e))
   value-is false e k hk = value-at m s n (g .mode) d _ hd (omega (arith, good-subset g e .ends, subset-below e))
 
   p-is : (b : Bool) → isVector s ≡ b → (k : ℕ) → k < 2 → pCount m ≢ 0
-      → atPlace m s n (pbit (pick (eqb m 1) (drawing b) (2 * drawing b + k))) ≡ field n (pStart m (2 * subset s q + k)) 1
+      → atPlace m s n (PBit (pick (eqb m 1) (drawing b) (2 * drawing b + k))) ≡ field n (pStart m (2 * subset s q + k)) 1
   p-is true e k hk some = absurd (some (good-vector g e .none))
   p-is false e k hk some =
       let l : ℕ = subset s q in
       let half : l ≡ (2 * l + k) / 2 = omega arith in
       let count = p-count m (g .mode) some in
-      ap (λ (h : ℕ). atPlace m s n (pbit (pick (eqb m 1) h (2 * l + k)))) half
+      ap (λ (h : ℕ). atPlace m s n (PBit (pick (eqb m 1) h (2 * l + k)))) half
       ∙ p-at m s n (g .mode) (2 * l + k) (omega (arith, count .1, subset-below e))
       (p-below (eqb m 1) l k (lines m) (pCount m) (count .0) (subset-below e) hk)
 
@@ -88,7 +89,7 @@ module _ (m : ℕ) (s : Split) (n : ℕ) (g : WellFormed m s (atPlace m s n)) (q
 
   -- the weight of the index that serves the channel
   weight : ℕ
-  weight = let a = indexSetOf s (lineAt s q d) in weightOf (indexBits m a) (atPlace m s n (index a q))
+  weight = let a = indexSetOf s (lineAt s q d) in weightOf (indexBits m a) (atPlace m s n (Index a q))
 
   weight-64 : weight ≤ 64
   unfolding weight lineBits width indexSetOf
@@ -96,11 +97,13 @@ module _ (m : ℕ) (s : Split) (n : ℕ) (g : WellFormed m s (atPlace m s n)) (q
       let a : ℕ = indexSetOf s (lineAt s q d) in
       let bits = line-bits g (lineAt s q d) in
       let two : a < 2 = index-set-lt s (lineAt s q d) (good-index-mode g) in
-      let narrow : pick (among q (anchors s)) (indexBits m a - 1) (indexBits m a) ≤ indexBits m a = pick-less (among q (anchors s)) (indexBits m a) in
-      weight-le (indexBits m a) _ (bits .0) (bits .1) (lt-of-lt-of-le (g .fits (index a q) (inside-index two hq)) (pow-mono narrow))
+      let narrow : pick (among q (anchors s)) (indexBits m a - 1) (indexBits m a) ≤ indexBits m a =
+      pick-less (among q (anchors s)) (indexBits m a) in
+      weight-le (indexBits m a) _ (bits .0) (bits .1) (lt-of-lt-of-le (g .fits (Index a q) (inside-index two hq)) (pow-mono narrow))
 
   both-ends : (b : Bool) → isDrawn m d ≡ b
-      → pick b (meansStored m s (lineAt s q d) (plainLine m s (lineAt s q d) (atPlace m s n)) q d) 255 ≡ drawn (endByte m n (2 * subset s q + 0) d) (endByte m n (2 * subset s q + 1) d) weight
+      → pick b (meansStored m s (lineAt s q d) (plainLine m s (lineAt s q d) (atPlace m s n)) q d) 255
+      ≡ drawn (endByte m n (2 * subset s q + 0) d) (endByte m n (2 * subset s q + 1) d) weight
   unfolding meansStored plainLine weight lineBits indexPlace endByte
   both-ends true dr = ap₂ (λ (x y : ℕ). drawn x y weight) (end-is 0 (omega arith) dr) (end-is 1 (omega arith) dr)
   both-ends false dr = rw dr (sym (opaque weight weight-64))

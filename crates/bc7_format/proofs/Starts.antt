@@ -8,13 +8,14 @@ use native.Mathlib.Nat.{eq-or-lt-of-le, le-of-lt, le-refl}
 use native.Mathlib.Omega.{arith}
 use lib.Dec.{T, eqb, eqb→eq}
 use lib.ListN.{getD}
+use Rattle.bc7_format.specs.declared.Place.{Place}
 use Rattle.bc7_format.specs.declared.Split.{Split}
 use Rattle.laws.specs.Digits.{total}
 use Rattle.laws.specs.Tables.{table, tableFrom}
 use Rattle.laws.proofs.Rows.{digit, take-table, total-more, total-room}
 use Rattle.laws.proofs.Tests.{at}
 use Rattle.bc7_format.specs.Modes.{endpointCount, modeRow}
-use Rattle.bc7_format.specs.Places.{Place, atPlace, inside, placeAt, pos, width, widths, placeCount, firstFrom}
+use Rattle.bc7_format.specs.Places.{atPlace, inside, placeAt, pos, width, widths, placeCount, firstFrom}
 use Rattle.bc7_format.specs.Splits.{anchors}
 use Rattle.bc7_format.proofs.Places.{placeAt-pos, pos-lt}
 unfoldable pub use Rattle.bc7_format.specs.Places.{start}
@@ -31,7 +32,8 @@ at-field m s n x h =
     ∙ ap₂ (λ (b w : ℕ). n / 2 ^ b % 2 ^ w) (sym (start-is m s (pos x) (le-of-lt (pos-lt x h)))) (ap (width m (anchors s)) (placeAt-pos x h))
 
 pub start-next : (m : ℕ) (s : Split) (i : ℕ) → i < placeCount → start m s (suc i) ≡ start m s i + width m (anchors s) (placeAt i)
-start-next m s i h = start-is m s (suc i) h ∙ total-more i _ ∙ ap (λ (b : ℕ). b + width m (anchors s) (placeAt i)) (sym (start-is m s i (le-of-lt h)))
+start-next m s i h =
+    start-is m s (suc i) h ∙ total-more i _ ∙ ap (λ (b : ℕ). b + width m (anchors s) (placeAt i)) (sym (start-is m s i (le-of-lt h)))
 
 -- what stands before a place ends where that starts
 pub start-room : (m : ℕ) (s : Split) (i j : ℕ) → i < j → j ≤ placeCount → start m s i + width m (anchors s) (placeAt i) ≤ start m s j

@@ -7,6 +7,7 @@ use Prim.Native.Nat.{ℕ, zero, suc, _<_}
 use native.Mathlib.Omega.{arith}
 use lib.Dec.{T, eqb, eqb→eq, ltb, ltb→lt, lit<}
 use lib.ListN.{length, getD, replicate}
+use Rattle.bc7_format.specs.declared.Place.{Place}
 use Rattle.bc7_format.specs.declared.Split.{Split}
 use Rattle.bc7_format.specs.declared.Split.the-variants.{Whole, Two, Three, Vector}
 use Rattle.laws.specs.Digits.{Fit, more, none}
@@ -16,7 +17,6 @@ use Rattle.bcn_format.specs.Block.{eights}
 use Rattle.bc7_format.specs.Lines.{lineAt}
 use Rattle.bc7_format.specs.Modes.{kindOfMode, lines, modeRow}
 use Rattle.bcn_format.specs.Partitions.{digits, strings2, strings3, subset2, subset3}
-use Rattle.bc7_format.specs.Places.{Place}
 use Rattle.bc7_format.specs.Splits.{isVector, kindOf, partition, subset}
 use Rattle.bc7_format.specs.WellFormed.{WellFormed}
 use Rattle.bc7_format.proofs.Modes.{good-64}

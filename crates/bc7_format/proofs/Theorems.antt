@@ -4,11 +4,12 @@ use mathlib.Core.Path.{_≡_}
 use mathlib.Core.List.{List}
 use Prim.Native.Nat.{ℕ, _^_, _<_}
 use lib.ListN.{getD, replicate}
+use Rattle.bc7_format.specs.declared.Place.{Place}
 use Rattle.bc7_format.specs.declared.Split.{Split}
 use Rattle.laws.specs.Digits.{total}
 use Rattle.bc7_format.specs.Lines.{Line, lineBits, meansStored, pixels, turned}
 use Rattle.bc7_format.specs.Modes.{kindOfMode, partitionBits}
-use Rattle.bc7_format.specs.Places.{Place, widths}
+use Rattle.bc7_format.specs.Places.{widths}
 use Rattle.bc7_format.specs.Splits.{kindOf, partition}
 use Rattle.bc7_format.specs.WellFormed.{WellFormed}
 use Rattle.bc7_format.proofs.Meaning.{line-bits, turned-means}

@@ -3,13 +3,14 @@
 use Prim.Native.Nat.{ℕ, suc, _+_, _*_, _/_}
 use mathlib.Core.List.{List}
 use lib.Dec.{eqb}
+use Rattle.bc7_format.specs.declared.Place.the-variants.{Index}
 use Rattle.bc7_format.specs.declared.Split.{Split}
 use Rattle.laws.specs.Tables.{pick, table}
 use Rattle.bcn_format.specs.Block.{field}
 use Rattle.bcn_format.specs.Drawing.{drawn, weightOf}
 use Rattle.bc7_format.specs.Lines.{eight, indexSetOf, isDrawn, lineAt, rotated}
 use Rattle.bc7_format.specs.Modes.{alphaBits, channelBits, colourBits, endpointCount, indexBits, indexModeBits, partitionBits, rotationBits}
-use Rattle.bc7_format.specs.Places.{atPlace, index}
+use Rattle.bc7_format.specs.Places.{atPlace}
 use Rattle.bc7_format.specs.Splits.{rotation, splitAt, subset}
 use Rattle.bcn_format.specs.Painting.{four}
 
@@ -34,7 +35,7 @@ unfoldable pub direct : ℕ → Split → ℕ → ℕ → ℕ → ℕ
 direct m s n q c =
     let d = rotated (rotation s) c in
     let a = indexSetOf s (lineAt s q d) in
-    drawn (endByte m n (2 * subset s q + 0) d) (endByte m n (2 * subset s q + 1) d) (weightOf (indexBits m a) (atPlace m s n (index a q)))
+    drawn (endByte m n (2 * subset s q + 0) d) (endByte m n (2 * subset s q + 1) d) (weightOf (indexBits m a) (atPlace m s n (Index a q)))
 
 -- the sixteen pixels of a number in a mode
 unfoldable pub directPixels : ℕ → ℕ → List (List ℕ)

@@ -4,11 +4,13 @@ use Prim.Native.Nat.{ℕ, zero, suc, _+_, _-_, _*_, _/_, _%_, _^_}
 use mathlib.Core.Bool.{Bool, not}
 use mathlib.Core.List.{List, []}
 use lib.Dec.{eqb}
+use Rattle.bc7_format.specs.declared.Place.{Place}
+use Rattle.bc7_format.specs.declared.Place.the-variants.{Lead, Value, PBit, Index}
 use Rattle.bc7_format.specs.declared.Split.{Split}
 use Rattle.laws.specs.Tables.{both, pick, table}
 use Rattle.bc7_format.specs.Modes.{modeOf, channelBits, indexBits, pCount}
 use Rattle.bcn_format.specs.Drawing.{drawn, weightOf, promoted}
-use Rattle.bc7_format.specs.Places.{Place, lead, index, inside, opened, pbit, value, width}
+use Rattle.bc7_format.specs.Places.{inside, opened, width}
 use Rattle.bc7_format.specs.Splits.{anchors, indexMode, isVector, rotation, splitOf, subset}
 use Rattle.bcn_format.specs.Partitions.{firstIn}
 
@@ -21,10 +23,10 @@ pub record Line : Type 0 where
 -- the line that a place belongs to, if it has bits (9: no line). A line is a subset; of a vector and a scalar, line 0 is the
 -- vector (red, green, blue) and line 1 the scalar (alpha), and the index mode says which index set is the vector's
 abbrev pub lineOfPlace : ℕ → Split → Place → ℕ
-lineOfPlace m s (lead k) = 9
-lineOfPlace m s (value c e) = pick (isVector s) (pick (eqb c 3) 1 0) (e / 2)
-lineOfPlace m s (pbit k) = pick (eqb m 1) k (k / 2)
-lineOfPlace m s (index a q) = pick (isVector s) (pick (eqb a (indexMode s)) 0 1) (subset s q)
+lineOfPlace m s (Lead k) = 9
+lineOfPlace m s (Value c e) = pick (isVector s) (pick (eqb c 3) 1 0) (e / 2)
+lineOfPlace m s (PBit k) = pick (eqb m 1) k (k / 2)
+lineOfPlace m s (Index a q) = pick (isVector s) (pick (eqb a (indexMode s)) 0 1) (subset s q)
 
 -- does line l have the place x
 unfoldable pub has : ℕ → Split → ℕ → Place → Bool
@@ -32,16 +34,16 @@ has m s l x = both (inside x) (both (not (eqb (width m [] x) 0)) (eqb (lineOfPla
 
 -- where line l has the value of its endpoint k in channel c, its p bit k (in mode 1 one serves both endpoints), its index of pixel q
 unfoldable pub valuePlace : Split → ℕ → ℕ → ℕ → Place
-valuePlace s l k c = value c (pick (isVector s) k (2 * l + k))
+valuePlace s l k c = Value c (pick (isVector s) k (2 * l + k))
 
 unfoldable pub pPlace : ℕ → ℕ → ℕ → Place
-pPlace m l k = pbit (pick (eqb m 1) l (2 * l + k))
+pPlace m l k = PBit (pick (eqb m 1) l (2 * l + k))
 
 unfoldable pub indexSetOf : Split → ℕ → ℕ
 indexSetOf s l = pick (isVector s) (pick (eqb l 0) (indexMode s) (1 - indexMode s)) 0
 
 unfoldable pub indexPlace : Split → ℕ → ℕ → Place
-indexPlace s l q = index (indexSetOf s l) q
+indexPlace s l q = Index (indexSetOf s l) q
 
 -- what f has of line l at a place: 0 where the place is not the line's
 unfoldable pub own : ℕ → Split → ℕ → (Place → ℕ) → Place → ℕ
@@ -57,10 +59,10 @@ lineOf m s l f = record {
 
 -- what a line has for a place, and the places with the line l put in
 unfoldable pub laid : ℕ → Line → Place → ℕ
-laid m ln (lead k) = 0
-laid m ln (value c e) = ln .value (e % 2) c
-laid m ln (pbit k) = ln .p (pick (eqb m 1) 0 (k % 2))
-laid m ln (index a q) = ln .index q
+laid m ln (Lead k) = 0
+laid m ln (Value c e) = ln .value (e % 2) c
+laid m ln (PBit k) = ln .p (pick (eqb m 1) 0 (k % 2))
+laid m ln (Index a q) = ln .index q
 
 unfoldable pub withLine : ℕ → Split → ℕ → Line → (Place → ℕ) → Place → ℕ
 withLine m s l ln f x = pick (has m s l x) (laid m ln x) (f x)

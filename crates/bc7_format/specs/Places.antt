@@ -1,10 +1,13 @@
--- What stands in a block, in stored order, and how many bits each has. What a mode hasn't got has width 0.
+-- What stands in a block, in stored order, and how many bits each has. What a mode hasn't got has width 0. (src/lib.rt has the kinds of
+-- places.)
 -- Assumes nothing.
 use Prim.Native.Nat.{ℕ, _+_, _-_, _*_, _/_, _%_}
 use mathlib.Core.Bool.{Bool}
 use mathlib.Core.List.{List}
 use lib.Dec.{ltb}
 use lib.ListN.{getD, take}
+use Rattle.bc7_format.specs.declared.Place.{Place}
+use Rattle.bc7_format.specs.declared.Place.the-variants.{Lead, Value, PBit, Index}
 use Rattle.bc7_format.specs.declared.Split.{Split}
 use Rattle.laws.specs.Digits.{join, split, total}
 use Rattle.laws.specs.Tables.{both, pick, table}
@@ -12,14 +15,6 @@ use Rattle.bcn_format.specs.Block.{bytesOf, number}
 use Rattle.bc7_format.specs.Modes.{modeOf, channelBits, endpointCount, indexBits, pCount}
 use Rattle.bcn_format.specs.Partitions.{among}
 use Rattle.bc7_format.specs.Splits.{anchors, leadBits, splitOf}
-
--- lead 0 is the marker, 1 the partition, 2 the rotation, 3 the index mode; a value is of a channel and an endpoint, an index
--- of a set (0 or 1) and a pixel
-pub data Place : Type 0 where
-  lead : ℕ → Place
-  value : ℕ → ℕ → Place
-  pbit : ℕ → Place
-  index : ℕ → ℕ → Place
 
 -- where the groups start in the list of places: the values behind the four of the lead, the p bits, the first and the second
 -- indexes; and how many places there are. (A record's 66 bytes have their groups there too)
@@ -38,33 +33,34 @@ secondFrom = 50
 abbrev pub placeCount : ℕ
 placeCount = 66
 
--- the places there are
+-- the places there are: four of the lead (marker, partition, rotation, index mode), a value for each channel and endpoint, the p bits,
+-- an index for each set and pixel
 abbrev pub inside : Place → Bool
-inside (lead k) = ltb k valuesFrom
-inside (value c e) = both (ltb c 4) (ltb e 6)
-inside (pbit k) = ltb k 6
-inside (index a q) = both (ltb a 2) (ltb q 16)
+inside (Lead k) = ltb k valuesFrom
+inside (Value c e) = both (ltb c 4) (ltb e 6)
+inside (PBit k) = ltb k 6
+inside (Index a q) = both (ltb a 2) (ltb q 16)
 
 -- the stored order: red of the endpoints 0 to 5, green, blue, alpha, the p bits, the first and the second indexes; and back
 unfoldable pub placeAt : ℕ → Place
 placeAt i =
-    pick (ltb i valuesFrom) (lead i)
-    (pick (ltb i psFrom) (value ((i - valuesFrom) / 6) ((i - valuesFrom) % 6))
-    (pick (ltb i firstFrom) (pbit (i - psFrom))
-    (index ((i - firstFrom) / 16) ((i - firstFrom) % 16))))
+    pick (ltb i valuesFrom) (Lead i)
+    (pick (ltb i psFrom) (Value ((i - valuesFrom) / 6) ((i - valuesFrom) % 6))
+    (pick (ltb i firstFrom) (PBit (i - psFrom))
+    (Index ((i - firstFrom) / 16) ((i - firstFrom) % 16))))
 
 unfoldable pub pos : Place → ℕ
-pos (lead k) = k
-pos (value c e) = valuesFrom + (6 * c + e)
-pos (pbit k) = psFrom + k
-pos (index a q) = firstFrom + (16 * a + q)
+pos (Lead k) = k
+pos (Value c e) = valuesFrom + (6 * c + e)
+pos (PBit k) = psFrom + k
+pos (Index a q) = firstFrom + (16 * a + q)
 
 -- how many bits a place has in a mode, where the pixels of `an` are anchors: an anchor's index has one bit less
 unfoldable pub width : ℕ → List ℕ → Place → ℕ
-width m an (lead k) = getD (leadBits m) k 0
-width m an (value c e) = pick (ltb e (endpointCount m)) (channelBits m c) 0
-width m an (pbit k) = pick (ltb k (pCount m)) 1 0
-width m an (index a q) = pick (among q an) (indexBits m a - 1) (indexBits m a)
+width m an (Lead k) = getD (leadBits m) k 0
+width m an (Value c e) = pick (ltb e (endpointCount m)) (channelBits m c) 0
+width m an (PBit k) = pick (ltb k (pCount m)) 1 0
+width m an (Index a q) = pick (among q an) (indexBits m a - 1) (indexBits m a)
 
 -- all widths in stored order
 unfoldable pub widths : ℕ → Split → List ℕ

@@ -3,10 +3,11 @@
 use mathlib.Core.List.{List, [], _∷_}
 use Prim.Native.Nat.{ℕ, _+_, _-_, _*_}
 use lib.ListN.{getD}
+use Rattle.bc7_format.specs.declared.Place.the-variants.{Lead, Value, PBit, Index}
 use Rattle.bcn_format.specs.Indexes.{anchorCount}
-use Rattle.bc7_format.specs.Modes.{alphaBits, colourBits, endpointCount, firstBits, indexModeBits, kindOfMode, pCount, partitionBits, rotationBits}
-use Rattle.bc7_format.specs.Modes.{secondBits}
-use Rattle.bc7_format.specs.Places.{index, lead, pbit, pos, value}
+use Rattle.bc7_format.specs.Modes.{alphaBits, colourBits, endpointCount, firstBits, indexModeBits, kindOfMode, pCount, partitionBits}
+use Rattle.bc7_format.specs.Modes.{rotationBits, secondBits}
+use Rattle.bc7_format.specs.Places.{pos}
 
 -- Decoding has a function for each mode, with literal widths: the partition, or the rotation and the index mode; of red, green, blue and
 -- alpha the two values of each subset as one word (in mode 0 those of all three); the p bits likewise; the indexes.
@@ -36,4 +37,4 @@ takingReads m =
 -- the index of pixel 0
 abbrev pub takingPlace : ℕ → ℕ
 takingPlace k =
-    pos (getD (lead 1 ∷ value 0 0 ∷ value 1 0 ∷ value 2 0 ∷ value 3 0 ∷ pbit 0 ∷ index 0 0 ∷ index 1 0 ∷ []) k (lead 0))
+    pos (getD (Lead 1 ∷ Value 0 0 ∷ Value 1 0 ∷ Value 2 0 ∷ Value 3 0 ∷ PBit 0 ∷ Index 0 0 ∷ Index 1 0 ∷ []) k (Lead 0))

@@ -8,3 +8,12 @@ pub enum Split {
     Three(u8),
     Vector { rotation: u8, index_mode: u8 },
 }
+
+// One of the 66 places of a block. Lead 0 is the marker, 1 the partition, 2 the rotation, 3 the index mode; a value is of a channel and
+// an endpoint, an index of a set (0 or 1) and a pixel.
+pub enum Place {
+    Lead(usize),
+    Value { channel: usize, endpoint: usize },
+    PBit(usize),
+    Index { set: usize, pixel: usize },
+}

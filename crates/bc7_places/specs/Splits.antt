@@ -1,5 +1,7 @@
--- What the code holds of a split: its anchors as three pixels, its subsets as a map, and the split with the stream behind it.
+-- What the code holds of a split: its anchors as three pixels, its subsets as a map, and the split with the stream behind it, as the lead of
+-- a block.
 -- Assumes nothing.
+use mathlib.Core.Path.{_≡_}
 use Prim.Native.Nat.{ℕ, _+_, _*_, _/_, _%_, _^_, _<_, _≤_}
 use mathlib.Core.List.{List, [], _∷_}
 use lib.ListN.{getD}
@@ -10,9 +12,11 @@ use Rattle.bc7_places.specs.declared.splits.Subsets.{Subsets}
 use Rattle.bc7_format.specs.declared.Split.{Split}
 use Rattle.bc7_format.specs.declared.Split.the-variants.{Whole, Two, Three, Vector}
 use Rattle.bits.specs.declared.stream.BitStream.{BitStream}
-use Rattle.bcn_format.specs.Block.{field}
-use Rattle.bc7_format.specs.Splits.{anchors, ofKind}
-use Rattle.bits.specs.Stream.{readOf}
+use Rattle.bcn_format.specs.Block.{field, number}
+use Rattle.bc7_format.specs.Fields.{leadEnd}
+use Rattle.bc7_format.specs.Modes.{modeOf}
+use Rattle.bc7_format.specs.Splits.{anchors, ofKind, partition, splitOf}
+use Rattle.bits.specs.Stream.{On, readOf}
 use Rattle.partitions.specs.Maps.{map2, map3}
 
 -- the anchors as three pixels: pixel 0 again where a split has fewer
@@ -51,3 +55,9 @@ abbrev pub splitRead : ModeRow → BitStream → ReadSplit
 splitRead row s =
     let r = readOf s (row .partition + row .rotation + row .«index_mode») in
     record { split = ofKind (row .kind) (r .value) (r .value % 4) (r .value / 2 ^ 2); stream = r .stream }
+
+-- the lead of a block: its split, whose partition the tables have, and the stream on the block where the values start
+pub record IsLead (bs : List ℕ) (r : ReadSplit) : Type 0 where
+  pub split : r .split ≡ splitOf bs
+  pub few : partition (r .split) < 64
+  pub stands : On (number bs) (leadEnd (modeOf bs)) (r .stream)

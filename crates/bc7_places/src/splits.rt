@@ -3,8 +3,8 @@
 ghost use mathlib.Core.Path.{_≡_};
 ghost use Prim.Native.Nat.{_<_};
 ghost use Rattle.bc7_format.specs.Splits.{kindOf, partition, rotation, indexMode, ofKind};
-ghost use Rattle.bc7_places.specs.Modes.{OfMode};
-ghost use Rattle.bc7_places.specs.Splits.{PixelIn, anchorsOf, splitRead, subsetIn, subsetsOf};
+ghost use Rattle.bc7_places.specs.Modes.{OfBlock, OfMode};
+ghost use Rattle.bc7_places.specs.Splits.{IsLead, PixelIn, anchorsOf, splitRead, subsetIn, subsetsOf};
 use crate::modes::ModeRow;
 use bc7_format::Split;
 use bits::stream::BitStream;
@@ -173,7 +173,7 @@ pub struct ReadSplit {
 
 // A mode has a partition, or a rotation (of two bits) with an index mode, or nothing: one read, of which the kind takes what it
 // has.
-pub fn read_split(row: ModeRow, stream: BitStream) -> ReadSplit
+fn read_split(row: ModeRow, stream: BitStream) -> ReadSplit
     requires { ⌜ OfMode row ⌝ }
     ensures { λ r. ⌜ r ≡ splitRead row stream ⌝ }
 {
@@ -185,4 +185,12 @@ pub fn read_split(row: ModeRow, stream: BitStream) -> ReadSplit
         split: split,
         stream: rest,
     }
+}
+
+// The lead of a block that is not reserved, by its mode and the row of that mode: the split, and the stream where the values start.
+pub fn read_lead(block: [u8; 16], mode: u8, row: ModeRow) -> ReadSplit
+    requires { ⌜ OfBlock block mode row ⌝ }
+    ensures { λ r. ⌜ IsLead block r ⌝ }
+{
+    read_split(row, BitStream::new(block).skip(mode as u32 + 1))
 }

@@ -2,10 +2,21 @@
 -- Assumes nothing.
 use mathlib.Core.Path.{_≡_}
 use mathlib.Core.List.{List}
-use Prim.Native.Nat.{ℕ, _^_, _≤_, _<_}
+use Prim.Native.Nat.{ℕ, _+_, _^_, _≤_, _<_}
 use Rattle.bc7_format.specs.Modes.{endpointCount, indexBits}
 use Rattle.pixel_rules.specs.Columns.{columnOf}
 use Rattle.pixel_rules.specs.Plain.{Spelt, indexModeIn, partitionIn, rotationIn}
+use Rattle.pixel_rules.specs.Strings.{Sixteen}
+
+-- a field of a block that a byte has room for
+pub record ShortField (start width : ℕ) : Type 0 where
+  pub inside : start + width ≤ 128
+  pub short : width ≤ 8
+
+-- a row of the table of modes, and which column of it
+pub record InTable (m k : ℕ) : Type 0 where
+  pub mode : m < 8
+  pub column : k < 10
 
 -- a column of the table of modes, each of which is 8 at the most
 pub record Column (m k r : ℕ) : Type 0 where
@@ -27,11 +38,41 @@ pub record Promoted (w v : ℕ) : Type 0 where
   pub most : w ≤ 8
   pub within : v < 2 ^ w
 
--- a channel and an endpoint of a mode
+-- a channel in a mode; the first index set or the second; an endpoint of the six that a mode has at the most; an index mode; a pixel
+pub record ChannelOf (m c : ℕ) : Type 0 where
+  pub mode : m < 8
+  pub channel : c < 4
+
+pub record SetOf (m a : ℕ) : Type 0 where
+  pub mode : m < 8
+  pub set : a < 2
+
+pub record EndpointOf (m e : ℕ) : Type 0 where
+  pub mode : m < 8
+  pub endpoint : e < 6
+
+pub record IndexModeOf (m i : ℕ) : Type 0 where
+  pub mode : m < 8
+  pub index-mode : i < 2
+
+pub record PixelOf (m q : ℕ) : Type 0 where
+  pub mode : m < 8
+  pub pixel : q < 16
+
+-- a channel and an endpoint that the mode has
 pub record Has (m c e : ℕ) : Type 0 where
   pub mode : m < 8
   pub channel : c < 4
   pub endpoint : e < endpointCount m
+
+-- a pixel of a string, and the pixels before one, or all sixteen
+pub record PixelIn (cs : List ℕ) (q : ℕ) : Type 0 where
+  pub sixteen : Sixteen cs
+  pub pixel : q < 16
+
+pub record PixelsBefore (cs : List ℕ) (q : ℕ) : Type 0 where
+  pub sixteen : Sixteen cs
+  pub most : q ≤ 16
 
 -- where a set of indexes starts
 pub record SetAsked (m : ℕ) (cs : List ℕ) (a : ℕ) : Type 0 where
@@ -73,6 +114,11 @@ pub record PixelAsked (m r i : ℕ) (cs : List ℕ) (q : ℕ) : Type 0 where
   pub index-mode : i < 2
   pub spelt : Spelt m cs
   pub pixel : q < 16
+
+-- a channel under a rotation
+pub record Rotatable (r c : ℕ) : Type 0 where
+  pub rotation : r < 4
+  pub channel : c < 4
 
 -- partition, rotation and index mode as a block says them
 pub record SplitRead (m n p r i : ℕ) : Type 0 where

@@ -3,7 +3,7 @@
 // the sixteen bytes and the definition of the format. In the order of the page: bits, mode, split, where a field starts, endpoint,
 // promotion, index, weight, channel, rotation.
 ghost use mathlib.Core.Path.{_≡_};
-ghost use Prim.Native.Nat.{_+_, _*_, _≤_, _<_};
+ghost use Prim.Native.Nat.{_+_, _*_, _<_};
 ghost use Rattle.laws.specs.Tables.{table};
 ghost use Rattle.bcn_format.specs.Block.{field, number};
 ghost use Rattle.bcn_format.specs.Drawing.{drawn, promoted, weightOf};
@@ -12,8 +12,9 @@ ghost use Rattle.bc7_format.specs.Lines.{rotated};
 ghost use Rattle.bc7_format.specs.Modes.{alphaBits, channelBits, colourBits, endpointCount, indexBits, modeOf};
 ghost use Rattle.pixel_rules.specs.Plain.{channelIn, firstStart, indexIn, plainChannel, setFor, setStart};
 ghost use Rattle.pixel_rules.specs.Promises.{ReadsPixel};
-ghost use Rattle.bc7_plain.specs.Asked.{Bits, Byte, ChannelAsked, Column, Has, IndexAsked, Mixable, PixelAsked, Promoted};
-ghost use Rattle.bc7_plain.specs.Asked.{SetAsked, SplitRead, Weighed};
+ghost use Rattle.bc7_plain.specs.Asked.{Bits, Byte, ChannelAsked, ChannelOf, Column, EndpointOf, Has, InTable, IndexAsked};
+ghost use Rattle.bc7_plain.specs.Asked.{IndexModeOf, Mixable, PixelAsked, PixelOf, Promoted, Rotatable, SetAsked, SetOf};
+ghost use Rattle.bc7_plain.specs.Asked.{ShortField, SplitRead, Weighed};
 use pixel_rules::PixelRead;
 use strings::anchors_before;
 use strings::is_anchor;
@@ -34,7 +35,7 @@ fn bit(block: [u8; 16], at: usize) -> usize
 
 // A field: the sum of its bits, each worth twice the one below it. The highest is taken first.
 fn bits(block: [u8; 16], start: usize, width: usize) -> usize
-    requires { ⌜ (start + width ≤ 128) × (width ≤ 8) ⌝ }
+    requires { ⌜ ShortField start width ⌝ }
     ensures { λ r. ⌜ r ≡ field (number block) start width ⌝ }
 {
     let mut sum: usize = 0;
@@ -94,7 +95,7 @@ const INDEX: usize = 8;
 const SECOND_INDEX: usize = 9;
 
 fn column(mode: usize, name: usize) -> usize
-    requires { ⌜ (mode < 8) × (name < 10) ⌝ }
+    requires { ⌜ InTable mode name ⌝ }
     ensures { λ r. ⌜ Column mode name r ⌝ }
 {
     MODES[mode][name] as usize
@@ -127,7 +128,7 @@ fn split_of(block: [u8; 16], mode: usize) -> SplitBits
 
 // How many bits a value of a channel has, and an index of the first set or the second.
 fn channel_bits(mode: usize, channel: usize) -> usize
-    requires { ⌜ (mode < 8) × (channel < 4) ⌝ }
+    requires { ⌜ ChannelOf mode channel ⌝ }
     ensures { λ r. ⌜ Bits (channelBits mode channel) r ⌝ }
 {
     if channel == 3 {
@@ -137,7 +138,7 @@ fn channel_bits(mode: usize, channel: usize) -> usize
 }
 
 fn index_bits(mode: usize, set: usize) -> usize
-    requires { ⌜ (mode < 8) × (set < 2) ⌝ }
+    requires { ⌜ SetOf mode set ⌝ }
     ensures { λ r. ⌜ Bits (indexBits mode set) r ⌝ }
 {
     if set == 0 {
@@ -179,7 +180,7 @@ fn values_end(mode: usize) -> usize
 }
 
 fn p_start(mode: usize, endpoint: usize) -> usize
-    requires { ⌜ (mode < 8) × (endpoint < 6) ⌝ }
+    requires { ⌜ EndpointOf mode endpoint ⌝ }
     ensures { λ r. ⌜ r ≡ pStart mode endpoint ⌝ }
 {
     if column(mode, P_OF_SUBSET) == 1 {
@@ -235,7 +236,7 @@ fn endpoint_of(block: [u8; 16], mode: usize, endpoint: usize, channel: usize) ->
 
 // The index set that serves a channel: where there are two, alpha takes one and the colours the other, and the index mode says which.
 fn set_of(mode: usize, index_mode: usize, channel: usize) -> usize
-    requires { ⌜ (mode < 8) × («index_mode» < 2) ⌝ }
+    requires { ⌜ IndexModeOf mode «index_mode» ⌝ }
     ensures { λ r. ⌜ r ≡ setFor mode «index_mode» channel ⌝ }
 {
     if column(mode, ROTATION) == 0 {
@@ -315,7 +316,7 @@ fn channel_of(
 
 // The channel that is shown as this one: rotation 1, 2, 3 exchanges alpha with red, green, blue.
 fn rotation_of(rotation: usize, channel: usize) -> usize
-    requires { ⌜ (rotation < 4) × (channel < 4) ⌝ }
+    requires { ⌜ Rotatable rotation channel ⌝ }
     ensures { λ r. ⌜ r ≡ rotated rotation channel ⌝ }
 {
     if rotation == 0 {
@@ -380,7 +381,7 @@ fn shown(
 
 // A pixel of a block that isn't reserved, by the string of its partition.
 fn read(block: [u8; 16], mode: usize, pixel: usize) -> [u8; 4]
-    requires { ⌜ (mode < 8) × (pixel < 16) ⌝ }
+    requires { ⌜ PixelOf mode pixel ⌝ }
     ensures { λ r. ⌜ r ≡ table 4 (plainChannel mode (number block) pixel) ⌝ }
 {
     let split = split_of(block, mode);

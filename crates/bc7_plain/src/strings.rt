@@ -1,10 +1,11 @@
 // The partitions as document 002 prints them: sixteen digits, a pixel's subset each, and a dash before a pixel that is an anchor. Pixel 0 is
 // always one and has no dash. Nothing is made of them beforehand: each question walks the string.
 ghost use mathlib.Core.Path.{_≡_};
-ghost use Prim.Native.Nat.{_≤_, _<_};
+ghost use Prim.Native.Nat.{_<_};
 ghost use lib.ListN.{getD};
 ghost use Rattle.bcn_format.specs.Partitions.{strings2, strings3};
-ghost use Rattle.pixel_rules.specs.Strings.{Sixteen, anchorsBefore, isAnchorIn, letters, placeIn, subsetIn, undivided};
+ghost use Rattle.pixel_rules.specs.Strings.{anchorsBefore, isAnchorIn, letters, placeIn, subsetIn, undivided};
+ghost use Rattle.bc7_plain.specs.Asked.{PixelIn, PixelsBefore};
 
 const TWO: [[u8; 17]; 64] = [
     *b"001100110011001-1",
@@ -181,7 +182,7 @@ fn place(string: &[u8], pixel: usize) -> usize
 
 // The subset of a pixel: its digit.
 pub fn subset(string: &[u8], pixel: usize) -> usize
-    requires { ⌜ Sixteen (now string) × (pixel < 16) ⌝ }
+    requires { ⌜ PixelIn (now string) pixel ⌝ }
     ensures { λ r. ⌜ r ≡ subsetIn (now (string .entry)) pixel ⌝ }
 {
     let k = place(string, pixel);
@@ -190,7 +191,7 @@ pub fn subset(string: &[u8], pixel: usize) -> usize
 
 // Is a pixel an anchor: pixel 0, or one with a dash before its digit?
 pub fn is_anchor(string: &[u8], pixel: usize) -> bool
-    requires { ⌜ Sixteen (now string) × (pixel < 16) ⌝ }
+    requires { ⌜ PixelIn (now string) pixel ⌝ }
     ensures { λ r. ⌜ r ≡ isAnchorIn (now (string .entry)) pixel ⌝ }
 {
     if pixel == 0 {
@@ -202,7 +203,7 @@ pub fn is_anchor(string: &[u8], pixel: usize) -> bool
 
 // How many anchors come before a pixel: pixel 0, and one for each dash up to the digit of the pixel before.
 pub fn anchors_before(string: &[u8], pixel: usize) -> usize
-    requires { ⌜ Sixteen (now string) × (pixel ≤ 16) ⌝ }
+    requires { ⌜ PixelsBefore (now string) pixel ⌝ }
     ensures { λ r. ⌜ r ≡ anchorsBefore (now (string .entry)) pixel ⌝ }
 {
     if pixel == 0 {

@@ -23,7 +23,7 @@ use Rattle.bc7_format.proofs.Subsets.{subset-below}
 use Rattle.bits.specs.declared.stream.BitStream.{BitStream}
 use Rattle.bits.specs.Stream.{readOf}
 use Rattle.bits.proofs.On.{On, got}
-use Rattle.bcn_format.specs.Indexes.{expanded, indexWidths, part}
+use Rattle.bcn_format.specs.Indexes.{OneFixup, TwoFixups, expanded, indexWidths, part}
 use Rattle.bcn_format.proofs.Expanding.{size-2, size-3}
 use Rattle.bc7_format.specs.Fields.{directPixels}
 use Rattle.bcn_format.specs.Painting.{painted}
@@ -35,6 +35,7 @@ use Rattle.drawing.specs.declared.keys.Keys.{Keys}
 use Rattle.drawing.specs.Keys.{keyAt, keysOf}
 use Rattle.drawing.proofs.keys.KeyWords.{key-at}
 use Rattle.bc7_format.specs.Places.{firstFrom}
+use Rattle.bc7_subsets.specs.Asked.{Anchored2, Anchored3}
 
 -- a number among two or three that is none of the others is the last
 pub last-of-2 : (m a b : ℕ) → T (among m (a ∷ b ∷ [])) → m ≢ a → m ≡ b
@@ -60,14 +61,11 @@ pub record Maps (w : ℕ) (of : ℕ → ℕ) (word : ℕ) : Type 0 where
 -- the anchors after pixel 0, in pixel order
 pub record Fixes2 (id a : ℕ) : Type 0 where
   pub are : anchors2 id ≡ 0 ∷ a ∷ []
-  pub above : 0 < a
-  pub last : a < 16
+  pub fixup : OneFixup a
 
 pub record Fixes3 (id a b : ℕ) : Type 0 where
   pub are : anchors3 id ≡ 0 ∷ a ∷ b ∷ []
-  pub above : 0 < a
-  pub next : a < b
-  pub last : b < 16
+  pub fixups : TwoFixups a b
 
 -- the word of a partition: its map, and its anchors behind pixel 0
 module _ {w id set : ℕ} (hid : id < 64) (most : w ≤ 3) where
@@ -79,7 +77,7 @@ module _ {w id set : ℕ} (hid : id < 64) (most : w ≤ 3) where
     pub fixes-2 : Fixes2 id (anchorIn2 set)
     fixes-2 =
         let a = anchors-in2 id hid in
-        rw (e, anchor-of2 w id hid most least) (record { are = a .are; above = a .above; last = a .last })
+        rw (e, anchor-of2 w id hid most least) (record { are = a .are; fixup = a .fixup })
 
   module _ (least : 2 ≤ w) (e : set ≡ partitionWord3 w id) where
     pub maps-3 : Maps w (subset3 id) set
@@ -90,7 +88,15 @@ module _ {w id set : ℕ} (hid : id < 64) (most : w ≤ 3) where
     fixes-3 =
         let a = anchors-in3 id hid in
         rw (e, second-of3 w id hid most least, third-of3 w id hid most least)
-        (record { are = a .are; above = a .above; next = a .next; last = a .last })
+        (record { are = a .are; fixups = a .fixups })
+
+  -- so its indexes can be read
+  module _ (least : 2 ≤ w) where
+    pub anchored-2 : set ≡ partitionWord2 w id → Anchored2 w set
+    anchored-2 e = let f = fixes-2 (omega arith) e in record { least = least; most = most; fixup = f .fixup }
+
+    pub anchored-3 : set ≡ partitionWord3 w id → Anchored3 w set
+    anchored-3 e = let f = fixes-3 least e in record { least = least; most = most; fixups = f .fixups }
 
 -- a mode with subsets: the indexes are read where they start, and pixels looked up by their keys
 module _ (m n b : ℕ) (hm : m < 8) (eb : firstBits m ≡ b) (least : 2 ≤ b) (most : b ≤ 3) {id set : ℕ} (hid : id < 64)
@@ -114,13 +120,15 @@ module _ (m n b : ℕ) (hm : m < 8) (eb : firstBits m ≡ b) (least : 2 ≤ b) (
       → keys ≡ keysOf b 1 x set → Palette m n b 2 1 p → picture ≡ painted (keyAt b 1 keys) p → picture ≡ directPixels m n
   two-keys es e fits =
       let fixes : Fixes2 id (anchorIn2 set) = fixes-2 hid most (omega arith) e in
+      let f = fixes .fixup in
       by-keys (Two id) 2 1 (16 * b - 2) (0 ∷ anchorIn2 set ∷ []) es refl (λ q. subset-below (Two id) q hid) (omega arith) (omega arith)
-      (fixes .are) (size-2 b (anchorIn2 set) (omega arith) (fixes .above) (fixes .last)) fits (maps-2 hid most (omega arith) e)
+      (fixes .are) (size-2 b (anchorIn2 set) (omega arith) (f .above) (f .pixel)) fits (maps-2 hid most (omega arith) e)
 
   pub three-keys : splitAt m n ≡ Three id → set ≡ partitionWord3 b id → indexStart m + (16 * b - 3) ≤ 128
       → x ≡ expanded b (0 ∷ secondIn3 set ∷ thirdIn3 set ∷ []) (readOf stream (16 * b - 3) .value)
       → keys ≡ keysOf b 2 x set → Palette m n b 3 2 p → picture ≡ painted (keyAt b 2 keys) p → picture ≡ directPixels m n
   three-keys es e fits =
       let fixes : Fixes3 id (secondIn3 set) (thirdIn3 set) = fixes-3 hid most least e in
+      let f = fixes .fixups in
       by-keys (Three id) 3 2 (16 * b - 3) (0 ∷ secondIn3 set ∷ thirdIn3 set ∷ []) es refl (λ q. subset-below (Three id) q hid) (omega arith) least
-      (fixes .are) (size-3 b (secondIn3 set) (thirdIn3 set) (omega arith) (fixes .above) (fixes .next) (fixes .last)) fits (maps-3 hid most least e)
+      (fixes .are) (size-3 b (secondIn3 set) (thirdIn3 set) (omega arith) (f .above) (f .rising) (f .pixel)) fits (maps-3 hid most least e)

@@ -3,13 +3,12 @@
 // Subsets 0 and 1 share words; the third has its own, whose other half no key reaches.
 ghost use mathlib.Core.Path.{_≡_};
 ghost use mathlib.Core.List.{[], _∷_};
-ghost use Prim.Native.Nat.{_-_, _*_, _≤_, _<_};
-ghost use lib.Dec.{T};
-ghost use Rattle.bcn_format.specs.Partitions.{among};
+ghost use Prim.Native.Nat.{_-_, _*_};
 ghost use Rattle.bcn_format.specs.Indexes.{expanded};
 ghost use Rattle.bits.specs.Stream.{held, readOf};
 ghost use Rattle.bc7_format.specs.Fields.{directPixels};
 ghost use Rattle.partitions.specs.Words.{secondIn3, thirdIn3};
+ghost use Rattle.bc7_subsets.specs.Asked.{Anchored3, AtMarker};
 use crate::extract_partition_set_id;
 use bits::stream::BitStream;
 use drawing::colour::Stored;
@@ -28,7 +27,7 @@ use partitions::words::partition_word_3_3;
 // The mode's number is the Rust's constant parameter. The stream stands at the marker, which each arm skips, so that positions are
 // literals; and the decoder calls this at one place, so that the compiler folds the `match` into its own.
 pub fn mode_subset_3(mode: u8, stream: BitStream) -> [[u8; 4]; 16]
-    requires { ⌜ T (among mode (0 ∷ 2 ∷ [])) × (stream .at ≡ 0) ⌝ }
+    requires { ⌜ AtMarker (0 ∷ 2 ∷ []) mode stream ⌝ }
     ensures { λ r. ⌜ r ≡ directPixels mode (held stream) ⌝ }
 {
     match mode {
@@ -39,7 +38,7 @@ pub fn mode_subset_3(mode: u8, stream: BitStream) -> [[u8; 4]; 16]
 
 // Sixteen indexes, read whole and expanded. The anchors behind pixel 0 stand in the partition's word from bit 48 on, four bits each.
 fn indexes_3(bits: u32, stream: BitStream, set: u64) -> u64
-    requires { ⌜ (2 ≤ bits) × (bits ≤ 3) × (0 < secondIn3 set) × (secondIn3 set < thirdIn3 set) × (thirdIn3 set < 16) ⌝ }
+    requires { ⌜ Anchored3 bits set ⌝ }
     ensures { λ r. ⌜ r ≡ expanded bits (0 ∷ secondIn3 set ∷ thirdIn3 set ∷ []) (readOf stream (16 * bits - 3) .value) ⌝ }
 {
     let second = ((set >> 48) % 16) as u32;

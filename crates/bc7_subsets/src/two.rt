@@ -2,13 +2,12 @@
 // positions and masks fold away. Both endpoints of a subset are read as one value of a channel, for they are stored side by side.
 ghost use mathlib.Core.Path.{_≡_};
 ghost use mathlib.Core.List.{[], _∷_};
-ghost use Prim.Native.Nat.{_-_, _*_, _≤_, _<_};
-ghost use lib.Dec.{T};
-ghost use Rattle.bcn_format.specs.Partitions.{among};
+ghost use Prim.Native.Nat.{_-_, _*_};
 ghost use Rattle.bcn_format.specs.Indexes.{expanded};
 ghost use Rattle.bits.specs.Stream.{held, readOf};
 ghost use Rattle.bc7_format.specs.Fields.{directPixels};
 ghost use Rattle.partitions.specs.Words.{anchorIn2};
+ghost use Rattle.bc7_subsets.specs.Asked.{Anchored2, AtMarker};
 use crate::extract_partition_set_id;
 use bits::stream::BitStream;
 use drawing::colour::Stored;
@@ -27,7 +26,7 @@ use partitions::words::partition_word_2_3;
 // The mode's number is the Rust's constant parameter. The stream stands at the marker, which each arm skips, so that positions are
 // literals; and the decoder calls this at one place, so that the compiler folds the `match` into its own.
 pub fn mode_subset_2(mode: u8, stream: BitStream) -> [[u8; 4]; 16]
-    requires { ⌜ T (among mode (1 ∷ 3 ∷ 7 ∷ [])) × (stream .at ≡ 0) ⌝ }
+    requires { ⌜ AtMarker (1 ∷ 3 ∷ 7 ∷ []) mode stream ⌝ }
     ensures { λ r. ⌜ r ≡ directPixels mode (held stream) ⌝ }
 {
     match mode {
@@ -39,7 +38,7 @@ pub fn mode_subset_2(mode: u8, stream: BitStream) -> [[u8; 4]; 16]
 
 // Sixteen indexes, read whole and expanded. The anchor behind pixel 0 stands in the partition's word from bit 48 on.
 fn indexes_2(bits: u32, stream: BitStream, set: u64) -> u64
-    requires { ⌜ (2 ≤ bits) × (bits ≤ 3) × (0 < anchorIn2 set) × (anchorIn2 set < 16) ⌝ }
+    requires { ⌜ Anchored2 bits set ⌝ }
     ensures { λ r. ⌜ r ≡ expanded bits (0 ∷ anchorIn2 set ∷ []) (readOf stream (16 * bits - 2) .value) ⌝ }
 {
     let read = Indexes::new_p2(bits, stream, (set >> 48) as u32);

@@ -31,8 +31,8 @@ crossedBoth colours alpha =
     crossed (take 4 (wordBytes colours)) a ++ crossed (drop 4 (wordBytes colours)) a
 
 -- the colour of endpoints that stand alone, at the index k of b bits
-abbrev pub colorOf : ℕ → Ends → ℕ → List ℕ
-colorOf b e k = between b (endpoint e 0 0) (endpoint e 0 1) k
+abbrev pub colourBetween : ℕ → Ends → ℕ → List ℕ
+colourBetween b e k = between b (endpoint e 0 0) (endpoint e 0 1) k
 
 -- any word of one kind with any of the other is within 32 bits
 abbrev pub Apart : List ℕ → List ℕ → Type 0

@@ -14,7 +14,7 @@ ghost use Rattle.bc7_format.specs.Fields.{directPixels};
 ghost use Rattle.bcn_format.specs.Painting.{four};
 ghost use Rattle.bc7_format.specs.Rotating.{swapped};
 ghost use Rattle.drawing.specs.Words.{Alone, wordBytes};
-ghost use Rattle.bc7_unsplit.specs.Crossing.{Crossable, Paintable, TwoIndexes, colorOf, crossed, crossedBoth, kept, keptWord};
+ghost use Rattle.bc7_unsplit.specs.Crossing.{Crossable, Paintable, TwoIndexes, colourBetween, crossed, crossedBoth, kept, keptWord};
 use bits::stream::BitStream;
 use drawing::colour::Ends;
 use drawing::colour::Stored;
@@ -82,7 +82,7 @@ fn keep(x: u64, colour: bool) -> u64
 // The colours of the indexes 2 * k and 2 * k + 1: their weights stand 32 bits apart, as `two_shades` wants them.
 fn shades(e: Ends, bits: u32, k: usize) -> u64
     requires { ⌜ TwoIndexes e bits k ⌝ }
-    ensures { λ r. ⌜ wordBytes r ≡ colorOf bits e (2 * k) ++ colorOf bits e (2 * k + 1) ⌝ }
+    ensures { λ r. ⌜ wordBytes r ≡ colourBetween bits e (2 * k) ++ colourBetween bits e (2 * k + 1) ⌝ }
 {
     two_shades(
         e,
@@ -106,7 +106,7 @@ fn high_word(x: u64) -> u32
 // each kind makes a whole colour, by a sum: each byte of it is a byte of one word and 0 of the other.
 fn words_2(e: Ends, colour: bool) -> [u32; 4]
     requires { ⌜ Alone e ⌝ }
-    ensures { λ r. ⌜ r ≡ table 4 (λ k. keptWord colour (colorOf 2 e k)) ⌝ }
+    ensures { λ r. ⌜ r ≡ table 4 (λ k. keptWord colour (colourBetween 2 e k)) ⌝ }
 {
     let mut q = [0u32; 4];
     for k in 0..2usize {
@@ -119,7 +119,7 @@ fn words_2(e: Ends, colour: bool) -> [u32; 4]
 
 fn words_3(e: Ends, colour: bool) -> [u32; 8]
     requires { ⌜ Alone e ⌝ }
-    ensures { λ r. ⌜ r ≡ table 8 (λ k. keptWord colour (colorOf 3 e k)) ⌝ }
+    ensures { λ r. ⌜ r ≡ table 8 (λ k. keptWord colour (colourBetween 3 e k)) ⌝ }
 {
     let mut q = [0u32; 8];
     for k in 0..4usize {
@@ -160,7 +160,7 @@ fn with_alphas(colours: u64, alpha: u32) -> u64
 // All sixteen pairs of a colour and an alpha, by two bits each: that of colour k and alpha j is at 4 * j + k.
 fn palette_2_and_2(e: Ends) -> [[u8; 4]; 16]
     requires { ⌜ Alone e ⌝ }
-    ensures { λ r. ⌜ r ≡ table 16 (λ i. crossed (colorOf 2 e (i % 4)) (colorOf 2 e (i / 4))) ⌝ }
+    ensures { λ r. ⌜ r ≡ table 16 (λ i. crossed (colourBetween 2 e (i % 4)) (colourBetween 2 e (i / 4))) ⌝ }
 {
     let alphas = words_2(e, false);
     let low = keep(shades(e, 2, 0), true);

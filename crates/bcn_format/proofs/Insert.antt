@@ -34,7 +34,8 @@ unfolding inserted
 inserted-rest n w = high (n / 2 ^ w) (w + 1) (lt-of-lt-of-le (mod-lt n (pow-pos w)) (pow-mono (omega arith)))
 
 -- one field wider, the same values
-pub split-inserted : (us : List ℕ) (w : ℕ) (ws : List ℕ) (n : ℕ) → split (us ++ ((w + 1) ∷ ws)) (inserted n (w + total us)) ≡ split (us ++ (w ∷ ws)) n
+pub split-inserted : (us : List ℕ) (w : ℕ) (ws : List ℕ) (n : ℕ)
+    → split (us ++ ((w + 1) ∷ ws)) (inserted n (w + total us)) ≡ split (us ++ (w ∷ ws)) n
 split-inserted [] w ws n =
     rw (add-zero w) (ap₂ {C = List ℕ} (λ x l. x ∷ l) (inserted-field n w) (ap (split ws) (inserted-rest n w)))
 split-inserted (u ∷ us) w ws n =

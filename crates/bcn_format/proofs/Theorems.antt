@@ -16,7 +16,8 @@ use Rattle.bcn_format.specs.Partitions.{OneAnchor, anchors2, anchors3, d
 use Rattle.bcn_format.proofs.Anchors.{one-anchor2, one-anchor3}
 
 -- every subset of every partition holds exactly one anchor
-pub one-anchor-in-every-subset : ((a k : ℕ) → a < 64 → k < 2 → OneAnchor (anchors2 a) (subset2 a) k) × ((a k : ℕ) → a < 64 → k < 3 → OneAnchor (anchors3 a) (subset3 a) k)
+pub one-anchor-in-every-subset : ((a k : ℕ) → a < 64 → k < 2 → OneAnchor (anchors2 a) (subset2 a) k)
+    × ((a k : ℕ) → a < 64 → k < 3 → OneAnchor (anchors3 a) (subset3 a) k)
 one-anchor-in-every-subset = (one-anchor2, one-anchor3)
 
 zeros : T (below 64 (λ a. both (eqb (subset2 a 0) 0) (eqb (subset3 a 0) 0)))

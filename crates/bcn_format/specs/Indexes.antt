@@ -26,9 +26,18 @@ abbrev pub anchorCount : ℕ → ℕ
 anchorCount k = length (anchorsOfKind k 0 0)
 
 -- the fix-ups that a kind has are pixels, each above the one before
+pub record OneFixup (p : ℕ) : Type 0 where
+  pub above : 0 < p
+  pub pixel : p < 16
+
+pub record TwoFixups (p q : ℕ) : Type 0 where
+  pub above : 0 < p
+  pub rising : p < q
+  pub pixel : q < 16
+
 pub record Rising (k p q : ℕ) : Type 0 where
-  pub two : k ≡ 1 → (0 < p) × (p < 16)
-  pub three : k ≡ 2 → (0 < p) × (p < q) × (q < 16)
+  pub two : k ≡ 1 → OneFixup p
+  pub three : k ≡ 2 → TwoFixups p q
 
 -- the indexes that stand in n at these widths, at w bits each: an anchor's top bit is zero
 unfoldable pub expanded : ℕ → List ℕ → ℕ → ℕ

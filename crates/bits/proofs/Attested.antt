@@ -29,6 +29,7 @@ unfolding readOf held field
 short = refl
 
 -- a refused read, a shorter one from the same place that is accepted, and one more
-pub in-a-row : readsOf (at 126) (3 ∷ 1 ∷ 2 ∷ 1 ∷ []) ≡ answer 22 0 126 2 126 ∷ answer 0 1 126 1 127 ∷ answer 22 0 127 1 127 ∷ answer 0 1 127 0 128 ∷ []
+pub in-a-row : readsOf (at 126) (3 ∷ 1 ∷ 2 ∷ 1 ∷ [])
+    ≡ answer 22 0 126 2 126 ∷ answer 0 1 126 1 127 ∷ answer 22 0 127 1 127 ∷ answer 0 1 127 0 128 ∷ []
 unfolding readsOf readOf held field
 in-a-row = refl

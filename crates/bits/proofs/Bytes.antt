@@ -52,7 +52,8 @@ number-words l = omega (arith, next-eight 8 0 l, next-eight 0 8 l)
 
 -- the machine's form of eight bytes
 pub or-eight : (b0 b1 b2 b3 b4 b5 b6 b7 : ℕ) → b0 < 256 → b1 < 256 → b2 < 256 → b3 < 256 → b4 < 256 → b5 < 256 → b6 < 256 → b7 < 256
-    → bitOr (bitOr (bitOr (bitOr (bitOr (bitOr (bitOr b0 ((b1 * 2 ^ 8) % 2 ^ 64)) ((b2 * 2 ^ 16) % 2 ^ 64)) ((b3 * 2 ^ 24) % 2 ^ 64)) ((b4 * 2 ^ 32) % 2 ^ 64)) ((b5 * 2 ^ 40) % 2 ^ 64)) ((b6 * 2 ^ 48) % 2 ^ 64)) ((b7 * 2 ^ 56) % 2 ^ 64)
+    → let at : ℕ → ℕ → ℕ = λ b k. (b * 2 ^ k) % 2 ^ 64 in
+    bitOr (bitOr (bitOr (bitOr (bitOr (bitOr (bitOr b0 (at b1 8)) (at b2 16)) (at b3 24)) (at b4 32)) (at b5 40)) (at b6 48)) (at b7 56)
     ≡ word8 (b0 ∷ b1 ∷ b2 ∷ b3 ∷ b4 ∷ b5 ∷ b6 ∷ b7 ∷ [])
 or-eight b0 b1 b2 b3 b4 b5 b6 b7 h0 h1 h2 h3 h4 h5 h6 h7 =
     rw (

@@ -16,7 +16,7 @@ use Rattle.laws.proofs.Digits.{join-lt}
 use Rattle.laws.proofs.Joining.{table-same}
 use Rattle.laws.proofs.Rows.{fit-table, join-more, table-none, total-more, total-room, total-same}
 use Rattle.bcn_format.specs.Block.{bytesOf, eights, field}
-use Rattle.bits.specs.Writer.{pushed, writerOf, written}
+use Rattle.bits.specs.Writer.{Pushable, pushed, writerOf, written}
 use Rattle.bits.proofs.On.{split-fields}
 use Rattle.laws.proofs.Words.{shl-keeps}
 
@@ -58,7 +58,7 @@ put-high lo hi v a k hl ha hk hv h =
     mul-assoc v (2 ^ (a - 64)) (2 ^ 64) ∙ ap (λ (x : ℕ). v * x) (sym (pow-add 2 (a - 64) 64) ∙ ap (λ (x : ℕ). 2 ^ x) e) in
     ap (λ (x : ℕ). x * 2 ^ 64 + lo) put ∙ rw (add-mul, up, add-assoc)
 
-module _ (s : BitWriter) (v k : ℕ) (hl : s .low < 2 ^ 64) (room : s .at + k ≤ 128) (hv : v < 2 ^ k) (h : written s < 2 ^ s .at) where
+module _ (s : BitWriter) (v k : ℕ) (hl : s .low < 2 ^ 64) (p : Pushable s v k) where
   pub push-low : s .at < 64 → record {
     low = bitOr (s .low) ((v * 2 ^ s .at) % 2 ^ 64);
     high = bitOr (s .high)
@@ -68,20 +68,20 @@ module _ (s : BitWriter) (v k : ℕ) (hl : s .low < 2 ^ 64) (room : s .at + k �
   unfolding written
   push-low ha =
       writer-is (record { low = bitOr (s .low) ((v * 2 ^ s .at) % 2 ^ 64); high = bitOr (s .high) (v / 2 ^ 1 / 2 ^ (63 - s .at)); at = s .at + k }) _
-      (or-lt 64 (s .low) _ hl (mod-lt _ (pow-pos 64))) (put-low (s .low) (s .high) v (s .at) hl ha h)
+      (or-lt 64 (s .low) _ hl (mod-lt _ (pow-pos 64))) (put-low (s .low) (s .high) v (s .at) hl ha (p .below))
 
   pub push-high : 64 ≤ s .at → record { low = s .low; high = bitOr (s .high) ((v * 2 ^ (s .at - 64)) % 2 ^ 64); at = s .at + k } ≡ pushed s v k
   unfolding written
   push-high ha =
       writer-is (record { low = s .low; high = bitOr (s .high) ((v * 2 ^ (s .at - 64)) % 2 ^ 64); at = s .at + k }) _ hl
-      (put-high (s .low) (s .high) v (s .at) k hl ha room hv h)
+      (put-high (s .low) (s .high) v (s .at) k hl ha (p .room) (p .fits) (p .below))
 
   -- at 128 there is room for no bits
   pub push-none : 128 ≤ s .at → s ≡ pushed s v k
   unfolding written
   push-none ha =
       let e : k ≡ 0 = omega arith in
-      let z : v ≡ 0 = lt-one (rw e at hv) in
+      let z : v ≡ 0 = lt-one (rw e at (p .fits)) in
       rw (e, z, zero-mul, zero-add, add-zero) (writer-is s _ hl refl)
 
 -- the writer after i turns of a loop that pushes v 0, v 1, .. at the widths f 0, f 1, ..
@@ -96,14 +96,14 @@ module _ (f v : ℕ → ℕ) (n : ℕ) (fits : (k : ℕ) → k < n → v k < 2 ^
   upto k l = fits k (omega arith)
 
   -- what a push asks for
-  pub pushes-ask : total (table n f) ≤ 128 → (v i < 2 ^ f i) × (w .at + f i ≤ 128) × (written w < 2 ^ w .at)
+  pub pushes-ask : total (table n f) ≤ 128 → Pushable w (v i) (f i)
   pushes-ask room =
-      rw e (
-        fits i h,
-        omega (arith, total-room f i n h),
-        rw (written-of (join (table i f) (table i v)) (total (table i f)))
-            (join-lt (fit-table i f v upto)),
-      )
+      rw e
+      (record {
+        fits = fits i h;
+        room = omega (arith, total-room f i n h);
+        below = rw (written-of (join (table i f) (table i v)) (total (table i f))) (join-lt (fit-table i f v upto));
+      })
 
   pub pushes-more : {r : BitWriter} → r ≡ pushed w (v i) (f i) → r ≡ writerAfter f v (i + 1)
   pushes-more q = q ∙ rw (e, written-of (join (table i f) (table i v)) (total (table i f)), add-one, join-more i f v upto, total-more i f)

@@ -1,10 +1,16 @@
 -- What a writer holds, and what a push makes of it.
 -- Assumes nothing.
-use Prim.Native.Nat.{ℕ, _+_, _*_, _/_, _%_, _^_}
+use Prim.Native.Nat.{ℕ, _+_, _*_, _/_, _%_, _^_, _≤_, _<_}
 use Rattle.bits.specs.declared.writer.BitWriter.{BitWriter}
 
 unfoldable pub written : BitWriter → ℕ
 written s = s .high * 2 ^ 64 + s .low
+
+-- what is asked to push a value of w bits: that it has no more, that there is room, and that nothing stands from there on
+pub record Pushable (s : BitWriter) (v w : ℕ) : Type 0 where
+  pub fits : v < 2 ^ w
+  pub room : s .at + w ≤ 128
+  pub below : written s < 2 ^ s .at
 
 -- the writer of the number n, at position a
 abbrev pub writerOf : ℕ → ℕ → BitWriter

@@ -1,8 +1,7 @@
 // The writer, the reader's inverse: two halves and the position that the next value goes to.
 ghost use mathlib.Core.Path.{_≡_};
-ghost use Prim.Native.Nat.{_+_, _^_, _≤_, _<_};
 ghost use Rattle.bcn_format.specs.Block.{bytesOf};
-ghost use Rattle.bits.specs.Writer.{pushed, writerOf, written};
+ghost use Rattle.bits.specs.Writer.{Pushable, pushed, writerOf, written};
 use crate::stream::BitStream;
 
 pub struct BitWriter {
@@ -25,7 +24,7 @@ impl BitWriter {
     // A value of `count` bits, put on top of what is written. What is past bit 63 goes to `high`, moved down by 64 - at, in two shifts
     // as in the reader's window.
     pub fn push(self, value: u64, count: u32) -> Self
-        requires { ⌜ (value < 2 ^ count) × (self .at + count ≤ 128) × (written self < 2 ^ self .at) ⌝ }
+        requires { ⌜ Pushable self value count ⌝ }
         ensures { λ r. ⌜ r ≡ pushed self value count ⌝ }
     {
         let at = self.at;

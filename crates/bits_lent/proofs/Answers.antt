@@ -24,12 +24,14 @@ use denote.Struct.Laws as LL
 use Rattle.bits.specs.declared.stream.BitStream.{BitStream}
 use Rattle.bits.proofs.stream.BitStream as T
 use Rattle.bits.proofs.stream.BitStream.Laws as T′
-use Rattle.bits.specs.declared.stream.Read.{Read}
 use Rattle.bits.proofs.stream.Read as R
 use Rattle.bits.proofs.stream.Read.Laws as R′
+use Rattle.bits_lent.specs.Opening.{LentRead}
+use Rattle.bits_lent.proofs.Openings.{as-lent}
 
 -- a place whose local an equation tells
-pub found : {M : Type 1} {𝓤 : URA M} {H : Heap 𝓤} {A : Atoms 𝓤} {W : Given 𝓤 H A} {Γ : List (Item 𝓤)} {E : Env 𝓤 H} {i : ℕ} {st : List Step} {at sp : Spot 𝓤 H}
+pub found : {M : Type 1} {𝓤 : URA M} {H : Heap 𝓤} {A : Atoms 𝓤} {W : Given 𝓤 H A} {Γ : List (Item 𝓤)} {E : Env 𝓤 H} {i : ℕ}
+    {st : List Step} {at sp : Spot 𝓤 H}
     → spotOf 𝓤 H E i ≡ at → Walks (Go {0}) W Γ E at st sp → Finds (Go {0}) W Γ E (place i st) sp
 found {𝓤 = 𝓤} {H = H} {W = W} {Γ = Γ} {E = E} {st = st} {sp = sp} e w = from ! (subst (λ (s : Spot 𝓤 H). Walks (Go {0}) W Γ E s st sp) (sym e) w)
 
@@ -90,8 +92,8 @@ module _ (b : Result) where
   pub typed : {M : Type 1} (𝓤 : URA M) (H : Heap 𝓤) (A : Atoms 𝓤) (W : Given 𝓤 H A) (x : X) → IsVal x → Holds (hasTy (b .mir) (val x)) × WT (val x)
   typed = b .fits
 
-  -- What a function by value answers: its type, the value and the stream in it, that a value and a stream are those of an answer (`parts`), the operands that read them
-  -- from the local i, and what whoever holds the answer knows of it.
+  -- What a function by value answers: its type, the value and the stream in it, that a value and a stream are those of an answer
+  -- (`parts`), the operands that read them from the local i, and what whoever holds the answer knows of it.
   pub record ByValue : Type 2 where
     pub R : RattleType
     pub mir : Ty
@@ -107,9 +109,11 @@ module _ (b : Result) where
     pub stream-is : (r : R .Denot) (u : Val) → Is R r (u ∷ []) → IsStream (stream r)
     pub fits : {M : Type 1} (𝓤 : URA M) (H : Heap 𝓤) (A : Atoms 𝓤) (W : Given 𝓤 H A) (r : R .Denot) (u : Val) → Is R r (u ∷ [])
         → Holds (hasTy mir u) × WT u
-    pub value-read : {M : Type 1} {𝓤 : URA M} {H : Heap 𝓤} {A : Atoms 𝓤} {W : Given 𝓤 H A} {Γ : List (Item 𝓤)} {E : Env 𝓤 H} (i l : ℕ) (r : R .Denot)
+    pub value-read : {M : Type 1} {𝓤 : URA M} {H : Heap 𝓤} {A : Atoms 𝓤} {W : Given 𝓤 H A} {Γ : List (Item 𝓤)} {E : Env 𝓤 H}
+        (i l : ℕ) (r : R .Denot)
         → spotOf 𝓤 H E i ≡ (mir, l, zero) → Opd (Go {0}) W (‵ (fat fullShare mir l zero (spelled r)) ∷ Γ) E (value-at i) (val (value r))
-    pub stream-read : {M : Type 1} {𝓤 : URA M} {H : Heap 𝓤} {A : Atoms 𝓤} {W : Given 𝓤 H A} {Γ : List (Item 𝓤)} {E : Env 𝓤 H} (i l : ℕ) (r : R .Denot)
+    pub stream-read : {M : Type 1} {𝓤 : URA M} {H : Heap 𝓤} {A : Atoms 𝓤} {W : Given 𝓤 H A} {Γ : List (Item 𝓤)} {E : Env 𝓤 H}
+        (i l : ℕ) (r : R .Denot)
         → spotOf 𝓤 H E i ≡ (mir, l, zero) → Opd (Go {0}) W (‵ (fat fullShare mir l zero (spelled r)) ∷ Γ) E (stream-at i) (T′.lowered (stream r))
 
 -- the whole answer of a read
@@ -120,8 +124,8 @@ whole-read = record {
   spelled = R′.lowered;
   value = λ r. r;
   stream = λ r. r .stream;
-  parts = λ x s r. (x ≡ r) × (s ≡ r .stream);
-  parted = λ r r′ e. (e, ap (λ (r : Read). r .stream) e);
+  parts = λ x s r. LentRead r x s;
+  parted = λ r r′ e. as-lent e;
   value-at = λ i. copy (place i []);
   stream-at = λ i. copy (place i (part 4 ∷ []));
   told = λ r u is. ap only (LL.tells R.the-type R′.the-laws r _ is);

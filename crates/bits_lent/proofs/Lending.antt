@@ -64,7 +64,8 @@ module _ {B : Beside} (f : Read B) {M : Type 1} (𝓤 : URA M) (H : Heap 𝓤) (
       may-call : f .asks h (B .args 1 (κ, tt) (ns κ)) .Fact → AreBeside B 1 (κ, tt) (ns κ)
           → ent 𝓤 (sep 𝓤 (A .lft κ fullShare) (sem 𝓤 H A Own)) (lent .pre to)
       may-call ok are =
-          qed W (‵ (flft κ fullShare) ∷ ‵ Own ∷ []) ∵ asking-is ! (f .asks h (B .args 1 (κ, tt) (ns κ))) ok $ nothing ! $ move ! (1 ∷ 0 ∷ []) $ join ! $ frame ! $
+          qed W (‵ (flft κ fullShare) ∷ ‵ Own ∷ []) ∵ asking-is ! (f .asks h (B .args 1 (κ, tt) (ns κ))) ok $ nothing ! $
+          move ! (1 ∷ 0 ∷ []) $ join ! $ frame ! $
           use0 W (‵ (owns (typesAt (B .slots 1) (κ, tt)) (ns κ) (vals B 1 (κ, tt) (ns κ)))) (owned-beside B 1 (κ, tt) (ns κ) 𝓤 H A W are) $ move !
           (1 ∷ 0 ∷ []) $ fjoin ! $ done !
 

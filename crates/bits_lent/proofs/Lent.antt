@@ -1,4 +1,5 @@
--- The contracts of a function by value and of its lent form, over whatever they take beside the stream: what a walk of the lent form has to show, and what it has of the other.
+-- The contracts of a function by value and of its lent form, over whatever they take beside the stream: what a walk of the lent form
+-- has to show, and what it has of the other.
 -- Assumes `Given`.
 use mathlib.Core.Path.{_≡_, refl}
 use mathlib.Core.List.{List, [], _∷_}
@@ -12,8 +13,8 @@ use prog.Wp.{Heap, WpFn, Tables}
 use ghost.Atoms.{Atoms, sem}
 use contract.Monad.{fact, factI}
 use contract.Lifetimes.{Lfts}
-use types.Kit.{Given, Item, Step, step, prop, ‵, raw, some, later, _⊛_, _$_, _∵_, !, qed, move, drop, use0, use1, split, join, pick, fjoin, fjoin3, feqI, suffices, frame}
-use types.Kit.{await, updating, now as at-once, show, done}
+use types.Kit.{Given, Item, Step, step, prop, ‵, raw, some, later, _⊛_, _$_, _∵_, !, qed, move, drop, use0, use1, split, join, pick}
+use types.Kit.{fjoin, fjoin3, feqI, suffices, frame, await, updating, now as at-once, show, done}
 use types.SemTy.{Body}
 use sound.WpLaws.{WpFn-mono}
 use denote.RattleType.{Denots, Valss, flat, owns}
@@ -64,8 +65,8 @@ abbrev pub asks-nothing : Asking
 asks-nothing = record { Fact = Unit {0}; as-prop = λ 𝓤. emp 𝓤; told = λ 𝓤 x. id⊢ 𝓤 (emp 𝓤); heard = λ 𝓤 P h. via 𝓤 P (fst∗ 𝓤 P (emp 𝓤)) (h tt) }
 
 -- a step that says what is asked
-pub asking-is : {M : Type 1} {𝓤 : URA M} {H : Heap 𝓤} {A : Atoms 𝓤} {K : Type 0} {W : Given 𝓤 H A} {Γ : List (Item 𝓤)} → K → {P : SProp 𝓤} (a : Asking)
-    → a .Fact → Step K W Γ (prop P) Γ (prop (sep 𝓤 P (a .as-prop 𝓤)))
+pub asking-is : {M : Type 1} {𝓤 : URA M} {H : Heap 𝓤} {A : Atoms 𝓤} {K : Type 0} {W : Given 𝓤 H A} {Γ : List (Item 𝓤)} → K
+    → {P : SProp 𝓤} (a : Asking) → a .Fact → Step K W Γ (prop P) Γ (prop (sep 𝓤 P (a .as-prop 𝓤)))
 asking-is {𝓤 = 𝓤} t {P} a x =
     step (λ s. record {
       prf = via 𝓤 P (s .prf) (via 𝓤 (sep 𝓤 (emp 𝓤) P) (emp∗ 𝓤 P)
@@ -128,15 +129,16 @@ module _ {B : Beside} (f : Read B) where
 
       pub asked : f .asks h (B .args 0 tt ns) .Fact → IsStream h → AreBeside B 0 tt ns → ent 𝓤 (emp 𝓤) (by-value .pre passing)
       asked ok is are =
-          qed W (‵ ftrue ∷ []) ∵ asking-is ! (f .asks h (B .args 0 tt ns)) ok $ frame ! $ use0 W (‵ (owns (typesAt (B .slots 0) tt) ns (vals B 0 tt ns)))
-          (owned-beside B 0 tt ns 𝓤 H A W are) $
+          qed W (‵ ftrue ∷ []) ∵ asking-is ! (f .asks h (B .args 0 tt ns)) ok $ frame ! $
+          use0 W (‵ (owns (typesAt (B .slots 0) tt) ns (vals B 0 tt ns))) (owned-beside B 0 tt ns 𝓤 H A W are) $
           owned ! T.the-row (Is T.the-row) (LL.makes T.the-type T′.the-plain 𝓤 H A) h _ is $ fjoin ! $ done !
 
       abbrev Said : f .answer .R .Denot → Type 0
       Said r = f .Promise h (B .args 0 tt ns) r
 
       pub answered : (u : Val)
-          → ent 𝓤 (by-value .post passing u) (H .⇛ (ex 𝓤 (λ (r : f .answer .R .Denot). sep 𝓤 (sem 𝓤 H A (f .answer .R .own r (u ∷ []))) (fact 𝓤 (Said r)))))
+          → ent 𝓤 (by-value .post passing u)
+          (H .⇛ (ex 𝓤 (λ (r : f .answer .R .Denot). sep 𝓤 (sem 𝓤 H A (f .answer .R .own r (u ∷ []))) (fact 𝓤 (Said r)))))
       answered u =
           qed W (raw (by-value .post passing u) ∷ []) ∵ updating ! $
           use1 W (later (some (λ (r : f .answer .R .Denot). (‵ ftrue ⊛ ‵ (f .answer .R .own r (u ∷ []))) ⊛ raw
@@ -196,7 +198,8 @@ module _ {B : Beside} (f : Read B) where
           owned ! (type (f .b)) (Is (type (f .b))) (makes (f .b) 𝓤 H A W) x _ is $ move ! (1 ∷ 0 ∷ []) $ done !
 
     module _ (𝓣 : Tables 𝓤 H) (fn : Fn) where
-      pub through : ((κ : Lft) (q : Share) (p o : ℕ) (γ : GName) (h : BitStream) (ns : Denots (typesAt (B .slots 1) (κ, tt))) → f .asks h (B .args 1 (κ, tt) ns) .Fact → AreBeside B 1 (κ, tt) ns
+      pub through : ((κ : Lft) (q : Share) (p o : ℕ) (γ : GName) (h : BitStream) (ns : Denots (typesAt (B .slots 1) (κ, tt)))
+          → f .asks h (B .args 1 (κ, tt) ns) .Fact → AreBeside B 1 (κ, tt) ns
           → ent 𝓤 (onEntry 𝓤 H A signature (κ, tt) (q, tt) (record { ptr = (p, o); name = γ; now = h }, ns) (vptr p o ∷ [], vals B 1 (κ, tt) ns))
           (WpFn 𝓤 H (𝓣 .C) (𝓣 .Λ) fn (vptr p o ∷ flat (typesAt (B .slots 1) (κ, tt)) (vals B 1 (κ, tt) ns)) (Post κ q p o γ h ns)))
           → Meets 𝓤 H A signature (WpFn 𝓤 H (𝓣 .C) (𝓣 .Λ) fn) (closing 𝓤 H A ended (clauses 𝓤))
@@ -205,12 +208,14 @@ module _ {B : Beside} (f : Read B) where
           (WpFn-mono 𝓤 H (W .laws) 𝓣 fn)
           (walked 𝓤 H A ended all-stay (clauses 𝓤) (WpFn 𝓤 H (𝓣 .C) (𝓣 .Λ) fn) (λ κs. (ptr-vals, B .spells 1 κs))
           (λ κs. (mut-tells (named 0) (κs .0) T.the-row, B .tells 1 κs))
-          (λ κs qs bounds a _ are. f .asks (a .0 .now) (B .args 1 κs (a .1)) .heard 𝓤 _ (λ ok. walk (κs .0) (qs .0) (a .0 .ptr .0) (a .0 .ptr .1) (a .0 .name) (a .0 .now) (a .1) ok
-          (are .1))))
+          (λ κs qs bounds a _ are. f .asks (a .0 .now) (B .args 1 κs (a .1)) .heard 𝓤 _
+          (λ ok. walk (κs .0) (qs .0) (a .0 .ptr .0) (a .0 .ptr .1) (a .0 .name) (a .0 .now) (a .1) ok (are .1))))
 
       -- in the words of the source's promise
       pub promised : (E : (κs : Lfts 1) (a : Args signature κs) → Unit {0} → Res signature κs → AtExit ended κs → SProp 𝓤)
-          → ((κs : Lfts 1) (a : Args signature κs) (x : Res signature κs) (ws : Lasts ended κs a) → ent 𝓤 (fact 𝓤 (Gave κs a x (ws .0))) (E κs a tt x (atExit ended κs a ws)))
+          → ((κs : Lfts 1) (a : Args signature κs) (x : Res signature κs) (ws : Lasts ended κs a)
+          → ent 𝓤 (fact 𝓤 (Gave κs a x (ws .0))) (E κs a tt x (atExit ended κs a ws)))
           → Meets 𝓤 H A signature (WpFn 𝓤 H (𝓣 .C) (𝓣 .Λ) fn) (closing 𝓤 H A ended (clauses 𝓤))
-          → Meets 𝓤 H A signature (WpFn 𝓤 H (𝓣 .C) (𝓣 .Λ) fn) (closing 𝓤 H A ended (λ κs a. record { ghost = Unit {0}; requires = clauses 𝓤 κs a .requires; ensures = E κs a }))
+          → Meets 𝓤 H A signature (WpFn 𝓤 H (𝓣 .C) (𝓣 .Λ) fn)
+          (closing 𝓤 H A ended (λ κs a. record { ghost = Unit {0}; requires = clauses 𝓤 κs a .requires; ensures = E κs a }))
       promised E same = weaken 𝓤 H A ended W (clauses 𝓤) E (λ κs a g x ws. same κs a x ws) (WpFn 𝓤 H (𝓣 .C) (𝓣 .Λ) fn) (WpFn-mono 𝓤 H (W .laws) 𝓣 fn)

@@ -1,5 +1,5 @@
--- The walk that the lent functions share, from the arguments in their locals to the locals given back: the stream is taken out from behind the reference, passed to the function
--- by value, and the stream in its answer is stored.
+-- The walk that the lent functions share, from the arguments in their locals to the locals given back: the stream is taken out from
+-- behind the reference, passed to the function by value, and the stream in its answer is stored.
 -- Assumes `Given`.
 use mathlib.Core.Path.{_≡_, refl}
 use mathlib.Core.List.{List, [], _∷_}
@@ -43,10 +43,12 @@ module _ {M : Type 1} {𝓤 : URA M} {H : Heap 𝓤} {A : Atoms 𝓤} {W : Given
     {b : Result} (a : ByValue b) (g : Name) (h : BitStream) (vs : List Val) (φ : a .R .Denot → Type 0) (Q : Val → SProp 𝓤)
     (called : IsStream h → ent 𝓤 (emp 𝓤) (C g (T′.lowered h ∷ vs) Q))
     (answered : (u : Val) → ent 𝓤 (Q u) (H .⇛ (ex 𝓤 (λ (r : a .R .Denot). sep 𝓤 (sem 𝓤 H A (a .R .own r (u ∷ []))) (fact 𝓤 (φ r)))))) where
-  pub moves : {κ : Lft} {q : Share} {p o : ℕ} {γ : GName} {Γ : List (Item 𝓤)} {E : Env 𝓤 H} {K : Val → SProp 𝓤} {l₀ l₁ lᵣ lₜ : ℕ} {xs : List Operand} (i j : ℕ)
+  pub moves : {κ : Lft} {q : Share} {p o : ℕ} {γ : GName} {Γ : List (Item 𝓤)} {E : Env 𝓤 H} {K : Val → SProp 𝓤} {l₀ l₁ lᵣ lₜ : ℕ}
+      {xs : List Operand} (i j : ℕ)
       → spotOf 𝓤 H ((b .mir, l₀) ∷ (reference, l₁) ∷ E) i ≡ (a .mir, lᵣ, zero)
       → spotOf 𝓤 H ((b .mir, l₀) ∷ (reference, l₁) ∷ E) j ≡ (T′.mir, lₜ, zero)
-      → ((i₀ i₁ i₂ i₃ i₄ i₅ i₆ i₇ i₈ : Item 𝓤) → Opds (Go {0}) W (i₀ ∷ i₁ ∷ i₂ ∷ i₃ ∷ i₄ ∷ i₅ ∷ i₆ ∷ i₇ ∷ i₈ ∷ Γ) ((b .mir, l₀) ∷ (reference, l₁) ∷ E) xs vs)
+      → ((i₀ i₁ i₂ i₃ i₄ i₅ i₆ i₇ i₈ : Item 𝓤)
+      → Opds (Go {0}) W (i₀ ∷ i₁ ∷ i₂ ∷ i₃ ∷ i₄ ∷ i₅ ∷ i₆ ∷ i₇ ∷ i₈ ∷ Γ) ((b .mir, l₀) ∷ (reference, l₁) ∷ E) xs vs)
       → ((r : a .R .Denot) → φ r → IsVal b (a .value r)
       → Seq (Go {0}) W
       (‵ (fobs γ (T.the-row .coded .code (a .stream r))) ∷ ‵ (fbor κ (Body (mem T.the-row) p o γ)) ∷ ‵ (flft κ q)

@@ -1,4 +1,5 @@
--- The walk of a lent function that takes a count beside the stream, and of one that takes nothing: it meets its contract where the function by value meets its own.
+-- The walk of a lent function that takes a count beside the stream, and of one that takes nothing: it meets its contract where the
+-- function by value meets its own.
 -- Assumes `Given`.
 use mathlib.Core.Path.{refl}
 use mathlib.Core.List.{[], _∷_}
@@ -77,8 +78,17 @@ module _ (f : Read count) where
 
 -- ---- nothing
 abbrev pub none : Beside
-none =
-    record { slots = λ n. []; kepts = λ n. tt; Args = Unit {0}; args = λ n κs ns. tt; spells = λ n κs. tt; tells = λ n κs. tt; makes = λ 𝓤 H A W n κs. tt; stays = tt; go = λ 𝓤 H A W. tt }
+none = record {
+  slots = λ n. [];
+  kepts = λ n. tt;
+  Args = Unit {0};
+  args = λ n κs ns. tt;
+  spells = λ n κs. tt;
+  tells = λ n κs. tt;
+  makes = λ 𝓤 H A W n κs. tt;
+  stays = tt;
+  go = λ 𝓤 H A W. tt;
+}
 
 module _ (f : Read none) where
   abbrev alone : Name → Fn

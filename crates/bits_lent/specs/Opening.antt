@@ -1,10 +1,17 @@
--- How a mode 4 block opens: by the reads that give it.
+-- What a lent read leaves, and how a mode 4 block opens: by the reads that give it.
 -- Assumes nothing.
+use mathlib.Core.Path.{_≡_}
 use mathlib.Core.List.{[], _∷_}
 use Prim.Native.Nat.{ℕ}
 use Rattle.bits.specs.declared.stream.BitStream.{BitStream}
+use Rattle.bits.specs.declared.stream.Read.{Read}
 use Rattle.bits.specs.Stream.{Stood, readOf, skipped}
 use Rattle.bits_lent.specs.declared.Opening.{Opening}
+
+-- x is answered as by the read r by value, and the caller's stream is t afterwards
+pub record LentRead (r x : Read) (t : BitStream) : Type 0 where
+  pub answer : x ≡ r
+  pub left : t ≡ r .stream
 
 -- past the marker of five bits: two bits, one, and the forty-two of the eight endpoint values
 unfoldable pub openingAt : BitStream → Opening

@@ -5,7 +5,7 @@ ghost use mathlib.Core.Path.{_≡_};
 ghost use Prim.Native.Nat.{_+_, _≤_, _<_};
 ghost use Rattle.bcn_format.specs.Block.{number};
 ghost use Rattle.bits.specs.Stream.{readOf, skipped};
-ghost use Rattle.bits_lent.specs.Opening.{Opens, openingAt};
+ghost use Rattle.bits_lent.specs.Opening.{LentRead, Opens, openingAt};
 use bits::stream::BitStream;
 use bits::stream::Read;
 
@@ -17,7 +17,7 @@ pub fn skip(stream: &mut BitStream, count: u32)
 }
 
 pub fn consume_bit(stream: &mut BitStream) -> Read
-    ensures { λ r. ⌜ (r ≡ readOf (now (stream .entry)) 1) × (now (stream .exit) ≡ readOf (now (stream .entry)) 1 .stream) ⌝ }
+    ensures { λ r. ⌜ LentRead (readOf (now (stream .entry)) 1) r (now (stream .exit)) ⌝ }
 {
     let read = (*stream).consume_bit();
     *stream = read.stream;
@@ -26,7 +26,7 @@ pub fn consume_bit(stream: &mut BitStream) -> Read
 
 pub fn consume_bits(stream: &mut BitStream, count: u32) -> Read
     requires { ⌜ (0 < count) × (count ≤ 8) ⌝ }
-    ensures { λ r. ⌜ (r ≡ readOf (now (stream .entry)) count) × (now (stream .exit) ≡ readOf (now (stream .entry)) count .stream) ⌝ }
+    ensures { λ r. ⌜ LentRead (readOf (now (stream .entry)) count) r (now (stream .exit)) ⌝ }
 {
     let read = (*stream).consume_bits(count);
     *stream = read.stream;
@@ -35,7 +35,7 @@ pub fn consume_bits(stream: &mut BitStream, count: u32) -> Read
 
 pub fn consume_bits_64(stream: &mut BitStream, count: u32) -> Read
     requires { ⌜ (0 < count) × (count ≤ 64) ⌝ }
-    ensures { λ r. ⌜ (r ≡ readOf (now (stream .entry)) count) × (now (stream .exit) ≡ readOf (now (stream .entry)) count .stream) ⌝ }
+    ensures { λ r. ⌜ LentRead (readOf (now (stream .entry)) count) r (now (stream .exit)) ⌝ }
 {
     let read = (*stream).consume_bits_64(count);
     *stream = read.stream;

@@ -10,9 +10,8 @@ use borrow.Author.Tests.{eq-eqb, ne-eqb}
 use lib.ListN.{length, drop, drop-of-length-le, replicate, take}
 use lib.Seq.{take-all}
 use Rattle.bc7_format.specs.declared.Split.{Split}
-use Rattle.chart_rules.specs.declared.Chart.{Chart}
 use Rattle.laws.specs.Digits.{Fit}
-use Rattle.laws.specs.Padding.{Written, padded}
+use Rattle.laws.specs.Padding.{padded}
 use Rattle.laws.specs.Refusals.{first}
 use Rattle.laws.proofs.Padding.{stored-zeros}
 use Rattle.bcn_format.specs.Block.{eights}
@@ -20,17 +19,19 @@ use Rattle.bc7_format.specs.Modes.{modeOf}
 use Rattle.bc7_format.specs.Places.{placeCount}
 use Rattle.bc7_format.specs.Splits.{splitOf}
 use Rattle.bc7_format.proofs.Opening.{good-kind, good-partition, opened-good}
-use Rattle.listing_rules.specs.Text.{refusedText}
-use Rattle.chart_rules.specs.Charts.{Charts, chartRefusal, charted, placesText, textRoom}
+use Rattle.laws.specs.Text.{refusedText}
+use Rattle.text.specs.Puts.{Puts}
+use Rattle.chart_rules.specs.Charts.{Answers, Charts, chartRefusal, charted, placesText, textRoom}
 use Rattle.chart_rules.proofs.Theorems.{accepted-prints, not-sixteen, refused-prints-only}
 use Rattle.chart.specs.Asked.{BlockMode, SplitOfMode}
 
-pub answered : (r : ℕ) {t out : List ℕ} {n : ℕ} → Written (replicate textRoom 0) 0 t out n → n ≤ textRoom
-    → _≡_ {A = Chart} (record { refusal = r; length = n; text = out }) (charted r t)
-answered r {t} {out} {n} w l =
+pub answered : (r : ℕ) {t out : List ℕ} {n : ℕ} → Puts textRoom (replicate textRoom 0) 0 t out n
+    → Answers (charted r t) (record { refusal = r; length = n; text = out })
+answered r {t} {out} {n} p =
+    let w = p .text in
     let told : _≡_ {A = List ℕ × ℕ} (out, n) (padded textRoom t, length t) =
-    ap₂ (λ (o : List ℕ) (k : ℕ). (o, k)) (w .bytes) (w .ends) ∙ stored-zeros textRoom t (omega (arith, w .ends)) in
-    ap (λ (p : List ℕ × ℕ). record { refusal = r; length = p .1; text = p .0 }) told
+    ap₂ (λ (o : List ℕ) (k : ℕ). (o, k)) (w .bytes) (w .ends) ∙ stored-zeros textRoom t (omega (arith, w .ends, p .within)) in
+    record { is = ap (λ (p : List ℕ × ℕ). record { refusal = r; length = p .1; text = p .0 }) told; within = p .within }
 
 -- sixteen bytes copied over a block
 pub copied : (s zeros : List ℕ) → length s ≡ 16 → length zeros ≡ 16 → take (length s) s ++ drop (length s) zeros ≡ s

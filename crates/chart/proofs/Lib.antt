@@ -1,5 +1,5 @@
 -- The laws that the proofs of the functions cite.
-pub mod Placing
+pub mod Inside
 pub mod Walk
 pub mod Answers
 pub mod Reading

@@ -1,33 +1,25 @@
 // The bit chart of a block: where each of its fields stands. One walk over the places in stored order: a place that has bits gets a
 // text, and the next one starts behind its bits. All that decides what is printed stands here; a program only reads and writes.
 ghost use mathlib.Core.Path.{_≡_};
-ghost use Prim.Native.Nat.{_+_, _-_, _≤_, _<_};
-ghost use lib.Dec.{eqb, ltb};
-ghost use lib.ListN.{length, getD};
+ghost use lib.ListN.{length};
 ghost use Rattle.laws.specs.Padding.{Written};
-ghost use Rattle.laws.specs.Tables.{pick};
-ghost use Rattle.bcn_format.specs.Partitions.{among};
-ghost use Rattle.bc7_format.specs.Places.{placeAt, placeCount, width as widthOf};
-ghost use Rattle.bc7_format.specs.Splits.{leadBits, splitOf};
-ghost use Rattle.bc7_places.specs.Modes.{IsRow};
-ghost use Rattle.bc7_places.specs.Splits.{threeOf};
-ghost use Rattle.listing_rules.specs.Text.{refusedText};
+ghost use Rattle.bc7_format.specs.Places.{placeCount};
+ghost use Rattle.bc7_format.specs.Splits.{splitOf};
+ghost use Rattle.laws.specs.Text.{refusedText};
+ghost use Rattle.text.specs.Puts.{Puts};
 ghost use Rattle.chart_rules.specs.Names.{channelName, leadName, nameOf, setName};
-ghost use Rattle.chart_rules.specs.Charts.{Charts, charted, fieldText, placesText, textRoom, wantedBytes};
-ghost use Rattle.chart.specs.Asked.{BlockMode, FieldAsked, SplitOfMode};
+ghost use Rattle.chart_rules.specs.Charts.{Answers, ChartsWithin, charted, fieldText, placesText, textRoom, wantedBytes};
+ghost use Rattle.chart.specs.Asked.{BlockMode, FieldAsked, NameAsked, OneOf, PlacesAsked};
+use bc7_format::Place;
 use bc7_format::Split;
-use bc7_places::lines::index_width;
 use bc7_places::modes::ModeRow;
 use bc7_places::modes::mode_of;
 use bc7_places::modes::mode_row;
-use bc7_places::places::FIRST;
-use bc7_places::places::P_BITS;
 use bc7_places::places::PLACES;
-use bc7_places::places::VALUES;
-use bc7_places::splits::Anchors;
+use bc7_places::places::place_at;
+use bc7_places::places::width_of;
 use bc7_places::splits::anchors_of;
-use bc7_places::splits::read_split;
-use bits::stream::BitStream;
+use bc7_places::splits::read_lead;
 use chart_rules::Chart;
 use text::put;
 use text::put_few;
@@ -38,85 +30,9 @@ use text::refused_text;
 // Room for the longest chart, and for a field's text behind it.
 const ROOM: usize = 609;
 
-// The width of the marker, the partition, the rotation or the index mode.
-fn lead_width(mode: u8, row: ModeRow, lead: usize) -> u32
-    requires { ⌜ IsRow mode row × (lead < 4) ⌝ }
-    ensures { λ r. ⌜ r ≡ getD (leadBits mode) lead 0 ⌝ }
-{
-    if lead == 0 {
-        return mode as u32 + 1;
-    }
-    if lead == 1 {
-        return row.partition;
-    }
-    if lead == 2 {
-        return row.rotation;
-    }
-    row.index_mode
-}
-
-fn value_width(row: ModeRow, channel: usize, endpoint: usize) -> u32
-    ensures { λ r. ⌜ r ≡ pick (ltb endpoint (row .endpoints)) (pick (eqb channel 3) (row .alpha) (row .colour)) 0 ⌝ }
-{
-    if endpoint >= row.endpoints {
-        return 0;
-    }
-    if channel == 3 {
-        return row.alpha;
-    }
-    row.colour
-}
-
-fn p_bit_width(row: ModeRow, p: usize) -> u32
-    ensures { λ r. ⌜ r ≡ pick (ltb p (row .p)) 1 0 ⌝ }
-{
-    if p < row.p {
-        return 1;
-    }
-    0
-}
-
-// An anchor's index is stored with one bit less, where its set has bits at all.
-fn stored_width(full: u32, anchors: Anchors, pixel: usize) -> u32
-    ensures { λ r. ⌜ r ≡ pick (among pixel (threeOf anchors)) (full - 1) full ⌝ }
-{
-    if full == 0 {
-        return 0;
-    }
-    if pixel == anchors.a {
-        return full - 1;
-    }
-    if pixel == anchors.b {
-        return full - 1;
-    }
-    if pixel == anchors.c {
-        return full - 1;
-    }
-    full
-}
-
-// How many bits a place has.
-fn width_at(mode: u8, row: ModeRow, anchors: Anchors, place: usize) -> u32
-    requires { ⌜ IsRow mode row × (place < placeCount) ⌝ }
-    ensures { λ r. ⌜ r ≡ widthOf mode (threeOf anchors) (placeAt place) ⌝ }
-{
-    if place < VALUES {
-        return lead_width(mode, row, place);
-    }
-    if place < P_BITS {
-        return value_width(row, (place - VALUES) / 6, (place - VALUES) % 6);
-    }
-    if place < FIRST {
-        return p_bit_width(row, place - P_BITS);
-    }
-    let full = index_width(row, (place - FIRST) / 16);
-    stored_width(full, anchors, (place - FIRST) % 16)
-}
-
 fn put_lead(lead: usize, at: usize, out: &mut [u8]) -> usize
-    requires { ⌜ (lead < 4) × (at + 10 ≤ length (now out)) ⌝ }
-    ensures { λ r. ⌜ Written (now (out .entry)) at (leadName lead) (now (out .exit)) r ⌝ }
-    ensures { λ r. ⌜ r ≤ at + 10 ⌝ }
+    requires { ⌜ OneOf 4 lead 10 at (length (now out)) ⌝ }
+    ensures { λ r. ⌜ Puts 10 (now (out .entry)) at (leadName lead) (now (out .exit)) r ⌝ }
 {
     if lead == 0 {
         return put_word(b"mode", at, out);
@@ -131,9 +47,8 @@ fn put_lead(lead: usize, at: usize, out: &mut [u8]) -> usize
 }
 
 fn put_channel(channel: usize, at: usize, out: &mut [u8]) -> usize
-    requires { ⌜ (channel < 4) × (at + 6 ≤ length (now out)) ⌝ }
-    ensures { λ r. ⌜ Written (now (out .entry)) at (channelName channel) (now (out .exit)) r ⌝ }
-    ensures { λ r. ⌜ r ≤ at + 6 ⌝ }
+    requires { ⌜ OneOf 4 channel 6 at (length (now out)) ⌝ }
+    ensures { λ r. ⌜ Puts 6 (now (out .entry)) at (channelName channel) (now (out .exit)) r ⌝ }
 {
     if channel == 0 {
         return put_word(b"red-", at, out);
@@ -148,9 +63,8 @@ fn put_channel(channel: usize, at: usize, out: &mut [u8]) -> usize
 }
 
 fn put_set(set: usize, at: usize, out: &mut [u8]) -> usize
-    requires { ⌜ (set < 2) × (at + 7 ≤ length (now out)) ⌝ }
-    ensures { λ r. ⌜ Written (now (out .entry)) at (setName set) (now (out .exit)) r ⌝ }
-    ensures { λ r. ⌜ r ≤ at + 7 ⌝ }
+    requires { ⌜ OneOf 2 set 7 at (length (now out)) ⌝ }
+    ensures { λ r. ⌜ Puts 7 (now (out .entry)) at (setName set) (now (out .exit)) r ⌝ }
 {
     if set == 0 {
         return put_word(b"index-", at, out);
@@ -159,32 +73,31 @@ fn put_set(set: usize, at: usize, out: &mut [u8]) -> usize
 }
 
 // The name of a place.
-fn put_name(place: usize, at: usize, out: &mut [u8]) -> usize
-    requires { ⌜ (place < placeCount) × (at + 11 ≤ length (now out)) ⌝ }
-    ensures { λ r. ⌜ Written (now (out .entry)) at (nameOf (placeAt place)) (now (out .exit)) r ⌝ }
-    ensures { λ r. ⌜ r ≤ at + 11 ⌝ }
+fn put_name(place: Place, at: usize, out: &mut [u8]) -> usize
+    requires { ⌜ NameAsked place at (length (now out)) ⌝ }
+    ensures { λ r. ⌜ Puts 11 (now (out .entry)) at (nameOf place) (now (out .exit)) r ⌝ }
 {
-    if place < VALUES {
-        return put_lead(place, at, out);
+    match place {
+        Place::Lead(lead) => put_lead(lead, at, out),
+        Place::Value { channel, endpoint } => {
+            let named = put_channel(channel, at, out);
+            put_few(endpoint as u32, named, out)
+        }
+        Place::PBit(p) => {
+            let named = put_word(b"p-", at, out);
+            put_few(p as u32, named, out)
+        }
+        Place::Index { set, pixel } => {
+            let named = put_set(set, at, out);
+            put_few(pixel as u32, named, out)
+        }
     }
-    if place < P_BITS {
-        let value = place - VALUES;
-        let channel = put_channel(value / 6, at, out);
-        return put_few((value % 6) as u32, channel, out);
-    }
-    if place < FIRST {
-        let p = put_word(b"p-", at, out);
-        return put_few((place - P_BITS) as u32, p, out);
-    }
-    let index = place - FIRST;
-    let set = put_set(index / 16, at, out);
-    put_few((index % 16) as u32, set, out)
 }
 
 // The text of a place that starts at a bit: its name, the bit, its width. Nothing where it has no bits.
-fn put_field(place: usize, bit: u32, width: u32, at: usize, out: &mut [u8]) -> usize
+fn put_field(place: Place, bit: u32, width: u32, at: usize, out: &mut [u8]) -> usize
     requires { ⌜ FieldAsked place bit width at (length (now out)) ⌝ }
-    ensures { λ r. ⌜ Written (now (out .entry)) at (fieldText (placeAt place) bit width) (now (out .exit)) r ⌝ }
+    ensures { λ r. ⌜ Written (now (out .entry)) at (fieldText place bit width) (now (out .exit)) r ⌝ }
 {
     if width == 0 {
         return at;
@@ -196,17 +109,16 @@ fn put_field(place: usize, bit: u32, width: u32, at: usize, out: &mut [u8]) -> u
 }
 
 // The texts of all places, to the start of the output; where they end.
-fn put_places(mode: u8, split: Split, out: &mut [u8]) -> usize
-    requires { ⌜ SplitOfMode mode split × (textRoom ≤ length (now out)) ⌝ }
-    ensures { λ r. ⌜ Written (now (out .entry)) 0 (placesText mode split placeCount) (now (out .exit)) r ⌝ }
-    ensures { λ r. ⌜ r ≤ textRoom ⌝ }
+fn put_places(mode: u8, row: ModeRow, split: Split, out: &mut [u8]) -> usize
+    requires { ⌜ PlacesAsked mode row split (length (now out)) ⌝ }
+    ensures { λ r. ⌜ Puts textRoom (now (out .entry)) 0 (placesText mode split placeCount) (now (out .exit)) r ⌝ }
 {
-    let row = mode_row(mode);
     let anchors = anchors_of(split);
     let mut at: usize = 0;
     let mut bit: u32 = 0;
-    for place in 0..PLACES {
-        let width = width_at(mode, row, anchors, place);
+    for number in 0..PLACES {
+        let place = place_at(number);
+        let width = width_of(mode, row, anchors, place);
         at = put_field(place, bit, width, at, out);
         bit += width;
     }
@@ -214,8 +126,7 @@ fn put_places(mode: u8, split: Split, out: &mut [u8]) -> usize
 }
 
 fn refused(refusal: u8) -> Chart
-    ensures { λ r. ⌜ r ≡ charted refusal (refusedText refusal) ⌝ }
-    ensures { λ r. ⌜ r .length ≤ textRoom ⌝ }
+    ensures { λ r. ⌜ Answers (charted refusal (refusedText refusal)) r ⌝ }
 {
     let mut text = [0u8; ROOM];
     let length = refused_text(refusal, 0, &mut text);
@@ -226,23 +137,16 @@ fn refused(refusal: u8) -> Chart
     }
 }
 
-// The split of a block.
-fn split_in(block: [u8; 16], mode: u8) -> Split
-    requires { ⌜ BlockMode block mode ⌝ }
-    ensures { λ r. ⌜ r ≡ splitOf block ⌝ }
-{
-    let head = read_split(mode_row(mode), BitStream::new(block).skip(mode as u32 + 1));
-    head.split
-}
-
 // The chart of a block that is not reserved.
 fn accepted(block: [u8; 16], mode: u8) -> Chart
     requires { ⌜ BlockMode block mode ⌝ }
-    ensures { λ r. ⌜ r ≡ charted 0 (placesText mode (splitOf block) placeCount) ⌝ }
-    ensures { λ r. ⌜ r .length ≤ textRoom ⌝ }
+    ensures { λ r. ⌜ Answers (charted 0 (placesText mode (splitOf block) placeCount)) r ⌝ }
 {
+    let row = mode_row(mode);
+    let lead = read_lead(block, mode, row);
+    let split = lead.split;
     let mut text = [0u8; ROOM];
-    let length = put_places(mode, split_in(block, mode), &mut text);
+    let length = put_places(mode, row, split, &mut text);
     Chart {
         refusal: 0,
         length: length,
@@ -269,8 +173,7 @@ pub fn wanted() -> usize
 
 // The chart of an input: `refused 10` unless it has exactly sixteen bytes, then `refused 1` for a reserved block.
 pub fn chart(input: &[u8]) -> Chart
-    ensures { λ r. ⌜ Charts (now (input .entry)) r ⌝ }
-    ensures { λ r. ⌜ r .length ≤ textRoom ⌝ }
+    ensures { λ r. ⌜ ChartsWithin (now (input .entry)) r ⌝ }
 {
     if input.len() != 16 {
         return refused(10);

@@ -14,8 +14,8 @@ use Rattle.bc7_format.specs.Modes.{modeOf, endpointCount, kindOfMode, modeRow}
 use Rattle.bc7_format.specs.Places.{placeAt, start, width, widths}
 use Rattle.bc7_format.specs.Splits.{splitAt, splitOf}
 use Rattle.bc7_format.proofs.Examples.{block0, block4}
-use Rattle.listing_rules.specs.Text.{ascii, decimal, digitsIn, refusedText}
-use Rattle.listing_rules.proofs.Attested.{text}
+use Rattle.laws.specs.Text.{ascii, decimal, digitsIn, refusedText}
+use Rattle.laws.proofs.Attested.{text}
 use Rattle.chart_rules.specs.Charts.{chart, chartRefusal, fieldText, placeText, placesText, textMost}
 use Rattle.chart_rules.specs.Names.{nameOf}
 

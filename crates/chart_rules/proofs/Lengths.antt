@@ -11,17 +11,18 @@ use native.Mathlib.Omega.{arith}
 use borrow.Author.Tests.{eq-eqb, eqb-true}
 use lib.Dec.{T, eqb, leb, leb→le, ltb, lt→ltb}
 use lib.ListN.{length, length-append}
+use Rattle.bc7_format.specs.declared.Place.{Place}
 use Rattle.bc7_format.specs.declared.Split.{Split}
 use Rattle.bc7_format.specs.declared.Split.the-variants.{Whole, Two, Three, Vector}
 use Rattle.laws.specs.Tables.{below, implies, pick, table, tableFrom}
 use Rattle.laws.proofs.Cases.{lt-or}
 use Rattle.laws.proofs.Tests.{at, eqb-of, implied}
 use Rattle.bc7_format.specs.Modes.{endpointCount, kindOfMode, modeRow, partitionBits}
-use Rattle.bc7_format.specs.Places.{Place, placeAt, placeCount, start, width, widths}
+use Rattle.bc7_format.specs.Places.{placeAt, placeCount, start, width, widths}
 use Rattle.bc7_format.specs.Splits.{anchors, kindOf, partition}
 use Rattle.bc7_format.proofs.Places.{width-le}
-use Rattle.listing_rules.specs.Text.{ascii, decimal, digitsIn}
-use Rattle.listing_rules.proofs.text.Decimal.{one-digit, three-digits, two-digits}
+use Rattle.laws.specs.Text.{ascii, decimal, digitsIn}
+use Rattle.laws.proofs.Decimal.{one-digit, three-digits, two-digits}
 use Rattle.chart_rules.specs.Charts.{fieldText, placeText, placesText, textMost}
 use Rattle.chart_rules.specs.Names.{nameOf}
 use Rattle.chart_rules.proofs.Standing.{start-low, wide}
@@ -48,7 +49,8 @@ room m i = pick (eqb (width m [] (placeAt i)) 0) 0 (length (nameOf (placeAt i)) 
 narrow : (m i : ℕ) → m < 8 → i < placeCount → width m [] (placeAt i) ≤ 8
 unfolding width placeAt modeRow endpointCount
 narrow m i hm hi =
-    leb→le _ 8 (at placeCount (λ i. leb (width m [] (placeAt i)) 8) (at 8 (λ m. below placeCount (λ i. leb (width m [] (placeAt i)) 8)) tt m hm) i hi)
+    leb→le _ 8
+    (at placeCount (λ i. leb (width m [] (placeAt i)) 8) (at 8 (λ m. below placeCount (λ i. leb (width m [] (placeAt i)) 8)) tt m hm) i hi)
 
 rooms : ℕ → ℕ → ℕ
 rooms m zero = 0

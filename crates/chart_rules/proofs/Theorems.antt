@@ -30,7 +30,7 @@ use Rattle.bc7_format.proofs.Opening.{good-kind, good-partition, opened-good}
 use Rattle.bc7_format.proofs.Places.{inside-placeAt, pos-placeAt}
 use Rattle.bc7_format.proofs.Starts.{at-field, start-next}
 use Rattle.bc7_format.proofs.Subsets.{sixteen-bytes}
-use Rattle.listing_rules.specs.Text.{ascii, decimal, digitsIn, refusedText}
+use Rattle.laws.specs.Text.{ascii, decimal, digitsIn, refusedText}
 use Rattle.chart_rules.specs.Charts.{Charts, chart, chartRefusal, chartRules, fieldText, placeText, placesText, textMost, wantedBytes}
 use Rattle.chart_rules.specs.Names.{nameOf}
 use Rattle.chart_rules.proofs.Lengths.{all-texts}

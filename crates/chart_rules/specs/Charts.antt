@@ -1,20 +1,21 @@
 -- What is printed of an input: the fields of a block in stored order, each with its first bit and its width; or a refusal.
 -- Assumes nothing.
-use Prim.Native.Nat.{ℕ, zero, suc}
+use Prim.Native.Nat.{ℕ, zero, suc, _≤_}
 use mathlib.Core.Path.{_≡_}
 use mathlib.Core.Bool.{not}
 use mathlib.Core.List.{List, [], _∷_, _++_}
 use mathlib.Core.Logic.{_≢_}
 use lib.Dec.{eqb}
 use lib.ListN.{length}
+use Rattle.bc7_format.specs.declared.Place.{Place}
 use Rattle.laws.specs.Padding.{padded}
 use Rattle.laws.specs.Refusals.{Rule, first, refuse, unless}
 use Rattle.laws.specs.Tables.{pick}
 use Rattle.bc7_format.specs.declared.Split.{Split}
 use Rattle.bc7_format.specs.Modes.{modeOf}
-use Rattle.bc7_format.specs.Places.{Place, placeAt, placeCount, start, width}
+use Rattle.bc7_format.specs.Places.{placeAt, placeCount, start, width}
 use Rattle.bc7_format.specs.Splits.{anchors, splitOf}
-use Rattle.listing_rules.specs.Text.{newline, refusedText, spaced}
+use Rattle.laws.specs.Text.{newline, refusedText, spaced}
 use Rattle.chart_rules.specs.declared.Chart.{Chart}
 use Rattle.chart_rules.specs.Names.{nameOf}
 
@@ -59,3 +60,11 @@ charted r t = record { refusal = r; length = length t; text = padded textRoom t 
 -- the promise
 abbrev pub Charts : List ℕ → Chart → Type 0
 Charts bs r = r ≡ charted (chartRefusal bs) (chart bs)
+
+-- an answer is c, and its length is within the room of the text, as whoever writes it has to know; so is that of a chart
+pub record Answers (c r : Chart) : Type 0 where
+  pub is : r ≡ c
+  pub within : r .length ≤ textRoom
+
+abbrev pub ChartsWithin : List ℕ → Chart → Type 0
+ChartsWithin bs = Answers (charted (chartRefusal bs) (chart bs))

@@ -3,8 +3,9 @@
 use Prim.Native.Nat.{ℕ}
 use mathlib.Core.List.{List, [], _∷_, _++_}
 use lib.ListN.{getD}
-use Rattle.bc7_format.specs.Places.{Place, lead, index, pbit, value}
-use Rattle.listing_rules.specs.Text.{ascii, decimal}
+use Rattle.bc7_format.specs.declared.Place.{Place}
+use Rattle.bc7_format.specs.declared.Place.the-variants.{Lead, Value, PBit, Index}
+use Rattle.laws.specs.Text.{ascii, decimal}
 
 -- the marker counts the mode
 abbrev pub leadName : ℕ → List ℕ
@@ -19,7 +20,7 @@ setName a = getD (ascii "index-" ∷ ascii "second-" ∷ []) a []
 
 -- a value has its endpoint's number, an index its pixel's
 unfoldable pub nameOf : Place → List ℕ
-nameOf (lead k) = leadName k
-nameOf (value c e) = channelName c ++ decimal e
-nameOf (pbit k) = ascii "p-" ++ decimal k
-nameOf (index a q) = setName a ++ decimal q
+nameOf (Lead k) = leadName k
+nameOf (Value c e) = channelName c ++ decimal e
+nameOf (PBit k) = ascii "p-" ++ decimal k
+nameOf (Index a q) = setName a ++ decimal q

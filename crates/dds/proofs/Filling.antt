@@ -2,18 +2,18 @@
 -- Assumes nothing.
 use mathlib.Core.Path.{_≡_, _∙_, ap}
 use mathlib.Core.List.{List, [], _++_, append-nil}
-use Prim.Native.Nat.{ℕ, _+_, _-_, _≤_}
+use Prim.Native.Nat.{ℕ, _-_}
 use native.Mathlib.Nat.{le-of-eq}
 use native.Mathlib.Omega.{arith}
 use lib.ListN.{length, take, drop, drop-of-length-le, length-append, length-drop, length-take}
 use lib.Seq.{length-take-le, take-all, take-at, take-length}
+use Rattle.dds.specs.Filling.{Fills}
 
 -- the first copy lays the first count bytes of a head, the second, behind them, the bytes of another list from start on: both as `copy` says
-module _ (head from out : List ℕ) (count start : ℕ) (h : count ≤ length head) (k : start ≤ length from)
-    (l : length out + start ≡ count + length from) {one : List ℕ}
+module _ (head from out : List ℕ) (count start : ℕ) (h : Fills (length head) count (length from) start (length out)) {one : List ℕ}
     (e : one ≡ take (length (take count head)) (take count head) ++ drop (length (take count head)) out) where
   long : length (take count head) ≡ count
-  long = length-take-le count head h
+  long = length-take-le count head (h .count-there)
 
   first-is : one ≡ take count head ++ drop count out
   first-is = e ∙ rw (long, take-all count (take count head) (le-of-eq long))

@@ -4,7 +4,7 @@ use mathlib.Core.Path.{_≡_, refl, _∙_, ap, ap₂, sym}
 use mathlib.Core.Logic.{_≢_}
 use mathlib.Core.Bool.{false}
 use mathlib.Core.List.{List, [], _∷_, _++_}
-use Prim.Native.Nat.{ℕ, _+_, _-_, _*_, _≤_}
+use Prim.Native.Nat.{ℕ, _+_, _-_, _*_}
 use native.Mathlib.Omega.{arith}
 use borrow.Author.Tests.{eq-eqb}
 use lib.ListN.{length, drop, length-append, replicate, take}
@@ -27,6 +27,7 @@ use Rattle.dds_rules.specs.Promises.{Exports, Imports}
 use Rattle.dds_rules.proofs.Refusing.{Taken}
 use Rattle.dds_rules.proofs.Numbers.{header-long}
 use Rattle.dds_rules.proofs.Textures.{a-texture}
+use Rattle.dds.specs.Filling.{Fills}
 use Rattle.dds.proofs.Answers.{a-file, export-done, export-taken, import-done, import-sized, import-taken, no-file}
 
 -- 15
@@ -111,14 +112,16 @@ module _ (dds out : List ℕ) {x : Head} (e : x ≡ importHead dds) (z : x .refu
   unfolding headMade
   starts = rw made
 
-  pub import-fits : (x .start ≤ length (b .bytes)) × (headerLength ≤ length dds) × (length out + headerLength ≡ x .start + length dds)
+  pub import-fits : Fills (length (b .bytes)) (x .start) (length dds) headerLength (length out)
   unfolding padded
-  import-fits = (
-    let s = ap (λ (y : HeadBytes). length (y .bytes)) (seven (x .width) (x .height) eb (import-sized dds e z)) in
-        omega (arith, s, starts, length-append (headBytes (x .width) (x .height)) (replicate (7 - length (headBytes (x .width) (x .height))) 0)),
-    take-dds .texture .long,
-    omega (arith, l, take-dds .long, ap fileLength made),
-  )
+  import-fits =
+      let bytes = headBytes (x .width) (x .height) in
+      let s = ap (λ (y : HeadBytes). length (y .bytes)) (seven (x .width) (x .height) eb (import-sized dds e z)) in
+      record {
+        count-there = omega (arith, s, starts, length-append bytes (replicate (7 - length bytes) 0));
+        start-there = take-dds .texture .long;
+        whole = omega (arith, l, take-dds .long, ap fileLength made);
+      }
 
   pub import-filled : {after : List ℕ} → after ≡ take (x .start) (b .bytes) ++ drop headerLength dds → Imports dds out x after
   import-filled f = import-done dds out e z l (f ∙ sheet-laid dds take-dds made eb)
@@ -134,13 +137,14 @@ module _ (s : List ℕ) (c : ColourSpace) (out : List ℕ) {x : Head} (e : x ≡
   unfolding canonicalHeader
   is-header = eh ∙ ap (λ (ns : List ℕ). table headerLength (bytesIn ns)) (en ∙ ap (λ (h : Head). table 37 (headerNumber h)) eu)
 
-  pub export-fits : (headerLength ≤ length header) × (x .start ≤ length s) × (length out + x .start ≡ headerLength + length s)
+  pub export-fits : Fills (length header) headerLength (length s) (x .start) (length out)
   export-fits =
-      let w = export-taken s e z .0 .long ∙ ap (λ (h : Head). h .start + 16 * blocksOf h) (sym known) in (
-        omega (arith, ap length is-header, header-long (under c x)),
-        omega (arith, w),
-        omega (arith, w, l),
-      )
+      let w = export-taken s e z .0 .long ∙ ap (λ (h : Head). h .start + 16 * blocksOf h) (sym known) in
+      record {
+        count-there = omega (arith, ap length is-header, header-long (under c x));
+        start-there = omega (arith, w);
+        whole = omega (arith, w, l);
+      }
 
   pub export-filled : {after : List ℕ} → after ≡ take headerLength header ++ drop (x .start) s → Exports s c out 0 after
   unfolding fileMadeBy

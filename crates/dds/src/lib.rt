@@ -3,13 +3,14 @@
 // named here and nowhere else in the code.
 ghost use mathlib.Core.Path.{_≡_};
 ghost use mathlib.Core.List.{_++_};
-ghost use Prim.Native.Nat.{_+_, _<_, _≤_};
+ghost use Prim.Native.Nat.{_+_, _≤_};
 ghost use lib.ListN.{drop, length, take};
 ghost use Rattle.head_rules.specs.Heads.{Sized, headOf};
 ghost use Rattle.laws.specs.Tables.{table};
 ghost use Rattle.dds_rules.specs.Header.{bytesIn, formatOf, formatSays, headerNumber, isTexture, numberAt};
 ghost use Rattle.dds_rules.specs.Files.{exportHead, fileLength, importHead};
 ghost use Rattle.dds_rules.specs.Promises.{ExportNeeds, Exports, ExportsNumbered, ImportNeeds, Imports};
+ghost use Rattle.dds.specs.Filling.{Fills, Widens};
 use dds_rules::Length;
 use head_rules::ColourSpace;
 use head_rules::Head;
@@ -61,7 +62,7 @@ const BC7_SRGB: u32 = 99;
 const TWO_DIMENSIONS: u32 = 3;
 
 fn wide(x: u8) -> u32
-    ensures { λ r. ⌜ (r ≡ x) × (r < 256) ⌝ }
+    ensures { λ r. ⌜ Widens x r ⌝ }
 {
     x as u32
 }
@@ -260,7 +261,7 @@ fn bytes_of(numbers: [u32; NUMBERS]) -> [u8; HEADER]
 
 // So many bytes of a head, and behind them all of a list from a place on: the whole output.
 fn fill(head: &[u8], count: usize, from: &[u8], start: usize, out: &mut [u8])
-    requires { ⌜ (count ≤ length (now head)) × (start ≤ length (now from)) × (length (now out) + start ≡ count + length (now from)) ⌝ }
+    requires { ⌜ Fills (length (now head)) count (length (now from)) start (length (now out)) ⌝ }
     ensures { λ _. ⌜ now (out .exit) ≡ take count (now (head .entry)) ++ drop start (now (from .entry)) ⌝ }
 {
     bytes::copy(&head[..count], out);

@@ -3,7 +3,7 @@
 -- Assumes nothing.
 use mathlib.Core.Path.{_≡_, refl}
 use mathlib.Core.List.{List, [], _∷_, _++_, map}
-use Prim.Native.Nat.{ℕ, _/_}
+use Prim.Native.Nat.{ℕ, _*_}
 use lib.ListN.{drop, replicate, set, take}
 use lib.Seq.{sets}
 use Rattle.head_rules.specs.declared.ColourSpace.{ColourSpace}
@@ -18,9 +18,8 @@ use Rattle.laws.specs.Refusals.{first}
 use Rattle.laws.specs.Tables.{table, tableFrom}
 use Rattle.dds_rules.specs.Header.{alphaMask, arraySize, bitCount, blueMask, canonicalHeader, caps, caps2, caps3, caps4, depth}
 use Rattle.dds_rules.specs.Header.{dimension, entries, format, formatCode, formatFlags, formatOf, formatSays, formatSize, greenMask}
-use Rattle.dds_rules.specs.Header.{headerFlags, headerNumber}
-use Rattle.dds_rules.specs.Header.{headerSize, height, isTexture, linearSize, magic, mipCount, misc, misc2, numberAt, offset, redMask, reserved}
-use Rattle.dds_rules.specs.Header.{reserved2, width}
+use Rattle.dds_rules.specs.Header.{headerFlags, headerNumber, headerSize, height, isTexture, linearSize, magic, mipCount, misc, misc2}
+use Rattle.dds_rules.specs.Header.{numberAt, offset, redMask, reserved, reserved2, width}
 use Rattle.dds_rules.specs.Files.{exportAfter, exportAfterBy, exportHead, exportLength, exportRefusal, exportRefusalBy, fileMadeBy}
 use Rattle.dds_rules.specs.Files.{fileRefusalUpTo, headMade, importAfter, importAfterUpTo}
 use Rattle.dds_rules.specs.Files.{importAnswer, importHead, importLength, importRefusal, importRefusalUpTo, numberedAfter, numberedRefusal}
@@ -185,12 +184,13 @@ numbered =
     []
 
 pub record Files : Type 0 where
-  -- the fields by their numbers: those behind the eleven reserved ones start at 19
-  pub in-order : map (λ f. offset f / 4)
+  -- the fields by their numbers, four bytes each: those behind the eleven reserved ones start at 19
+  pub in-order : map offset
       (magic ∷ headerSize ∷ headerFlags ∷ height ∷ width ∷ linearSize ∷ depth ∷ mipCount ∷ reserved ∷
       formatSize ∷ formatFlags ∷ formatCode ∷ bitCount ∷ redMask ∷ greenMask ∷ blueMask ∷ alphaMask ∷
       caps ∷ caps2 ∷ caps3 ∷ caps4 ∷ reserved2 ∷ format ∷ dimension ∷ misc ∷ arraySize ∷ misc2 ∷ [])
-      ≡ 0 ∷ 1 ∷ 2 ∷ 3 ∷ 4 ∷ 5 ∷ 6 ∷ 7 ∷ 8 ∷ 19 ∷ 20 ∷ 21 ∷ 22 ∷ 23 ∷ 24 ∷ 25 ∷ 26 ∷ 27 ∷ 28 ∷ 29 ∷ 30 ∷ 31 ∷ 32 ∷ 33 ∷ 34 ∷ 35 ∷ 36 ∷ []
+      ≡ map (λ i. 4 * i)
+      (0 ∷ 1 ∷ 2 ∷ 3 ∷ 4 ∷ 5 ∷ 6 ∷ 7 ∷ 8 ∷ 19 ∷ 20 ∷ 21 ∷ 22 ∷ 23 ∷ 24 ∷ 25 ∷ 26 ∷ 27 ∷ 28 ∷ 29 ∷ 30 ∷ 31 ∷ 32 ∷ 33 ∷ 34 ∷ 35 ∷ 36 ∷ [])
   -- 98, but 99 for sRGB; and what a format says
   pub headers : map (λ c. canonicalHeader (head c 5 3 3)) three ≡ header53 ∷ header53 ∷ set header53 128 99 ∷ []
   pub formats : map formatOf three ≡ 98 ∷ 98 ∷ 99 ∷ []

@@ -1,9 +1,17 @@
--- What the functions ask of their arguments, each clause by its name.
+-- What the functions ask of their arguments, and what some answer, each clause by its name.
 -- Assumes nothing.
-use Prim.Native.Nat.{ℕ, _/_, _%_, _^_, _≤_, _<_}
+use mathlib.Core.Path.{_≡_}
+use Prim.Native.Nat.{ℕ, _+_, _-_, _*_, _/_, _%_, _^_, _≤_, _<_}
 use Rattle.drawing.specs.declared.colour.Ends.{Ends}
 use Rattle.drawing.specs.declared.colour.Stored.{Stored}
 use Rattle.drawing.specs.Words.{Alone, Bytes, Fitting, Lanes, LanesOfOne}
+
+-- four values, each of which fits a lane
+pub record FourLanes (a b c d : ℕ) : Type 0 where
+  pub first : a < 2 ^ 16
+  pub second : b < 2 ^ 16
+  pub third : c < 2 ^ 16
+  pub fourth : d < 2 ^ 16
 
 -- a width that promotion takes, alone and with a p bit below
 pub record Width (bits : ℕ) : Type 0 where
@@ -32,6 +40,11 @@ pub record OneEnd (bits k : ℕ) : Type 0 where
 pub record OneEndP (bits k : ℕ) : Type 0 where
   pub width : WidthP bits
   pub two : k < 2
+
+-- two values that are all ones, in a lane
+pub record AllOnes (bits r : ℕ) : Type 0 where
+  pub is : r ≡ 2 ^ (bits + bits) - 1
+  pub fits : r < 2 ^ 16
 
 -- what is stored of two colours, of one, and of one whose alpha has a width of its own
 pub record TwoStored (bits : ℕ) (x y : Stored) : Type 0 where
@@ -81,7 +94,7 @@ pub record ThreeSubsets (e f : Ends) : Type 0 where
   pub two : Bytes e
   pub third : Bytes f
 
--- the mask of an index's bits and how far it is moved; a key of a word, of so many
+-- the mask of an index's bits and how far it is moved; a key of a word, of so many, and that it is found
 pub record Moved (m k : ℕ) : Type 0 where
   pub mask : m < 2 ^ 48
   pub shift : k ≤ 2
@@ -90,3 +103,7 @@ pub record Key (bits i many : ℕ) : Type 0 where
   pub step : bits ≤ 6
   pub place : i < 8
   pub some : 0 < many
+
+pub record IsKey (keys bits i many r : ℕ) : Type 0 where
+  pub is : r ≡ keys / 2 ^ (i * bits) % many
+  pub below : r < many

@@ -5,12 +5,13 @@ ghost use mathlib.Core.Path.{_≡_};
 ghost use mathlib.Core.List.{[], _∷_, map, zipWith};
 ghost use lib.Dec.{eqb};
 ghost use lib.ListN.{drop, take};
-ghost use Prim.Native.Nat.{_+_, _-_, _*_, _/_, _%_, _^_, _≤_, _<_};
+ghost use Prim.Native.Nat.{_+_, _*_, _/_, _%_, _^_, _≤_, _<_};
 ghost use Rattle.laws.specs.Tables.{pick};
 ghost use Rattle.bcn_format.specs.Block.{field};
 ghost use Rattle.bcn_format.specs.Drawing.{promoted};
 ghost use Rattle.bcn_format.specs.Painting.{endOf, endOfP, solid};
-ghost use Rattle.drawing.specs.Asked.{Mixable, Mixable2, OneEnd, OneEndP, OneStored, OneStoredP, Promotable, PromotableP, TwoStored, TwoStoredP, WidthP};
+ghost use Rattle.drawing.specs.Asked.{AllOnes, FourLanes, Mixable, Mixable2, OneEnd, OneEndP, OneStored, OneStoredP};
+ghost use Rattle.drawing.specs.Asked.{Promotable, PromotableP, TwoStored, TwoStoredP, WidthP};
 ghost use Rattle.drawing.specs.Words.{laned, lanesOf, wordBytes, woven, blend, blends, endsP, Holds, HoldsOne};
 ghost use Rattle.drawing.specs.Words.{plain, withAlpha, withP};
 
@@ -38,7 +39,7 @@ const HALVES: u64 = 0x0080_0080_0080_0080;
 
 // Four values in the lanes of a word, the first lowest.
 fn lanes(a: u64, b: u64, c: u64, d: u64) -> u64
-    requires { ⌜ (a < 2 ^ 16) × (b < 2 ^ 16) × (c < 2 ^ 16) × (d < 2 ^ 16) ⌝ }
+    requires { ⌜ FourLanes a b c d ⌝ }
     ensures { λ r. ⌜ r ≡ laned (a ∷ b ∷ c ∷ d ∷ []) ⌝ }
 {
     a + (b << 16) + (c << 32) + (d << 48)
@@ -127,7 +128,7 @@ pub fn translucent_p(x: Stored, y: Stored, bits: u32) -> Ends
 // are filled with ones too.
 fn all_ones(bits: u32) -> u64
     requires { ⌜ bits ≤ 8 ⌝ }
-    ensures { λ r. ⌜ (r ≡ 2 ^ (bits + bits) - 1) × (r < 2 ^ 16) ⌝ }
+    ensures { λ r. ⌜ AllOnes bits r ⌝ }
 {
     (1u64 << (bits + bits)) - 1
 }

@@ -7,10 +7,10 @@
 // bits as a subset has, `shift`, is below 2^(w + shift), which is within the 2 w bits: so neighbours don't meet, and the subset
 // goes below it. The odd pixels come the same way, a field further down.
 ghost use mathlib.Core.Path.{_≡_};
-ghost use Prim.Native.Nat.{_+_, _*_, _/_, _%_, _^_, _≤_, _<_};
+ghost use Prim.Native.Nat.{_+_, _*_, _^_, _≤_};
 ghost use lib.Bits.{bitAnd};
 ghost use Rattle.bcn_format.specs.Painting.{painted};
-ghost use Rattle.drawing.specs.Asked.{Key, Moved};
+ghost use Rattle.drawing.specs.Asked.{IsKey, Key, Moved};
 ghost use Rattle.drawing.specs.Keys.{keysOf, keyAt};
 
 // Those of the eight even and of the eight odd pixels.
@@ -57,7 +57,7 @@ pub fn keys_3(x: u64, shift: u32, map: u64) -> Keys
 // Key i of a word that has `step` bits for each, of which there are `many` different ones, a power of two: so the rest is a mask.
 fn key_of(keys: u64, step: u32, i: usize, many: u64) -> usize
     requires { ⌜ Key step i many ⌝ }
-    ensures { λ r. ⌜ (r ≡ keys / 2 ^ (i * step) % many) × (r < many) ⌝ }
+    ensures { λ r. ⌜ IsKey keys step i many r ⌝ }
 {
     ((keys >> ((i as u32) * step)) % many) as usize
 }

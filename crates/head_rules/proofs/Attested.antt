@@ -11,8 +11,8 @@ use Rattle.head_rules.specs.declared.HeadBytes.{HeadBytes}
 use Rattle.laws.specs.Padding.{padded}
 use Rattle.laws.specs.Refusals.{first}
 use Rattle.head_rules.specs.Colours.{colourNumber, colourOf, colourRefusal}
-use Rattle.head_rules.specs.Heads.{bytesOfHead, formIn, headBytes, headRefusalUpTo, heightIn, oldLimit, readHead, readHeadUpTo, sizeRefusalUpTo}
-use Rattle.head_rules.specs.Heads.{under, widthIn, writeHead}
+use Rattle.head_rules.specs.Heads.{bytesOfHead, formIn, headBytes, headRefusalUpTo, heightIn, oldLimit, readHead, readHeadUpTo}
+use Rattle.head_rules.specs.Heads.{sizeRefusalUpTo, under, widthIn, writeHead}
 use Rattle.head_rules.specs.declared.Stage.the-variants.{Width}
 use Rattle.head_rules.specs.Geometry.{across, blocksOf, outLength, placeOf, rowLength, sideShown, wholeLength}
 use Rattle.head_rules.specs.Reader.{Reading, atForm, byteTaken, formTaken, groupTaken, heightTaken, lastTaken, readBy}
@@ -74,9 +74,9 @@ pub record Heads : Type 0 where
   pub a-state : byteTaken (byteTaken atForm 0x01) 0x85 ≡ record { stage = Width; low = 5; groups = 1; head = head 0 0 1 }
   pub heads-by-bytes : map (readBy atForm)
       ((0x01 ∷ 0x05 ∷ 0x06 ∷ 0x60 ∷ []) ∷ (0x01 ∷ 0x80 ∷ 0x20 ∷ 0x81 ∷ 0x02 ∷ []) ∷ (0x02 ∷ 0x05 ∷ []) ∷ (0x01 ∷ 0x81 ∷ 0x00 ∷ 0x60 ∷ []) ∷
-      (0x01 ∷ 0x80 ∷ 0x80 ∷ 0x80 ∷ []) ∷ (0x01 ∷ 0x05 ∷ []) ∷ (0x01 ∷ 0x05 ∷ 0x00 ∷ []) ∷ [])
+      (0x01 ∷ 0x80 ∷ 0x80 ∷ 0x80 ∷ 0x60 ∷ []) ∷ (0x01 ∷ 0x05 ∷ []) ∷ (0x01 ∷ 0x05 ∷ 0x00 ∷ []) ∷ [])
       ≡ reading (head 5 6 3) (0x60 ∷ []) ∷ reading (head 4096 257 5) [] ∷ reading (noHead 8) (0x05 ∷ []) ∷ reading (noHead 7) (0x60 ∷ []) ∷
-      reading (noHead 7) [] ∷ reading (noHead 7) [] ∷ reading (noHead 9) [] ∷ []
+      reading (noHead 7) (0x60 ∷ []) ∷ reading (noHead 7) [] ∷ reading (noHead 9) [] ∷ []
   -- columns and rows of blocks, shown scanlines, and of a sheet of 5 by 9 pixels the blocks, the place of block 3, and its length
   pub rounded-up : map across (1 ∷ 4 ∷ 5 ∷ 16383 ∷ 16384 ∷ []) ≡ 1 ∷ 1 ∷ 2 ∷ 4096 ∷ 4096 ∷ []
   pub scanlines-shown : map (sideShown 9) (0 ∷ 1 ∷ 2 ∷ []) ≡ 4 ∷ 4 ∷ 1 ∷ []
@@ -84,8 +84,8 @@ pub record Heads : Type 0 where
       ≡ 6 ∷ 51 ∷ 99 ∷ 32 ∷ 60 ∷ []
 
 pub heads-hold : Heads
-unfolding groups readGroups readNumber raised readHeadUpTo headRefusalUpTo formIn widthIn heightIn first sizeRefusalUpTo writeHead headBytes padded formTaken
-    heightTaken lastTaken groupTaken readBy blocksOf placeOf colourOf colourRefusal
+unfolding groups readGroups readNumber raised readHeadUpTo headRefusalUpTo formIn widthIn heightIn first sizeRefusalUpTo writeHead
+    headBytes padded formTaken heightTaken lastTaken groupTaken readBy blocksOf placeOf colourOf colourRefusal
 heads-hold = record {
   numbers-written = refl;
   numbers-read = refl;

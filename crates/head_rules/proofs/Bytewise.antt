@@ -57,7 +57,8 @@ module _ (r : HeadReader) (b : ℕ) where
 
   some-taken : (b ≡ 0 → ⊥) → lastTaken r b ≡ numberIn (r .stage) (r .head) (r .low + b * 128 ^ r .groups) (r .head .start + r .groups + 1)
   unfolding lastTaken
-  some-taken ne = ⊎-elim (λ z. rw (le-ltb 0 (r .groups) (omega arith))) (λ l. rw (lt-ltb 0 (r .groups) l, ne-eqb b 0 ne)) (eq-zero-or-pos (r .groups))
+  some-taken ne =
+      ⊎-elim (λ z. rw (le-ltb 0 (r .groups) (omega arith))) (λ l. rw (lt-ltb 0 (r .groups) l, ne-eqb b 0 ne)) (eq-zero-or-pos (r .groups))
 
 -- what the groups of r and the number that the next bytes spell are together
 whole : HeadReader → Number → Number
@@ -182,7 +183,9 @@ module _ (s : List ℕ) where
         where
           same : whole (grown r byte) (readGroups (suc k) (r .head .start + (r .groups + 1)) (from (grown r byte)))
               ≡ whole r (readGroups (suc (suc k)) at (drop at s))
-          same = sym (whole-raised r byte _ low) ∙ ap (whole r) (more-groups s at (suc k) l b (ap (λ (i : ℕ). readGroups (suc k) i (drop i s)) place))
+          same =
+              sym (whole-raised r byte _ low)
+              ∙ ap (whole r) (more-groups s at (suc k) l b (ap (λ (i : ℕ). readGroups (suc k) i (drop i s)) place))
 
   -- a number that the bytes go on with is taken byte by byte as it is read at once
   number-run : (k : ℕ) (r : HeadReader) → hasEnded r ≡ false → (r .groups ≡ 0 → r .low ≡ 0) → r .groups + suc k ≡ 3
@@ -238,15 +241,12 @@ module _ (s : List ℕ) (r : HeadReader) where
   number-near Height h v next most l m = pick-either (λ (x : HeadReader). x .head .start ≤ most) (eqb (sizeRefusal (h .width) v) 0) l (omega arith)
   number-near Ended h v next most l m = m
 
-  next-near : nextNumber s r .head .start ≤ r .head .start + 3
+  pub next-near : nextNumber s r .head .start ≤ r .head .start + 3
   unfolding nextNumber
   next-near =
       pick-either (λ (x : HeadReader). x .head .start ≤ r .head .start + 3) (hasEnded r) (omega arith)
       (pick-either (λ (x : HeadReader). x .head .start ≤ r .head .start + 3) (eqb (readNumber s (r .head .start) .refusal) 0)
       (number-near (r .stage) (r .head) _ _ _ (near s (r .head .start) refl) (omega arith)) (omega arith))
-
-  pub nexts : {x : HeadReader} → x ≡ nextNumber s r → (x ≡ nextNumber s r) × (x .head .start ≤ r .head .start + 3)
-  nexts e = (e, rw e next-near)
 
   -- the ways of `next_number`
   pub no-next : {t : Bool} → t ≡ hasEnded r → t ≡ true → r ≡ nextNumber s r
@@ -386,7 +386,8 @@ module _ (s : List ℕ) where
       height-told z e y (inr l) = let ne : heightIn s .refusal ≢ 0 = λ q. omega arith in subst Reads (told (then z (then e (then y (here ne)))) ne)
           (no-height z e y ne)
 
-      width-told : (z : formIn s .refusal ≡ 0) (e : formIn s .value ≡ form) → (widthIn s .refusal ≡ 0) ⊎ (0 < widthIn s .refusal) → Reads (readHead s)
+      width-told : (z : formIn s .refusal ≡ 0) (e : formIn s .value ≡ form) → (widthIn s .refusal ≡ 0) ⊎ (0 < widthIn s .refusal)
+          → Reads (readHead s)
       width-told z e (inl y) = height-told z e y (eq-zero-or-pos _)
       width-told z e (inr l) = let ne : widthIn s .refusal ≢ 0 = λ q. omega arith in subst Reads (told (then z (then e (here ne))) ne)
           (no-width z e ne)

@@ -17,8 +17,8 @@ use Rattle.head_rules.specs.declared.HeadBytes.{HeadBytes}
 use Rattle.laws.specs.Refusals.{Given}
 use Rattle.laws.proofs.Cases.{lt-or}
 use Rattle.laws.proofs.Refusals.{Answers, accepted-when, alone, exactly}
-use Rattle.head_rules.specs.Heads.{ReadsHead, Sized, WritesHead, bytesOfHead, form, formIn, headBytes, headOf, headRefusal, headRules, heightIn, limit, oldLimit, readHead}
-use Rattle.head_rules.specs.Heads.{readHeadUpTo, sizeRefusal, sizeRules, under, widthIn, writeHead}
+use Rattle.head_rules.specs.Heads.{ReadsHead, Sized, WritesHead, bytesOfHead, form, formIn, headBytes, headOf, headRefusal, headRules}
+use Rattle.head_rules.specs.Heads.{heightIn, limit, oldLimit, readHead, readHeadUpTo, sizeRefusal, sizeRules, under, widthIn, writeHead}
 use Rattle.head_rules.specs.Numbers.{Bytes, found, groups, noNumber, numberBytes, numbersEnd, raised, readGroups, readNumber}
 use Rattle.head_rules.specs.Geometry.{across, blocksOf, placeOf, wholeLength}
 use Rattle.head_rules.specs.Reader.{atForm, readBy}
@@ -60,7 +60,8 @@ Told k at bs r = (r ≡ noNumber) ⊎ ((r .refusal ≡ 0) × (Bytes bs → OneFo
 told : (k at : ℕ) (bs : List ℕ) → Told k at bs (readGroups k at bs)
 unfolding Told
 told =
-    every-number Told (λ k at bs. inl refl) (λ k at b bs l. inr (refl, λ y. record { whole = rw (groups-last k b l); ends = rw (groups-last k b l) }))
+    every-number Told (λ k at bs. inl refl)
+    (λ k at b bs l. inr (refl, λ y. record { whole = rw (groups-last k b l); ends = rw (groups-last k b l) }))
     (λ k at b bs r l ne h. inr (
       refl,
       λ y. above k at b bs r l ne (y 0)
@@ -164,7 +165,8 @@ module _ (w h : ℕ) (z : Sized w h) (rest : List ℕ) where
   pub head-read-back : readHead (headBytes w h ++ rest) ≡ headOf 0 w h (length (headBytes w h))
   unfolding sheet
   head-read-back =
-      sym (accepted limit sheet (accepted-when (head-rules limit sheet) .1 (rw (form-part, width-part, height-part) (refl, (refl, (refl, (refl, (z, tt))))))))
+      sym (accepted limit sheet
+      (accepted-when (head-rules limit sheet) .1 (rw (form-part, width-part, height-part) (refl, (refl, (refl, (refl, (z, tt))))))))
       ∙ ap₂ (λ (x y : Number). headOf 0 (x .value) (y .value) (y .next)) width-part height-part
 
 -- an accepted head has exactly one form

@@ -12,7 +12,8 @@ use Rattle.indexes.specs.declared.NewIndexes.{NewIndexes}
 use Rattle.indexes.specs.Reading.{newIndexes}
 
 -- the word of the indexes that stand in the next t bits, and where the stream stands then
-module _ {n a : ℕ} {s : BitStream} (o : On n a s) (w : ℕ) (an : List ℕ) (t : ℕ) (h : a + t ≤ 128) {r : NewIndexes} (e : r ≡ newIndexes w an s t) where
+module _ {n a : ℕ} {s : BitStream} (o : On n a s) (w : ℕ) (an : List ℕ) (t : ℕ) (h : a + t ≤ 128) {r : NewIndexes}
+    (e : r ≡ newIndexes w an s t) where
   pub got-indexes : r .indexes .uncompressed ≡ expanded w an (field n a t)
   got-indexes = rw e (ap (expanded w an) (got o t h refl))
 

@@ -43,8 +43,8 @@ one-kind (suc (suc (suc k))) p q a b = refl
 -- how many bits the stored indexes have
 pub size-kind : (k w p q : ℕ) → 0 < w → Rising k p q → total (indexWidths w (anchorsOfKind k p q)) ≡ 16 * w - anchorCount k
 size-kind zero w p q hw r = size-1 w hw
-size-kind (suc zero) w p q hw r = let h = r .two refl in size-2 w p hw (h .0) (h .1)
-size-kind (suc (suc zero)) w p q hw r = let h = r .three refl in size-3 w p q hw (h .0) (h .1) (h .2)
+size-kind (suc zero) w p q hw r = let h = r .two refl in size-2 w p hw (h .above) (h .pixel)
+size-kind (suc (suc zero)) w p q hw r = let h = r .three refl in size-3 w p q hw (h .above) (h .rising) (h .pixel)
 size-kind (suc (suc (suc k))) w p q hw r = size-1 w hw
 
 -- indexes that fit their stored widths: stored and expanded they are as before
@@ -101,10 +101,10 @@ module _ (w n : ℕ) (hw : 0 < w) (hn : n < 2 ^ (16 * w)) where
     store-2 e ea eb =
         let h = rise .two e in
         let an : anchorsOfKind k p q ≡ 0 ∷ p ∷ [] = ap (λ (k : ℕ). anchorsOfKind k p q) e in
-        two (h .0) (h .1) (subst Fits an f) ea eb ∙ ap stored (sym an)
+        two (h .above) (h .pixel) (subst Fits an f) ea eb ∙ ap stored (sym an)
 
     pub store-3 : {a b c : ℕ} → k ≡ 2 → a ≡ removed n (top q) → b ≡ removed a (top p) → c ≡ removed b (top 0) → c ≡ stored (anchorsOfKind k p q)
     store-3 e ea eb ec =
         let h = rise .three e in
         let an : anchorsOfKind k p q ≡ 0 ∷ p ∷ q ∷ [] = ap (λ (k : ℕ). anchorsOfKind k p q) e in
-        three (h .0) (h .1) (h .2) (subst Fits an f) ea eb ec ∙ ap stored (sym an)
+        three (h .above) (h .rising) (h .pixel) (subst Fits an f) ea eb ec ∙ ap stored (sym an)

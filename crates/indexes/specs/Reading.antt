@@ -8,7 +8,7 @@ use Rattle.indexes.specs.declared.NewIndexes.{NewIndexes}
 use Rattle.bits.specs.declared.stream.BitStream.{BitStream}
 use Rattle.bits.specs.Stream.{readOf}
 use Rattle.laws.specs.Digits.{Fit}
-use Rattle.bcn_format.specs.Indexes.{Rising, expanded, indexWidths, part}
+use Rattle.bcn_format.specs.Indexes.{OneFixup, Rising, TwoFixups, expanded, indexWidths, part}
 
 -- index i, which is within its width
 pub record Index (x : Indexes) (i r : ℕ) : Type 0 where
@@ -30,15 +30,12 @@ pub record Anchors1 (w : ℕ) : Type 0 where
 pub record Anchors2 (w p : ℕ) : Type 0 where
   pub least : 0 < w
   pub most : w ≤ 4
-  pub above : 0 < p
-  pub pixel : p < 16
+  pub fixup : OneFixup p
 
 pub record Anchors3 (w p q : ℕ) : Type 0 where
   pub least : 0 < w
   pub most : w ≤ 4
-  pub above : 0 < p
-  pub rising : p < q
-  pub pixel : q < 16
+  pub fixups : TwoFixups p q
 
 -- and of a number that they stand in: it has no more than their t bits
 pub record Compressed (Anchors : Type 0) (n t : ℕ) : Type 0 where

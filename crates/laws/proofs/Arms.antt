@@ -23,7 +23,8 @@ pub eight-arms : {f : ℕ → ℕ} {x s k : ℕ} {P₀ P₁ P₂ P₃ P₄ P₅ 
     → Arms f x s (k + 8) A → Arms f x s k (P₀ ⊎ (P₁ ⊎ (P₂ ⊎ (P₃ ⊎ (P₄ ⊎ (P₅ ⊎ (P₆ ⊎ (P₇ ⊎ A))))))))
 eight-arms {f} {x} {s} {k} a rest = record {
   met =
-      ⊎-elim (by-arm f x s k (a .0)) (⊎-elim (by-arm f x s (k + 1) (a .1)) (⊎-elim (by-arm f x s (k + 2) (a .2)) (⊎-elim (by-arm f x s (k + 3) (a .3))
+      ⊎-elim (by-arm f x s k (a .0)) (⊎-elim (by-arm f x s (k + 1) (a .1))
+      (⊎-elim (by-arm f x s (k + 2) (a .2)) (⊎-elim (by-arm f x s (k + 3) (a .3))
       (⊎-elim (by-arm f x s (k + 4) (a .4)) (⊎-elim (by-arm f x s (k + 5) (a .5))
       (⊎-elim (by-arm f x s (k + 6) (a .6)) (⊎-elim (by-arm f x s (k + 7) (a .7)) (rest .met))))))));
 }

@@ -15,6 +15,8 @@ pub mod Evenly
 pub mod RowParts
 pub mod Downwards
 pub mod Padding
+pub mod Decimal
+pub mod Attested
 pub mod Fitting
 pub mod Putting
 pub mod Replacing

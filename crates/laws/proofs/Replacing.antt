@@ -11,7 +11,9 @@ use Rattle.laws.proofs.Putting.{at-zero}
 
 -- what stands above a field, in it and below it
 parts : (n a c : ℕ) → n ≡ n / 2 ^ (a + c) * 2 ^ (a + c) + (n / 2 ^ a % 2 ^ c * 2 ^ a + n % 2 ^ a)
-parts n a c = sym (split n (a + c)) ∙ ap (λ (x : ℕ). n / 2 ^ (a + c) * 2 ^ (a + c) + x) (ap (λ (k : ℕ). n % 2 ^ k) (add-comm a c) ∙ mod-pow-add n c a)
+parts n a c =
+    sym (split n (a + c))
+    ∙ ap (λ (x : ℕ). n / 2 ^ (a + c) * 2 ^ (a + c) + x) (ap (λ (k : ℕ). n % 2 ^ k) (add-comm a c) ∙ mod-pow-add n c a)
 
 -- the field is taken away and the value added
 pub taken-le : (n a c : ℕ) → n / 2 ^ a % 2 ^ c * 2 ^ a ≤ n
@@ -99,7 +101,8 @@ across n a c v w h k =
     ap (λ (x : ℕ). x * 2 ^ a) (sym (split v (w - a)))
     ∙ add-mul (v / 2 ^ (w - a) * 2 ^ (w - a)) (v % 2 ^ (w - a)) (2 ^ a)
     ∙ ap (λ (x : ℕ). x + v % 2 ^ (w - a) * 2 ^ a)
-    (mul-assoc (v / 2 ^ (w - a)) (2 ^ (w - a)) (2 ^ a) ∙ ap (λ (x : ℕ). v / 2 ^ (w - a) * x) (sym (pow-add 2 (w - a) a) ∙ ap (λ (x : ℕ). 2 ^ x) f)) in
+    (mul-assoc (v / 2 ^ (w - a)) (2 ^ (w - a)) (2 ^ a)
+    ∙ ap (λ (x : ℕ). v / 2 ^ (w - a) * x) (sym (pow-add 2 (w - a) a) ∙ ap (λ (x : ℕ). 2 ^ x) f)) in
     let lowest : n % 2 ^ w % 2 ^ a ≡ n % 2 ^ a = rw f at (mod-mod-pow n (w - a) a) in
     let none : n % 2 ^ w / 2 ^ (a + (w - a)) * 2 ^ (a + (w - a)) ≡ 0 =
     rw f' (ap (λ (x : ℕ). x * 2 ^ w) (div-eq-of-lt (mod-lt n (pow-pos w))) ∙ zero-mul (2 ^ w)) in

@@ -4,3 +4,4 @@ pub mod Tables
 pub mod Digits
 pub mod Refusals
 pub mod Padding
+pub mod Text

@@ -10,36 +10,26 @@ use lib.Dec.{eqb}
 use Rattle.line.specs.declared.Opened.{Opened}
 use Rattle.line_rules.specs.declared.Replacement.{Replacement}
 use Rattle.laws.specs.Refusals.{first}
-use Rattle.bits.specs.declared.stream.BitStream.{BitStream}
 use Rattle.bc7_places.specs.declared.splits.ReadSplit.{ReadSplit}
 use Rattle.bc7_places.specs.declared.modes.ModeRow.{ModeRow}
 use Rattle.bc7_places.specs.declared.lines.LinePart.{LinePart}
 use Rattle.laws.specs.Digits.{Fit}
 use Rattle.bcn_format.specs.Block.{eights, number}
-use Rattle.bc7_format.specs.Modes.{modeOf, indexModeBits, lines, partitionBits, rotationBits}
+use Rattle.bc7_format.specs.Modes.{modeOf, lines}
 use Rattle.bc7_format.specs.Places.{opened}
-use Rattle.bc7_format.specs.Splits.{splitAt, splitOf}
+use Rattle.bc7_format.specs.Splits.{splitOf}
 use Rattle.bc7_format.specs.WellFormed.{WellFormed}
 use Rattle.bc7_format.proofs.Opening.{opened-good}
-use Rattle.bits.specs.Stream.{held, skipped}
-use Rattle.bits.proofs.On.{On}
-use Rattle.bc7_format.specs.Fields.{leadEnd}
 use Rattle.bc7_places.specs.Modes.{modeRowOf}
-use Rattle.bc7_places.specs.Splits.{splitRead}
-use Rattle.bc7_places.proofs.splits.Leads.{marker-on, split-is, split-on}
+use Rattle.bc7_places.specs.Splits.{IsLead}
 use Rattle.bc7_places.specs.Lines.{OfLine, partOf}
 use Rattle.line.proofs.parts.Parts.{IsPart, is-part}
 use Rattle.bc7_places.proofs.lines.Parts.{of-line}
 use Rattle.line_rules.specs.Read.{lineRead, noLine, readAs, readRefusal}
 use Rattle.line_rules.proofs.Reading.{read-is}
-use Rattle.line.specs.Opened.{IsOpened}
+use Rattle.line.specs.Opened.{IsOpened, LineOfBlock}
 use Rattle.line.specs.Reading.{PartSmall, ReadReady, lineHeld, widthsIn}
 use Rattle.line.proofs.Standing.{part-small, read-ready, stands-as-read, widths-are}
-
--- the values start behind the marker and the split
-lead-end : (m : ℕ) → m + 1 + (partitionBits m + rotationBits m + indexModeBits m) ≡ leadEnd m
-unfolding leadEnd
-lead-end m = omega arith
 
 module _ (bs : List ℕ) (sixteen : Fit eights bs) (low : modeOf bs < 8) where
   pub good : WellFormed (modeOf bs) (splitOf bs) (opened bs)
@@ -49,27 +39,19 @@ module _ (bs : List ℕ) (sixteen : Fit eights bs) (low : modeOf bs < 8) where
   pub line-is : (l : ℕ) → l < lines (modeOf bs) → {o : Opened} → IsOpened bs l o → IsPart (modeOf bs) (splitOf bs) l (o .part)
   line-is l h i = is-part good l h {row = modeRowOf (modeOf bs)} refl (i .part)
 
--- the stream behind the marker
-module _ (bs : List ℕ) {mode : ℕ} {row : ModeRow} (em : mode ≡ modeOf bs) (low : mode < 8) (er : row ≡ modeRowOf mode) {b s : BitStream} {r : ReadSplit}
-    (hb : held b ≡ number bs) (zb : b .at ≡ 0) (es : s ≡ skipped b (mode + 1)) (e : r ≡ splitRead row s) where
-  on : On (number bs) (mode + 1) s
-  on = marker-on mode hb zb es
+-- the line behind the lead
+module _ (bs : List ℕ) {mode l : ℕ} {row : ModeRow} (of : LineOfBlock bs mode row l) {r : ReadSplit} (lead : IsLead bs r) where
+  mode-is : mode ≡ modeOf bs
+  mode-is = of .of-block .mode-is
 
-  pub the-split : r .split ≡ splitOf bs
-  unfolding splitOf
-  the-split = split-is mode low er on e ∙ ap (λ (m : ℕ). splitAt m (number bs)) em
+  row-is : row ≡ modeRowOf (modeOf bs)
+  row-is = of .of-block .mode-row-is ∙ ap modeRowOf mode-is
 
-  pub asks : Fit eights bs → (l : ℕ) → l < lines mode → OfLine row (r .split) l
-  asks sixteen l h = rw the-split (of-line (good bs sixteen (rw em at low)) l (rw em at h) (er ∙ ap modeRowOf em))
+  pub asks : Fit eights bs → OfLine row (r .split) l
+  asks sixteen = rw (lead .split) (of-line (good bs sixteen (rw mode-is at (of .of-block .low))) l (rw mode-is at (of .there)) row-is)
 
-  pub is-opened : {x : LinePart} (l : ℕ) → x ≡ partOf row (r .split) l → IsOpened bs l (record { stream = r .stream; part = x })
-  is-opened l ex =
-      let o = split-on mode low er on e in
-      record {
-        holds = o .of;
-        stands = o .stands ∙ lead-end mode ∙ ap leadEnd em;
-        part = ex ∙ rw (er, the-split, em);
-      }
+  pub is-opened : {x : LinePart} → x ≡ partOf row (r .split) l → IsOpened bs l (record { stream = r .stream; part = x })
+  is-opened ex = record { holds = lead .stands .of; stands = lead .stands .stands; part = ex ∙ rw (row-is, lead .split) }
 
 -- READING: refused with 1 and 2, and the line as it stands
 pub read-1 : (bs : List ℕ) (l : ℕ) → modeOf bs ≡ 8 → readAs 1 noLine noLine ≡ lineRead bs l

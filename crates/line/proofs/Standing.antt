@@ -10,6 +10,7 @@ use borrow.Author.Tests.{eq-eqb, eqb-false, eqb-true, ne-eqb}
 use lib.Bits.{bitAnd}
 use lib.Dec.{T, eqb}
 use lib.Pow.{pow-pos}
+use Rattle.bc7_format.specs.declared.Place.{Place}
 use Rattle.bits.specs.declared.stream.BitStream.{BitStream}
 use Rattle.bc7_places.specs.declared.places.Fields.{Fields}
 use Rattle.bc7_places.specs.declared.lines.LinePart.{LinePart}
@@ -20,7 +21,7 @@ use Rattle.laws.proofs.Joining.{table-same}
 use Rattle.bcn_format.specs.Block.{field}
 use Rattle.bc7_format.specs.Lines.{Line, indexSetOf, has, indexPlace, lineOf, own, pPlace, valuePlace}
 use Rattle.bc7_format.specs.Modes.{kindOfMode, lines, pCount}
-use Rattle.bc7_format.specs.Places.{Place, atPlace, inside, pos, width, psFrom}
+use Rattle.bc7_format.specs.Places.{atPlace, inside, pos, width, psFrom}
 use Rattle.bc7_format.specs.WellFormed.{WellFormed}
 use Rattle.bc7_format.proofs.Meaning.{index-set-lt}
 use Rattle.bc7_format.proofs.Modes.{good-index-mode, lines-le}
@@ -204,12 +205,11 @@ module _ {m : ℕ} {s : Split} {f : Place → ℕ} (g : WellFormed m s f) (l : �
         mode-row = record { mode = m; low = g .mode; is = er };
         start = rw aq (lead-low m (g .mode));
         line = l3;
-        small = part-small;
-        red = rw fields-are (low 0 (omega arith));
-        green = rw fields-are (low 1 (omega arith));
-        blue = rw fields-are (low 2 (omega arith));
-        alpha = rw fields-are (low 3 (omega arith));
-        p-start = rw fields-are low-p;
+        red = record { start = rw fields-are (low 0 (omega arith)); width = part-small .colour };
+        green = record { start = rw fields-are (low 1 (omega arith)); width = part-small .colour };
+        blue = record { start = rw fields-are (low 2 (omega arith)); width = part-small .colour };
+        alpha = record { start = rw fields-are (low 3 (omega arith)); width = part-small .alpha };
+        p = record { start = rw fields-are low-p; line = l3; width = part-small .p };
         set = rw (fields-are, er) (record {
           least = omega (arith, is .least);
           most = is .most;

@@ -144,5 +144,6 @@ module _ (bs : List ℕ) (sixteen : Fit eights bs) (l : ℕ) (g : Replacement) (
               unfolding opened replaced after
               way-0 er r hlo hhi e =
                   rw accepted
-                  (ap (replacedAs 0) (line-block (good bs sixteen low) l (lineGiven g) in-mode is (is-stored is g small kept (rw (word-is, em) at es))
-                  (number bs) (λ y h. refl) em (o .stream) (i .holds) (i .stands) er r hlo hhi e))
+                  (ap (replacedAs 0)
+                  (line-block (good bs sixteen low) l (lineGiven g) in-mode is (is-stored is g small kept (rw (word-is, em) at es)) (number bs)
+                  (λ y h. refl) em (o .stream) (i .holds) (i .stands) er r hlo hhi e))

@@ -96,6 +96,15 @@ pub record PairReady (a w x y : ℕ) : Type 0 where
   pub first : x < 2 ^ w
   pub second : y < 2 ^ w
 
+-- p bits of w bits at a, of line l
+pub record PBitsReady (mode a l w : ℕ) (p : List ℕ) : Type 0 where
+  pub start : a ≤ 100
+  pub line : l < 3
+  pub width : w ≤ 1
+  pub first : getD p 0 0 < 2 ^ w
+  pub second : getD p 1 0 < 2 ^ w
+  pub there : mode ≡ 1 → w ≡ 1
+
 pub record LineReady (s : BitStream) (mode : ℕ) (row : ModeRow) (l : ℕ) (x : LinePart) (mask : ℕ) (new : StoredLine) : Type 0 where
   pub mode-row : OfMode row
   pub start : s .at ≤ 16
@@ -104,9 +113,5 @@ pub record LineReady (s : BitStream) (mode : ℕ) (row : ModeRow) (l : ℕ) (x :
   pub green : PairReady (fieldsAt s row l x .green) (x .colour) (getD (new .endpoints) 1 0) (getD (new .endpoints) 5 0)
   pub blue : PairReady (fieldsAt s row l x .blue) (x .colour) (getD (new .endpoints) 2 0) (getD (new .endpoints) 6 0)
   pub alpha : PairReady (fieldsAt s row l x .alpha) (x .alpha) (getD (new .endpoints) 3 0) (getD (new .endpoints) 7 0)
-  pub p-start : fieldsAt s row l x .p ≤ 100
-  pub p-width : x .p ≤ 1
-  pub p-first : getD (new .p) 0 0 < 2 ^ x .p
-  pub p-second : getD (new .p) 1 0 < 2 ^ x .p
-  pub p-there : mode ≡ 1 → x .p ≡ 1
+  pub p : PBitsReady mode (fieldsAt s row l x .p) l (x .p) (new .p)
   pub set : SetReady (valuesPut s mode row l x new) (row .kind) (fieldsAt s row l x .indexes) x mask (new .indexes)

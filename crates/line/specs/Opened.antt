@@ -2,15 +2,21 @@
 -- Assumes nothing.
 use mathlib.Core.Path.{_≡_}
 use mathlib.Core.List.{List}
-use Prim.Native.Nat.{ℕ}
+use Prim.Native.Nat.{ℕ, _<_}
 use Rattle.line.specs.declared.Opened.{Opened}
-use Rattle.bc7_format.specs.Modes.{modeOf}
+use Rattle.bc7_format.specs.Modes.{lines, modeOf}
 use Rattle.bcn_format.specs.Block.{number}
 use Rattle.bc7_format.specs.Splits.{splitOf}
 use Rattle.bits.specs.Stream.{held}
 use Rattle.bc7_format.specs.Fields.{leadEnd}
-use Rattle.bc7_places.specs.Modes.{modeRowOf}
+use Rattle.bc7_places.specs.declared.modes.ModeRow.{ModeRow}
+use Rattle.bc7_places.specs.Modes.{OfBlock, modeRowOf}
 use Rattle.bc7_places.specs.Lines.{partOf}
+
+-- a line that the mode of a block has
+pub record LineOfBlock (bs : List ℕ) (mode : ℕ) (row : ModeRow) (l : ℕ) : Type 0 where
+  pub of-block : OfBlock bs mode row
+  pub there : l < lines mode
 
 -- the stream holds the block and stands where its values start, and the part is that of line l
 pub record IsOpened (bs : List ℕ) (l : ℕ) (o : Opened) : Type 0 where

@@ -22,8 +22,18 @@ use Rattle.line.specs.Fields.{fieldsAt, setBefore, sizeIn}
 abbrev pub twoAt : ℕ → ℕ → ℕ → PerEndpoint
 twoAt n a w = record { first = field n a w; second = field n (a + w) w }
 
+pub record PairThere (a w : ℕ) : Type 0 where
+  pub start : a ≤ 112
+  pub width : w ≤ 8
+
+-- the p bits of line l
 unfoldable pub psAt : ℕ → ℕ → ℕ → ℕ → ℕ → PerEndpoint
 psAt n mode a l w = pick (eqb mode 1) (record { first = field n (a + l) 1; second = field n (a + l) 1 }) (twoAt n (a + 2 * l) w)
+
+pub record PBitsThere (a l w : ℕ) : Type 0 where
+  pub start : a ≤ 100
+  pub line : l < 3
+  pub width : w ≤ 1
 
 -- the indexes of the line, of its set as it stands
 unfoldable pub setAt : ℕ → ℕ → ℕ → LinePart → List ℕ
@@ -64,12 +74,11 @@ pub record ReadReady (s : BitStream) (row : ModeRow) (l : ℕ) (x : LinePart) : 
   pub mode-row : OfMode row
   pub start : s .at ≤ 16
   pub line : l < 3
-  pub small : PartSmall x
-  pub red : fieldsAt s row l x .red ≤ 112
-  pub green : fieldsAt s row l x .green ≤ 112
-  pub blue : fieldsAt s row l x .blue ≤ 112
-  pub alpha : fieldsAt s row l x .alpha ≤ 112
-  pub p-start : fieldsAt s row l x .p ≤ 100
+  pub red : PairThere (fieldsAt s row l x .red) (x .colour)
+  pub green : PairThere (fieldsAt s row l x .green) (x .colour)
+  pub blue : PairThere (fieldsAt s row l x .blue) (x .colour)
+  pub alpha : PairThere (fieldsAt s row l x .alpha) (x .alpha)
+  pub p : PBitsThere (fieldsAt s row l x .p) l (x .p)
   pub set : SetThere (row .kind) (fieldsAt s row l x .indexes) x
 
 -- the widths of its parts

@@ -1,10 +1,9 @@
 // A line put into the number of a block: its fields are replaced where they stand, so that every other bit is as it was.
 ghost use mathlib.Core.Path.{_≡_};
-ghost use Prim.Native.Nat.{_+_, _-_, _*_, _^_, _≤_, _<_};
-ghost use lib.ListN.{getD};
+ghost use Prim.Native.Nat.{_+_, _-_};
 ghost use Rattle.laws.specs.Digits.{replacedAt};
 ghost use Rattle.bits.specs.Stream.{held};
-ghost use Rattle.line.specs.Fields.{FieldReady, LineReady, PairReady, SetReady, Step, linePut, psPut, setPut, standing, twoPut};
+ghost use Rattle.line.specs.Fields.{FieldReady, LineReady, PBitsReady, PairReady, SetReady, Step, linePut, psPut, setPut, standing, twoPut};
 use crate::parts::StoredLine;
 use bc7_places::lines::LinePart;
 use bc7_places::modes::ModeRow;
@@ -70,7 +69,7 @@ pub fn put_two(s: BitStream, at: u32, width: u32, a: u8, b: u8) -> BitStream
 
 // In mode 1 one p bit serves both endpoints.
 fn put_p(s: BitStream, mode: u8, at: u32, line: u32, width: u32, p: [u8; 2]) -> BitStream
-    requires { ⌜ (at ≤ 100) × (line < 3) × (width ≤ 1) × (getD p 0 0 < 2 ^ width) × (getD p 1 0 < 2 ^ width) × (mode ≡ 1 → width ≡ 1) ⌝ }
+    requires { ⌜ PBitsReady mode at line width p ⌝ }
     ensures { λ r. ⌜ held r ≡ psPut (held s) mode at line width p ⌝ }
 {
     if mode == 1 {

@@ -3,17 +3,14 @@
 // its top bit set, and nothing else changes; or they are taken out of it.
 ghost use mathlib.Core.Path.{_≡_};
 ghost use mathlib.Core.Bool.{not};
-ghost use Prim.Native.Nat.{_<_};
 ghost use lib.Dec.{eqb};
 ghost use lib.ListN.{getD};
 ghost use Rattle.laws.specs.Tables.{both};
 ghost use Rattle.bcn_format.specs.Block.{bytesOf};
-ghost use Rattle.bc7_format.specs.Modes.{lines};
 ghost use Rattle.bits.specs.Stream.{held};
-ghost use Rattle.bc7_places.specs.Modes.{OfBlock};
 ghost use Rattle.line_rules.specs.Read.{givenAs, noLine, readAs};
 ghost use Rattle.line_rules.specs.Replace.{replacedAs};
-ghost use Rattle.line.specs.Opened.{IsOpened};
+ghost use Rattle.line.specs.Opened.{IsOpened, LineOfBlock};
 ghost use Rattle.line_rules.specs.Promises.{ReadsLine, Replaces};
 use crate::fields::put_line;
 use crate::parts::mask_of;
@@ -27,7 +24,7 @@ use bc7_places::lines::line_part;
 use bc7_places::modes::ModeRow;
 use bc7_places::modes::mode_of;
 use bc7_places::modes::mode_row;
-use bc7_places::splits::read_split;
+use bc7_places::splits::read_lead;
 use bits::stream::BitStream;
 use bits::writer::BitWriter;
 use indexes::sets::word_of;
@@ -47,12 +44,12 @@ pub struct Opened {
 
 // The mode is the block's and not the reserved one.
 fn open_line(block: [u8; 16], mode: u8, row: ModeRow, line: u32) -> Opened
-    requires { ⌜ OfBlock block mode row × (line < lines mode) ⌝ }
+    requires { ⌜ LineOfBlock block mode row line ⌝ }
     ensures { λ r. ⌜ IsOpened block line r ⌝ }
 {
-    let head = read_split(row, BitStream::new(block).skip(mode as u32 + 1));
-    let split = head.split;
-    let stream = head.stream;
+    let lead = read_lead(block, mode, row);
+    let split = lead.split;
+    let stream = lead.stream;
     let part = line_part(row, split, line);
     Opened {
         stream: stream,

@@ -1,11 +1,10 @@
 // A line as it stands: its fields taken out of the block's number.
 ghost use mathlib.Core.Path.{_≡_};
-ghost use Prim.Native.Nat.{_≤_, _<_};
 ghost use Rattle.laws.specs.Tables.{pick, table};
 ghost use Rattle.bits.specs.Stream.{held};
 ghost use Rattle.bc7_places.specs.Lines.{ownPixel};
 ghost use Rattle.line.specs.Parts.{Masked};
-ghost use Rattle.line.specs.Reading.{PartSmall, ReadReady, SetThere, lineHeld, psAt, setAt, twoAt, widthsIn};
+ghost use Rattle.line.specs.Reading.{PBitsThere, PairThere, PartSmall, ReadReady, SetThere, lineHeld, psAt, setAt, twoAt, widthsIn};
 use crate::fields::standing_at;
 use crate::parts::at_own;
 use crate::parts::mask_of;
@@ -26,7 +25,7 @@ pub struct PerEndpoint {
 
 // Two values of one width side by side: one read, which has its bits in the block.
 fn two_at(s: BitStream, at: u32, width: u32) -> PerEndpoint
-    requires { ⌜ (at ≤ 112) × (width ≤ 8) ⌝ }
+    requires { ⌜ PairThere at width ⌝ }
     ensures { λ r. ⌜ r ≡ twoAt (held s) at width ⌝ }
 {
     let both = standing_at(s, at).take(2 * width);
@@ -39,7 +38,7 @@ fn two_at(s: BitStream, at: u32, width: u32) -> PerEndpoint
 
 // In mode 1 one p bit serves both endpoints.
 fn p_at(s: BitStream, mode: u8, at: u32, line: u32, width: u32) -> PerEndpoint
-    requires { ⌜ (at ≤ 100) × (line < 3) × (width ≤ 1) ⌝ }
+    requires { ⌜ PBitsThere at line width ⌝ }
     ensures { λ r. ⌜ r ≡ psAt (held s) mode at line width ⌝ }
 {
     if mode == 1 {

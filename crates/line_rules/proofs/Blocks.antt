@@ -9,6 +9,7 @@ use native.Mathlib.Nat.{eq-or-lt-of-le}
 use native.Mathlib.Omega.{arith}
 use borrow.Author.Tests.{eqb-true, eq-eqb, ne-eqb}
 use lib.Dec.{T, eqb}
+use Rattle.bc7_format.specs.declared.Place.{Place}
 use Rattle.bc7_format.specs.declared.Split.{Split}
 use Rattle.laws.specs.Digits.{Fit}
 use Rattle.laws.specs.Refusals.{first}
@@ -16,14 +17,14 @@ use Rattle.laws.specs.Tables.{pick}
 use Rattle.bcn_format.specs.Block.{eights, trailing}
 use Rattle.bc7_format.specs.Modes.{modeOf}
 use Rattle.bc7_format.specs.Lines.{draws, has, isDrawn, laid, meansShown, pixel, rotated, shown, withLine}
-use Rattle.bc7_format.specs.Places.{Place, blockOf, inside, opened}
+use Rattle.bc7_format.specs.Places.{blockOf, inside, opened}
 use Rattle.bc7_format.specs.Splits.{rotation, splitOf}
 use Rattle.bc7_format.specs.WellFormed.{WellFormed}
 use Rattle.bc7_format.proofs.Lens.{shown-ext, shown-none, shown-other}
 use Rattle.bc7_format.proofs.Opening.{block-ext, block-fits, block-opened, mode-block, opened-block, opened-good, split-block}
 use Rattle.line_rules.specs.Calls.{isAccepted}
 use Rattle.line_rules.specs.Replace.{Call, after, oriented, put, refusal, refusalIn}
-use Rattle.line_rules.proofs.Draws.{drawn-by, no-alpha, no-rotation, not-drawn-by}
+use Rattle.line_rules.proofs.Draws.{drawn-by, not-drawn-by}
 use Rattle.line_rules.proofs.Given.{shown-given}
 use Rattle.line_rules.proofs.Put.{put-good}
 
@@ -178,10 +179,3 @@ module _ (bs : List ℕ) (sixteen : Fit eights bs) where
           go true true e = shown-other m s (c .line) (oriented m s (c .line) (c .given)) (opened bs) q ch (not-drawn-by m s (c .line) q ch e n)
           go true false e = shown-none m s pc (opened bs) q ch e
           go false b e = refl
-
--- the alpha of the modes 0 to 3
-pub full-alpha : (bs : List ℕ) → Fit eights bs → (q : ℕ) → modeOf bs < 4 → pixel bs q 3 ≡ 255
-unfolding pixel shown rotated
-full-alpha bs h q l =
-    let g = opened-good bs h (omega arith) in
-    rw (ne-eqb (modeOf bs) 8 (λ z. let y : ⊥ = omega arith in y), no-rotation g l, no-alpha (modeOf bs) l)

@@ -3,19 +3,14 @@
 use mathlib.Core.Path.{_≡_, refl, sym, _∙_, subst}
 use mathlib.Core.Logic.{_≢_}
 use mathlib.Core.Bool.{Bool, true, false}
-use Prim.Native.Nat.{ℕ, _^_, _<_}
-use native.Mathlib.Omega.{arith}
-use borrow.Author.Tests.{eqb-true, eqb-false, eq-eqb}
-use lib.Dec.{T, eqb, eqb→eq}
+use Prim.Native.Nat.{ℕ}
+use borrow.Author.Tests.{eqb-true, eqb-false}
+use lib.Dec.{eqb}
 use Rattle.bc7_format.specs.declared.Split.{Split}
 use Rattle.laws.specs.Tables.{both}
-use Rattle.laws.proofs.Tests.{at, both-left, both-right, both-true}
+use Rattle.laws.proofs.Tests.{both-true}
 use Rattle.bc7_format.specs.Lines.{draws, isDrawn, lineAt, rotated}
-use Rattle.bc7_format.specs.Modes.{alphaBits, modeRow, rotationBits}
-use Rattle.bc7_format.specs.Places.{Place, lead, width}
 use Rattle.bc7_format.specs.Splits.{rotation}
-use Rattle.bc7_format.specs.WellFormed.{WellFormed}
-use Rattle.bc7_format.proofs.Modes.{good-parts}
 
 module _ (m : ℕ) (s : Split) where
   pub drawn-by : (l q ch : ℕ) → draws m s l q ch ≡ true → (isDrawn m (rotated (rotation s) ch) ≡ true) × (lineAt s q (rotated (rotation s) ch) ≡ l)
@@ -33,18 +28,3 @@ module _ (m : ℕ) (s : Split) where
       go : (b : Bool) → draws m s l q ch ≡ b → b ≡ false
       go true z = absurd (n (sym (drawn-by k q ch e .1) ∙ drawn-by l q ch z .1))
       go false z = refl
-
--- the modes 0 to 3 have no rotation and draw no alpha
-few-bits : (m : ℕ) → m < 4 → T (both (eqb (rotationBits m) 0) (eqb (alphaBits m) 0))
-unfolding modeRow
-few-bits m h = at 4 (λ m. both (eqb (rotationBits m) 0) (eqb (alphaBits m) 0)) tt m h
-
-pub no-rotation : {m : ℕ} {s : Split} {f : Place → ℕ} → WellFormed m s f → m < 4 → rotation s ≡ 0
-unfolding width
-no-rotation {m} {s} {f} g h =
-    let e : rotationBits m ≡ 0 = eqb→eq _ 0 (both-left (eqb (rotationBits m) 0) _ (few-bits m h)) in
-    let l : f (lead 2) < 1 = subst (λ (w : ℕ). f (lead 2) < 2 ^ w) e (g .fits (lead 2) tt) in
-    good-parts g .1 ∙ (let z : f (lead 2) ≡ 0 = omega arith in z)
-
-pub no-alpha : (m : ℕ) → m < 4 → isDrawn m 3 ≡ false
-no-alpha m h = rw (eq-eqb (alphaBits m) 0 (eqb→eq _ 0 (both-right (eqb (rotationBits m) 0) (eqb (alphaBits m) 0) (few-bits m h))))

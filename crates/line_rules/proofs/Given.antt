@@ -5,12 +5,12 @@ use mathlib.Core.Logic.{_≢_}
 use mathlib.Core.Bool.{Bool, true, false}
 use Prim.Native.Nat.{ℕ, _^_, _<_, _≤_}
 use borrow.Author.Tests.{eqb-false, not-true}
+use Rattle.bc7_format.specs.declared.Place.{Place}
 use Rattle.bc7_format.specs.declared.Split.{Split}
 use Rattle.laws.specs.Tables.{pick}
 use Rattle.bc7_format.specs.Lines.{Line, indexPlace, isDrawn, lineAt, lineBits, lineOf, meansStored, own, pPlace, rotated, shown, turned, valuePlace}
 use Rattle.bc7_format.specs.Lines.{withLine}
 use Rattle.bc7_format.specs.Modes.{channelBits, pCount}
-use Rattle.bc7_format.specs.Places.{Place}
 use Rattle.bc7_format.specs.Splits.{rotation}
 use Rattle.bc7_format.specs.WellFormed.{WellFormed}
 use Rattle.bc7_format.proofs.Lens.{own-same}

@@ -7,11 +7,12 @@ use mathlib.Core.List.{[]}
 use Prim.Native.Nat.{ℕ}
 use borrow.Author.Tests.{eq-eqb, eqb-true, ne-eqb}
 use lib.Dec.{T, eqb}
+use Rattle.bc7_format.specs.declared.Place.{Place}
 use Rattle.bc7_format.specs.declared.Split.{Split}
 use Rattle.laws.specs.Tables.{both, pick}
 use Rattle.laws.proofs.Tests.{T-true, not-so}
 use Rattle.bc7_format.specs.Lines.{has, lineOfPlace}
-use Rattle.bc7_format.specs.Places.{Place, inside, width}
+use Rattle.bc7_format.specs.Places.{inside, width}
 use Rattle.bc7_format.proofs.Lens.{has-parts}
 use Rattle.line_rules.specs.Replace.{ownWidth}
 

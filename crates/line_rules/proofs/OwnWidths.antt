@@ -8,13 +8,15 @@ use Prim.Native.Nat.{ℕ, _+_, _*_, _/_, _<_}
 use native.Mathlib.Omega.{arith}
 use borrow.Author.Tests.{eqb-false, eqb-true, lt-ltb, le-ltb}
 use lib.Dec.{eqb, ltb}
+use Rattle.bc7_format.specs.declared.Place.{Place}
+use Rattle.bc7_format.specs.declared.Place.the-variants.{Value, PBit, Index}
 use Rattle.bc7_format.specs.declared.Split.{Split}
 use Rattle.laws.specs.Tables.{pick}
 use Rattle.laws.proofs.Cases.{pick-lt}
 use Rattle.laws.proofs.Tests.{no-both}
 use Rattle.bc7_format.specs.Lines.{indexSetOf, has, indexPlace, lineBits, lineOfPlace, pPlace, valuePlace}
 use Rattle.bc7_format.specs.Modes.{channelBits, endpointCount, indexBits, lines, pCount}
-use Rattle.bc7_format.specs.Places.{Place, index, pbit, value, width}
+use Rattle.bc7_format.specs.Places.{width}
 use Rattle.bc7_format.specs.Splits.{isVector, subset}
 use Rattle.bc7_format.specs.WellFormed.{WellFormed}
 use Rattle.bc7_format.proofs.Meaning.{has-index}
@@ -32,9 +34,9 @@ module _ {m : ℕ} {s : Split} {f : Place → ℕ} (g : WellFormed m s f) (l : �
   unfolding width indexPlace
   wide q = refl
 
-  outside : (q : ℕ) → lineOfPlace m s (index (indexSetOf s l) q) ≢ l → ownWidth m s l (indexPlace s l q) ≡ 0
+  outside : (q : ℕ) → lineOfPlace m s (Index (indexSetOf s l) q) ≢ l → ownWidth m s l (indexPlace s l q) ≡ 0
   unfolding indexPlace
-  outside q n = own-not m s l (index (indexSetOf s l) q) n
+  outside q n = own-not m s l (Index (indexSetOf s l) q) n
 
   value-bits : (k c : ℕ) → k < 2 → c < 4
       → ownWidth m s l (valuePlace s l k c) ≡ pick (isVector s) (pick (eqb (pick (eqb c 3) 1 0) l) (channelBits m c) 0) (channelBits m c)
@@ -42,13 +44,13 @@ module _ {m : ℕ} {s : Split} {f : Place → ℕ} (g : WellFormed m s f) (l : �
   value-bits k c hk hc = go (isVector s) refl (eqb (pick (eqb c 3) 1 0) l) refl
     where
       go : (v : Bool) → isVector s ≡ v → (b : Bool) → eqb (pick (eqb c 3) 1 0) l ≡ b
-          → ownWidth m s l (value c (pick v k (2 * l + k))) ≡ pick v (pick b (channelBits m c) 0) (channelBits m c)
+          → ownWidth m s l (Value c (pick v k (2 * l + k))) ≡ pick v (pick b (channelBits m c) 0) (channelBits m c)
       go true v true b =
-          own-is m s l (value c k) (inside-value {e = k} hc (omega arith)) (rw v (eqb-true (pick (eqb c 3) 1 0) l b))
+          own-is m s l (Value c k) (inside-value {e = k} hc (omega arith)) (rw v (eqb-true (pick (eqb c 3) 1 0) l b))
           ∙ rw (lt-ltb k (endpointCount m) (omega (arith, good-vector g v .ends)))
-      go true v false b = own-not m s l (value c k) (λ e. eqb-false (pick (eqb c 3) 1 0) l b (rw v at e))
+      go true v false b = own-not m s l (Value c k) (λ e. eqb-false (pick (eqb c 3) 1 0) l b (rw v at e))
       go false v b e =
-          own-is m s l (value c (2 * l + k)) (inside-value {e = 2 * l + k} hc (omega (arith, h3)))
+          own-is m s l (Value c (2 * l + k)) (inside-value {e = 2 * l + k} hc (omega (arith, h3)))
           (rw v (let z : (2 * l + k) / 2 ≡ l = omega arith in z))
           ∙ rw (lt-ltb (2 * l + k) (endpointCount m) (omega (arith, good-subset g v .ends)))
 
@@ -67,11 +69,11 @@ module _ {m : ℕ} {s : Split} {f : Place → ℕ} (g : WellFormed m s f) (l : �
       line true e = rw e refl
       line false e = rw e (let z : (2 * l + k) / 2 ≡ l = omega arith in z)
 
-      own-p : (o : Bool) → eqb m 1 ≡ o → ownWidth m s l (pbit (pick o l (2 * l + k))) ≡ pick (ltb (pick o l (2 * l + k)) (pCount m)) 1 0
+      own-p : (o : Bool) → eqb m 1 ≡ o → ownWidth m s l (PBit (pick o l (2 * l + k))) ≡ pick (ltb (pick o l (2 * l + k)) (pCount m)) 1 0
       own-p o e =
-          own-is m s l (pbit (pick o l (2 * l + k))) (inside-pbit (pick-lt o l (2 * l + k) 6 (omega (arith, h3)) (omega (arith, h3)))) (line o e)
+          own-is m s l (PBit (pick o l (2 * l + k))) (inside-pbit (pick-lt o l (2 * l + k) 6 (omega (arith, h3)) (omega (arith, h3)))) (line o e)
 
-      go : (b : Bool) → eqb (pCount m) 0 ≡ b → (o : Bool) → eqb m 1 ≡ o → ownWidth m s l (pbit (pick o l (2 * l + k))) ≡ pick b 0 1
+      go : (b : Bool) → eqb (pCount m) 0 ≡ b → (o : Bool) → eqb m 1 ≡ o → ownWidth m s l (PBit (pick o l (2 * l + k))) ≡ pick b 0 1
       go true z o e = own-p o e ∙ none _ (eqb-true (pCount m) 0 z)
       go false z o e = own-p o e ∙ rw (lt-ltb (pick o l (2 * l + k)) (pCount m) (some o e (eqb-false (pCount m) 0 z)))
 

@@ -10,13 +10,15 @@ use native.Mathlib.Omega.{arith}
 use borrow.Author.Tests.{eqb-true, eqb-false, eq-eqb, ne-eqb, leb-true, leb-false, ltb-true}
 use lib.Dec.{T, eqb, ltb, ltb→lt, lit<}
 use lib.Pow.{pow-mono, pow-pos, ones-sub-lt}
+use Rattle.bc7_format.specs.declared.Place.{Place}
+use Rattle.bc7_format.specs.declared.Place.the-variants.{Lead, Value, PBit, Index}
 use Rattle.bc7_format.specs.declared.Split.{Split}
 use Rattle.laws.specs.Tables.{pick}
 use Rattle.laws.proofs.Tests.{both-left, both-right, no-both, true-T}
 use Rattle.bc7_format.specs.Lines.{Line, anchorOf, indexSetOf, has, indexPlace, laid, lineBits, lineOfPlace, pPlace, turned, valuePlace, withLine}
 use Rattle.bc7_format.specs.Modes.{channelBits, endpointCount, indexBits, pCount, secondBits}
 use Rattle.bcn_format.specs.Partitions.{among}
-use Rattle.bc7_format.specs.Places.{Place, lead, index, inside, pbit, value, width}
+use Rattle.bc7_format.specs.Places.{inside, width}
 use Rattle.bc7_format.specs.Splits.{anchors, indexMode, isVector, subset}
 use Rattle.bc7_format.specs.WellFormed.{WellFormed}
 use Rattle.bc7_format.proofs.Lens.{has-lead, has-parts}
@@ -107,34 +109,34 @@ index-set-is true a i l sub ha hi e z = go (eqb a i) refl e
     go false p q = rw (ne-eqb l 0 (λ y. omega arith)) (let n : a ≢ i = eqb-false a i p in let r : a ≡ 1 - i = omega arith in r)
 
 -- which of the line's values and p bits a place of the line is
-pub own-pbit : (m : ℕ) (s : Split) (l k : ℕ) → has m s l (pbit k) ≡ true → pPlace m l (pick (eqb m 1) 0 (k % 2)) ≡ pbit k
+pub own-pbit : (m : ℕ) (s : Split) (l k : ℕ) → has m s l (PBit k) ≡ true → pPlace m l (pick (eqb m 1) 0 (k % 2)) ≡ PBit k
 unfolding pPlace
-own-pbit m s l k h = ap pbit (go (eqb m 1) refl)
+own-pbit m s l k h = ap PBit (go (eqb m 1) refl)
   where
     go : (b : Bool) → eqb m 1 ≡ b → pick b l (2 * l + pick b 0 (k % 2)) ≡ k
-    go true b = let z : k ≡ l = rw b at (has-parts m s l (pbit k) h .2) in sym z
-    go false b = let z : k / 2 ≡ l = rw b at (has-parts m s l (pbit k) h .2) in let y : 2 * l + k % 2 ≡ k = omega arith in y
+    go true b = let z : k ≡ l = rw b at (has-parts m s l (PBit k) h .2) in sym z
+    go false b = let z : k / 2 ≡ l = rw b at (has-parts m s l (PBit k) h .2) in let y : 2 * l + k % 2 ≡ k = omega arith in y
 
 module _ {m : ℕ} {s : Split} {f : Place → ℕ} (g : WellFormed m s f) where
-  pub own-value : (l c e : ℕ) → has m s l (value c e) ≡ true → valuePlace s l (e % 2) c ≡ value c e
+  pub own-value : (l c e : ℕ) → has m s l (Value c e) ≡ true → valuePlace s l (e % 2) c ≡ Value c e
   unfolding valuePlace width
-  own-value l c e h = ap (value c) (go (isVector s) refl)
+  own-value l c e h = ap (Value c) (go (isVector s) refl)
     where
       not-none : (b : Bool) (w : ℕ) → pick b w 0 ≢ 0 → b ≡ true
       not-none true w n = refl
       not-none false w n = absurd (n refl)
 
       there : e < endpointCount m
-      there = ltb-true e (endpointCount m) (not-none (ltb e (endpointCount m)) _ (has-parts m s l (value c e) h .1))
+      there = ltb-true e (endpointCount m) (not-none (ltb e (endpointCount m)) _ (has-parts m s l (Value c e) h .1))
 
       go : (v : Bool) → isVector s ≡ v → pick v (e % 2) (2 * l + e % 2) ≡ e
       go true v = let z : e % 2 ≡ e = omega (arith, there, good-vector g v .ends) in z
-      go false v = let z : e / 2 ≡ l = rw v at (has-parts m s l (value c e) h .2) in let y : 2 * l + e % 2 ≡ e = omega arith in y
+      go false v = let z : e / 2 ≡ l = rw v at (has-parts m s l (Value c e) h .2) in let y : 2 * l + e % 2 ≡ e = omega arith in y
 
-  pub has-index-set : (l a q : ℕ) → has m s l (index a q) ≡ true → a ≡ indexSetOf s l
+  pub has-index-set : (l a q : ℕ) → has m s l (Index a q) ≡ true → a ≡ indexSetOf s l
   unfolding indexSetOf width
   has-index-set l a q h =
-      let p = has-parts m s l (index a q) h in
+      let p = has-parts m s l (Index a q) h in
       let ha : a < 2 = ltb→lt a 2 (both-left (ltb a 2) (ltb q 16) (p .0)) in
       index-set-is (isVector s) a (indexMode s) l (subset s q) ha (good-index-mode g) (p .2) (λ v. only-first a ha (p .1) (good-subset g v .second))
     where
@@ -147,22 +149,22 @@ module _ {m : ℕ} {s : Split} {f : Place → ℕ} (g : WellFormed m s f) where
   laid-fits : (l : ℕ) (ln : Line) → l < 9 → Bounded m s l ln → (1 ≤ lineBits m s l → ln .index (anchorOf s l) < 2 ^ (lineBits m s l - 1))
       → (x : Place) → has m s l x ≡ true → laid m ln x < 2 ^ width m (anchors s) x
   unfolding laid width lineBits
-  laid-fits l ln hl w low (lead k) h = absurd (no-both h (has-lead m s l k hl))
-  laid-fits l ln hl w low (value c e) h =
-      let p = has-parts m s l (value c e) h in
+  laid-fits l ln hl w low (Lead k) h = absurd (no-both h (has-lead m s l k hl))
+  laid-fits l ln hl w low (Value c e) h =
+      let p = has-parts m s l (Value c e) h in
       let hc : c < 4 = ltb→lt c 4 (both-left (ltb c 4) (ltb e 6) (p .0)) in
       rw (not-zero (ltb e (endpointCount m)) (channelBits m c) (p .1)) (w .value (e % 2) c (mod-lt e (lit< tt)) hc)
-  laid-fits l ln hl w low (pbit k) h =
-      let p = has-parts m s l (pbit k) h in
+  laid-fits l ln hl w low (PBit k) h =
+      let p = has-parts m s l (PBit k) h in
       rw (not-zero (ltb k (pCount m)) 1 (p .1)) (w .p (pick (eqb m 1) 0 (k % 2)) (small (eqb m 1)))
     where
       small : (b : Bool) → pick b 0 (k % 2) < 2
       small true = lit< tt
       small false = mod-lt k (lit< tt)
-  laid-fits l ln hl w low (index a q) h = go (among q (anchors s)) refl
+  laid-fits l ln hl w low (Index a q) h = go (among q (anchors s)) refl
     where
-      p : T (inside (index a q)) × (width m [] (index a q) ≢ 0) × (lineOfPlace m s (index a q) ≡ l)
-      p = has-parts m s l (index a q) h
+      p : T (inside (Index a q)) × (width m [] (Index a q) ≢ 0) × (lineOfPlace m s (Index a q) ≡ l)
+      p = has-parts m s l (Index a q) h
 
       ea : a ≡ indexSetOf s l
       ea = has-index-set l a q h
@@ -198,7 +200,7 @@ module _ {m : ℕ} {s : Split} {f : Place → ℕ} (g : WellFormed m s f) where
       hl : l < 9
       hl = omega (arith, a .line, lines-le m (g .mode))
 
-      kept : (k : ℕ) → pick (has m s l (lead k)) (laid m (oriented m s l ln) (lead k)) (f (lead k)) ≡ f (lead k)
+      kept : (k : ℕ) → pick (has m s l (Lead k)) (laid m (oriented m s l ln) (Lead k)) (f (Lead k)) ≡ f (Lead k)
       kept k = rw (has-lead m s l k hl)
 
       go : (x : Place) → T (inside x) → (b : Bool) → has m s l x ≡ b → pick b (laid m (oriented m s l ln) x) (f x) < 2 ^ width m (anchors s) x

@@ -11,6 +11,8 @@ use borrow.Author.Tests.{eq-eqb, lt-leb, ne-eqb}
 use lib.Dec.{T, eqb, ltb, ltb→lt, lit<}
 use lib.ListN.{length, getD}
 use lib.Pow.{pow-mono, pow-pos}
+use Rattle.bc7_format.specs.declared.Place.{Place}
+use Rattle.bc7_format.specs.declared.Place.the-variants.{Lead, Value, PBit, Index}
 use Rattle.line_rules.specs.declared.Replacement.{Replacement}
 use Rattle.line_rules.specs.declared.LineRead.{LineRead}
 use Rattle.bc7_format.specs.declared.Split.{Split}
@@ -26,7 +28,7 @@ use Rattle.bc7_format.specs.Modes.{modeOf, lines}
 use Rattle.bc7_format.specs.Lines.{Line, anchorOf, draws, has, indexPlace, laid, lineBits, lineOf, meansShown, own, pPlace, pixel, rotated, shown}
 use Rattle.bc7_format.specs.Lines.{turned, valuePlace, withLine}
 use Rattle.bcn_format.specs.Partitions.{among}
-use Rattle.bc7_format.specs.Places.{Place, lead, index, inside, opened, pbit, value, width}
+use Rattle.bc7_format.specs.Places.{inside, opened, width}
 use Rattle.bc7_format.specs.Splits.{anchors, rotation, splitOf}
 use Rattle.bc7_format.specs.WellFormed.{WellFormed}
 use Rattle.bc7_format.proofs.Lens.{has-lead, has-one, has-parts, line-from}
@@ -86,10 +88,10 @@ given-back g he hp hi =
 
 laid-same : (m : ℕ) (a b : Line) → Agree a b → (x : Place) → T (inside x) → laid m a x ≡ laid m b x
 unfolding laid
-laid-same m a b h (lead k) i = refl
-laid-same m a b h (value c e) i = h .value (e % 2) c (mod-lt e (lit< tt)) (ltb→lt c 4 (both-left (ltb c 4) (ltb e 6) i))
-laid-same m a b h (pbit k) i = h .p _ (pick-lt (eqb m 1) 0 (k % 2) 2 (lit< tt) (mod-lt k (lit< tt)))
-laid-same m a b h (index a' q) i = h .index q (ltb→lt q 16 (both-right (ltb a' 2) (ltb q 16) i))
+laid-same m a b h (Lead k) i = refl
+laid-same m a b h (Value c e) i = h .value (e % 2) c (mod-lt e (lit< tt)) (ltb→lt c 4 (both-left (ltb c 4) (ltb e 6) i))
+laid-same m a b h (PBit k) i = h .p _ (pick-lt (eqb m 1) 0 (k % 2) 2 (lit< tt) (mod-lt k (lit< tt)))
+laid-same m a b h (Index a' q) i = h .index q (ltb→lt q 16 (both-right (ltb a' 2) (ltb q 16) i))
 
 -- GET, then SET: what a line has is what stands at its places
 module _ {m : ℕ} {s : Split} {f : Place → ℕ} (g : WellFormed m s f) (l : ℕ) (hl : l < lines m) where
@@ -99,10 +101,10 @@ module _ {m : ℕ} {s : Split} {f : Place → ℕ} (g : WellFormed m s f) (l : �
 
   laid-own : (x : Place) → has m s l x ≡ true → laid m (lineOf m s l f) x ≡ f x
   unfolding laid lineOf indexPlace
-  laid-own (lead k) h = absurd (no-both h (has-lead m s l k (omega (arith, lines-le m (g .mode)))))
-  laid-own (value c e) h = ap (own m s l f) (own-value g l c e h) ∙ own-is (value c e) h
-  laid-own (pbit k) h = ap (own m s l f) (own-pbit m s l k h) ∙ own-is (pbit k) h
-  laid-own (index a q) h = ap (λ (j : ℕ). own m s l f (index j q)) (sym (has-index-set g l a q h)) ∙ own-is (index a q) h
+  laid-own (Lead k) h = absurd (no-both h (has-lead m s l k (omega (arith, lines-le m (g .mode)))))
+  laid-own (Value c e) h = ap (own m s l f) (own-value g l c e h) ∙ own-is (Value c e) h
+  laid-own (PBit k) h = ap (own m s l f) (own-pbit m s l k h) ∙ own-is (PBit k) h
+  laid-own (Index a q) h = ap (λ (j : ℕ). own m s l f (Index j q)) (sym (has-index-set g l a q h)) ∙ own-is (Index a q) h
 
   -- what is read fits, and needs no turn
   own-fits : (x : Place) → own m s l f x < 2 ^ ownWidth m s l x
@@ -140,8 +142,8 @@ module _ {m : ℕ} {s : Split} {f : Place → ℕ} (g : WellFormed m s f) (l : �
       index = λ q hq. rw (agrees .index q hq) (own-fits (indexPlace s l q));
     };
     same-p =
-        λ e. agrees .p 0 (lit< tt) ∙ ap (λ (b : Bool). own m s l f (pbit (pick b l (2 * l + 0)))) (eq-eqb m 1 e)
-        ∙ sym (ap (λ (b : Bool). own m s l f (pbit (pick b l (2 * l + 1)))) (eq-eqb m 1 e)) ∙ sym (agrees .p 1 (lit< tt));
+        λ e. agrees .p 0 (lit< tt) ∙ ap (λ (b : Bool). own m s l f (PBit (pick b l (2 * l + 0)))) (eq-eqb m 1 e)
+        ∙ sym (ap (λ (b : Bool). own m s l f (PBit (pick b l (2 * l + 1)))) (eq-eqb m 1 e)) ∙ sym (agrees .p 1 (lit< tt));
   }
 
   read-unturned : topSet m s l read ≡ false

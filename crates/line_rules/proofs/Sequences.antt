@@ -8,6 +8,7 @@ use Prim.Native.Nat.{ℕ, _<_}
 use native.Mathlib.Omega.{arith}
 use borrow.Author.Tests.{eqb-true, eqb-false, eq-eqb, lt-ltb, ltb-true}
 use lib.Dec.{T, eqb, ltb}
+use Rattle.bc7_format.specs.declared.Place.{Place}
 use Rattle.bc7_format.specs.declared.Split.{Split}
 use Rattle.laws.specs.Digits.{Fit}
 use Rattle.laws.specs.Tables.{pick}
@@ -19,15 +20,15 @@ use Rattle.bcn_format.specs.Block.{eights}
 use Rattle.bc7_format.specs.Modes.{modeOf, lines}
 use Rattle.bc7_format.specs.Lines.{draws, has, laid, lineOfPlace, meansShown, pixel}
 use Rattle.bcn_format.specs.Partitions.{among, or}
-use Rattle.bc7_format.specs.Places.{Place, blockOf, inside as insideBlock, opened}
+use Rattle.bc7_format.specs.Places.{blockOf, inside as insideBlock, opened}
 use Rattle.bc7_format.specs.Splits.{splitOf}
 use Rattle.bc7_format.proofs.Lens.{has-parts}
 use Rattle.bc7_format.proofs.Opening.{block-ext, block-opened}
 use Rattle.line_rules.specs.Calls.{afterAll, isAccepted, isOf, last, lastOfEach, seen}
 use Rattle.line_rules.specs.Replace.{Call, after, oriented, refusal}
 use Rattle.line_rules.proofs.Accepting.{accepted-is}
-use Rattle.line_rules.proofs.Blocks.{after-mode, after-sixteen, after-split, given-drawn, others-kept, places-kept, places-stored, reserved-or}
-use Rattle.line_rules.proofs.Blocks.{reserved-same, same-refusal, unchanged}
+use Rattle.line_rules.proofs.Blocks.{after-mode, after-sixteen, after-split, given-drawn, others-kept, places-kept, places-stored}
+use Rattle.line_rules.proofs.Blocks.{reserved-or, reserved-same, same-refusal, unchanged}
 use Rattle.line_rules.proofs.Draws.{drawn-by-one}
 
 -- what no call changes

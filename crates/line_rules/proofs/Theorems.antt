@@ -7,6 +7,8 @@ use mathlib.Core.List.{List, _∷_, _++_}
 use Prim.Native.Nat.{ℕ, _<_}
 use lib.Dec.{T}
 use lib.ListN.{length, getD}
+use Rattle.bc7_format.specs.declared.Place.{Place}
+use Rattle.bc7_format.proofs.FullAlpha.{full-alpha}
 use Rattle.line_rules.specs.declared.Replacement.{Replacement}
 use Rattle.line_rules.specs.declared.Replaced.{Replaced}
 use Rattle.line_rules.specs.declared.LineRead.{LineRead}
@@ -18,7 +20,7 @@ use Rattle.bcn_format.specs.Block.{eights}
 use Rattle.bc7_format.specs.Modes.{modeOf, lines}
 use Rattle.bc7_format.specs.Lines.{draws, has, laid, meansShown, pixel, pixels}
 use Rattle.bcn_format.specs.Partitions.{among}
-use Rattle.bc7_format.specs.Places.{Place, inside, opened}
+use Rattle.bc7_format.specs.Places.{inside, opened}
 use Rattle.bc7_format.specs.Splits.{splitOf}
 use Rattle.bc7_format.proofs.Opening.{opened-good}
 use Rattle.bc7_format.proofs.Reserved.{open-mode, reserved-mode, zero-byte}
@@ -27,7 +29,7 @@ use Rattle.line_rules.specs.Calls.{afterAll, last, lastOfEach, seen}
 use Rattle.line_rules.specs.Read.{TooWide, givenAs, lineRead, readRules, turnedIn}
 use Rattle.line_rules.specs.Replace.{Call, after, callOf, lineGiven, oriented, refusal, replaced, replacedAs, topSet}
 use Rattle.line_rules.proofs.Accepting.{on-block}
-use Rattle.line_rules.proofs.Blocks.{after-mode, after-sixteen, after-split, full-alpha, given-drawn, others-kept, places-kept, places-stored}
+use Rattle.line_rules.proofs.Blocks.{after-mode, after-sixteen, after-split, given-drawn, others-kept, places-kept, places-stored}
 use Rattle.line_rules.proofs.Blocks.{same-refusal, unchanged}
 use Rattle.line_rules.proofs.Draws.{drawn-by-one}
 use Rattle.line_rules.proofs.OwnWidths.{own-widths}
@@ -165,7 +167,8 @@ pub same-last-calls : (bs : List ℕ) → Fit eights bs → (cs ds : List Call)
 same-last-calls = same-lasts
 
 -- and every channel that line l draws shows what the last accepted call of l means, or what the first block shows where there is none
-pub last-call-is-seen : (bs : List ℕ) → Fit eights bs → (cs : List Call) (l q ch : ℕ) → q < 16 → ch < 4 → draws (modeOf bs) (splitOf bs) l q ch ≡ true
+pub last-call-is-seen : (bs : List ℕ) → Fit eights bs → (cs : List Call) (l q ch : ℕ) → q < 16 → ch < 4
+    → draws (modeOf bs) (splitOf bs) l q ch ≡ true
     → pixel (afterAll bs cs) q ch ≡ seen (modeOf bs) (splitOf bs) l q ch (pixel bs q ch) (last (modeOf bs) (splitOf bs) l cs)
 last-call-is-seen bs h cs l q ch hq hc d = sequence-draws (modeOf bs) (splitOf bs) l q ch hq hc d cs bs (first-stays bs h)
 

@@ -110,7 +110,8 @@ third false false true d e = (refl, refl)
 third false false false true e = absurd (let y : ⊥ = omega arith in y)
 third false false false false e = absurd (let y : ⊥ = omega arith in y)
 
-so-third : (a b c d : Bool) → first (refuse 1 a ∷ refuse 2 b ∷ []) ≡ 0 → c ≡ true → first (refuse 1 a ∷ refuse 2 b ∷ refuse 3 c ∷ refuse 4 d ∷ []) ≡ 3
+so-third : (a b c d : Bool) → first (refuse 1 a ∷ refuse 2 b ∷ []) ≡ 0 → c ≡ true
+    → first (refuse 1 a ∷ refuse 2 b ∷ refuse 3 c ∷ refuse 4 d ∷ []) ≡ 3
 unfolding first
 so-third true b c d e t = absurd (let y : ⊥ = omega arith in y)
 so-third false true c d e t = absurd (let y : ⊥ = omega arith in y)

@@ -27,7 +27,8 @@ pub record OwnWidths (m : ℕ) (s : Split) (l : ℕ) : Type 0 where
   pub value : (k c : ℕ) → k < 2 → c < 4
       → ownWidth m s l (valuePlace s l k c) ≡ pick (isVector s) (pick (eqb (pick (eqb c 3) 1 0) l) (channelBits m c) 0) (channelBits m c)
   pub p : (k : ℕ) → k < 2 → ownWidth m s l (pPlace m l k) ≡ pick (eqb (pCount m) 0) 0 1
-  pub index : (q : ℕ) → q < 16 → ownWidth m s l (indexPlace s l q) ≡ pick (isVector s) (lineBits m s l) (pick (eqb (subset s q) l) (lineBits m s l) 0)
+  pub index : (q : ℕ) → q < 16
+      → ownWidth m s l (indexPlace s l q) ≡ pick (isVector s) (lineBits m s l) (pick (eqb (subset s q) l) (lineBits m s l) 0)
 
 -- a line that a block of mode m and split s takes: its number is below the mode's count, and in mode 1 its p bits are equal
 pub record Acceptable (m : ℕ) (s : Split) (l : ℕ) (ln : Line) : Type 0 where

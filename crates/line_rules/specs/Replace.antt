@@ -5,6 +5,7 @@ use mathlib.Core.Bool.{Bool, not}
 use mathlib.Core.List.{List, [], _∷_}
 use lib.Dec.{eqb, ltb, leb}
 use lib.ListN.{getD}
+use Rattle.bc7_format.specs.declared.Place.{Place}
 use Rattle.line_rules.specs.declared.Replacement.{Replacement}
 use Rattle.line_rules.specs.declared.Replaced.{Replaced}
 use Rattle.bc7_format.specs.declared.Split.{Split}
@@ -12,7 +13,7 @@ use Rattle.laws.specs.Refusals.{first, refuse}
 use Rattle.laws.specs.Tables.{below, both, pick}
 use Rattle.bc7_format.specs.Modes.{modeOf, lines}
 use Rattle.bc7_format.specs.Lines.{Line, anchorOf, has, indexPlace, lineBits, pPlace, turned, valuePlace, withLine}
-use Rattle.bc7_format.specs.Places.{Place, blockOf, opened, width}
+use Rattle.bc7_format.specs.Places.{blockOf, opened, width}
 use Rattle.bc7_format.specs.Splits.{splitOf}
 
 -- a given line

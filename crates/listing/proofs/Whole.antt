@@ -14,6 +14,8 @@ use Rattle.laws.proofs.Padding.{written-long, written-none, written-then}
 use Rattle.listing_rules.specs.Listing.{listing}
 use Rattle.listing_rules.specs.Machine.{NextEnd, Ready, atStart, nextOf, spareOf, textOf, wantedOf}
 use Rattle.listing_rules.proofs.Rounds.{done, ready-start, rest-start, restOf, step}
+use Rattle.listing.specs.Asked.{NextAsked}
+use Rattle.listing.specs.Promised.{GoesOnReady, Spares}
 
 -- the next n bytes, cut out of the input, are the next n bytes of what is left of it
 module _ (s : List ℕ) (at n end : ℕ) (e : NextEnd at n (length s) end) where
@@ -50,22 +52,23 @@ fed-start s out e h =
 -- what the machine is fed with
 module _ {s out₀ out : List ℕ} {m : Machine} {at said : ℕ} (f : Fed s out₀ out m at said) where
   pub fed-asks : {end : ℕ} → NextEnd at (wantedOf m) (length s) end
-      → let came = take (end - at) (drop at s) in Ready m × (length came ≤ wantedOf m) × (said + 40 * (length came / 16) + spareOf m ≤ length out)
+      → NextAsked m (length (take (end - at) (drop at s))) said (length out)
   fed-asks {end} e =
       let l = came-length s at (wantedOf m) end e in
-      (f .ready, omega (arith, l, e .few), omega (arith, l, e .within, e .behind, f .room, f .long))
+      record { ready = f .ready; few = omega (arith, l, e .few); fits = omega (arith, l, e .within, e .behind, f .room, f .long) }
 
   pub fed-round : {end : ℕ} {out' : List ℕ} {said' : ℕ} {m' : Machine} → NextEnd at (wantedOf m) (length s) end
       → let came = take (end - at) (drop at s) in
-      Written out said (textOf m came) out' said' → said' + spareOf (nextOf m came) ≤ said + 40 * (length came / 16) + spareOf m
-      → m' ≡ nextOf m came → Ready m' → Fed s out₀ out' m' end said'
-  fed-round {end} {out'} {said'} {m'} e w b n r = record {
-    ready = r;
+      Spares (spareOf (nextOf m came)) (40 * (length came / 16) + spareOf m) said said' (Written out said (textOf m came) out' said')
+      → GoesOnReady m came m' → Fed s out₀ out' m' end said'
+  fed-round {end} {out'} {said'} {m'} e w n = record {
+    ready = n .ready;
     within = e .within;
-    room = omega (arith, came-length s at (wantedOf m) end e, e .within, e .behind, f .room, b, ap spareOf n);
-    long = written-long w ∙ f .long;
+    room = omega (arith, came-length s at (wantedOf m) end e, e .within, e .behind, f .room, w .room, ap spareOf (n .next));
+    long = written-long (w .text) ∙ f .long;
     rest = λ after next v. f .rest after next
-        (rw (step m (drop at s) (f .ready), ← came-is s at (wantedOf m) end e, ← left-is s at (wantedOf m) end e, ← n) (written-then w v));
+        (rw (step m (drop at s) (f .ready), ← came-is s at (wantedOf m) end e, ← left-is s at (wantedOf m) end e, ← n .next)
+        (written-then (w .text) v));
   }
 
   pub fed-whole : wantedOf m ≡ 0 → Written out₀ 0 (listing s) out said

@@ -1,21 +1,23 @@
 // The listing of a sheet that comes in pieces, as a machine: it says how many bytes it wants next, takes what came (fewer than
 // it wanted where the input ended), and answers its next state and the text to write. All that decides what is printed stands
 // here and below; a program only reads and writes.
-ghost use mathlib.Core.Bool.{true};
 ghost use mathlib.Core.Path.{_≡_};
-ghost use Prim.Native.Nat.{_+_, _-_, _*_, _/_, _≤_, _<_};
+ghost use Prim.Native.Nat.{_+_, _*_, _/_, _≤_};
 ghost use lib.Dec.{eqb};
 ghost use lib.ListN.{length};
 ghost use Rattle.laws.specs.Tables.{pick};
-ghost use Rattle.head_rules.specs.Geometry.{blocksOf};
 ghost use Rattle.head_rules.specs.Heads.{Sized};
-ghost use Rattle.head_rules.specs.Reader.{Going, hasEnded};
+ghost use Rattle.head_rules.specs.Reader.{Going};
 ghost use Rattle.laws.specs.Padding.{Written};
 ghost use Rattle.listing_rules.specs.Listing.{blockListed, listed, unlessExact};
-ghost use Rattle.listing_rules.specs.Promises.{GoesOn, SaysListing, SaysNext, Wants};
-ghost use Rattle.listing.specs.Asked.{BlockAsked, BlocksAsked};
-ghost use Rattle.listing_rules.specs.Machine.{InBlocks, NextEnd, Ready, atHead, atStart, begun, ended, headText, inBlocks, mostInRun, nextAtHead};
-ghost use Rattle.listing_rules.specs.Machine.{nextInBlocks, nextOf, runOf, spareOf, takenOf, textAtHead, textInBlocks, roundsOf, wantedOf};
+ghost use Rattle.listing_rules.specs.Promises.{SaysNext};
+ghost use Rattle.listing_rules.specs.Machine.{InBlocks, NextEnd, Ready, atHead, begun, ended, headText, inBlocks, nextAtHead};
+ghost use Rattle.listing_rules.specs.Machine.{nextInBlocks, nextOf, runOf, spareOf, takenOf, textAtHead, textInBlocks};
+ghost use Rattle.text.specs.Puts.{Puts};
+ghost use Rattle.listing.specs.Asked.{BlockAsked, BlocksAsked, HeadAsked, NextAsked, RunAsked, WithinBlocks};
+ghost use Rattle.listing.specs.Promised.{GoesOnReady, ListsSheet, Spares, Starts, TakesNext, TellsRun, WantsFew};
+use crate::texts::block_text;
+use crate::texts::sheet_text;
 use bc7::decode_bc7_block;
 use bc7_places::modes::mode_of;
 use head_rules::Head;
@@ -29,9 +31,9 @@ use sheet_head::geometry::blocks_of;
 use sheet_head::reader::has_ended;
 use sheet_head::reader::refused_with;
 use sheet_head::reader::take_byte;
-use text::block_text;
 use text::refused_text;
-use text::sheet_text;
+
+pub mod texts;
 
 // A row of blocks is taken in runs of so many blocks at the most, and a program needs a buffer for one run.
 const MOST_IN_RUN: u32 = 1024;
@@ -39,8 +41,7 @@ const MOST_IN_RUN: u32 = 1024;
 // The reader of the head after what came of its next byte; the head is cut off where none came. An accepted head has a size.
 fn take_next(reader: HeadReader, came: &[u8]) -> HeadReader
     requires { ⌜ Going reader ⌝ }
-    ensures { λ r. ⌜ r ≡ takenOf reader (now (came .entry)) ⌝ }
-    ensures { λ r. ⌜ (hasEnded r ≡ true → r .head .refusal ≡ 0 → Sized (r .head .width) (r .head .height)) ⌝ }
+    ensures { λ r. ⌜ TakesNext reader (now (came .entry)) r ⌝ }
 {
     if came.len() == 0 {
         return refused_with(7);
@@ -51,8 +52,7 @@ fn take_next(reader: HeadReader, came: &[u8]) -> HeadReader
 // The text of a block of a sheet, to a place of the output; the place behind it.
 fn list_block(head: Head, number: u32, block: [u8; 16], at: usize, out: &mut [u8]) -> usize
     requires { ⌜ BlockAsked head number at (length (now out)) ⌝ }
-    ensures { λ r. ⌜ Written (now (out .entry)) at (blockListed head number block) (now (out .exit)) r ⌝ }
-    ensures { λ r. ⌜ r ≤ at + 40 ⌝ }
+    ensures { λ r. ⌜ Puts 40 (now (out .entry)) at (blockListed head number block) (now (out .exit)) r ⌝ }
 {
     let pixels = decode_bc7_block(block);
     let opaque = is_opaque_in(head, number, block, pixels);
@@ -64,8 +64,9 @@ fn list_block(head: Head, number: u32, block: [u8; 16], at: usize, out: &mut [u8
 // No text has more than 40 bytes.
 fn list_blocks(head: Head, from: u32, blocks: &[u8], at: usize, out: &mut [u8]) -> usize
     requires { ⌜ BlocksAsked head from (length (now blocks)) at (length (now out)) ⌝ }
-    ensures { λ r. ⌜ Written (now (out .entry)) at (listed head from (now (blocks .entry))) (now (out .exit)) r ⌝ }
-    ensures { λ r. ⌜ r ≤ at + 40 * (length (now (blocks .entry)) / 16) ⌝ }
+    ensures { λ r. ⌜
+        Puts (40 * (length (now (blocks .entry)) / 16)) (now (out .entry)) at (listed head from (now (blocks .entry))) (now (out .exit)) r
+        ⌝ }
 {
     let count = blocks.len() / 16;
     let mut next = at;
@@ -87,15 +88,14 @@ fn at_head(reader: HeadReader) -> Machine
 
 // The machine before it has taken anything.
 pub fn start() -> Machine
-    ensures { λ r. ⌜ r ≡ atStart ⌝ }
-    ensures { λ r. ⌜ Ready r ⌝ }
+    ensures { λ r. ⌜ Starts r ⌝ }
 {
     at_head(sheet_head::reader::start())
 }
 
 // Before a block of the sheet, or behind its last.
 fn in_blocks(reader: HeadReader, from: u32) -> Machine
-    requires { ⌜ Sized (reader .head .width) (reader .head .height) × (from ≤ blocksOf (reader .head)) ⌝ }
+    requires { ⌜ WithinBlocks (reader .head) from ⌝ }
     ensures { λ r. ⌜ r ≡ inBlocks reader from ⌝ }
 {
     let head = reader.head;
@@ -158,8 +158,7 @@ fn next_at_head(reader: HeadReader, came: &[u8]) -> Machine
 // How many blocks the next run has: the rest of its row, or as many as the buffer holds. So no row is too long for it.
 fn run_of(head: Head, from: u32) -> u32
     requires { ⌜ InBlocks head from ⌝ }
-    ensures { λ r. ⌜ r ≡ runOf head from ⌝ }
-    ensures { λ r. ⌜ (r ≤ mostInRun) × (from + r ≤ blocksOf head) ⌝ }
+    ensures { λ r. ⌜ TellsRun head from r ⌝ }
 {
     let columns = blocks_across(head.width);
     let left = columns - from % columns;
@@ -185,8 +184,7 @@ fn next_in_blocks(reader: HeadReader, from: u32, got: usize) -> Machine
 // The next state, after what came.
 pub fn next(machine: Machine, came: &[u8]) -> Machine
     requires { ⌜ Ready machine ⌝ }
-    ensures { λ r. ⌜ GoesOn machine (now (came .entry)) r ⌝ }
-    ensures { λ r. ⌜ Ready r × (roundsOf r ≤ roundsOf machine - 1) ⌝ }
+    ensures { λ r. ⌜ GoesOnReady machine (now (came .entry)) r ⌝ }
 {
     let phase = machine.phase;
     match phase {
@@ -201,8 +199,7 @@ pub fn next(machine: Machine, came: &[u8]) -> Machine
 // How many bytes the machine wants next: never more than those of a run, and none at its end.
 pub fn wanted(machine: Machine) -> usize
     requires { ⌜ Ready machine ⌝ }
-    ensures { λ r. ⌜ Wants machine r ⌝ }
-    ensures { λ r. ⌜ (r ≤ 16 * mostInRun) × (r ≤ 16 * mostInRun * roundsOf machine) ⌝ }
+    ensures { λ r. ⌜ WantsFew machine r ⌝ }
 {
     let phase = machine.phase;
     let head = machine.reader.head;
@@ -218,8 +215,7 @@ pub fn wanted(machine: Machine) -> usize
 // `refused 10` to a place of the output, unless the block bytes are as many as needed.
 fn refuse_unless(exact: bool, at: usize, out: &mut [u8]) -> usize
     requires { ⌜ at + 40 ≤ length (now out) ⌝ }
-    ensures { λ r. ⌜ Written (now (out .entry)) at (unlessExact exact) (now (out .exit)) r ⌝ }
-    ensures { λ r. ⌜ r + pick exact 40 0 ≤ at + 40 ⌝ }
+    ensures { λ r. ⌜ Spares (pick exact 40 0) 40 at r (Written (now (out .entry)) at (unlessExact exact) (now (out .exit)) r) ⌝ }
 {
     if exact {
         return at;
@@ -230,8 +226,7 @@ fn refuse_unless(exact: bool, at: usize, out: &mut [u8]) -> usize
 // What is said of a head.
 fn list_head(head: Head, at: usize, out: &mut [u8]) -> usize
     requires { ⌜ at + 40 ≤ length (now out) ⌝ }
-    ensures { λ r. ⌜ Written (now (out .entry)) at (headText head) (now (out .exit)) r ⌝ }
-    ensures { λ r. ⌜ r ≤ at + 40 ⌝ }
+    ensures { λ r. ⌜ Puts 40 (now (out .entry)) at (headText head) (now (out .exit)) r ⌝ }
 {
     if head.refusal != 0 {
         return refused_text(head.refusal, at, out);
@@ -240,9 +235,11 @@ fn list_head(head: Head, at: usize, out: &mut [u8]) -> usize
 }
 
 fn list_at_head(reader: HeadReader, came: &[u8], at: usize, out: &mut [u8]) -> usize
-    requires { ⌜ Going reader × (at + 80 ≤ length (now out)) ⌝ }
-    ensures { λ r. ⌜ Written (now (out .entry)) at (textAtHead (takenOf reader (now (came .entry)))) (now (out .exit)) r ⌝ }
-    ensures { λ r. ⌜ r + spareOf (nextAtHead (takenOf reader (now (came .entry)))) ≤ at + 80 ⌝ }
+    requires { ⌜ HeadAsked reader at (length (now out)) ⌝ }
+    ensures { λ r. ⌜
+        Spares (spareOf (nextAtHead (takenOf reader (now (came .entry))))) 80 at r
+        (Written (now (out .entry)) at (textAtHead (takenOf reader (now (came .entry)))) (now (out .exit)) r)
+        ⌝ }
 {
     let taken = take_next(reader, came);
     if has_ended(taken) {
@@ -254,19 +251,23 @@ fn list_at_head(reader: HeadReader, came: &[u8], at: usize, out: &mut [u8]) -> u
 
 // What is said of the bytes of a run that came.
 fn list_run(head: Head, from: u32, came: &[u8], at: usize, out: &mut [u8]) -> usize
-    requires { ⌜ InBlocks head from × BlocksAsked head from (length (now came)) (at + 40) (length (now out)) ⌝ }
-    ensures { λ r. ⌜ Written (now (out .entry)) at (textInBlocks head from (now (came .entry))) (now (out .exit)) r ⌝ }
-    ensures { λ r. ⌜ r + pick (eqb (length (now (came .entry))) (16 * runOf head from)) 40 0 ≤ at + 40 * (length (now (came .entry)) / 16) + 40 ⌝ }
+    requires { ⌜ RunAsked head from (length (now came)) at (length (now out)) ⌝ }
+    ensures { λ r. ⌜
+        Spares (pick (eqb (length (now (came .entry))) (16 * runOf head from)) 40 0) (40 * (length (now (came .entry)) / 16) + 40) at r
+        (Written (now (out .entry)) at (textInBlocks head from (now (came .entry))) (now (out .exit)) r)
+        ⌝ }
 {
-    let lines = list_blocks(head, from, came, at, out);
-    refuse_unless(came.len() == 16 * run_of(head, from) as usize, lines, out)
+    let texts = list_blocks(head, from, came, at, out);
+    refuse_unless(came.len() == 16 * run_of(head, from) as usize, texts, out)
 }
 
 // What is said of what came, to a place of the output; the place behind it.
 pub fn list(machine: Machine, came: &[u8], at: usize, out: &mut [u8]) -> usize
-    requires { ⌜ Ready machine × (length (now came) ≤ wantedOf machine) × (at + 40 * (length (now came) / 16) + spareOf machine ≤ length (now out)) ⌝ }
-    ensures { λ r. ⌜ SaysNext machine (now (came .entry)) (now (out .entry)) at (now (out .exit)) r ⌝ }
-    ensures { λ r. ⌜ r + spareOf (nextOf machine (now (came .entry))) ≤ at + 40 * (length (now (came .entry)) / 16) + spareOf machine ⌝ }
+    requires { ⌜ NextAsked machine (length (now came)) at (length (now out)) ⌝ }
+    ensures { λ r. ⌜
+        Spares (spareOf (nextOf machine (now (came .entry)))) (40 * (length (now (came .entry)) / 16) + spareOf machine) at r
+        (SaysNext machine (now (came .entry)) (now (out .entry)) at (now (out .exit)) r)
+        ⌝ }
 {
     let phase = machine.phase;
     let head = machine.reader.head;
@@ -290,8 +291,7 @@ fn end_of(at: usize, n: usize, many: usize) -> usize
 // The listing of a sheet that is there whole, to the start of the output: the machine fed with it as it asks. How long it is.
 pub fn list_sheet(sheet: &[u8], out: &mut [u8]) -> usize
     requires { ⌜ 40 * (length (now sheet) / 16) + 80 ≤ length (now out) ⌝ }
-    ensures { λ r. ⌜ SaysListing (now (sheet .entry)) (now (out .entry)) 0 (now (out .exit)) r ⌝ }
-    ensures { λ r. ⌜ r ≤ length (now (out .exit)) ⌝ }
+    ensures { λ r. ⌜ ListsSheet (now (sheet .entry)) (now (out .entry)) (now (out .exit)) r ⌝ }
 {
     let mut machine = start();
     let mut at: usize = 0;

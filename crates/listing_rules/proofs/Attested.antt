@@ -6,6 +6,7 @@ use mathlib.Core.List.{List, [], _∷_, _++_, map}
 use Prim.Native.Nat.{ℕ}
 use Prim.Native.String.{String}
 use lib.ListN.{replicate}
+use Rattle.laws.proofs.Attested.{text}
 use Rattle.laws.specs.Refusals.{first}
 use Rattle.laws.specs.Tables.{implies, table, tableFrom}
 use Rattle.bc7_format.specs.Modes.{modeOf, endpointCount, kindOfMode, modeRow}
@@ -20,16 +21,12 @@ use Rattle.bc7_format.proofs.Examples.{block3, block4}
 use Rattle.head_rules.specs.Geometry.{blocksOf}
 use Rattle.head_rules.specs.Heads.{formIn, headRefusalUpTo, heightIn, readHead, readHeadUpTo, sizeRefusalUpTo, widthIn}
 use Rattle.head_rules.specs.Numbers.{raised, readGroups, readNumber}
-use Rattle.listing_rules.specs.Text.{ascii, blockText, channels, decimal, digitsIn, opacityMark, refusedText, sheetText}
+use Rattle.laws.specs.Text.{ascii, decimal, digitsIn, refusedText}
+use Rattle.listing_rules.specs.Text.{blockText, channels, opacityMark, sheetText}
 use Rattle.opacity_rules.specs.Opacity.{isVisible, opaque, opaqueIn, passes}
 use Rattle.sheet_rules.specs.Rows.{blockAt}
 use Rattle.listing_rules.specs.Machine.{runOf}
 use Rattle.listing_rules.specs.Listing.{blockListed, blocksListing, blocksText, listed, listing, listingBy}
-
--- texts; 10 ends each
-unfoldable pub text : List String → List ℕ
-text [] = []
-text (s ∷ more) = ascii s ++ (10 ∷ []) ++ text more
 
 -- mode 6: all pixels have alpha 255 but pixel 1, in the second column, which has 0
 abbrev block6 : List ℕ
@@ -47,11 +44,11 @@ pub listings-hold : map listing (sheet (replicate 16 0) ∷ sheet (replicate 17 
     ("sheet 5 6" ∷ "0 3 3 5 7 255 o" ∷ "1 6 1 1 1 255 o" ∷ "2 4 11 29 44 28 -" ∷ "refused 10" ∷ []) ∷
     ("refused 8" ∷ []) ∷
     [])
-unfolding text listingBy blocksListing listed blocksText blockListed readHeadUpTo headRefusalUpTo formIn widthIn heightIn readNumber readGroups raised first
-    sizeRefusalUpTo blocksOf blockAt sheetText refusedText blockText channels opacityMark decimal digitsIn ascii table tableFrom digits marks strings2
-    strings3 subset2 subset3 anchors2 anchors3 weights weightOf drawn promoted eight modeRow kindOfMode endpointCount placeAt pos width widths
-    trailing number modeOf splitAt splitOf atPlace opened has valuePlace pPlace indexSetOf indexPlace own lineOf lineBits meansStored rotated lineAt
-    shown pixel pixels implies isVisible passes opaque opaqueIn
+unfolding text listingBy blocksListing listed blocksText blockListed readHeadUpTo headRefusalUpTo formIn widthIn heightIn readNumber
+    readGroups raised first sizeRefusalUpTo blocksOf blockAt sheetText refusedText blockText channels opacityMark decimal digitsIn ascii
+    table tableFrom digits marks strings2 strings3 subset2 subset3 anchors2 anchors3 weights weightOf drawn promoted eight modeRow
+    kindOfMode endpointCount placeAt pos width widths trailing number modeOf splitAt splitOf atPlace opened has valuePlace pPlace indexSetOf
+    indexPlace own lineOf lineBits meansStored rotated lineAt shown pixel pixels implies isVisible passes opaque opaqueIn
 listings-hold = refl
 
 -- the runs of blocks in sheets of 4,096 by 4 and of 4,100 by 8 pixels, 1,024 and 1,025 blocks wide: from the first block, from another, from the

@@ -1,22 +1,18 @@
--- What the machine may still say besides 40 bytes for each block, and what is asked and said at a phase.
+-- What the machine may still say besides 40 bytes for each block.
 -- Assumes nothing.
-use mathlib.Core.Path.{_≡_, refl, sym, subst}
+use mathlib.Core.Path.{_≡_, refl}
 use mathlib.Core.Bool.{Bool, true, false}
-use mathlib.Core.List.{List}
-use Prim.Native.Nat.{ℕ, zero, suc, _+_, _-_, _*_, _/_, _≤_}
+use Prim.Native.Nat.{ℕ, zero, suc, _-_, _*_, _≤_}
 use native.Mathlib.Omega.{arith}
 use lib.Dec.{eqb}
-use lib.ListN.{length}
 use Rattle.listing_rules.specs.declared.Machine.{Machine}
 use Rattle.listing_rules.specs.declared.Phase.{Phase}
 use Rattle.listing_rules.specs.declared.Phase.the-variants.{Head, Blocks, End, Listed, Refused}
 use Rattle.head_rules.specs.Geometry.{blocksOf}
 use Rattle.head_rules.specs.declared.HeadReader.{HeadReader}
-use Rattle.laws.specs.Padding.{Written}
 use Rattle.laws.specs.Tables.{pick}
 use Rattle.laws.proofs.Cases.{pick-either}
-use Rattle.listing_rules.specs.Machine.{ReadyIn, begun, blocksPhase, ended, inBlocks, nextIn, nextInBlocks, nextOf, runOf, spareIn, spareOf}
-use Rattle.listing_rules.specs.Machine.{textIn, textOf, wantedIn}
+use Rattle.listing_rules.specs.Machine.{begun, blocksPhase, ended, inBlocks, nextInBlocks, runOf, spareIn, spareOf}
 
 spare-blocks : (r : HeadReader) (from : ℕ) → spareOf (inBlocks r from) ≡ 40
 unfolding inBlocks
@@ -54,18 +50,3 @@ spare-next r from got = go (eqb got (16 * runOf (r .head) from)) _ (spare-blocks
     go : (t : Bool) (m : Machine) → spareOf m ≡ 40 → spareOf (pick t m (ended false)) ≡ pick t 40 0
     go true m e = e
     go false m e = spare-ended false
-
--- what is asked and said at a phase is what is asked and said
-module _ (m : Machine) (came : List ℕ) where
-  abbrev Asked : Phase → ℕ → ℕ → Type 0
-  Asked p at room = ReadyIn p m × (length came ≤ wantedIn p m) × (at + 40 * (length came / 16) + spareIn p ≤ room)
-
-  pub asked : (at room : ℕ) {p : Phase} → m .phase ≡ p → Asked (m .phase) at room → Asked p at room
-  asked at room e h = subst (λ (p : Phase). Asked p at room) e h
-
-  pub says : {p : Phase} {before after : List ℕ} {at next : ℕ} → m .phase ≡ p → Written before at (textIn p m came) after next
-      → next + spareOf (nextIn p m came) ≤ at + 40 * (length came / 16) + spareIn p
-      → Written before at (textOf m came) after next × (next + spareOf (nextOf m came) ≤ at + 40 * (length came / 16) + spareOf m)
-  says {p} {before} {after} {at} {next} e w l =
-      subst (λ (p : Phase). Written before at (textIn p m came) after next ×
-      (next + spareOf (nextIn p m came) ≤ at + 40 * (length came / 16) + spareIn p)) (sym e) (w, l)

@@ -22,7 +22,8 @@ use Rattle.head_rules.proofs.Blocks.{few-blocks}
 use Rattle.head_rules.specs.Reader.{Going, Reading, atForm, byteTaken, hasEnded, readBy, refusedWith}
 use Rattle.head_rules.proofs.Bytewise.{Stepped, going-start, not-far, read-byte, read-cut, read-ended, stepped, stepped-refused}
 use Rattle.head_rules.proofs.Theorems.{fold-leaves-the-blocks, read-head-is-the-fold}
-use Rattle.listing_rules.specs.Text.{refusedText, sheetText}
+use Rattle.laws.specs.Text.{refusedText}
+use Rattle.listing_rules.specs.Text.{sheetText}
 use Rattle.listing_rules.specs.Listing.{blocksListing, blocksText, listed, listing, unlessExact}
 use Rattle.listing_rules.specs.Machine.{InBlocks, Ready, ReadyIn, Run, atHead, atStart, begun, blocksPhase, ended, headText, inBlocks}
 use Rattle.listing_rules.specs.Machine.{nextAtHead, nextIn, nextInBlocks, nextOf, over, takenOf, textAtHead, textIn, textInBlocks, textOf}
@@ -53,8 +54,8 @@ module _ (r : HeadReader) (came : List ℕ) where
       go (b ∷ bs) = stepped g b
 
 pub head-sized : {r x : HeadReader} (came : List ℕ) → Going r → x ≡ takenOf r came
-    → (x ≡ takenOf r came) × (hasEnded x ≡ true → x .head .refusal ≡ 0 → Sized (x .head .width) (x .head .height))
-head-sized {r} {x} came g e = (e, subst (Stepped r) (sym e) (taken-stepped r came g) .sized-head)
+    → hasEnded x ≡ true → x .head .refusal ≡ 0 → Sized (x .head .width) (x .head .height)
+head-sized {r} {x} came g e = subst (Stepped r) (sym e) (taken-stepped r came g) .sized-head
 
 -- before blocks: at one of them, or at the end of the input
 pub no-blocks : (n from : ℕ) → from ≡ n → blocksPhase (n - from) ≡ End
@@ -116,7 +117,7 @@ after-byte P r g behind more came = go (takenOf r came) (taken-stepped r came g)
     go x s false e = more x s e
 
 -- the next state is ready
-ready-next : (p : Phase) (m : Machine) (came : List ℕ) → ReadyIn p m → Ready (nextIn p m came)
+pub ready-next : (p : Phase) (m : Machine) (came : List ℕ) → ReadyIn p m → Ready (nextIn p m came)
 ready-next Head m came h =
     after-byte Ready (m .reader) h
     (λ x z. behind-head Ready x z (λ s. ready-blocks x 0 s) (ready-ended false)) (λ x s e. s .going e) came
@@ -126,7 +127,7 @@ ready-next Listed m came h = ready-ended true
 ready-next Refused m came h = ready-ended false
 
 -- and has fewer rounds to go
-rounds-next : (p : Phase) (m : Machine) (came : List ℕ) → ReadyIn p m → roundsOf (nextIn p m came) ≤ roundsIn p m - 1
+pub rounds-next : (p : Phase) (m : Machine) (came : List ℕ) → ReadyIn p m → roundsOf (nextIn p m came) ≤ roundsIn p m - 1
 rounds-next Head m came h =
     after-byte (λ n. roundsOf n ≤ roundsIn Head m - 1) (m .reader) h
     (λ x z. behind-head (λ n. roundsOf n ≤ roundsIn Head m - 1) x z (λ s. rounds-blocks x 0 _ (omega (arith, few-in-all (x .head) s)))
@@ -138,17 +139,6 @@ rounds-next End m came h = omega (arith, rounds-ended (eqb (length came) 0))
 rounds-next Listed m came h = omega (arith, rounds-ended true)
 rounds-next Refused m came h = omega (arith, rounds-ended false)
 
-pub nexts : (m : Machine) (came : List ℕ) → Ready m → {n : Machine} → n ≡ nextOf m came
-    → (n ≡ nextOf m came) × (Ready n × (roundsOf n ≤ roundsOf m - 1))
-nexts m came h e = (
-  e,
-  (
-    subst Ready (sym e) (ready-next (m .phase) m came h),
-    subst (λ (n : Machine). roundsOf n ≤ roundsOf m - 1) (sym e)
-        (rounds-next (m .phase) m came h),
-  ),
-)
-
 -- it never wants more than the buffer holds, and at the end nothing
 wanted-in : (p : Phase) (m : Machine) → ReadyIn p m → (wantedIn p m ≤ 16 * mostInRun) × (wantedIn p m ≤ 16 * mostInRun * roundsIn p m)
 wanted-in Head m h = (omega arith, omega arith)
@@ -157,14 +147,8 @@ wanted-in End m h = (omega arith, omega arith)
 wanted-in Listed m h = (omega arith, omega arith)
 wanted-in Refused m h = (omega arith, omega arith)
 
-wanted-within : (m : Machine) → Ready m → (wantedOf m ≤ 16 * mostInRun) × (wantedOf m ≤ 16 * mostInRun * roundsOf m)
+pub wanted-within : (m : Machine) → Ready m → (wantedOf m ≤ 16 * mostInRun) × (wantedOf m ≤ 16 * mostInRun * roundsOf m)
 wanted-within m h = wanted-in (m .phase) m h
-
-pub wants : (m : Machine) → Ready m → {p : Phase} {n : ℕ} → m .phase ≡ p → n ≡ wantedIn p m
-    → (n ≡ wantedOf m) × ((n ≤ 16 * mostInRun) × (n ≤ 16 * mostInRun * roundsOf m))
-wants m h {p} {n} at e =
-    let q : n ≡ wantedOf m = e ∙ sym (ap (λ (p : Phase). wantedIn p m) at) in
-    (q, (omega (arith, q, wanted-within m h .0), omega (arith, q, wanted-within m h .1)))
 
 -- what is still said of an input: from a head on, and from a byte of the head on
 behind : SheetHead → List ℕ → List ℕ
@@ -202,7 +186,9 @@ unfolding begun behind
 rest-begun r s = go (eqb (r .head .refusal) 0)
   where
     go : (t : Bool) → restOf (pick t (inBlocks r 0) (ended false)) s ≡ pick t (blocksListing (r .head) 0 (blocksOf (r .head)) s) []
-    go true = let all : blocksOf (r .head) - 0 ≡ blocksOf (r .head) = omega arith in rest-blocks r 0 s ∙ ap (λ (n : ℕ). blocksListing (r .head) 0 n s) all
+    go true =
+        let all : blocksOf (r .head) - 0 ≡ blocksOf (r .head) = omega arith in
+        rest-blocks r 0 s ∙ ap (λ (n : ℕ). blocksListing (r .head) 0 n s) all
     go false = rest-ended false s
 
 -- a byte of the head, or none
@@ -289,7 +275,7 @@ done m s h e = done-in (m .phase) m s h e
 
 -- a run from a state that is ready, in as many rounds as it has to go
 pub runs : (k : ℕ) (m : Machine) (s : List ℕ) → roundsOf m ≤ k → Ready m → Run m s (restOf m s)
-runs zero m s l h = let e : wantedOf m ≡ 0 = omega (arith, wanted-within m h .1, l) in subst (λ (t : List ℕ). Run m s t) (sym (done m s h e)) (over e)
+runs zero m s l h = let e : wantedOf m ≡ 0 = omega (arith, wanted-within m h, l) in subst (λ (t : List ℕ). Run m s t) (sym (done m s h e)) (over e)
 runs (suc k) m s l h = go (wantedOf m) refl
     (λ e. runs k (nextOf m came) (drop (wantedOf m) s) (omega (arith, rounds-next (m .phase) m came h, l)) (ready-next (m .phase) m came h))
   where

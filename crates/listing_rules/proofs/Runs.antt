@@ -14,7 +14,8 @@ use Rattle.laws.specs.Tables.{pick}
 use Rattle.head_rules.specs.declared.Head.{Head}
 use Rattle.head_rules.specs.Geometry.{across, blocksOf}
 use Rattle.head_rules.specs.Heads.{readHead}
-use Rattle.listing_rules.specs.Text.{refusedText, sheetText}
+use Rattle.laws.specs.Text.{refusedText}
+use Rattle.listing_rules.specs.Text.{sheetText}
 use Rattle.sheet_rules.specs.Rows.{blockAt}
 use Rattle.listing_rules.specs.Listing.{blockListed, blocksListing, blocksText, listed, listing, listingBy}
 use Rattle.listing_rules.specs.Machine.{InBlocks, mostInRun, runOf}
@@ -122,9 +123,6 @@ module _ {h : Head} {from : ℕ} (i : InBlocks h from) where
       let m : suc (from / c) * c ≤ across (h .height) * c = mul-le-mul {n₁ = suc (from / c)} {m₁ = c} l (le-refl c) in
       omega (arith, m, suc-mul (from / c) c, mod-add-div' from c, mod-lt from some)
 
-  pub run-told : {r : ℕ} → r ≡ runOf h from → (r ≡ runOf h from) × ((r ≤ mostInRun) × (from + r ≤ blocksOf h))
-  run-told e = (e, (omega (arith, e, run-within), omega (arith, e, run-inside)))
-
   pub run-and-rest : runOf h from + (blocksOf h - (from + runOf h from)) ≡ blocksOf h - from
   run-and-rest = omega (arith, run-inside)
 
@@ -136,6 +134,7 @@ module _ (s : List ℕ) where
 
   -- an accepted one its text, and then the blocks, from the byte behind those of the head on
   pub listing-accepted : readHead s .refusal ≡ 0
-      → listing s ≡ sheetText (readHead s .width) (readHead s .height) ++ blocksListing (readHead s) 0 (blocksOf (readHead s)) (drop (readHead s .start) s)
+      → listing s
+      ≡ sheetText (readHead s .width) (readHead s .height) ++ blocksListing (readHead s) 0 (blocksOf (readHead s)) (drop (readHead s .start) s)
   unfolding listingBy
   listing-accepted e = rw (eq-eqb (readHead s .refusal) 0 e)

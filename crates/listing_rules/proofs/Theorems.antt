@@ -1,7 +1,6 @@
 -- For every input the machine, fed with it as it asks, says `listing` of the input, and nothing else; and document 01's example.
 -- Assumes nothing.
 use mathlib.Core.Path.{_≡_, refl, _∙_, ap, sym, subst}
-use mathlib.Core.Bool.{Bool}
 use mathlib.Core.List.{List, [], _∷_, _++_}
 use mathlib.Core.Logic.{_⊎_}
 use Prim.Native.Nat.{ℕ, _<_}
@@ -22,12 +21,13 @@ use Rattle.head_rules.specs.Geometry.{blocksOf}
 use Rattle.head_rules.specs.Heads.{formIn, headRefusalUpTo, heightIn, oldLimit, readHead, readHeadUpTo, sizeRefusalUpTo, widthIn}
 use Rattle.head_rules.proofs.Theorems.{old-console-refuses, stored-heads-keep}
 use Rattle.head_rules.specs.Numbers.{raised, readGroups, readNumber}
-use Rattle.listing_rules.specs.Text.{ascii, blockText, channels, decimal, digitsIn, newline, opacityMark, refusedText, sheetText}
+use Rattle.laws.specs.Text.{ascii, decimal, digitsIn, newline, refusedText}
+use Rattle.listing_rules.specs.Text.{blockText, channels, opacityMark, sheetText}
 use Rattle.opacity_rules.specs.Opacity.{isVisible, opaque, opaqueIn, passes}
 use Rattle.sheet_rules.specs.Rows.{blockAt}
 use Rattle.listing_rules.specs.declared.Machine.{Machine}
 use Rattle.listing_rules.specs.Listing.{blockListed, blocksListing, blocksText, listed, listing, listingBy}
-use Rattle.listing_rules.specs.Promises.{GoesOn, Says, SaysBlock, SaysListing, SaysNext, SaysRefused, SaysSheet, Wants}
+use Rattle.listing_rules.specs.Promises.{GoesOn, Says, SaysListing, SaysNext, Wants}
 use Rattle.listing_rules.specs.Machine.{Run, atStart, over, textOf, round, roundsOf, wantedOf}
 use Rattle.listing_rules.proofs.Rounds.{ready-start, rest-start, runs}
 
@@ -53,30 +53,17 @@ unfolding listingBy
 old-console-lists-nothing s e above = rw (old-console-refuses s e above)
 
 -- any two results that a promise admits coincide: the output whole, and the place behind the text
-says-one : {text before after after' : List ℕ} {at next next' : ℕ} → Says text before at after next → Says text before at after' next'
-    → (after ≡ after') × (next ≡ next')
-says-one p q = (p .bytes ∙ sym (q .bytes), p .ends ∙ sym (q .ends))
-
 module _ {before after after' : List ℕ} {at next next' : ℕ} where
-  pub determined-sheet-line : (w h : ℕ) → SaysSheet w h before at after next → SaysSheet w h before at after' next' → (after ≡ after')
-      × (next ≡ next')
-  determined-sheet-line w h = says-one
-
-  pub determined-block-line : (number m : ℕ) (px : List ℕ) (isOpaque : Bool) → SaysBlock number m px isOpaque before at after next
-      → SaysBlock number m px isOpaque before at after' next' → (after ≡ after') × (next ≡ next')
-  determined-block-line number m px isOpaque = says-one
-
-  pub determined-refused-line : (n : ℕ) → SaysRefused n before at after next → SaysRefused n before at after' next' → (after ≡ after')
-      × (next ≡ next')
-  determined-refused-line n = says-one
+  pub determined-text : (text : List ℕ) → Says text before at after next → Says text before at after' next' → (after ≡ after') × (next ≡ next')
+  determined-text text p q = (p .bytes ∙ sym (q .bytes), p .ends ∙ sym (q .ends))
 
   pub determined-list : (m : Machine) (came : List ℕ) → SaysNext m came before at after next → SaysNext m came before at after' next'
       → (after ≡ after') × (next ≡ next')
-  determined-list m came = says-one
+  determined-list m came = determined-text (textOf m came)
 
   pub determined-list-sheet : (sheet : List ℕ) → SaysListing sheet before at after next → SaysListing sheet before at after' next'
       → (after ≡ after') × (next ≡ next')
-  determined-list-sheet sheet = says-one
+  determined-list-sheet sheet = determined-text (listing sheet)
 
 pub determined-next : (m : Machine) (came : List ℕ) (a b : Machine) → GoesOn m came a → GoesOn m came b → a ≡ b
 determined-next m came a b p q = p ∙ sym q
@@ -87,9 +74,9 @@ determined-wanted m a b p q = p ∙ sym q
 -- document 01's example: block D and a reserved block
 pub document-lists : listing (0x01 ∷ 0x05 ∷ 0x04 ∷ (0x60 ∷ (replicate 5 0 ++ (0xFC ∷ 0x03 ∷ replicate 24 0))))
     ≡ (ascii "sheet 5 4" ++ (newline ∷ [])) ++ ((ascii "0 5 255 0 0 0 -" ++ (newline ∷ [])) ++ (ascii "1 8 0 0 0 0 -" ++ (newline ∷ [])))
-unfolding listingBy blocksListing listed blocksText blockListed readHeadUpTo headRefusalUpTo formIn widthIn heightIn readNumber readGroups raised first
-    sizeRefusalUpTo blocksOf blockAt sheetText blockText channels opacityMark decimal digitsIn ascii table tableFrom digits marks strings2 strings3
-    subset2 subset3 anchors2 anchors3 weights weightOf drawn promoted eight modeRow kindOfMode endpointCount placeAt pos width widths trailing number
-    modeOf splitAt splitOf atPlace opened has valuePlace pPlace indexSetOf indexPlace own lineOf lineBits meansStored rotated lineAt shown pixel
-    pixels implies isVisible passes opaque opaqueIn
+unfolding listingBy blocksListing listed blocksText blockListed readHeadUpTo headRefusalUpTo formIn widthIn heightIn readNumber readGroups raised
+    first sizeRefusalUpTo blocksOf blockAt sheetText blockText channels opacityMark decimal digitsIn ascii table tableFrom digits marks strings2
+    strings3 subset2 subset3 anchors2 anchors3 weights weightOf drawn promoted eight modeRow kindOfMode endpointCount placeAt pos width widths
+    trailing number modeOf splitAt splitOf atPlace opened has valuePlace pPlace indexSetOf indexPlace own lineOf lineBits meansStored rotated
+    lineAt shown pixel pixels implies isVisible passes opaque opaqueIn
 document-lists = refl

@@ -1,3 +1,2 @@
 pub mod Attested
-pub mod Decimal
 pub mod Theorems

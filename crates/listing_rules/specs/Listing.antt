@@ -11,7 +11,8 @@ use Rattle.bc7_format.specs.Lines.{pixels}
 use Rattle.head_rules.specs.declared.Head.{Head}
 use Rattle.head_rules.specs.Geometry.{blocksOf}
 use Rattle.head_rules.specs.Heads.{readHead}
-use Rattle.listing_rules.specs.Text.{blockText, refusedText, sheetText}
+use Rattle.laws.specs.Text.{refusedText}
+use Rattle.listing_rules.specs.Text.{blockText, sheetText}
 use Rattle.opacity_rules.specs.Opacity.{opaqueIn}
 use Rattle.sheet_rules.specs.Rows.{blockAt}
 

@@ -15,7 +15,8 @@ use Rattle.head_rules.specs.declared.Head.{Head as SheetHead}
 use Rattle.head_rules.specs.declared.HeadReader.{HeadReader}
 use Rattle.laws.specs.Tables.{pick}
 use Rattle.head_rules.specs.Reader.{Going, atForm, byteTaken, hasEnded, refusedWith}
-use Rattle.listing_rules.specs.Text.{refusedText, sheetText}
+use Rattle.laws.specs.Text.{refusedText}
+use Rattle.listing_rules.specs.Text.{sheetText}
 use Rattle.listing_rules.specs.Listing.{listed, unlessExact}
 
 -- the reader after what came of the head's next byte; the head is cut off where none came

@@ -3,27 +3,15 @@
 -- Assumes nothing.
 use Prim.Native.Nat.{ℕ}
 use mathlib.Core.Path.{_≡_}
-use mathlib.Core.Bool.{Bool}
 use mathlib.Core.List.{List}
 use Rattle.listing_rules.specs.declared.Machine.{Machine}
 use Rattle.laws.specs.Padding.{Written}
 use Rattle.listing_rules.specs.Listing.{listing}
 use Rattle.listing_rules.specs.Machine.{nextOf, textOf, wantedOf}
-use Rattle.listing_rules.specs.Text.{blockText, refusedText, sheetText}
 
 -- a text is said: from what stood in the output and the place, what stands there then, and the place behind it
 abbrev pub Says : List ℕ → List ℕ → ℕ → List ℕ → ℕ → Type 0
 Says text before at after next = Written before at text after next
-
--- the three lines
-abbrev pub SaysSheet : ℕ → ℕ → List ℕ → ℕ → List ℕ → ℕ → Type 0
-SaysSheet w h = Says (sheetText w h)
-
-abbrev pub SaysBlock : ℕ → ℕ → List ℕ → Bool → List ℕ → ℕ → List ℕ → ℕ → Type 0
-SaysBlock number m px isOpaque = Says (blockText number m px isOpaque)
-
-abbrev pub SaysRefused : ℕ → List ℕ → ℕ → List ℕ → ℕ → Type 0
-SaysRefused n = Says (refusedText n)
 
 -- what the machine wants, says and is next, and a whole listing
 abbrev pub Wants : Machine → ℕ → Type 0

@@ -39,6 +39,11 @@ pub record AtEndpoint (v q width pWidth : ℕ) : Type 0 where
   pub value : v < 2 ^ width
   pub p : q < 2 ^ pWidth
 
+-- What they answer: a number that is x, and that this is below a bound
+pub record IsBelow (most x r : ℕ) : Type 0 where
+  pub is : r ≡ x
+  pub low : r < most
+
 -- four channels, and indexes of so many bits
 pub record Searchable (r g b a : Channel) (bits : ℕ) : Type 0 where
   pub red : Byte r

@@ -9,13 +9,12 @@ ghost use Rattle.bc7_format.specs.Modes.{modeOf};
 ghost use Rattle.bc7_format.specs.Splits.{rotation as rotationIn, splitOf};
 ghost use Rattle.nearest_rules.specs.Nearest.{squared as squaredDifference};
 ghost use Rattle.nearest_rules.specs.Promises.{FindsExact, FindsNearest};
-ghost use Rattle.nearest.specs.Trying.{AtEndpoint, Between, Byte, IsChannel, Measurable, Promotable, Readable, Searchable, Searched, SearchedIn};
-ghost use Rattle.nearest.specs.Trying.{Tries, Tryable, channelFar, distanceAt, triedAs};
+ghost use Rattle.nearest.specs.Trying.{AtEndpoint, Between, Byte, IsBelow, IsChannel, Measurable, Promotable, Readable, Searchable};
+ghost use Rattle.nearest.specs.Trying.{Searched, SearchedIn, Tries, Tryable, channelFar, distanceAt, triedAs};
 use bc7_places::modes::mode_of;
 use bc7_places::modes::mode_row;
-use bc7_places::splits::read_split;
+use bc7_places::splits::read_lead;
 use bc7_places::splits::rotation_of;
-use bits::stream::BitStream;
 use line::read_line;
 use line_rules::Replacement;
 use nearest_rules::Found;
@@ -46,7 +45,7 @@ pub struct Tried {
 // A value of some bits as eight: shifted left, and the empty places filled from its top.
 fn promote(value: u32, bits: u32) -> u32
     requires { ⌜ Promotable value bits ⌝ }
-    ensures { λ r. ⌜ (r ≡ promoted bits value) × (r < 256) ⌝ }
+    ensures { λ r. ⌜ IsBelow 256 (promoted bits value) r ⌝ }
 {
     let top = value << (8 - bits);
     top + (top >> bits)
@@ -55,14 +54,14 @@ fn promote(value: u32, bits: u32) -> u32
 // The channel between two endpoints at a weight of 64.
 fn interpolate(first: u32, second: u32, weight: u32) -> u32
     requires { ⌜ Between first second weight ⌝ }
-    ensures { λ r. ⌜ (r ≡ drawn first second weight) × (r < 256) ⌝ }
+    ensures { λ r. ⌜ IsBelow 256 (drawn first second weight) r ⌝ }
 {
     ((64 - weight) * first + weight * second + 32) / 64
 }
 
 fn squared(a: u32, b: u32) -> u32
     requires { ⌜ (a < 256) × (b < 256) ⌝ }
-    ensures { λ r. ⌜ (r ≡ squaredDifference a b) × (r < 65536) ⌝ }
+    ensures { λ r. ⌜ IsBelow 65536 (squaredDifference a b) r ⌝ }
 {
     if a < b {
         return (b - a) * (b - a);
@@ -90,7 +89,7 @@ fn rotated(rotation: u8, channel: usize) -> usize
 // How far a channel is at a weight.
 fn far(channel: Channel, weight: u32) -> u32
     requires { ⌜ Byte channel × (weight ≤ 64) ⌝ }
-    ensures { λ r. ⌜ (r ≡ channelFar channel weight) × (r < 65536) ⌝ }
+    ensures { λ r. ⌜ IsBelow 65536 (channelFar channel weight) r ⌝ }
 {
     if channel.counts {
         return squared(
@@ -143,7 +142,7 @@ fn search(red: Channel, green: Channel, blue: Channel, alpha: Channel, bits: u32
 // The value of an endpoint as eight bits, its p bit, where it has one, as the low bit.
 fn eight(value: u8, p: u8, width: u8, p_width: u8) -> u32
     requires { ⌜ AtEndpoint value p width «p_width» ⌝ }
-    ensures { λ r. ⌜ (r ≡ promoted (width + «p_width») (value * 2 ^ «p_width» + p)) × (r < 256) ⌝ }
+    ensures { λ r. ⌜ IsBelow 256 (promoted (width + «p_width») (value * 2 ^ «p_width» + p)) r ⌝ }
 {
     promote(
         ((value as u32) << (p_width as u32)) + p as u32,
@@ -182,9 +181,8 @@ fn rotation_in(block: [u8; 16]) -> u8
     ensures { λ r. ⌜ r ≡ rotationIn (splitOf block) ⌝ }
 {
     let mode = mode_of(block);
-    let row = mode_row(mode);
-    let head = read_split(row, BitStream::new(block).skip(mode as u32 + 1));
-    let split = head.split;
+    let lead = read_lead(block, mode, mode_row(mode));
+    let split = lead.split;
     rotation_of(split)
 }
 

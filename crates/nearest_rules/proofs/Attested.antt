@@ -11,8 +11,8 @@ use Rattle.bcn_format.specs.Block.{number, trailing}
 use Rattle.bcn_format.specs.Drawing.{drawn, promoted, weightOf, weights}
 use Rattle.bcn_format.specs.Partitions.{anchors2, anchors3, digits, marks, strings2, strings3, subset2, subset3}
 use Rattle.bc7_format.specs.Modes.{modeOf, endpointCount, kindOfMode, modeRow}
-use Rattle.bc7_format.specs.Lines.{draws, eight, has, indexPlace, indexSetOf, lineAt, lineBits, lineOf, meansShown, meansStored, own, pPlace, rotated}
-use Rattle.bc7_format.specs.Lines.{valuePlace}
+use Rattle.bc7_format.specs.Lines.{draws, eight, has, indexPlace, indexSetOf, lineAt, lineBits, lineOf, meansShown, meansStored, own, pPlace}
+use Rattle.bc7_format.specs.Lines.{rotated, valuePlace}
 use Rattle.bc7_format.specs.Places.{atPlace, opened, placeAt, pos, width, widths}
 use Rattle.bc7_format.specs.Splits.{splitAt, splitOf}
 use Rattle.bc7_format.proofs.Examples.{block7}

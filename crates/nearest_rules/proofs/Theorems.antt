@@ -23,8 +23,8 @@ use Rattle.bc7_format.specs.Lines.{draws, lineBits, lineOf, pixel}
 use Rattle.bc7_format.specs.Places.{opened}
 use Rattle.line_rules.specs.Replace.{after, callOf, refusal}
 use Rattle.nearest_rules.specs.Promises.{FindsExact, FindsNearest}
-use Rattle.nearest_rules.specs.Nearest.{Hit, channelDistance, correction, distance, drawnWith, exactIndex, exactRefusal, exactRules, indexCount}
-use Rattle.nearest_rules.specs.Nearest.{leastAt, nearestIndex, nearestRefusal, nearestRules, squared, zeroAt}
+use Rattle.nearest_rules.specs.Nearest.{Hit, channelDistance, correction, distance, drawnWith, exactIndex, exactRefusal, exactRules}
+use Rattle.nearest_rules.specs.Nearest.{indexCount, leastAt, nearestIndex, nearestRefusal, nearestRules, squared, zeroAt}
 use Rattle.nearest_rules.proofs.Correcting.{correction-accepted, correction-draws, stored-below, stored-draws}
 use Rattle.nearest_rules.proofs.Finding.{exact-answers, nearest-answers}
 use Rattle.nearest_rules.proofs.Least.{Least, least-at, zero-is-least}

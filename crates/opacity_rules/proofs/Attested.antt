@@ -90,8 +90,8 @@ claims =
 
 pub opaque-as-claimed : map (λ c. opaque (c .columns) (c .rows) (c .block)) claims ≡ map (λ c. c .answer) claims
 unfolding implies table tableFrom digits marks strings2 strings3 subset2 subset3 anchors2 anchors3 weights weightOf drawn promoted eight
-    modeRow kindOfMode endpointCount placeAt pos width widths trailing number modeOf splitAt splitOf atPlace opened has valuePlace pPlace indexSetOf indexPlace own
-    lineOf lineBits meansStored rotated lineAt shown pixel isVisible passes opaque
+    modeRow kindOfMode endpointCount placeAt pos width widths trailing number modeOf splitAt splitOf atPlace opened has valuePlace pPlace
+    indexSetOf indexPlace own lineOf lineBits meansStored rotated lineAt shown pixel isVisible passes opaque
 opaque-as-claimed = refl
 
 -- the short way, of the modes 3, 4 (which shows alpha 27 and more), 6 and 8
@@ -109,6 +109,6 @@ pub in-a-sheet : map (λ (b : List ℕ). map (λ (n : ℕ). opaqueIn 9 6 n b) (0
     (false ∷ false ∷ false ∷ false ∷ false ∷ false ∷ []) ∷
     []
 unfolding implies table tableFrom digits marks strings2 strings3 subset2 subset3 anchors2 anchors3 weights weightOf drawn promoted eight
-    modeRow kindOfMode endpointCount placeAt pos width widths trailing number modeOf splitAt splitOf atPlace opened has valuePlace pPlace indexSetOf indexPlace own
-    lineOf lineBits meansStored rotated lineAt shown pixel isVisible passes opaque opaqueIn
+    modeRow kindOfMode endpointCount placeAt pos width widths trailing number modeOf splitAt splitOf atPlace opened has valuePlace pPlace
+    indexSetOf indexPlace own lineOf lineBits meansStored rotated lineAt shown pixel isVisible passes opaque opaqueIn
 in-a-sheet = refl

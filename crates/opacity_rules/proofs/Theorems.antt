@@ -20,7 +20,7 @@ use Rattle.bc7_format.proofs.Reserved.{reserved-mode}
 use Rattle.head_rules.specs.declared.Head.{Head}
 use Rattle.head_rules.specs.Geometry.{across, blocksOf, sideShown}
 use Rattle.head_rules.specs.Heads.{Sized}
-use Rattle.line_rules.proofs.Blocks.{full-alpha}
+use Rattle.bc7_format.proofs.FullAlpha.{full-alpha}
 use Rattle.opacity_rules.specs.Opacity.{FullAlpha, FullAlphaIn, isVisible, opaque, opaqueIn, opaqueShort, passes, upToFirst}
 use Rattle.opacity_rules.specs.Promises.{TellsOpaque}
 use Rattle.opacity_rules.proofs.Stopping.{up-to-first}

@@ -14,6 +14,7 @@ use Rattle.laws.specs.Digits.{Fit, more, none, split}
 use Rattle.laws.specs.Tables.{below, both, pick}
 use Rattle.laws.proofs.Digits.{split-join}
 use Rattle.laws.proofs.Tests.{at, both-left, both-right}
+use Rattle.bcn_format.specs.Indexes.{OneFixup, TwoFixups}
 use Rattle.bcn_format.specs.Block.{field}
 use Rattle.bcn_format.specs.Partitions.{anchor2, anchor3, anchors2, anchors3, digits, howMany, marks, strings2, strings3, subset2, subset3}
 use Rattle.partitions.specs.Maps.{map2, map3, subsets}
@@ -39,7 +40,8 @@ rising p (a ∷ l) = both (ltb p a) (rising a l)
 
 -- a string of sixteen digits below 2 ^ b, of which n are marked, none of them the first; and none is 3
 sound : ℕ → ℕ → String → Bool
-sound b n s = both (fits (replicate 16 b) (digits s)) (both (eqb (howMany 3 (digits s)) 0) (both (eqb (length (marks 0 s)) n) (rising 0 (marks 0 s))))
+sound b n s =
+    both (fits (replicate 16 b) (digits s)) (both (eqb (howMany 3 (digits s)) 0) (both (eqb (length (marks 0 s)) n) (rising 0 (marks 0 s))))
 
 sound2 : T (below 64 (λ a. sound 1 1 (getD strings2 a "")))
 unfolding sound fits rising digits marks strings2
@@ -137,18 +139,15 @@ pub marks3 : (a : ℕ) → a < 64 → marks 0 (getD strings3 a "") ≡ map3 a .�
 unfolding map3
 marks3 a h = two (marks 0 (getD strings3 a "")) (many 2 2 (getD strings3 a "") (is3 a h))
 
-pub record Anchors2 (a : ℕ) : Type 0 where
+pub record AnchorsIn2 (a : ℕ) : Type 0 where
   pub are : anchors2 a ≡ 0 ∷ map2 a .«fixup_index_2» ∷ []
-  pub above : 0 < map2 a .«fixup_index_2»
-  pub last : map2 a .«fixup_index_2» < 16
+  pub fixup : OneFixup (map2 a .«fixup_index_2»)
 
-pub record Anchors3 (a : ℕ) : Type 0 where
+pub record AnchorsIn3 (a : ℕ) : Type 0 where
   pub are : anchors3 a ≡ 0 ∷ map3 a .«fixup_index_2» ∷ map3 a .«fixup_index_3» ∷ []
-  pub above : 0 < map3 a .«fixup_index_2»
-  pub next : map3 a .«fixup_index_2» < map3 a .«fixup_index_3»
-  pub last : map3 a .«fixup_index_3» < 16
+  pub fixups : TwoFixups (map3 a .«fixup_index_2») (map3 a .«fixup_index_3»)
 
-pub anchors-in2 : (a : ℕ) → a < 64 → Anchors2 a
+pub anchors-in2 : (a : ℕ) → a < 64 → AnchorsIn2 a
 unfolding anchors2 map2 rising
 anchors-in2 a h =
     let s : String = getD strings2 a "" in
@@ -157,11 +156,10 @@ anchors-in2 a h =
     let t : T (both (ltb 0 f) (ltb f 16)) = subst (λ (l : List ℕ). T (rising 0 l)) e (rise 1 1 s (is2 a h)) in
     record {
       are = ap {B = List ℕ} (λ l. 0 ∷ l) e;
-      above = ltb→lt 0 f (both-left (ltb 0 f) (ltb f 16) t);
-      last = ltb→lt f 16 (both-right (ltb 0 f) (ltb f 16) t);
+      fixup = record { above = ltb→lt 0 f (both-left (ltb 0 f) (ltb f 16) t); pixel = ltb→lt f 16 (both-right (ltb 0 f) (ltb f 16) t) };
     }
 
-pub anchors-in3 : (a : ℕ) → a < 64 → Anchors3 a
+pub anchors-in3 : (a : ℕ) → a < 64 → AnchorsIn3 a
 unfolding anchors3 map3 rising
 anchors-in3 a h =
     let s : String = getD strings3 a "" in
@@ -172,13 +170,15 @@ anchors-in3 a h =
     let u : T (both (ltb f g) (ltb g 16)) = both-right (ltb 0 f) (both (ltb f g) (ltb g 16)) t in
     record {
       are = ap {B = List ℕ} (λ l. 0 ∷ l) e;
-      above = ltb→lt 0 f (both-left (ltb 0 f) (both (ltb f g) (ltb g 16)) t);
-      next = ltb→lt f g (both-left (ltb f g) (ltb g 16) u);
-      last = ltb→lt g 16 (both-right (ltb f g) (ltb g 16) u);
+      fixups = record {
+        above = ltb→lt 0 f (both-left (ltb 0 f) (both (ltb f g) (ltb g 16)) t);
+        rising = ltb→lt f g (both-left (ltb f g) (ltb g 16) u);
+        pixel = ltb→lt g 16 (both-right (ltb f g) (ltb g 16) u);
+      };
     }
 
 pub second-below : (a : ℕ) → a < 64 → map3 a .«fixup_index_2» < 16
-second-below a h = lt-trans (anchors-in3 a h .next) (anchors-in3 a h .last)
+second-below a h = let f = anchors-in3 a h .fixups in lt-trans (f .rising) (f .pixel)
 
 -- which of them is the anchor of a subset
 anchors-hold2 : T (below 64 (λ a. below 2 (λ l. eqb (anchor2 a l) (pick (eqb l 0) 0 (map2 a .«fixup_index_2»)))))

@@ -1,8 +1,8 @@
 // Standard input and standard output, read and written whole: in as many reads and writes as it takes, also where a signal interrupts
 // one. What was read and that it was written is what the system says; how many bytes, and that every loop ends, is proved.
-ghost use mathlib.Core.Path.{_≡_};
 ghost use Prim.Native.Nat.{_≤_};
 ghost use lib.ListN.{length};
+ghost use Rattle.pipes.specs.Moving.{ReadsWanted};
 use libc::STDIN_FILENO;
 use libc::STDOUT_FILENO;
 
@@ -47,7 +47,7 @@ fn read_some(buffer: &mut [u8]) -> Moved
 // The next n bytes of the input to the start of the buffer, in as many reads as it takes; fewer where the input ends.
 pub fn read_wanted(n: usize, buffer: &mut [u8]) -> Moved
     requires { ⌜ n ≤ length (now buffer) ⌝ }
-    ensures { λ r. ⌜ (r .count ≤ n) × (length (now (buffer .exit)) ≡ length (now (buffer .entry))) ⌝ }
+    ensures { λ r. ⌜ ReadsWanted n (now (buffer .entry)) (now (buffer .exit)) r ⌝ }
 {
     let mut done: usize = 0;
     while done < n {

@@ -63,9 +63,9 @@ pub read-plainly :
     × (table 4 (plainPixel block7 9) ≡ rgba 109 117 125 134)
     × (table 4 (plainPixel block0 0) ≡ rgba 24 41 57 255)
     × (table 4 (plainPixel (replicate 16 0) 3) ≡ rgba 0 0 0 0)
-unfolding table tableFrom field number trailing drawn promoted weightOf weights strings2 strings3 endByte leadEnd pStart valueStart eight rotated endpointCount
-    modeOf modeRow columnOf printedRows channelIn firstStart indexStart indexWide lettersOf plainChannel plainPixel setFor setStart anchorsBefore isAnchorIn
-    letters placeIn stringFor subsetIn
+unfolding table tableFrom field number trailing drawn promoted weightOf weights strings2 strings3 endByte leadEnd pStart valueStart
+    eight rotated endpointCount modeOf modeRow columnOf printedRows channelIn firstStart indexStart indexWide lettersOf plainChannel
+    plainPixel setFor setStart anchorsBefore isAnchorIn letters placeIn stringFor subsetIn
 read-plainly = (refl, refl, refl, refl)
 
 -- 21 from 16 on, whole: 256 + p isn't pixel p
@@ -78,7 +78,7 @@ answer r l = record { refusal = r; rgba = l }
 
 pub answers : (pixelRead block4 1 ≡ answer 0 (rgba 13 31 46 29)) × (pixelRead block4 16 ≡ answer 21 (rgba 0 0 0 0))
     × (pixelRead (replicate 16 0) 15 ≡ answer 0 (rgba 0 0 0 0)) × (pixelRead (replicate 16 0) 16 ≡ answer 21 (rgba 0 0 0 0))
-unfolding first table tableFrom digits marks strings2 strings3 subset2 subset3 anchors2 anchors3 weights weightOf drawn promoted eight modeRow kindOfMode
-    endpointCount placeAt pos width widths trailing number modeOf splitAt splitOf atPlace opened has valuePlace pPlace indexSetOf indexPlace own lineOf lineBits
-    meansStored rotated lineAt shown pixel pixelRefusal pixelRead
+unfolding first table tableFrom digits marks strings2 strings3 subset2 subset3 anchors2 anchors3 weights weightOf drawn promoted eight
+    modeRow kindOfMode endpointCount placeAt pos width widths trailing number modeOf splitAt splitOf atPlace opened has valuePlace pPlace
+    indexSetOf indexPlace own lineOf lineBits meansStored rotated lineAt shown pixel pixelRefusal pixelRead
 answers = (refl, refl, refl, refl)

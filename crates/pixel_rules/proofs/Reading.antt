@@ -9,6 +9,7 @@ use native.Mathlib.Omega.{arith}
 use lib.Dec.{eqb}
 use lib.ListN.{getD}
 use lib.Pow.{shr-shr}
+use Rattle.bc7_format.specs.declared.Place.the-variants.{Index}
 use Rattle.bc7_format.specs.declared.Split.{Split}
 use Rattle.laws.specs.Digits.{Fit, total}
 use Rattle.laws.specs.Tables.{pick, table, tableFrom}
@@ -20,7 +21,7 @@ use Rattle.bcn_format.proofs.Fields.{field-lt}
 use Rattle.bc7_format.specs.Fields.{direct, directPixels, endByte}
 use Rattle.bc7_format.specs.Lines.{indexSetOf, lineAt, pixel, pixels, rotated}
 use Rattle.bc7_format.specs.Modes.{endpointCount, indexBits, indexModeBits, kindOfMode, modeOf, modeRow, partitionBits, rotationBits}
-use Rattle.bc7_format.specs.Places.{atPlace, firstFrom, index, placeAt, placeCount, pos, width, widths}
+use Rattle.bc7_format.specs.Places.{atPlace, firstFrom, placeAt, placeCount, pos, width, widths}
 use Rattle.bc7_format.specs.Splits.{anchors, kindOf, ofKind, partition, rotation, splitAt, subset}
 use Rattle.bc7_format.proofs.Fields.{begins, first-start}
 use Rattle.bc7_format.proofs.Places.{inside-index, placeAt-pos}
@@ -61,14 +62,14 @@ module _ (m : ℕ) (s : Split) (g : Fitting m s) where
       )
   index-begins (suc (suc a)) q ha hq = absurd (let z : ⊥ = omega arith in z)
 
-  wide-is : (a q : ℕ) → q < 16 → width m (anchors s) (index a q) ≡ indexWide m (letters (stringOf s)) a q
+  wide-is : (a q : ℕ) → q < 16 → width m (anchors s) (Index a q) ≡ indexWide m (letters (stringOf s)) a q
   unfolding width indexWide
   wide-is a q hq = ap (λ (b : Bool). pick b (indexBits m a - 1) (indexBits m a)) (sym (anchor-is s (g .few) q hq))
 
-  index-is : (n a q : ℕ) → a < 2 → q < 16 → atPlace m s n (index a q) ≡ indexIn m (letters (stringOf s)) n a q
+  index-is : (n a q : ℕ) → a < 2 → q < 16 → atPlace m s n (Index a q) ≡ indexIn m (letters (stringOf s)) n a q
   unfolding pos field
   index-is n a q ha hq =
-      at-field m s n (index a q) (inside-index ha hq)
+      at-field m s n (Index a q) (inside-index ha hq)
       ∙ ap₂ (λ (x y : ℕ). n / 2 ^ x % 2 ^ y) (index-begins a q ha (omega arith)) (wide-is a q hq)
 
   whole : start m s placeCount ≡ 128
@@ -80,7 +81,7 @@ module _ (m : ℕ) (s : Split) (g : Fitting m s) where
   room a q ha hq =
       let i : ℕ = firstFrom + (16 * a + q) in
       let w : width m (anchors s) (placeAt i) ≡ indexWide m (letters (stringOf s)) a q =
-      ap (width m (anchors s)) (placeAt-pos (index a q) (inside-index ha hq)) ∙ wide-is a q hq in
+      ap (width m (anchors s)) (placeAt-pos (Index a q) (inside-index ha hq)) ∙ wide-is a q hq in
       omega (arith, start-room m s i placeCount (omega arith) (le-refl placeCount), whole, index-begins a q ha (omega arith))
 
   pub spelt : Spelt m (letters (stringOf s))
@@ -207,14 +208,14 @@ channel-is m n q c hm hq =
     ap (λ t. channelIn m i (letters t) n q d) (g .string) in
     let a : ℕ = setFor m i d in
     let e : subsetIn (letters (stringOf s)) q ≡ subset s q = subset-is s (g .fitting .few) q hq in
-    let w : weightOf (indexBits m a) (indexIn m (letters (stringOf s)) n a q) ≡ weightOf (indexBits m a) (atPlace m s n (index a q)) =
+    let w : weightOf (indexBits m a) (indexIn m (letters (stringOf s)) n a q) ≡ weightOf (indexBits m a) (atPlace m s n (Index a q)) =
     ap (weightOf (indexBits m a)) (sym (index-is m s (g .fitting) n a q (g .two d) hq)) in
     step1
     ∙ ap₂ (λ (l v : ℕ). drawn (endByte m n (2 * l + 0) d) (endByte m n (2 * l + 1) d) v) e w
     ∙ ap (λ (b : ℕ). drawn (endByte m n (2 * subset s q + 0) d) (endByte m n (2 * subset s q + 1) d)
-    (weightOf (indexBits m b) (atPlace m s n (index b q)))) (g .set q d)
+    (weightOf (indexBits m b) (atPlace m s n (Index b q)))) (g .set q d)
     ∙ ap (λ (x : ℕ). let b = indexSetOf s (lineAt s q x) in
-    drawn (endByte m n (2 * subset s q + 0) x) (endByte m n (2 * subset s q + 1) x) (weightOf (indexBits m b) (atPlace m s n (index b q)))) turned
+    drawn (endByte m n (2 * subset s q + 0) x) (endByte m n (2 * subset s q + 1) x) (weightOf (indexBits m b) (atPlace m s n (Index b q)))) turned
 
 -- what a block that isn't reserved shows
 pub channel-shown : (bs : List ℕ) → Fit eights bs → modeOf bs < 8 → (q c : ℕ) → q < 16 → c < 4

@@ -10,6 +10,7 @@ use lib.Arith.{digits-lt}
 use lib.Dec.{T, eqb, leb, leb→le, lit<}
 use lib.ListN.{getD}
 use lib.Pow.{pow-add, pow-pos, shl-lt, shr-lt}
+use Rattle.bc7_format.specs.declared.Place.the-variants.{Index}
 use Rattle.bc7_format.specs.declared.Split.{Split}
 use Rattle.laws.specs.Digits.{total}
 use Rattle.laws.specs.Tables.{below, pick}
@@ -19,7 +20,7 @@ use Rattle.bcn_format.specs.Drawing.{drawn, promoted, weightOf}
 use Rattle.bc7_format.specs.Lines.{eight, isDrawn}
 use Rattle.bcn_format.proofs.Drawing.{weightOf256, weights256, mean, weight-le}
 use Rattle.bc7_format.specs.Modes.{channelBits, indexBits, modeRow, pCount}
-use Rattle.bc7_format.specs.Places.{atPlace, index, firstFrom}
+use Rattle.bc7_format.specs.Places.{atPlace, firstFrom}
 use Rattle.bc7_format.specs.Splits.{anchors}
 use Rattle.bc7_format.proofs.Starts.{start}
 use Rattle.bcn_format.proofs.Theorems.{drawn-by-256, weight-is-four-times}
@@ -179,7 +180,7 @@ module _ (m n l b i : ℕ) (hm : m < 8) (least : 2 ≤ b) (hi : i < 2 ^ b) where
 -- the index of a pixel: set a of b bits, stored in t bits from bit s0 on
 pub indexes-are : (m : ℕ) (s : Split) (a n b t s0 : ℕ) (an : List ℕ) → a < 2 → b ≤ 4 → indexBits m a ≡ b → anchors s ≡ an
     → total (indexWidths b an) ≡ t → start m s (firstFrom + (16 * a + 0)) ≡ s0 → (q : ℕ) → q < 16
-    → (get-index (indexesAre b an (field n s0 t)) q ≡ atPlace m s n (index a q)) × (get-index (indexesAre b an (field n s0 t)) q < 2 ^ b)
+    → (get-index (indexesAre b an (field n s0 t)) q ≡ atPlace m s n (Index a q)) × (get-index (indexesAre b an (field n s0 t)) q < 2 ^ b)
 unfolding part
 indexes-are m s a n b t s0 an ha most eb ea et es q hq =
     let is = get-index-is b an (field n s0 t) q most hq in (
@@ -191,7 +192,7 @@ indexes-are m s a n b t s0 an ha most eb ea et es q hq =
 pub shown-by : (m : ℕ) (s : Split) (a n b s0 : ℕ) → m < 8 → a < 2 → 2 ≤ b → b ≤ 4 → indexBits m a ≡ b → anchors s ≡ 0 ∷ []
     → start m s (firstFrom + (16 * a + 0)) ≡ s0 → (q : ℕ) → q < 16
     → let i = get-index (indexesAre b (0 ∷ []) (field n s0 (16 * b - 1))) q in
-    let w = weightOf (indexBits m a) (atPlace m s n (index a q)) in
+    let w = weightOf (indexBits m a) (atPlace m s n (Index a q)) in
     (i < 2 ^ b) × ((c : ℕ) → c < 4 → Mean (endByte m n 0 c) (endByte m n 1 c) (weightOf256 b i) (drawn (endByte m n 0 c) (endByte m n 1 c) w))
 shown-by m s a n b s0 hm ha least most eb ea es q hq =
     let (is, small) = indexes-are m s a n b (16 * b - 1) s0 (0 ∷ []) ha most eb ea (size-1 b (omega arith)) es q hq in

@@ -4,13 +4,14 @@ use mathlib.Core.Path.{_≡_}
 use Prim.Native.Nat.{ℕ, _^_, _<_, _+_, _-_, _*_, _≤_}
 use lib.Dec.{T}
 use lib.ListN.{getD}
+use Rattle.bc7_format.specs.declared.Place.{Place}
 use Rattle.record_rules.specs.declared.Record.{Record}
 use Rattle.bc7_places.specs.declared.modes.ModeRow.{ModeRow}
 use Rattle.bits.specs.declared.writer.BitWriter.{BitWriter}
 use Rattle.laws.specs.Digits.{join, total, Fit}
 use Rattle.laws.specs.Tables.{table}
 use Rattle.bc7_format.specs.Modes.{kindOfMode, channelBits}
-use Rattle.bc7_format.specs.Places.{Place, inside, placeAt, width, firstFrom, valuesFrom}
+use Rattle.bc7_format.specs.Places.{inside, placeAt, width, firstFrom, valuesFrom}
 use Rattle.bc7_format.specs.Splits.{anchors, kindOf}
 use Rattle.bits.specs.Writer.{writerOf, written}
 use Rattle.record_rules.specs.Records.{says}

@@ -9,7 +9,7 @@ ghost use Rattle.record.specs.Reading.{SecondAt, endpointsOf, endpointsR
 use bc7_places::modes::ModeRow;
 use bc7_places::splits::Anchors;
 use bc7_places::splits::anchors_of;
-use bc7_places::splits::read_split;
+use bc7_places::splits::read_lead;
 use bits::stream::BitStream;
 use indexes::sets::parts_of;
 use indexes::sets::read_indexes;
@@ -110,7 +110,7 @@ pub fn read_record(block: [u8; 16], mode: u8, row: ModeRow) -> Record
     requires { ⌜ OfBlock block mode row ⌝ }
     ensures { λ r. ⌜ r ≡ recordOf block ⌝ }
 {
-    let lead = read_split(row, BitStream::new(block).skip(mode as u32 + 1));
+    let lead = read_lead(block, mode, row);
     let split = lead.split;
     let values = read_endpoints(row, lead.stream);
     let endpoints = values.endpoints;

@@ -8,7 +8,8 @@ ghost use Rattle.bc7_format.specs.Places.{blockOf, firstFrom, placeCount, psFro
 ghost use Rattle.bcn_format.specs.Indexes.{anchorCount};
 ghost use Rattle.bits.specs.Writer.{pushed};
 ghost use Rattle.record_rules.specs.Records.{says};
-ghost use Rattle.record.specs.Writing.{ChannelFits, ChannelNext, IndexesNext, Next, PBitsFit, Packable, PackableWith, SetNext, storedSet, upto};
+ghost use Rattle.record.specs.Writing.{ChannelFits, ChannelNext, IndexesNext, Next, PBitsFit, Packable, PackableWith, SetNext};
+ghost use Rattle.record.specs.Writing.{storedSet, upto};
 use bc7_places::modes::ModeRow;
 use bc7_places::splits::Anchors;
 use bc7_places::splits::index_mode_of;

@@ -6,6 +6,8 @@ use mathlib.Core.List.{List, []}
 use Prim.Native.Nat.{ℕ, suc, _-_, _^_, _<_}
 use lib.Dec.{T, ltb, ltb→lt, lt→ltb}
 use lib.ListN.{replicate}
+use Rattle.bc7_format.specs.declared.Place.{Place}
+use Rattle.bc7_format.specs.declared.Place.the-variants.{Lead, Value, PBit, Index}
 use Rattle.record_rules.specs.declared.Record.{Record}
 use Rattle.bc7_format.specs.declared.Split.{Split}
 use Rattle.laws.specs.Refusals.{Given}
@@ -14,7 +16,7 @@ use Rattle.laws.proofs.Refusals.{Answers, Met, accepted-when, answer-0, answer-
 use Rattle.laws.proofs.Tests.{T-true, at, below-intro, true-T}
 use Rattle.bc7_format.specs.Modes.{indexBits, kindOfMode}
 use Rattle.bcn_format.specs.Partitions.{among}
-use Rattle.bc7_format.specs.Places.{Place, blockOf, lead, index, inside, pbit, placeAt, pos, value, width, placeCount}
+use Rattle.bc7_format.specs.Places.{blockOf, inside, placeAt, pos, width, placeCount}
 use Rattle.bc7_format.specs.Splits.{anchors, kindOf}
 use Rattle.bc7_format.proofs.Places.{inside-placeAt, placeAt-pos, pos-lt}
 use Rattle.record_rules.specs.Answers.{TopsZero, Within, packRules}
@@ -30,7 +32,8 @@ fits-at m an f e x h =
 pub fits-of : (m : ℕ) (an : List ℕ) (f : Place → ℕ) → ((x : Place) → T (inside x) → f x < 2 ^ width m an x) → fits m an f ≡ true
 unfolding fits
 fits-of m an f h =
-    T-true _ (below-intro placeCount (λ i. ltb (f (placeAt i)) (2 ^ width m an (placeAt i))) (λ k l. lt→ltb _ _ (h (placeAt k) (inside-placeAt k l))))
+    T-true _
+    (below-intro placeCount (λ i. ltb (f (placeAt i)) (2 ^ width m an (placeAt i))) (λ k l. lt→ltb _ _ (h (placeAt k) (inside-placeAt k l))))
 
 module _ (r : Record) where
   abbrev m : ℕ
@@ -45,18 +48,18 @@ module _ (r : Record) where
 
   pub zero-tops-stored : Within r → TopsZero r → Stored
   unfolding width
-  zero-tops-stored w c (lead k) i = w (lead k) i
-  zero-tops-stored w c (value ch e) i = w (value ch e) i
-  zero-tops-stored w c (pbit k) i = w (pbit k) i
-  zero-tops-stored w c (index a q) i = go (among q (anchors s)) refl
+  zero-tops-stored w c (Lead k) i = w (Lead k) i
+  zero-tops-stored w c (Value ch e) i = w (Value ch e) i
+  zero-tops-stored w c (PBit k) i = w (PBit k) i
+  zero-tops-stored w c (Index a q) i = go (among q (anchors s)) refl
     where
-      go : (b : Bool) → among q (anchors s) ≡ b → says r (index a q) < 2 ^ pick b (indexBits m a - 1) (indexBits m a)
+      go : (b : Bool) → among q (anchors s) ≡ b → says r (Index a q) < 2 ^ pick b (indexBits m a - 1) (indexBits m a)
       go true e = c a q i (true-T _ e)
-      go false e = w (index a q) i
+      go false e = w (Index a q) i
 
   pub stored-zero-tops : Stored → TopsZero r
   unfolding width
-  stored-zero-tops f a q i t = rw (T-true (among q (anchors s)) t) at (f (index a q) i)
+  stored-zero-tops f a q i t = rw (T-true (among q (anchors s)) t) at (f (Index a q) i)
 
   -- each test and its rule
   pub packing : Answers (packRefusal r) (packRules r)

@@ -10,6 +10,8 @@ use borrow.Author.Tests.{eq-eqb, ne-eqb}
 use lib.Dec.{T, ltb, ltb→lt, lt→ltb}
 use lib.ListN.{getD}
 use lib.Pow.{pow-mono}
+use Rattle.bc7_format.specs.declared.Place.{Place}
+use Rattle.bc7_format.specs.declared.Place.the-variants.{Lead, Value, PBit, Index}
 use Rattle.record_rules.specs.declared.Record.{Record}
 use Rattle.record_rules.specs.declared.Unpacked.{Unpacked}
 use Rattle.bc7_format.specs.declared.Split.{Split}
@@ -22,7 +24,7 @@ use Rattle.laws.proofs.Part.{getD-table, table-is}
 use Rattle.laws.proofs.Tests.{both-left, both-right}
 use Rattle.bcn_format.specs.Block.{eights}
 use Rattle.bc7_format.specs.Modes.{modeOf}
-use Rattle.bc7_format.specs.Places.{Place, blockOf, lead, index, inside, opened, pbit, value, width}
+use Rattle.bc7_format.specs.Places.{blockOf, inside, opened, width}
 use Rattle.bc7_format.specs.Splits.{anchors, indexMode, ofKind, partition, rotation}
 use Rattle.bc7_format.specs.WellFormed.{WellFormed}
 use Rattle.bc7_format.proofs.Modes.{good-parts}
@@ -36,20 +38,20 @@ module _ {m : ℕ} {s : Split} {f : Place → ℕ} (g : WellFormed m s f) where
   -- the record of what stands at the places says just that
   pub says-made : (x : Place) → T (inside x) → says (made m s f) x ≡ f x
   unfolding says made
-  says-made (lead zero) h = sym (g .marker)
-  says-made (lead (suc zero)) h = good-parts g .0
-  says-made (lead (suc (suc zero))) h = good-parts g .1
-  says-made (lead (suc (suc (suc zero)))) h = good-parts g .2
-  says-made (lead (suc (suc (suc (suc k))))) h = absurd (let l = ltb→lt (suc (suc (suc (suc k)))) 4 h in let z : ⊥ = omega arith in z)
-  says-made (value c e) h =
+  says-made (Lead zero) h = sym (g .marker)
+  says-made (Lead (suc zero)) h = good-parts g .0
+  says-made (Lead (suc (suc zero))) h = good-parts g .1
+  says-made (Lead (suc (suc (suc zero)))) h = good-parts g .2
+  says-made (Lead (suc (suc (suc (suc k))))) h = absurd (let l = ltb→lt (suc (suc (suc (suc k)))) 4 h in let z : ⊥ = omega arith in z)
+  says-made (Value c e) h =
       let hc : c < 4 = ltb→lt c 4 (both-left (ltb c 4) (ltb e 6) h) in
       let he : e < 6 = ltb→lt e 6 (both-right (ltb c 4) (ltb e 6) h) in
-      getD-table 24 (λ i. f (value (i % 4) (i / 4))) 0 (4 * e + c) (omega arith)
-      ∙ ap f (ap₂ value (let z : (4 * e + c) % 4 ≡ c = omega arith in z) (let z : (4 * e + c) / 4 ≡ e = omega arith in z))
-  says-made (pbit k) h = getD-table 6 (λ k. f (pbit k)) 0 k (ltb→lt k 6 h)
-  says-made (index zero q) h = getD-table 16 (λ q. f (index 0 q)) 0 q (ltb→lt q 16 (both-right (ltb 0 2) (ltb q 16) h))
-  says-made (index (suc zero) q) h = getD-table 16 (λ q. f (index 1 q)) 0 q (ltb→lt q 16 (both-right (ltb 1 2) (ltb q 16) h))
-  says-made (index (suc (suc a)) q) h =
+      getD-table 24 (λ i. f (Value (i % 4) (i / 4))) 0 (4 * e + c) (omega arith)
+      ∙ ap f (ap₂ Value (let z : (4 * e + c) % 4 ≡ c = omega arith in z) (let z : (4 * e + c) / 4 ≡ e = omega arith in z))
+  says-made (PBit k) h = getD-table 6 (λ k. f (PBit k)) 0 k (ltb→lt k 6 h)
+  says-made (Index zero q) h = getD-table 16 (λ q. f (Index 0 q)) 0 q (ltb→lt q 16 (both-right (ltb 0 2) (ltb q 16) h))
+  says-made (Index (suc zero) q) h = getD-table 16 (λ q. f (Index 1 q)) 0 q (ltb→lt q 16 (both-right (ltb 1 2) (ltb q 16) h))
+  says-made (Index (suc (suc a)) q) h =
       absurd
       (let l = ltb→lt (suc (suc a)) 2 (both-left (ltb (suc (suc a)) 2) (ltb q 16) h) in let z : ⊥ = omega arith in z)
 
@@ -57,11 +59,11 @@ module _ {m : ℕ} {s : Split} {f : Place → ℕ} (g : WellFormed m s f) where
 pub made-ext : (m : ℕ) (s : Split) (f g : Place → ℕ) → ((x : Place) → T (inside x) → f x ≡ g x) → made m s f ≡ made m s g
 unfolding made
 made-ext m s f g h =
-    let v : table 24 (λ i. f (value (i % 4) (i / 4))) ≡ table 24 (λ i. g (value (i % 4) (i / 4))) =
-    table-same 0 24 _ _ (λ i l. h (value (i % 4) (i / 4)) (inside-value {c = i % 4} {e = i / 4} (omega arith) (omega arith))) in
-    let p : table 6 (λ k. f (pbit k)) ≡ table 6 (λ k. g (pbit k)) = table-same 0 6 _ _ (λ k l. h (pbit k) (lt→ltb _ 6 l)) in
-    let a : table 16 (λ q. f (index 0 q)) ≡ table 16 (λ q. g (index 0 q)) = table-same 0 16 _ _ (λ q l. h (index 0 q) (lt→ltb _ 16 l)) in
-    let b : table 16 (λ q. f (index 1 q)) ≡ table 16 (λ q. g (index 1 q)) = table-same 0 16 _ _ (λ q l. h (index 1 q) (lt→ltb _ 16 l)) in
+    let v : table 24 (λ i. f (Value (i % 4) (i / 4))) ≡ table 24 (λ i. g (Value (i % 4) (i / 4))) =
+    table-same 0 24 _ _ (λ i l. h (Value (i % 4) (i / 4)) (inside-value {c = i % 4} {e = i / 4} (omega arith) (omega arith))) in
+    let p : table 6 (λ k. f (PBit k)) ≡ table 6 (λ k. g (PBit k)) = table-same 0 6 _ _ (λ k l. h (PBit k) (lt→ltb _ 6 l)) in
+    let a : table 16 (λ q. f (Index 0 q)) ≡ table 16 (λ q. g (Index 0 q)) = table-same 0 16 _ _ (λ q l. h (Index 0 q) (lt→ltb _ 16 l)) in
+    let b : table 16 (λ q. f (Index 1 q)) ≡ table 16 (λ q. g (Index 1 q)) = table-same 0 16 _ _ (λ q l. h (Index 1 q) (lt→ltb _ 16 l)) in
     λ j. record { mode = m; split = s; endpoints = v j; p = p j; first = a j; second = b j }
 
 -- the record of what a record says is that record
@@ -90,8 +92,8 @@ good-accepted r g = accepted-when (packing r) .1 (good-met r g)
 pub good-ext : {m : ℕ} {s : Split} {f h : Place → ℕ} → ((x : Place) → T (inside x) → h x ≡ f x) → WellFormed m s f → WellFormed m s h
 good-ext {m} {s} {f} {h} e g = record {
   mode = g .mode;
-  marker = e (lead 0) tt ∙ g .marker;
-  splits = rw (e (lead 1) tt, e (lead 2) tt, e (lead 3) tt) (g .splits);
+  marker = e (Lead 0) tt ∙ g .marker;
+  splits = rw (e (Lead 1) tt, e (Lead 2) tt, e (Lead 3) tt) (g .splits);
   fits = λ x i. subst (λ (v : ℕ). v < 2 ^ width m (anchors s) x) (sym (e x i)) (g .fits x i);
 }
 

@@ -14,7 +14,7 @@ use Rattle.record_rules.specs.declared.Unpacked.{Unpacked}
 use Rattle.record_rules.specs.declared.Packed.{Packed}
 use Rattle.laws.specs.Digits.{Fit}
 use Rattle.laws.specs.Refusals.{Given}
-use Rattle.laws.proofs.Refusals.{exactly}
+use Rattle.laws.proofs.Refusals.{alone, exactly, fails, holds}
 use Rattle.bcn_format.specs.Block.{eights}
 use Rattle.bc7_format.specs.Modes.{modeOf}
 use Rattle.bc7_format.specs.Lines.{pixel, shown}
@@ -24,11 +24,19 @@ use Rattle.bc7_format.specs.WellFormed.{WellFormed}
 use Rattle.bc7_format.proofs.Lens.{shown-ext}
 use Rattle.bc7_format.proofs.Opening.{block-opened, mode-block, opened-block, opened-good, split-block}
 use Rattle.bc7_format.proofs.Reserved.{open-mode, reserved-mode}
-use Rattle.record_rules.specs.Answers.{packRules}
+use Rattle.record_rules.specs.Answers.{apartRules, packRules}
 use Rattle.record_rules.specs.Records.{Shaped, made, packed, packedAs, recordOf, says, takenApart, unpackedAs, zeroRecord}
 use Rattle.record_rules.proofs.Answering.{packing}
 use Rattle.record_rules.proofs.Packing.{good-accepted, good-packs, made-ext, made-says, packs-good, record-says, apart-open, apart-reserved}
 use Rattle.record_rules.specs.Promises.{Packs, Unpacks}
+
+-- taking apart gives its refusal number exactly when document 01 says
+pub apart-refused-when : (bs : List ℕ) → Fit eights bs → (n : ℕ) → (takenApart bs .refusal ≡ n) ↔ Given (apartRules bs) n
+apart-refused-when bs h = exactly (alone (⊎-elim
+    (λ z. fails (λ other. other z) (ap (λ (u : Unpacked). u .refusal) (apart-reserved bs (reserved-mode bs z))) (λ z. omega arith))
+    (λ p. let other : getD bs 0 0 ≢ 0 = λ z. omega arith in
+    holds other (ap (λ (u : Unpacked). u .refusal) (apart-open bs (open-mode bs h other))))
+    (eq-zero-or-pos (getD bs 0 0))))
 
 -- taking apart refuses a block exactly when it is reserved, and then answers 1 and the zero record
 pub refused-when-reserved : (bs : List ℕ) → Fit eights bs → (takenApart bs ≡ unpackedAs 1 zeroRecord) ↔ (getD bs 0 0 ≡ 0)

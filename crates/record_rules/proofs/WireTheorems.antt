@@ -88,7 +88,8 @@ kind-named r = rw (byte r 1 (lit< tt)) (below-4 (r .split))
 
 its-bytes-spell : (r : Record) → recordOfBytes (recordBytes r) ≡ r → spelt (recordBytes r) ≡ true
 unfolding spelt recordByte
-its-bytes-spell r same = rw (same, byte r 2 (lit< tt), byte r 3 (lit< tt), eq-eqb (splitByte (r .split)) _ refl, eq-eqb (indexMode (r .split)) _ refl)
+its-bytes-spell r same =
+    rw (same, byte r 2 (lit< tt), byte r 3 (lit< tt), eq-eqb (splitByte (r .split)) _ refl, eq-eqb (indexMode (r .split)) _ refl)
 
 -- what bytes say has its arrays
 said-shaped : (bs : List ℕ) → Shaped (recordOfBytes bs)

@@ -6,6 +6,8 @@ use mathlib.Core.Bool.{Bool, not}
 use mathlib.Core.List.{List, [], _∷_}
 use lib.Dec.{eqb, ltb}
 use lib.ListN.{length, getD, replicate}
+use Rattle.bc7_format.specs.declared.Place.{Place}
+use Rattle.bc7_format.specs.declared.Place.the-variants.{Lead, Value, PBit, Index}
 use Rattle.record_rules.specs.declared.Record.{Record}
 use Rattle.record_rules.specs.declared.Unpacked.{Unpacked}
 use Rattle.record_rules.specs.declared.Packed.{Packed}
@@ -14,7 +16,7 @@ use Rattle.bc7_format.specs.declared.Split.the-variants.{Whole}
 use Rattle.laws.specs.Refusals.{first, refuse}
 use Rattle.laws.specs.Tables.{below, pick, table}
 use Rattle.bc7_format.specs.Modes.{modeOf, kindOfMode}
-use Rattle.bc7_format.specs.Places.{Place, blockOf, lead, index, opened, pbit, placeAt, value, width, placeCount}
+use Rattle.bc7_format.specs.Places.{blockOf, opened, placeAt, width, placeCount}
 use Rattle.bc7_format.specs.Splits.{anchors, indexMode, kindOf, partition, rotation, splitOf}
 
 -- the record of what stands at the places
@@ -22,18 +24,18 @@ unfoldable pub made : ℕ → Split → (Place → ℕ) → Record
 made m s f = record {
   mode = m;
   split = s;
-  endpoints = table 24 (λ i. f (value (i % 4) (i / 4)));
-  p = table 6 (λ k. f (pbit k));
-  first = table 16 (λ q. f (index 0 q));
-  second = table 16 (λ q. f (index 1 q));
+  endpoints = table 24 (λ i. f (Value (i % 4) (i / 4)));
+  p = table 6 (λ k. f (PBit k));
+  first = table 16 (λ q. f (Index 0 q));
+  second = table 16 (λ q. f (Index 1 q));
 }
 
 -- what a record says of a place
 unfoldable pub says : Record → Place → ℕ
-says r (lead k) = getD (2 ^ r .mode ∷ partition (r .split) ∷ rotation (r .split) ∷ indexMode (r .split) ∷ []) k 0
-says r (value c e) = getD (r .endpoints) (4 * e + c) 0
-says r (pbit k) = getD (r .p) k 0
-says r (index a q) = pick (eqb a 0) (getD (r .first) q 0) (getD (r .second) q 0)
+says r (Lead k) = getD (2 ^ r .mode ∷ partition (r .split) ∷ rotation (r .split) ∷ indexMode (r .split) ∷ []) k 0
+says r (Value c e) = getD (r .endpoints) (4 * e + c) 0
+says r (PBit k) = getD (r .p) k 0
+says r (Index a q) = pick (eqb a 0) (getD (r .first) q 0) (getD (r .second) q 0)
 
 -- what is answered
 abbrev pub unpackedAs : ℕ → Record → Unpacked

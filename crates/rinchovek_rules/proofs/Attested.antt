@@ -139,8 +139,8 @@ unfolding padded first over table tableFrom weights weightOf drawn promoted eigh
     rowRefusalUpTo blockBy blocksOf findRefusalBy placeOf putBlock replacedBy sheetAfterBy sheetRefusalBy draws meansShown channelDistance
     distance drawnWith exactIndex exactRefusal inLine indexCount leastAt nearestIndex nearestRefusal squared withIndex zeroAt
     implies isVisible passes opaque pixelRefusal pixelRead
-    evenly numberAt entries headerNumber canonicalHeader isTexture headMade sheetMade fileRefusalUpTo importRefusalUpTo importAfterUpTo wholeRefusalBy
-    exportRefusalBy fileMadeBy exportAfterBy importLength exportLength formatSays numberedRefusal numberedAfter colourOf colourRefusal
+    evenly numberAt entries headerNumber canonicalHeader isTexture headMade sheetMade fileRefusalUpTo importRefusalUpTo importAfterUpTo
+    wholeRefusalBy exportRefusalBy fileMadeBy exportAfterBy importLength exportLength formatSays numberedRefusal numberedAfter colourOf colourRefusal
 calls-hold = record {
   version = refl;
   decodes = refl;

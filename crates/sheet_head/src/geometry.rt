@@ -2,8 +2,10 @@
 // each stands. Nothing else in the code knows these formulas.
 ghost use mathlib.Core.Path.{_≡_};
 ghost use Prim.Native.Nat.{_*_, _≤_, _<_};
-ghost use Rattle.head_rules.specs.Geometry.{across, blocksOf, mostBlocks, outLength, placeOf, rowLength, sideShown, wholeLength};
+ghost use Rattle.head_rules.specs.Geometry.{across, outLength, placeOf, rowLength, sideShown, wholeLength};
 ghost use Rattle.head_rules.specs.Heads.{Sized, limit};
+ghost use Rattle.sheet_head.specs.Asked.{ScanlinesAsked};
+ghost use Rattle.sheet_head.specs.Promised.{CountsBlocks};
 use head_rules::Head;
 
 // Columns of blocks in a width, rows of blocks in a height.
@@ -33,7 +35,7 @@ pub fn row_length(width: u32) -> usize
 
 // The bytes of so many scanlines of pixels.
 pub fn out_length(width: usize, scanlines: usize) -> usize
-    requires { ⌜ (width ≤ limit) × (scanlines ≤ 4) ⌝ }
+    requires { ⌜ ScanlinesAsked width scanlines ⌝ }
     ensures { λ r. ⌜ r ≡ outLength width scanlines ⌝ }
 {
     scanlines * (4 * width)
@@ -42,7 +44,7 @@ pub fn out_length(width: usize, scanlines: usize) -> usize
 // How many blocks a sheet has.
 pub fn blocks_of(head: Head) -> u32
     requires { ⌜ Sized (head .width) (head .height) ⌝ }
-    ensures { λ r. ⌜ (r ≡ blocksOf head) × (r ≤ mostBlocks) ⌝ }
+    ensures { λ r. ⌜ CountsBlocks head r ⌝ }
 {
     blocks_across(head.height) * blocks_across(head.width)
 }

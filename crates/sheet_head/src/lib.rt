@@ -1,12 +1,11 @@
 // The head of a sheet: numbers in groups of seven bits, and the form, width and height that they spell. The form and the
 // largest side of a sheet are named here, and nowhere else in the code.
 ghost use mathlib.Core.Path.{_≡_};
-ghost use mathlib.Core.List.{[], _∷_};
-ghost use Prim.Native.Nat.{_+_, _≤_, _<_};
+ghost use Prim.Native.Nat.{_≤_, _<_};
 ghost use lib.ListN.{drop};
 ghost use Rattle.head_rules.specs.Numbers.{found, noNumber, numberBytes, numbersEnd, raised, readGroups, readNumber};
 ghost use Rattle.head_rules.specs.Heads.{ReadsHead, WritesHead, noBytes, sizeRefusal, withBytes};
-ghost use Rattle.head_rules.specs.Reader.{nextNumber};
+ghost use Rattle.sheet_head.specs.Promised.{Pushes, TakesNumber};
 use crate::reader::has_ended;
 use crate::reader::refused_with;
 use crate::reader::start;
@@ -127,8 +126,7 @@ pub fn size_refusal(width: u32, height: u32) -> u8
 // The next number of a sheet, taken by the reader of its head.
 fn next_number(sheet: &[u8], reader: HeadReader) -> HeadReader
     requires { ⌜ reader .head .start ≤ 6 ⌝ }
-    ensures { λ r. ⌜ r ≡ nextNumber (now (sheet .entry)) reader ⌝ }
-    ensures { λ r. ⌜ r .head .start ≤ reader .head .start + 3 ⌝ }
+    ensures { λ r. ⌜ TakesNumber (now (sheet .entry)) reader r ⌝ }
 {
     if has_ended(reader) {
         return reader;
@@ -164,8 +162,7 @@ fn no_bytes(refusal: u8) -> HeadBytes
 // One byte more.
 fn push(h: HeadBytes, byte: u8) -> HeadBytes
     requires { ⌜ h .count < 7 ⌝ }
-    ensures { λ r. ⌜ r ≡ withBytes h (byte ∷ []) ⌝ }
-    ensures { λ r. ⌜ r .count ≡ h .count + 1 ⌝ }
+    ensures { λ r. ⌜ Pushes h byte r ⌝ }
 {
     let mut bytes = h.bytes;
     let at = h.count as usize;

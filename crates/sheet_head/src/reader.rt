@@ -1,11 +1,12 @@
 // The head of a sheet as a machine: it takes a byte, or a whole number, and answers its next state. What comes byte by byte and
 // what is there whole are read by the same states; another number in a head is another stage.
 ghost use mathlib.Core.Path.{_≡_};
-ghost use Prim.Native.Nat.{_*_, _^_, _<_, _≤_};
+ghost use Prim.Native.Nat.{_<_, _≤_};
 ghost use Rattle.head_rules.specs.Heads.{headOf};
-ghost use Rattle.head_rules.specs.Numbers.{numbersEnd};
 ghost use Rattle.head_rules.specs.Reader.{Going, atForm, awaiting, byteTaken, emptyAbove, formTaken, groupTaken, hasEnded, heightTaken, lastTaken};
 ghost use Rattle.head_rules.specs.Reader.{numberIn, refusedWith};
+ghost use Rattle.sheet_head.specs.Asked.{LastAsked};
+ghost use Rattle.sheet_head.specs.Promised.{CountsGroup};
 use crate::FORM;
 use crate::size_refusal;
 use crate::wide;
@@ -110,7 +111,7 @@ pub fn take_number(reader: HeadReader, n: u32, next: u32) -> HeadReader
 // What seven bits count behind so many groups.
 fn group(bits: u32, groups: u8) -> u32
     requires { ⌜ (bits < 128) × (groups ≤ 2) ⌝ }
-    ensures { λ r. ⌜ (r ≡ bits * 128 ^ groups) × (r < numbersEnd) ⌝ }
+    ensures { λ r. ⌜ CountsGroup bits groups r ⌝ }
 {
     if groups == 0 {
         return bits;
@@ -133,7 +134,7 @@ fn empty_above(byte: u8, groups: u8) -> bool
 
 // A byte below 128 has come, the last of its number.
 fn take_last(reader: HeadReader, byte: u8) -> HeadReader
-    requires { ⌜ Going reader × (byte < 128) ⌝ }
+    requires { ⌜ LastAsked reader byte ⌝ }
     ensures { λ r. ⌜ r ≡ lastTaken reader byte ⌝ }
 {
     if empty_above(byte, reader.groups) {

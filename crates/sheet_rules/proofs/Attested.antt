@@ -20,7 +20,8 @@ use Rattle.head_rules.specs.Numbers.{raised, readGroups, readNumber}
 use Rattle.line_rules.specs.Replace.{after, indexFits, lineFits, lineGiven, oriented, ownWidth, pFits, put, refusal, refusalIn, replaced, valueFits}
 use Rattle.sheet_rules.specs.Pictures.{picture, pictureByte}
 use Rattle.sheet_rules.specs.Rows.{blockAt, channel, rowByte, rowBytes, rowOut, rowOutUpTo, rowRefusal, rowRefusalUpTo}
-use Rattle.sheet_rules.specs.Sheets.{blockIn, blockBy, findRefusalBy, putBlock, replacedBy, sheetAfter, sheetAfterBy, sheetRefusal, sheetRefusalBy}
+use Rattle.sheet_rules.specs.Sheets.{blockIn, blockBy, findRefusalBy, putBlock, replacedBy, sheetAfter, sheetAfterBy, sheetRefusal}
+use Rattle.sheet_rules.specs.Sheets.{sheetRefusalBy}
 
 -- blocks of mode 6: red from 0 to 120, blue 7, alpha 127, and a green of 10, 20, 30 or 40; p 0 and 0; pixel q has index q
 abbrev shade : ℕ → ℕ → ℕ → List ℕ
@@ -143,9 +144,10 @@ pub record Sheets : Type 0 where
 pub sheets-hold : Sheets
 unfolding over table tableFrom weights weightOf drawn promoted eight modeRow kindOfMode endpointCount placeAt pos width widths trailing number modeOf
     splitAt splitOf atPlace opened has valuePlace pPlace indexSetOf indexPlace own lineOf lineBits meansStored rotated lineAt shown pixel pixels
-    picture pictureByte blockAt channel rowByte rowBytes rowOutUpTo rowRefusalUpTo blockBy blocksOf findRefusalBy placeOf putBlock replacedBy sheetAfterBy
-    sheetRefusalBy first sizeRefusalUpTo readHeadUpTo headRefusalUpTo formIn widthIn heightIn readNumber readGroups raised replaced after refusal refusalIn lineFits
-    valueFits pFits indexFits ownWidth lineGiven put oriented withLine laid turned anchorOf blockOf listOf bytesOf
+    picture pictureByte blockAt channel rowByte rowBytes rowOutUpTo rowRefusalUpTo blockBy blocksOf findRefusalBy placeOf putBlock
+    replacedBy sheetAfterBy sheetRefusalBy first sizeRefusalUpTo readHeadUpTo headRefusalUpTo formIn widthIn heightIn readNumber
+    readGroups raised replaced after refusal refusalIn lineFits valueFits pFits indexFits ownWidth lineGiven put oriented withLine laid
+    turned anchorOf blockOf listOf bytesOf
 sheets-hold = record {
   columns = refl;
   in-all = refl;

@@ -17,7 +17,8 @@ finding s b = answers (rule by-answer λ h. rule (by-not-eqb tt (length s)
     (readHead s .start + 16 * blocksOf (readHead s))) λ l. rule (by-leb tt (blocksOf (readHead s)) b) λ n. none)
 
 -- the same down to the numbers of the head
-pub finding-in-words : (s : List ℕ) (b : ℕ) → Answers (findRefusal s b) (headRules (formIn s) (widthIn s) (heightIn s) ++ behindHead (readHead s) s b)
+pub finding-in-words : (s : List ℕ) (b : ℕ)
+    → Answers (findRefusal s b) (headRules (formIn s) (widthIn s) (heightIn s) ++ behindHead (readHead s) s b)
 unfolding findRefusalBy
 finding-in-words s b = answers (rules (head-answers s) λ h. rule (by-not-eqb tt (length s)
     (readHead s .start + 16 * blocksOf (readHead s))) λ l. rule (by-leb tt (blocksOf (readHead s)) b) λ n. none)

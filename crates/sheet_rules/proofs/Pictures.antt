@@ -91,7 +91,8 @@ module _ (w h : ℕ) (z : Sized w h) (all : List ℕ) (whole : length all ≡ 16
     row-told out room = accepted-when (row-rules w h n (length (rowOf w all n)) (length out)) .1 (z, (below, (row-long, (room, tt))))
 
     pub row-decoded : (out : List ℕ) → length out ≡ sideShown h n * (4 * w)
-        → (rowRefusal w h n (length (rowOf w all n)) (length out) ≡ 0) × (rowOut w h n (rowOf w all n) out ≡ rowBytes w (sideShown h n) (rowOf w all n))
+        → (rowRefusal w h n (length (rowOf w all n)) (length out) ≡ 0)
+        × (rowOut w h n (rowOf w all n) out ≡ rowBytes w (sideShown h n) (rowOf w all n))
     row-decoded out room = (row-told out room, drawn w h n (rowOf w all n) out (row-told out room))
 
   module _ (outs : ℕ → List ℕ) (room : (n : ℕ) → n < across h → length (outs n) ≡ sideShown h n * (4 * w)) where

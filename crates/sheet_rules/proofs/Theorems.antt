@@ -30,8 +30,8 @@ use Rattle.line_rules.proofs.Theorems.{accepted-draws, last-call-is-seen, other
 use Rattle.sheet_rules.specs.Calls.{SheetCall, WholeSheet, callsOn, onBlock, refusalOn, sheetWith, sheetWithAll}
 use Rattle.sheet_rules.specs.Rows.{DecodesRow, rowRefusal, rowRules}
 use Rattle.sheet_rules.specs.Sheets.{ReplacesInSheet, blockIn, sheetRules}
-use Rattle.sheet_rules.proofs.Calling.{Same, all-block, all-kept, answered-as-block, beyond, in-words, none-changes, parts, same-here, same-on}
-use Rattle.sheet_rules.proofs.Calling.{sixteen, unchanged, whole-or, with-kept, with-named, with-other}
+use Rattle.sheet_rules.proofs.Calling.{Same, all-block, all-kept, answered-as-block, beyond, in-words, none-changes, parts, same-here}
+use Rattle.sheet_rules.proofs.Calling.{same-on, sixteen, unchanged, whole-or, with-kept, with-named, with-other}
 use Rattle.sheet_rules.proofs.Refusing.{row-rules, undrawn}
 use Rattle.sheet_rules.proofs.Replacing.{accepted-is}
 use Rattle.sheet_rules.proofs.Storing.{put-long, put-outside}
@@ -42,13 +42,15 @@ pub others-stay : (s : List ℕ) (c : SheetCall) → (length (sheetWith s c) ≡
 others-stay s c = ⊎-elim taken (λ p. left (λ q. omega arith)) (eq-zero-or-pos (refusalOn s c))
   where
     taken : refusalOn s c ≡ 0 → (length (sheetWith s c) ≡ length s)
-        × ((k : ℕ) → ((placeOf (readHead s) (c .block) ≤ k) × (k < placeOf (readHead s) (c .block) + 16) → ⊥) → getD (sheetWith s c) k 0 ≡ getD s k 0)
+        × ((k : ℕ) → ((placeOf (readHead s) (c .block) ≤ k) × (k < placeOf (readHead s) (c .block) + 16) → ⊥)
+        → getD (sheetWith s c) k 0 ≡ getD s k 0)
     taken e =
         let p = accepted-is s (c .block) (c .line) (c .given) e in
         (ap length p ∙ put-long s _ _, λ k n. ap (λ (t : List ℕ). getD t k 0) p ∙ put-outside s _ _ k n)
 
     left : refusalOn s c ≢ 0 → (length (sheetWith s c) ≡ length s)
-        × ((k : ℕ) → ((placeOf (readHead s) (c .block) ≤ k) × (k < placeOf (readHead s) (c .block) + 16) → ⊥) → getD (sheetWith s c) k 0 ≡ getD s k 0)
+        × ((k : ℕ) → ((placeOf (readHead s) (c .block) ≤ k) × (k < placeOf (readHead s) (c .block) + 16) → ⊥)
+        → getD (sheetWith s c) k 0 ≡ getD s k 0)
     left ne = let p = unchanged s c ne in (ap length p, λ k n. ap (λ (t : List ℕ). getD t k 0) p)
 
 -- each refusal number of a row is given exactly when document 01 says (`rowRules` has the words)
@@ -255,7 +257,8 @@ sheet-last-calls-decide s y cs ds e = alike s y cs ds (λ z b l. same-last-calls
     (λ k lk. e b k l lk))
 
 -- and every channel that a line of a block draws shows what the last accepted call on it means, or what the first sheet shows
-pub sheet-last-call-is-seen : (s : List ℕ) → WholeSheet s → (cs : List SheetCall) (b : ℕ) → b < blocksOf (readHead s) → (l q ch : ℕ) → q < 16 → ch < 4
+pub sheet-last-call-is-seen : (s : List ℕ) → WholeSheet s → (cs : List SheetCall) (b : ℕ) → b < blocksOf (readHead s)
+    → (l q ch : ℕ) → q < 16 → ch < 4
     → draws (modeOf (blockIn s b)) (splitOf (blockIn s b)) l q ch ≡ true
     → pixel (blockIn (sheetWithAll s cs) b) q ch
     ≡ seen (modeOf (blockIn s b)) (splitOf (blockIn s b)) l q ch (pixel (blockIn s b) q ch)

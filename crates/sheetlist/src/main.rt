@@ -3,9 +3,8 @@
 //
 // A program has no exit status. Started with an argument, whatever it is, it says `refused` on standard error where the sheet was
 // refused, so that the one who started it can tell.
-ghost use Prim.Native.Nat.{_+_, _*_, _≤_};
 ghost use lib.ListN.{length};
-ghost use Rattle.listing_rules.specs.Machine.{mostInRun};
+ghost use Rattle.sheetlist.specs.Asked.{RoomAsked};
 use libc::STDERR_FILENO;
 use listing_rules::Phase;
 use pipes::read_wanted;
@@ -20,7 +19,7 @@ enum Outcome {
 }
 
 fn list_with(buffer: &mut [u8], text: &mut [u8]) -> Outcome
-    requires { ⌜ (16 * mostInRun ≤ length (now buffer)) × (40 * mostInRun + 80 ≤ length (now text)) ⌝ }
+    requires { ⌜ RoomAsked (length (now buffer)) (length (now text)) ⌝ }
 {
     let mut machine = listing::start();
     while 0 < listing::wanted(machine) {

@@ -2,14 +2,14 @@
 // (64 i + h) / (n - 1), where h is the whole part of (n - 1) / 2: the last has the whole, and each index an equal part of it, rounded. No
 // table of weights stands anywhere in the code; with a literal width and index the compiler folds the division away.
 ghost use mathlib.Core.Path.{_≡_};
-ghost use Prim.Native.Nat.{_*_, _≤_};
+ghost use Prim.Native.Nat.{_*_};
 ghost use Rattle.bcn_format.specs.Drawing.{weightOf};
-ghost use Rattle.weights.specs.Weights.{Weighed};
+ghost use Rattle.weights.specs.Weights.{Weighed, Weight};
 
 // Of 64, as the format prints it.
 pub fn weight_64(bits: u32, index: u32) -> u32
     requires { ⌜ Weighed bits index ⌝ }
-    ensures { λ r. ⌜ (r ≡ weightOf bits index) × (r ≤ 64) ⌝ }
+    ensures { λ r. ⌜ Weight bits index r ⌝ }
 {
     let last = (1u32 << bits) - 1;
     (64 * index + last / 2) / last

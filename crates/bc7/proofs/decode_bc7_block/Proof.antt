@@ -48,13 +48,13 @@ extract-mode-requires : tie.Need-extract-mode-requires
 extract-mode-requires c κs = search needs
 
 mode-subset-3-requires : tie.Need-mode-subset-3-requires
-mode-subset-3-requires c κs = (of-three (c .match .keys1) .0, c .before .before .new .ensures .stands)
+mode-subset-3-requires c κs = record { mode = of-three (c .match .keys1) .0; stands = c .before .before .new .ensures .stands }
 
 returns : tie.Need-returns
 returns c = let at = c .before in shows (at .before) _ refl (of-three (at .match .keys1) .1) (c .mode-subset-3 .ensures)
 
 mode-subset-2-requires : tie.Need-mode-subset-2-requires
-mode-subset-2-requires c κs = (of-two (c .match .keys2) .0, c .before .before .new .ensures .stands)
+mode-subset-2-requires c κs = record { mode = of-two (c .match .keys2) .0; stands = c .before .before .new .ensures .stands }
 
 returns-2 : tie.Need-returns-2
 returns-2 c = let at = c .before in shows (at .before) _ refl (of-two (at .match .keys2) .1) (c .mode-subset-2 .ensures)

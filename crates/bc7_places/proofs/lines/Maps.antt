@@ -61,7 +61,7 @@ anchor-is Whole l h h2 h3 = ap (pick (eqb l 0) 0) (either (ownPixel (linePixels 
 anchor-is (Two a) l h h2 h3 =
     rw (
       anchors-in2 a h .are,
-      own-pixel (Two a) l (map2 a .«fixup_index_2») h (anchors-in2 a h .last),
+      own-pixel (Two a) l (map2 a .«fixup_index_2») h (anchors-in2 a h .fixup .pixel),
       in-subset-1 a h,
     )
     (go l (h2 refl) ∙ sym (two-anchor a l ∙ anchor-in2 a l h (h2 refl)))
@@ -73,7 +73,7 @@ anchor-is (Two a) l h h2 h3 =
 anchor-is (Three a) l h h2 h3 =
     rw (
       anchors-in3 a h .are,
-      own-pixel (Three a) l (map3 a .«fixup_index_2») h (omega (arith, anchors-in3 a h .next, anchors-in3 a h .last)),
+      own-pixel (Three a) l (map3 a .«fixup_index_2») h (let f = anchors-in3 a h .fixups in omega (arith, f .rising, f .pixel)),
     )
     (sym (three-anchor a l ∙ anchor-in3 a l h (h3 refl)))
 anchor-is (Vector r i) l h h2 h3 = either (eqb l 0) ∙ sym (vector-anchor r i l)

@@ -8,6 +8,7 @@ use Prim.Native.Nat.{ℕ, zero, suc, _+_, _-_, _*_, _≤_, _<_}
 use native.Mathlib.Omega.{arith}
 use borrow.Author.Tests.{ne-eqb}
 use lib.Dec.{T, eqb, eqb→eq, leb, leb→le, ltb, lt→ltb}
+use Rattle.bc7_format.specs.declared.Place.{Place}
 use Rattle.bc7_format.specs.declared.Split.{Split}
 use Rattle.bc7_format.specs.declared.Split.the-variants.{Whole, Two, Three, Vector}
 use Rattle.laws.specs.Digits.{total}
@@ -16,7 +17,7 @@ use Rattle.laws.specs.Tables.{below, both, implies, pick, table, tableFrom}
 use Rattle.laws.proofs.Tests.{at, both-left, both-right, implied, no-both}
 use Rattle.bc7_format.specs.Lines.{indexSetOf, valuePlace}
 use Rattle.bc7_format.specs.Modes.{endpointCount, firstBits, kindOfMode, lines, modeRow, pCount}
-use Rattle.bc7_format.specs.Places.{Place, placeAt, pos, width, widths, valuesFrom, psFrom, firstFrom, secondFrom}
+use Rattle.bc7_format.specs.Places.{placeAt, pos, width, widths, valuesFrom, psFrom, firstFrom, secondFrom}
 use Rattle.bc7_format.specs.Splits.{anchors, isVector}
 use Rattle.bc7_format.specs.WellFormed.{WellFormed}
 use Rattle.bc7_format.proofs.Meaning.{index-set-lt}

@@ -50,15 +50,16 @@ anchors-kind (Vector r i) h = refl
 pub anchors-rise : (s : Split) → partition s < 64 → Rising (kindOf s) (anchorsOf s .b) (anchorsOf s .c)
 anchors-rise Whole h = record { two = λ e. absurd (let z : ⊥ = omega arith in z); three = λ e. absurd (let z : ⊥ = omega arith in z) }
 anchors-rise (Two a) h =
-    let x = anchors-in2 a h in
-    record { two = λ e. rw (x .are) (x .above, x .last); three = λ e. absurd (let z : ⊥ = omega arith in z) }
+    let x = anchors-in2 a h in record { two = λ e. rw (x .are) (x .fixup); three = λ e. absurd (let z : ⊥ = omega arith in z) }
 anchors-rise (Three a) h =
-    let x = anchors-in3 a h in
-    record { two = λ e. absurd (let z : ⊥ = omega arith in z); three = λ e. rw (x .are) (x .above, x .next, x .last) }
+    let x = anchors-in3 a h in record { two = λ e. absurd (let z : ⊥ = omega arith in z); three = λ e. rw (x .are) (x .fixups) }
 anchors-rise (Vector r i) h = record { two = λ e. absurd (let z : ⊥ = omega arith in z); three = λ e. absurd (let z : ⊥ = omega arith in z) }
 
 pub anchors-low : (s : Split) → partition s < 64 → ArePixels (anchorsOf s)
 anchors-low Whole h = record { first = lit< tt; second = lit< tt; third = lit< tt }
-anchors-low (Two a) h = let x = anchors-in2 a h in rw (x .are) (record { first = lit< tt; second = x .last; third = lit< tt })
-anchors-low (Three a) h = let x = anchors-in3 a h in rw (x .are) (record { first = lit< tt; second = lt-trans (x .next) (x .last); third = x .last })
+anchors-low (Two a) h = let x = anchors-in2 a h in rw (x .are) (record { first = lit< tt; second = x .fixup .pixel; third = lit< tt })
+anchors-low (Three a) h =
+    let x = anchors-in3 a h in
+    let f = x .fixups in
+    rw (x .are) (record { first = lit< tt; second = lt-trans (f .rising) (f .pixel); third = f .pixel })
 anchors-low (Vector r i) h = record { first = lit< tt; second = lit< tt; third = lit< tt }

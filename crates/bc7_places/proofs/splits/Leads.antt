@@ -1,6 +1,7 @@
 -- The split of a block is one read.
 -- Assumes nothing.
-use mathlib.Core.Path.{_≡_, refl, ap, ap₂, _∙_}
+use mathlib.Core.Path.{_≡_, refl, ap, ap₂, subst, _∙_}
+use mathlib.Core.List.{List}
 use Prim.Native.Nat.{ℕ, zero, suc, _+_, _/_, _%_, _^_, _≤_, _<_}
 use native.Mathlib.Nat.{add-assoc, add-zero, zero-add}
 use native.Mathlib.Numerals.{add-one}
@@ -12,13 +13,17 @@ use Rattle.bc7_places.specs.declared.modes.ModeRow.{ModeRow}
 use Rattle.bits.specs.declared.stream.BitStream.{BitStream}
 use Rattle.bc7_format.specs.declared.Split.the-variants.{Vector}
 use Rattle.laws.proofs.Tests.{at}
-use Rattle.bcn_format.specs.Block.{field}
+use Rattle.laws.specs.Digits.{Fit}
+use Rattle.bcn_format.specs.Block.{eights, field, number}
+use Rattle.bc7_format.specs.Fields.{leadEnd}
 use Rattle.bc7_format.specs.Modes.{indexModeBits, kindOfMode, modeRow, partitionBits, rotationBits}
-use Rattle.bc7_format.specs.Splits.{ofKind, splitAt}
-use Rattle.bits.specs.Stream.{held, skipped}
+use Rattle.bc7_format.specs.Splits.{ofKind, splitAt, splitOf}
+use Rattle.bc7_format.proofs.Modes.{good-64}
+use Rattle.bc7_format.proofs.Opening.{opened-good}
+use Rattle.bits.specs.Stream.{skipped}
 use Rattle.bits.proofs.On.{On, got, on-read, on-skipped}
-use Rattle.bc7_places.specs.Modes.{modeRowOf}
-use Rattle.bc7_places.specs.Splits.{splitRead}
+use Rattle.bc7_places.specs.Modes.{OfBlock, modeRowOf}
+use Rattle.bc7_places.specs.Splits.{IsLead, splitRead}
 
 -- two bits of rotation, and the index mode above them
 vector : (n a i : ℕ) → Vector (field n a (i + 2) % 4) (field n a (i + 2) / 2 ^ 2) ≡ Vector (field n (a + 0) 2) (field n (a + (0 + 2)) i)
@@ -52,8 +57,8 @@ unfolding modeRow
 lead-fits m h = leb→le _ 128 (at 8 (λ m. leb (m + 1 + (partitionBits m + rotationBits m + indexModeBits m)) 128) tt m h)
 
 -- behind the marker
-pub marker-on : (m : ℕ) {n : ℕ} {b s : BitStream} → held b ≡ n → b .at ≡ 0 → s ≡ skipped b (m + 1) → On n (m + 1) s
-marker-on m h z e = rw e (rw (zero-add (m + 1)) at (on-skipped (record { of = h; stands = z }) (m + 1)))
+marker-on : (m : ℕ) {n : ℕ} {b s : BitStream} → On n 0 b → s ≡ skipped b (m + 1) → On n (m + 1) s
+marker-on m o e = rw e (rw (zero-add (m + 1)) at (on-skipped o (m + 1)))
 
 -- there it is the block's
 split-parts : (m n : ℕ)
@@ -67,10 +72,32 @@ module _ (m : ℕ) (low : m < 8) {n : ℕ} {row : ModeRow} {s : BitStream} {r : 
   bits : ℕ
   bits = partitionBits m + rotationBits m + indexModeBits m
 
-  pub split-is : r .split ≡ splitAt m n
+  split-is : r .split ≡ splitAt m n
   unfolding bits
   split-is = rw (er, e, got o bits (lead-fits m low) refl) (one-read m n (m + 1) low ∙ split-parts m n)
 
-  pub split-on : On n (m + 1 + (partitionBits m + rotationBits m + indexModeBits m)) (r .stream)
+  split-on : On n (m + 1 + (partitionBits m + rotationBits m + indexModeBits m)) (r .stream)
   unfolding bits
   split-on = rw (er, e) (on-read o bits (lead-fits m low) refl)
+
+lead-end : (m : ℕ) → m + 1 + (partitionBits m + rotationBits m + indexModeBits m) ≡ leadEnd m
+unfolding leadEnd
+lead-end m = omega arith
+
+-- THE LEAD OF A BLOCK, read from its start
+module _ (bs : List ℕ) (sixteen : Fit eights bs) {mode : ℕ} {row : ModeRow} (of : OfBlock bs mode row) {b s : BitStream} {r : ReadSplit}
+    (o : On (number bs) 0 b) (es : s ≡ skipped b (mode + 1)) (e : r ≡ splitRead row s) where
+  on : On (number bs) (mode + 1) s
+  on = marker-on mode o es
+
+  the-split : r .split ≡ splitOf bs
+  unfolding splitOf
+  the-split = split-is mode (of .low) (of .mode-row-is) on e ∙ ap (λ (m : ℕ). splitAt m (number bs)) (of .mode-is)
+
+  pub is-lead : IsLead bs r
+  is-lead = record {
+    split = the-split;
+    few = rw the-split (good-64 (opened-good bs sixteen (rw (of .mode-is) at (of .low))));
+    stands =
+        subst (λ (a : ℕ). On (number bs) a (r .stream)) (lead-end mode ∙ ap leadEnd (of .mode-is)) (split-on mode (of .low) (of .mode-row-is) on e);
+  }

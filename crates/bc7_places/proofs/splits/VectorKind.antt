@@ -3,10 +3,10 @@
 use mathlib.Core.Path.{_≡_, refl, sym, ap, _∙_}
 use Prim.Native.Nat.{ℕ}
 use lib.Dec.{eqb}
+use Rattle.bc7_format.specs.declared.Place.{Place}
 use Rattle.bc7_format.specs.declared.Split.{Split}
 use Rattle.bc7_format.specs.declared.Split.the-variants.{Whole, Two, Three, Vector}
 use Rattle.bc7_format.specs.Modes.{kindOfMode}
-use Rattle.bc7_format.specs.Places.{Place}
 use Rattle.bc7_format.specs.Splits.{isVector, kindOf}
 use Rattle.bc7_format.specs.WellFormed.{WellFormed}
 use Rattle.bc7_format.proofs.Opening.{good-kind}

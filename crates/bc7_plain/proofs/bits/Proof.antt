@@ -28,7 +28,7 @@ sub-next-2 c = omega arith
 small : (c : tie.In-loop Inv-loop μ-loop) → c .before .loop .sum < 256
 small c =
     let l = c .before in
-    sum-small _ _ (l .loop .taken) (let h = l .before .pre .1 in let i = l .loop .inv .0 in omega arith) (l .loop .inv .1)
+    sum-small _ _ (l .loop .taken) (let h = l .before .pre .short in let i = l .loop .inv .0 in omega arith) (l .loop .inv .1)
 
 one : (n s : ℕ) {b : ℕ} → b ≡ field n s 1 → b < 2
 one n s e = omega (arith, e, field-lt n s 1)

@@ -3,6 +3,7 @@
 use mathlib.Core.Path.{_≡_, ap, ap₂, sym, subst, _∙_}
 use Prim.Native.Nat.{ℕ, _+_, _*_, _^_, _≤_, _<_}
 use native.Mathlib.Omega.{arith}
+use borrow.Author.Needs.{needs}
 use Rattle.laws.proofs.Cases.{pick-less}
 use Rattle.bcn_format.specs.Block.{number}
 use Rattle.bcn_format.specs.Drawing.{drawn, weightOf}
@@ -52,10 +53,10 @@ few : (s : tie.Start) → endpointCount (s .args .mode) ≤ 6
 few s = fits (s .args .mode) (s .pre .mode) .ends
 
 set-of-requires : tie.Need-set-of-requires
-set-of-requires c κs = (c .before .pre .mode, c .before .pre .index-mode)
+set-of-requires c κs = search needs
 
 index-bits-requires : tie.Need-index-bits-requires
-index-bits-requires c κs = (c .before .before .pre .mode, served c .set)
+index-bits-requires c κs = record { mode = c .before .before .pre .mode; set = served c .set }
 
 index-of-requires : tie.Need-index-of-requires
 index-of-requires c κs =
@@ -73,7 +74,7 @@ weight-requires : tie.Need-weight-requires
 weight-requires c κs = weighed c
 
 subset-requires : tie.Need-subset-requires
-subset-requires c κs = (c .before .before .before .before .before .pre .spelt .sixteen, c .before .before .before .before .before .pre .pixel)
+subset-requires c κs = search needs
 
 mul-pair : tie.Need-mul-pair
 mul-pair c = omega (arith, c .subset .ensures, pair (start c), few (start c))

@@ -19,11 +19,11 @@ index-2-result c = search needs
 
 cast-result : tie.Need-cast-result
 unfolding columnOf printedRows
-cast-result c = omega (arith, column-le (c .before .args .mode) (c .before .args .name) (c .before .pre .0) (c .before .pre .1))
+cast-result c = omega (arith, column-le (c .before .args .mode) (c .before .args .name) (c .before .pre .mode) (c .before .pre .column))
 
 returns : tie.Need-returns
 unfolding columnOf printedRows
-returns c = record { is = refl; few = column-le (c .before .args .mode) (c .before .args .name) (c .before .pre .0) (c .before .pre .1) }
+returns c = record { is = refl; few = column-le (c .before .args .mode) (c .before .args .name) (c .before .pre .mode) (c .before .pre .column) }
 
 pub column-spec : {M : Type 1} → statement M
 column-spec = tie.close (tie.spec mul-result index-1-result index-2-result cast-result returns)

@@ -69,15 +69,17 @@ value-start-requires c κs = search needs
 bits-requires : tie.Need-bits-requires
 bits-requires c κs =
     let s = c .before .before .before in
-    let h = s .pre in (
-      omega (
-        arith,
-        c .value-start .ensures,
-        width-is (c .before),
-        value-room (s .args .mode) (s .args .channel) (s .args .endpoint) (h .mode) (h .channel) (h .endpoint),
-      ),
-      omega (arith, width-is (c .before), deep (s .args .mode) (s .args .channel) (h .mode) (h .channel) .most),
-    )
+    let h = s .pre in
+    record {
+      inside =
+          omega (
+            arith,
+            c .value-start .ensures,
+            width-is (c .before),
+            value-room (s .args .mode) (s .args .channel) (s .args .endpoint) (h .mode) (h .channel) (h .endpoint),
+          );
+      short = omega (arith, width-is (c .before), deep (s .args .mode) (s .args .channel) (h .mode) (h .channel) .most);
+    }
 
 column-requires : tie.Need-column-requires
 column-requires c κs = search needs
@@ -114,7 +116,7 @@ mul-promotion c = omega (arith, value-small (c .before .before .before))
 p-start-requires : tie.Need-p-start-requires
 p-start-requires c κs =
     let s = c .before .before .before .before .before .before .before in
-    (s .pre .mode, omega (arith, s .pre .endpoint, fits (s .args .mode) (s .pre .mode) .ends))
+    record { mode = s .pre .mode; endpoint = omega (arith, s .pre .endpoint, fits (s .args .mode) (s .pre .mode) .ends) }
 
 bit-requires : tie.Need-bit-requires
 bit-requires c κs =

@@ -13,7 +13,7 @@ column-requires c κs = search needs
 
 returns : tie.Need-returns
 returns c =
-    let e = row _ (c .before .before .pre .0) in
+    let e = row _ (c .before .before .pre .mode) in
     record {
       is =
           rw (eq-eqb (c .before .before .args .set) 0 (c .before .if1 .taken)) (c .column .ensures .is ∙ e .first);
@@ -26,7 +26,7 @@ column-requires-2 c κs = search needs
 
 returns-2 : tie.Need-returns-2
 returns-2 c =
-    let e = row _ (c .before .before .pre .0) in
+    let e = row _ (c .before .before .pre .mode) in
     record {
       is =
           rw (ne-eqb (c .before .before .args .set) 0 (c .before .if1 .left)) (c .column2 .ensures .is ∙ e .second);

@@ -14,22 +14,22 @@ use Rattle.bc7_plain.proofs.Rows.{index-le, product, times}
 use Rattle.bc7_plain.proofs.index_of.Statement.{statement}
 use Rattle.bc7_plain.proofs.index_of.Tie as tie
 
-width-is : (a : tie.After-anchors-before)
-    → a .before .before .index-bits .result ≡ indexBits (a .before .before .before .before .args .mode) (a .before .before .before .before .args .set)
+abbrev start : tie.After-anchors-before → tie.Start
+start a = a .before .before .before .before
+
+width-is : (a : tie.After-anchors-before) → a .before .before .index-bits .result ≡ indexBits (start a .args .mode) (start a .args .set)
 width-is a = a .before .before .index-bits .ensures .is
 
 behind : (c : tie.After-set-start) → c .before .before .before .args .pixel * c .before .index-bits .result ≤ 16 * 128
 behind c = product 16 128 (le-of-lt (c .before .before .before .pre .pixel)) (c .before .index-bits .ensures .few)
 
 start-is : (a : tie.After-anchors-before)
-    → a .before .set-start .result +
-    (a .before .before .before .before .args .pixel * a .before .before .index-bits .result - a .anchors-before .result)
-    ≡ indexStart (a .before .before .before .before .args .mode) (a .before .before .before .before .args .string .now)
-    (a .before .before .before .before .args .set) (a .before .before .before .before .args .pixel)
+    → a .before .set-start .result + (start a .args .pixel * a .before .before .index-bits .result - a .anchors-before .result)
+    ≡ indexStart (start a .args .mode) (start a .args .string .now) (start a .args .set) (start a .args .pixel)
 unfolding indexStart
 start-is a =
     ap₂ (λ (x y : ℕ). x + y) (a .before .set-start .ensures .is)
-    (ap₂ (λ (x y : ℕ). a .before .before .before .before .args .pixel * x - y) (width-is a) (a .anchors-before .ensures))
+    (ap₂ (λ (x y : ℕ). start a .args .pixel * x - y) (width-is a) (a .anchors-before .ensures))
 
 room : (s : tie.Start)
     → indexStart (s .args .mode) (s .args .string .now) (s .args .set) (s .args .pixel) + indexWide (s .args .mode) (s .args .string .now)
@@ -41,10 +41,9 @@ narrow s = index-le (s .args .mode) (s .args .set) (s .pre .mode) (s .pre .set)
 
 -- the width by what was found of the pixel
 wide-is : (c : tie.After-is-anchor) (b : Bool) → c .is-anchor .result ≡ b
-    → indexWide (c .before .before .before .before .before .args .mode) (c .before .before .before .before .before .args .string .now)
-    (c .before .before .before .before .before .args .set) (c .before .before .before .before .before .args .pixel)
-    ≡ pick b (indexBits (c .before .before .before .before .before .args .mode) (c .before .before .before .before .before .args .set) - 1)
-    (indexBits (c .before .before .before .before .before .args .mode) (c .before .before .before .before .before .args .set))
+    → let s = start (c .before) in
+    indexWide (s .args .mode) (s .args .string .now) (s .args .set) (s .args .pixel)
+    ≡ pick b (indexBits (s .args .mode) (s .args .set) - 1) (indexBits (s .args .mode) (s .args .set))
 unfolding indexWide
 wide-is c b e =
     let s = c .before .before .before .before .before in
@@ -89,7 +88,7 @@ bits-requires c κs =
     let a = c .before .before in
     let s = a .before .before .before .before in
     let w = wide-is (c .before) true (c .if1 .taken) in
-    (omega (arith, start-is a, w, room s, width-is a), omega (arith, width-is a, narrow s))
+    record { inside = omega (arith, start-is a, w, room s, width-is a); short = omega (arith, width-is a, narrow s) }
 
 returns : tie.Need-returns
 returns c =
@@ -104,7 +103,7 @@ bits-requires-2 c κs =
     let a = c .before .before in
     let s = a .before .before .before .before in
     let w = wide-is (c .before) false (c .if1 .left) in
-    (omega (arith, start-is a, w, room s, width-is a), omega (arith, width-is a, narrow s))
+    record { inside = omega (arith, start-is a, w, room s, width-is a); short = omega (arith, width-is a, narrow s) }
 
 returns-2 : tie.Need-returns-2
 returns-2 c =

@@ -16,7 +16,7 @@ column-requires : tie.Need-column-requires
 column-requires c κs = search needs
 
 values-end-requires : tie.Need-values-end-requires
-values-end-requires c κs = c .before .before .pre .0
+values-end-requires c κs = c .before .before .pre .mode
 
 add-result : tie.Need-add-result
 add-result c = search needs
@@ -27,11 +27,11 @@ returns c =
     let s = c .before .before .before in
     let m : ℕ = s .args .mode in
     let t : eqb m 1 ≡ true =
-    sym (same-flag _ _ (row m (s .pre .0) .shared)) ∙ eq-eqb _ 1 (sym (c .before .before .column .ensures .is) ∙ c .before .if1 .taken) in
+    sym (same-flag _ _ (row m (s .pre .mode) .shared)) ∙ eq-eqb _ 1 (sym (c .before .before .column .ensures .is) ∙ c .before .if1 .taken) in
     ap₂ (λ (x : ℕ) (b : Bool). x + pick b (s .args .endpoint / 2) (s .args .endpoint)) (c .values-end .ensures .is) (sym t)
 
 values-end-requires-2 : tie.Need-values-end-requires-2
-values-end-requires-2 c κs = c .before .before .pre .0
+values-end-requires-2 c κs = c .before .before .pre .mode
 
 add-result-2 : tie.Need-add-result-2
 add-result-2 c = search needs
@@ -42,7 +42,7 @@ returns-2 c =
     let s = c .before .before .before in
     let m : ℕ = s .args .mode in
     let t : eqb m 1 ≡ false =
-    sym (same-flag _ _ (row m (s .pre .0) .shared)) ∙ ne-eqb _ 1 (λ e. c .before .if1 .left (c .before .before .column .ensures .is ∙ e)) in
+    sym (same-flag _ _ (row m (s .pre .mode) .shared)) ∙ ne-eqb _ 1 (λ e. c .before .if1 .left (c .before .before .column .ensures .is ∙ e)) in
     ap₂ (λ (x : ℕ) (b : Bool). x + pick b (s .args .endpoint / 2) (s .args .endpoint)) (c .values-end2 .ensures .is) (sym t)
 
 pub p-start-spec : {M : Type 1} → statement M

@@ -41,7 +41,7 @@ returns-2 c =
     sym (reserved-accepted _ _ (c .before .before .if1 .left) (zero-byte _ (sixteen s) (sym (c .before .mode-of .ensures) ∙ c .if2 .taken)))
 
 read-requires : tie.Need-read-requires
-read-requires c κs = (low c, c .before .before .if1 .left)
+read-requires c κs = record { mode = low c; pixel = c .before .before .if1 .left }
 
 returns-3 : tie.Need-returns-3
 returns-3 c =

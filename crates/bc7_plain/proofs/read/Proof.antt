@@ -50,45 +50,45 @@ slice-aggregate-shown c = search needs
 
 shown-requires : tie.Need-shown-requires
 shown-requires c κs =
-    let s = start (c .before .before .before) in asked _ _ (s .pre .0) (c .before .before .before .before .split-of .ensures) _ (s .pre .1)
+    let s = start (c .before .before .before) in asked _ _ (s .pre .mode) (c .before .before .before .before .split-of .ensures) _ (s .pre .pixel)
     (string-1 (c .before))
 
 returns : tie.Need-returns
 returns c =
-    let s = start (c .before .before .before .before) in read _ _ (s .pre .0) (c .before .before .before .before .before .split-of .ensures) _
-    (s .pre .1) (string-1 (c .before .before)) (c .shown .ensures)
+    let s = start (c .before .before .before .before) in read _ _ (s .pre .mode) (c .before .before .before .before .before .split-of .ensures) _
+    (s .pre .pixel) (string-1 (c .before .before)) (c .shown .ensures)
 
 two-requires : tie.Need-two-requires
-two-requires c κs = partition-64 _ _ (start (c .before .before) .pre .0) (c .before .before .before .split-of .ensures)
+two-requires c κs = partition-64 _ _ (start (c .before .before) .pre .mode) (c .before .before .before .split-of .ensures)
 
 slice-aggregate-shown-2 : tie.Need-slice-aggregate-shown-2
 slice-aggregate-shown-2 c = search needs
 
 shown-requires-2 : tie.Need-shown-requires-2
 shown-requires-2 c κs =
-    let s = start (c .before .before .before .before) in asked _ _ (s .pre .0) (c .before .before .before .before .before .split-of .ensures) _
-    (s .pre .1) (string-2 (c .before))
+    let s = start (c .before .before .before .before) in asked _ _ (s .pre .mode) (c .before .before .before .before .before .split-of .ensures) _
+    (s .pre .pixel) (string-2 (c .before))
 
 returns-2 : tie.Need-returns-2
 returns-2 c =
-    let s = start (c .before .before .before .before .before) in read _ _ (s .pre .0)
-    (c .before .before .before .before .before .before .split-of .ensures) _ (s .pre .1) (string-2 (c .before .before)) (c .shown2 .ensures)
+    let s = start (c .before .before .before .before .before) in read _ _ (s .pre .mode)
+    (c .before .before .before .before .before .before .split-of .ensures) _ (s .pre .pixel) (string-2 (c .before .before)) (c .shown2 .ensures)
 
 three-requires : tie.Need-three-requires
-three-requires c κs = partition-64 _ _ (start (c .before .before) .pre .0) (c .before .before .before .split-of .ensures)
+three-requires c κs = partition-64 _ _ (start (c .before .before) .pre .mode) (c .before .before .before .split-of .ensures)
 
 slice-aggregate-shown-3 : tie.Need-slice-aggregate-shown-3
 slice-aggregate-shown-3 c = search needs
 
 shown-requires-3 : tie.Need-shown-requires-3
 shown-requires-3 c κs =
-    let s = start (c .before .before .before .before) in asked _ _ (s .pre .0) (c .before .before .before .before .before .split-of .ensures) _
-    (s .pre .1) (string-3 (c .before))
+    let s = start (c .before .before .before .before) in asked _ _ (s .pre .mode) (c .before .before .before .before .before .split-of .ensures) _
+    (s .pre .pixel) (string-3 (c .before))
 
 returns-3 : tie.Need-returns-3
 returns-3 c =
-    let s = start (c .before .before .before .before .before) in read _ _ (s .pre .0)
-    (c .before .before .before .before .before .before .split-of .ensures) _ (s .pre .1) (string-3 (c .before .before)) (c .shown3 .ensures)
+    let s = start (c .before .before .before .before .before) in read _ _ (s .pre .mode)
+    (c .before .before .before .before .before .before .split-of .ensures) _ (s .pre .pixel) (string-3 (c .before .before)) (c .shown3 .ensures)
 
 pub read-spec : {M : Type 1} → statement M
 read-spec =

@@ -15,7 +15,7 @@ returns : tie.Need-returns
 unfolding setFor
 returns c =
     let s = c .before .before in
-    rw (eq-eqb _ 0 (sym (row (s .args .mode) (s .pre .0) .rotation) ∙ sym (c .before .column .ensures .is) ∙ c .if1 .taken))
+    rw (eq-eqb _ 0 (sym (row (s .args .mode) (s .pre .mode) .rotation) ∙ sym (c .before .column .ensures .is) ∙ c .if1 .taken))
 
 sub-result : tie.Need-sub-result
 sub-result c = search needs
@@ -25,7 +25,7 @@ unfolding setFor
 returns-2 c =
     let s = c .before .before .before in
     rw (
-      ne-eqb _ 0 (λ e. c .before .if1 .left (c .before .before .column .ensures .is ∙ row (s .args .mode) (s .pre .0) .rotation ∙ e)),
+      ne-eqb _ 0 (λ e. c .before .if1 .left (c .before .before .column .ensures .is ∙ row (s .args .mode) (s .pre .mode) .rotation ∙ e)),
       eq-eqb (s .args .channel) 3 (c .if2 .taken),
     )
 
@@ -34,7 +34,7 @@ unfolding setFor
 returns-3 c =
     let s = c .before .before .before in
     rw (
-      ne-eqb _ 0 (λ e. c .before .if1 .left (c .before .before .column .ensures .is ∙ row (s .args .mode) (s .pre .0) .rotation ∙ e)),
+      ne-eqb _ 0 (λ e. c .before .if1 .left (c .before .before .column .ensures .is ∙ row (s .args .mode) (s .pre .mode) .rotation ∙ e)),
       ne-eqb (s .args .channel) 3 (c .if2 .left),
     )
 

@@ -4,6 +4,7 @@ use mathlib.Core.Path.{_≡_, ap, sym, subst, _∙_}
 use mathlib.Core.List.{[], _∷_}
 use Prim.Native.Nat.{ℕ, _<_}
 use native.Mathlib.Omega.{arith}
+use borrow.Author.Needs.{needs}
 use Rattle.laws.specs.Tables.{table, tableFrom}
 use Rattle.bcn_format.specs.Block.{number}
 use Rattle.bc7_format.specs.Lines.{rotated}
@@ -25,25 +26,25 @@ asked s c {d} e h = record {
 }
 
 rotation-of-requires : tie.Need-rotation-of-requires
-rotation-of-requires c κs = (c .before .pre .rotation, omega arith)
+rotation-of-requires c κs = search needs
 
 channel-of-requires : tie.Need-channel-of-requires
 channel-of-requires c κs = asked (c .before .before) 0 (c .rotation-of .ensures) (omega arith)
 
 rotation-of-requires-2 : tie.Need-rotation-of-requires-2
-rotation-of-requires-2 c κs = (c .before .before .before .pre .rotation, omega arith)
+rotation-of-requires-2 c κs = search needs
 
 channel-of-requires-2 : tie.Need-channel-of-requires-2
 channel-of-requires-2 c κs = asked (c .before .before .before .before) 1 (c .rotation-of2 .ensures) (omega arith)
 
 rotation-of-requires-3 : tie.Need-rotation-of-requires-3
-rotation-of-requires-3 c κs = (c .before .before .before .before .before .pre .rotation, omega arith)
+rotation-of-requires-3 c κs = search needs
 
 channel-of-requires-3 : tie.Need-channel-of-requires-3
 channel-of-requires-3 c κs = asked (c .before .before .before .before .before .before) 2 (c .rotation-of3 .ensures) (omega arith)
 
 rotation-of-requires-4 : tie.Need-rotation-of-requires-4
-rotation-of-requires-4 c κs = (c .before .before .before .before .before .before .before .pre .rotation, omega arith)
+rotation-of-requires-4 c κs = search needs
 
 channel-of-requires-4 : tie.Need-channel-of-requires-4
 channel-of-requires-4 c κs = asked (c .before .before .before .before .before .before .before .before) 3 (c .rotation-of4 .ensures) (omega arith)

@@ -40,8 +40,8 @@ two-shades-requires c κs =
 returns : tie.Need-returns
 returns c =
     let s = c .before .before .before in
-    two-between (s .args .bits) (s .args .k) (s .pre .indexes) (c .before .before .weight-256 .ensures) (c .before .weight-2562 .ensures) (s .args .e)
-    (c .two-shades .ensures)
+    two-between (s .args .bits) (s .args .k) (s .pre .indexes) (c .before .before .weight-256 .ensures) (c .before .weight-2562 .ensures)
+    (s .args .e) (c .two-shades .ensures)
 
 pub shades-spec : {M : Type 1} → statement M
 shades-spec =

@@ -39,7 +39,7 @@ slice-aggregate-write-whole : tie.Need-slice-aggregate-write-whole
 slice-aggregate-write-whole c = search needs
 
 write-whole-requires : tie.Need-write-whole-requires
-write-whole-requires c κs = let told = c .before .before in omega (arith, room told, told .chart .ensures .1)
+write-whole-requires c κs = omega (arith, room (c .before .before))
 
 same-length-2 : tie.Need-same-length-2
 same-length-2 c = search needs

@@ -1,8 +1,6 @@
 -- `read_opening`: the reads one after the other, by value. Assumes nothing.
-use mathlib.Core.Path.{ap}
 use borrow.Author.Needs.{needs}
-use Rattle.bits.specs.declared.stream.Read.{Read}
-use Rattle.bits_lent.proofs.Openings.{opens-at}
+use Rattle.bits_lent.proofs.Openings.{as-lent, opens-at}
 use Rattle.bits_lent.proofs.read_opening.Statement.{statement}
 use Rattle.bits_lent.proofs.read_opening.Tie as tie
 
@@ -20,10 +18,9 @@ consume-bits-64-requires c κs = search needs
 
 returns : tie.Need-returns
 returns c =
-    let x = c .before .before .before .before .consume-bits .ensures .same in
-    let y = c .before .before .consume-bit .ensures .same in
-    opens-at _ (c .before .before .before .before .before .skip .ensures) (x, ap (λ (r : Read). r .stream) x) (y, ap (λ (r : Read). r .stream) y)
-    (c .consume-bits-64 .ensures .same)
+    let x = as-lent (c .before .before .before .before .consume-bits .ensures .same) in
+    let y = as-lent (c .before .before .consume-bit .ensures .same) in
+    opens-at _ (c .before .before .before .before .before .skip .ensures) x y (c .consume-bits-64 .ensures .same)
 
 pub read-opening-spec : {M : Type 1} → statement M
 read-opening-spec = tie.close (tie.spec skip-requires consume-bits-requires consume-bit-requires consume-bits-64-requires returns)

@@ -1,4 +1,5 @@
--- `read_opening_lent` meets its contract: a walk of its MIR, in which the stream is lent from its local four times. All that is known of the four functions is that they meet their contracts.
+-- `read_opening_lent` meets its contract: a walk of its MIR, in which the stream is lent from its local four times. All that is known
+-- of the four functions is that they meet their contracts.
 -- Assumes nothing.
 use mathlib.Core.Path.{_≡_, refl}
 use mathlib.Core.List.{[], _∷_}
@@ -115,7 +116,7 @@ module _ {M : Type 1} (𝓤 : URA M) (H : Heap 𝓤) (A : Atoms 𝓤) (W : Given
           move ! (20 ∷ 21 ∷ []) $ free1 ! $ move ! (18 ∷ 19 ∷ []) $ free1 ! $ move ! (0 ∷ 17 ∷ []) $ free1 ! $ move ! (14 ∷ 15 ∷ []) $ free1 ! $
           move ! (12 ∷ 13 ∷ []) $ free1 ! $ move ! (10 ∷ 11 ∷ []) $ free1 ! $ move ! (8 ∷ 9 ∷ []) $ free1 ! $ move ! (6 ∷ 7 ∷ []) $ free1 ! $ move !
           (4 ∷ 5 ∷ []) $ free1 ! $ move ! (2 ∷ 3 ∷ []) $ free1 ! $ free1 ! $ free0 ! $
-          keep ! (0 ∷ []) $ by ! (ends r (opens-at h e₁ e₂ e₃ (e₄ .0)) is-r))))))))))))))))
+          keep ! (0 ∷ []) $ by ! (ends r (opens-at h e₁ e₂ e₃ (e₄ .answer)) is-r))))))))))))))))
 
   meets : (𝓣 : Tables 𝓤 H) → Triple 𝓤 (𝓣 .C skip-def.name) (lent the-skip 𝓤 H A) → Triple 𝓤 (𝓣 .C bits-def.name) (lent the-bits 𝓤 H A)
       → Triple 𝓤 (𝓣 .C bit-def.name) (lent the-bit 𝓤 H A)

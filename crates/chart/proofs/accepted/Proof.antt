@@ -22,21 +22,34 @@ byte s i = search needs
 sixteen : (s : tie.Start) → Fit eights (s .args .block)
 sixteen s = sixteen-bytes _ (size s) (λ i l. byte s i .fits)
 
-split-in-requires : tie.Need-split-in-requires
-split-in-requires c κs = search needs
+mode-row-requires : tie.Need-mode-row-requires
+mode-row-requires c κs = search needs
+
+read-lead-requires : tie.Need-read-lead-requires
+read-lead-requires c κs =
+    let s = c .before in
+    record { mode-is = s .pre .is; low = s .pre .low; mode-row-is = c .mode-row .ensures }
 
 slice-aggregate-put-places : tie.Need-slice-aggregate-put-places
 slice-aggregate-put-places c = search needs
 
 put-places-requires : tie.Need-put-places-requires
 put-places-requires c κs =
-    let s = c .before .before in (of-mode (s .args .block) (sixteen s) (s .pre) (c .before .split-in .ensures), search needs)
+    let lead = c .before in
+    let row = lead .before in
+    let s = row .before in
+    record {
+      of-mode = of-mode (s .args .block) (sixteen s) (s .pre) (lead .read-lead .ensures .split);
+      mode-row = record { low = s .pre .low; is = row .mode-row .ensures };
+      fits = search needs;
+    }
 
 returns : tie.Need-returns
 returns c =
-    let told = c .before .put-places .ensures in
-    (answered 0 (rw (c .before .before .before .split-in .ensures) at (told .0)) (told .1), told .1)
+    let told = c .before in
+    answered 0 (rw (told .before .before .read-lead .ensures .split) at (told .put-places .ensures))
 
 pub accepted-spec : {M : Type 1} → statement M
 accepted-spec =
-    tie.close (tie.spec split-in-requires slice-aggregate-put-places put-places-requires returns)
+    tie.close
+    (tie.spec mode-row-requires read-lead-requires slice-aggregate-put-places put-places-requires returns)

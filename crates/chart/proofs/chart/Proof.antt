@@ -12,7 +12,9 @@ refused-requires : tie.Need-refused-requires
 refused-requires c κs = search needs
 
 returns : tie.Need-returns
-returns c = (c .refused .ensures .0 ∙ says-10 _ (c .before .if1 .taken), c .refused .ensures .1)
+returns c =
+    let told = c .refused .ensures in
+    record { is = told .is ∙ says-10 _ (c .before .if1 .taken); within = told .within }
 
 whole-requires : tie.Need-whole-requires
 whole-requires c κs = search needs
@@ -26,10 +28,12 @@ refused-requires-2 c κs = search needs
 returns-2 : tie.Need-returns-2
 returns-2 c =
     let mode = c .before .before in
-    let block = mode .before in (
-      c .refused2 .ensures .0 ∙ says-1 _ (block .before .if1 .left) (block .whole .ensures) (mode .mode-of .ensures) (c .before .if2 .taken),
-      c .refused2 .ensures .1,
-    )
+    let block = mode .before in
+    let told = c .refused2 .ensures in
+    record {
+      is = told .is ∙ says-1 _ (block .before .if1 .left) (block .whole .ensures) (mode .mode-of .ensures) (c .before .if2 .taken);
+      within = told .within;
+    }
 
 accepted-requires : tie.Need-accepted-requires
 accepted-requires c κs =
@@ -39,10 +43,12 @@ accepted-requires c κs =
 returns-3 : tie.Need-returns-3
 returns-3 c =
     let mode = c .before .before in
-    let block = mode .before in (
-      c .accepted .ensures .0 ∙ says-fields _ (block .before .if1 .left) (block .whole .ensures) (mode .mode-of .ensures) (c .before .if2 .left),
-      c .accepted .ensures .1,
-    )
+    let block = mode .before in
+    let told = c .accepted .ensures in
+    record {
+      is = told .is ∙ says-fields _ (block .before .if1 .left) (block .whole .ensures) (mode .mode-of .ensures) (c .before .if2 .left);
+      within = told .within;
+    }
 
 pub chart-spec : {M : Type 1} → statement M
 chart-spec =

@@ -1,7 +1,8 @@
 -- `put_field` meets its contract.
 -- Assumes nothing.
 use borrow.Author.Tests.{eq-eqb, ne-eqb}
-use Rattle.laws.proofs.Padding.{written-none, written-then}
+use Rattle.laws.proofs.Padding.{written-none}
+use Rattle.text.proofs.Puts.{puts-then}
 use Rattle.chart_rules.specs.Charts.{fieldText}
 use borrow.Author.Needs.{needs}
 use Rattle.chart.proofs.put_field.Statement.{statement}
@@ -39,8 +40,8 @@ returns-2 c =
     let wide = ended .before .before .before .before in
     let begun = wide .before .before .before .before in
     let named = begun .before .before .before .before in
-    let told = written-then (written-then (named .put-name .ensures .0) (begun .put-spaced .ensures .0)) (wide .put-spaced2 .ensures .0) in
-    rw (ne-eqb _ 0 (named .before .before .if1 .left)) (written-then told (ended .put .ensures .0))
+    let told = puts-then (puts-then (named .put-name .ensures) (begun .put-spaced .ensures)) (wide .put-spaced2 .ensures) in
+    rw (ne-eqb _ 0 (named .before .before .if1 .left)) (puts-then told (ended .put .ensures) .text)
 
 pub put-field-spec : {M : Type 1} → statement M
 put-field-spec =

@@ -2,7 +2,8 @@
 -- Assumes nothing.
 use native.Mathlib.Omega.{arith}
 use mathlib.Core.Path.{_≡_}
-use Rattle.listing_rules.specs.Text.{ascii}
+use Rattle.laws.specs.Text.{ascii}
+use Rattle.text.proofs.Puts.{puts-within}
 use borrow.Author.Needs.{needs}
 use Rattle.chart.proofs.put_set.Statement.{statement}
 use Rattle.chart.proofs.put_set.Tie as tie
@@ -18,7 +19,7 @@ same-length c = search needs
 
 returns : tie.Need-returns
 unfolding ascii
-returns c = let told = c .before .before in (rw (told .before .before .before .if1 .taken) (told .put-word .ensures .0), omega arith)
+returns c = let told = c .before .before in rw (told .before .before .before .if1 .taken) (puts-within (told .put-word .ensures) 7 (omega arith))
 
 slice-aggregate-put-word-2 : tie.Need-slice-aggregate-put-word-2
 slice-aggregate-put-word-2 c = search needs
@@ -35,7 +36,7 @@ returns-2 c =
     let told = c .before .before in
     let s = told .before .before .before .before .before in
     let e : s .args .set ≡ 1 = omega arith in
-    (rw e (told .put-word2 .ensures .0), omega arith)
+    rw e (puts-within (told .put-word2 .ensures) 7 (omega arith))
 
 pub put-set-spec : {M : Type 1} → statement M
 put-set-spec =

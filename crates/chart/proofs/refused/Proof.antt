@@ -1,6 +1,8 @@
 -- `refused` meets its contract.
 -- Assumes nothing.
 use native.Mathlib.Omega.{arith}
+use Rattle.chart_rules.specs.Charts.{textRoom}
+use Rattle.text.proofs.Puts.{puts-within}
 use Rattle.chart.proofs.Answers.{answered}
 use borrow.Author.Needs.{needs}
 use Rattle.chart.proofs.refused.Statement.{statement}
@@ -13,7 +15,7 @@ refused-text-requires : tie.Need-refused-text-requires
 refused-text-requires c κs = search needs
 
 returns : tie.Need-returns
-returns c = (answered _ (c .before .refused-text .ensures .0) (omega arith), omega arith)
+returns c = answered _ (puts-within (c .before .refused-text .ensures) textRoom (omega arith))
 
 pub refused-spec : {M : Type 1} → statement M
 refused-spec = tie.close (tie.spec slice-aggregate-refused-text refused-text-requires returns)

@@ -10,11 +10,12 @@ use Rattle.dds.proofs.fill.Statement.{statement}
 use Rattle.dds.proofs.fill.Tie as tie
 
 slice-aggregate-copy : tie.Need-slice-aggregate-copy
-slice-aggregate-copy c = let s = c .before .before .before .before in sym (length-take-le (s .args .count) (s .args .head .now) (s .pre .0))
+slice-aggregate-copy c =
+    let s = c .before .before .before .before in sym (length-take-le (s .args .count) (s .args .head .now) (s .pre .count-there))
 
 copy-requires : tie.Need-copy-requires
 copy-requires c κs =
-    let s = c .before .before .before .before .before in omega (arith, length-take (s .args .count) (s .args .head .now), s .pre .1, s .pre .2)
+    let s = c .before .before .before .before .before in omega (arith, length-take (s .args .count) (s .args .head .now), s .pre)
 
 sub-copy : tie.Need-sub-copy
 sub-copy c = search needs
@@ -44,8 +45,8 @@ returns : tie.Need-returns
 returns c =
     let one = c .before .before .before .before .before .before .before in
     let s = one .before .before .before .before .before .before in
-    two-copies (s .args .head .now) (s .args .from .now) (s .args .out .now) (s .args .count) (s .args .start) (s .pre .0) (s .pre .1) (s .pre .2)
-    (one .copy .ensures .1) (c .before .before .copy2 .ensures .1)
+    two-copies (s .args .head .now) (s .args .from .now) (s .args .out .now) (s .args .count) (s .args .start) (s .pre) (one .copy .ensures .1)
+    (c .before .before .copy2 .ensures .1)
 
 pub fill-spec : {M : Type 1} → statement M
 fill-spec =

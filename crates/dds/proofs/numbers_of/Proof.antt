@@ -17,7 +17,9 @@ format-of-requires : tie.Need-format-of-requires
 format-of-requires c κs = search needs
 
 returns : tie.Need-returns
-returns c = let b = c .before in numbers-laid (b .before .args .head) _ _ (ap (λ (n : ℕ). 16 * n) (b .blocks-of .ensures .0)) (c .format-of .ensures)
+returns c =
+    let b = c .before in
+    numbers-laid (b .before .args .head) _ _ (ap (λ (n : ℕ). 16 * n) (b .blocks-of .ensures .same)) (c .format-of .ensures)
 
 pub numbers-of-spec : {M : Type 1} → statement M
 numbers-of-spec = tie.close (tie.spec blocks-of-requires mul-t4 format-of-requires returns)

@@ -64,7 +64,7 @@ returns-3 c =
     let a = b .before in
     let t = texture _ (sym (a .before .before .is-texture .ensures) ∙ not-false _ (a .before .if1 .left)) in
     c .no-head3 .ensures ∙ no-length _ t (b .number-at2 .ensures) (a .number-at .ensures) (w .write-head .ensures) (d .before .if2 .left)
-    (d .wide .ensures .0) (f .format-says .ensures ∙ ap formatSays (f .before .number-at3 .ensures))
+    (d .wide .ensures .same) (f .format-says .ensures ∙ ap formatSays (f .before .number-at3 .ensures))
     (λ l. c .before .if3 .taken (l ∙ sym (c .before .before .file-length .ensures)))
 
 returns-4 : tie.Need-returns-4
@@ -75,7 +75,7 @@ returns-4 c =
     let b = f .before .before in
     let a = b .before in
     let t = texture _ (sym (a .before .before .is-texture .ensures) ∙ not-false _ (a .before .if1 .left)) in
-    a-head _ t (b .number-at2 .ensures) (a .number-at .ensures) (w .write-head .ensures) (d .before .if2 .left) (d .wide .ensures .0)
+    a-head _ t (b .number-at2 .ensures) (a .number-at .ensures) (w .write-head .ensures) (d .before .if2 .left) (d .wide .ensures .same)
     (f .format-says .ensures ∙ ap formatSays (f .before .number-at3 .ensures)) (c .if3 .left ∙ c .before .file-length .ensures)
 
 pub read-file-spec : {M : Type 1} → statement M

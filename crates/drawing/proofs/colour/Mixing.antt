@@ -13,6 +13,7 @@ use Rattle.laws.proofs.Fitting.{fit-get}
 use Rattle.laws.proofs.Lanes.{scale}
 use Rattle.bcn_format.specs.Block.{field}
 use Rattle.bcn_format.proofs.Drawing.{mean}
+use Rattle.drawing.specs.Asked.{Mixable2}
 use Rattle.drawing.specs.Words.{blend, blends, laned, Lanes, lanesOf, wordBytes, woven}
 use Rattle.drawing.proofs.colour.Words.{fit-map, fit-zip, laned-lanes, laned-lt, lanes-16, lanes-le}
 
@@ -81,16 +82,17 @@ alone-le : {vs : List ℕ} → Fit (8 ∷ 8 ∷ 0 ∷ 0 ∷ []) vs → laned vs 
 unfolding laned
 alone-le (more h0 (more h1 (more h2 (more h3 none)))) = omega arith
 
-module _ (w e0 e1 : ℕ) (hw : w % 2 ^ 32 ≤ 256) (hv : w / 2 ^ 32 ≤ 256) (h0 : e0 < 2 ^ 64) (h1 : e1 < 2 ^ 64)
-    (one0 : Fit (8 ∷ 8 ∷ 0 ∷ 0 ∷ []) (lanesOf e0)) (one1 : Fit (8 ∷ 8 ∷ 0 ∷ 0 ∷ []) (lanesOf e1)) where
+module _ (w e0 e1 : ℕ) (h0 : e0 < 2 ^ 64) (h1 : e1 < 2 ^ 64) (m : Mixable2 w e0 e1) where
   pub blends-fit : Fit (replicate 4 16) (blends (w % 2 ^ 32) (w / 2 ^ 32) (lanesOf e0) (lanesOf e1))
   blends-fit =
       let lt : (u : ℕ) → u ≤ 256 → (i : ℕ) → getD (lanesOf e0) i 0 < 2 ^ 8 → getD (lanesOf e1) i 0 < 2 ^ 8 → blend u (getD (lanesOf e0) i 0)
       (getD (lanesOf e1) i 0) < 2 ^ 16 =
       λ u hu i ha hb. blend-lt u hu _ _ ha hb in
-      more (lt _ hw 0 (fit-get one0 0) (fit-get one1 0))
-      (more (lt _ hw 1 (fit-get one0 1) (fit-get one1 1))
-      (more (lt _ hv 0 (fit-get one0 0) (fit-get one1 0)) (more (lt _ hv 1 (fit-get one0 1) (fit-get one1 1)) none)))
+      let one0 = m .first in
+      let one1 = m .second in
+      more (lt _ (m .weights .low) 0 (fit-get one0 0) (fit-get one1 0))
+      (more (lt _ (m .weights .low) 1 (fit-get one0 1) (fit-get one1 1))
+      (more (lt _ (m .weights .high) 0 (fit-get one0 0) (fit-get one1 0)) (more (lt _ (m .weights .high) 1 (fit-get one0 1) (fit-get one1 1)) none)))
 
   abbrev low : ℕ → ℕ
   low e = getD (lanesOf e) 1 0 * 2 ^ 16 + getD (lanesOf e) 0 0
@@ -99,16 +101,16 @@ module _ (w e0 e1 : ℕ) (hw : w % 2 ^ 32 ≤ 256) (hv : w / 2 ^ 32 ≤ 256) (h0
       ≡ laned (blends (w % 2 ^ 32) (w / 2 ^ 32) (lanesOf e0) (lanesOf e1))
   mixed-2-word =
       let two : w ≡ w / 2 ^ 32 * 2 ^ 32 + w % 2 ^ 32 = sym (split-at w 32) in
-      ap₂ (λ (x y : ℕ). (0x0100_0000_0100 * x + 0x0080_0080_0080_0080 - w * x) + w * y) (sym (laned-lanes h0) ∙ alone one0)
-      (sym (laned-lanes h1) ∙ alone one1)
+      ap₂ (λ (x y : ℕ). (0x0100_0000_0100 * x + 0x0080_0080_0080_0080 - w * x) + w * y) (sym (laned-lanes h0) ∙ alone (m .first))
+      (sym (laned-lanes h1) ∙ alone (m .second))
       ∙ ap (λ (u : ℕ). (0x0100_0000_0100 * low e0 + 0x0080_0080_0080_0080 - u * low e0) + u * low e1) two
-      ∙ two-blends (w % 2 ^ 32) (w / 2 ^ 32) hw hv _ _ _ _
+      ∙ two-blends (w % 2 ^ 32) (w / 2 ^ 32) (m .weights .low) (m .weights .high) _ _ _ _
 
   pub steps-2 : Steps 0x0100_0000_0100 w e0 e1
   steps-2 =
       let most : w ≤ 0x0100_0000_0100 = omega (arith, split-at w 32) in
-      let le0 : e0 ≤ 0x00FF_00FF = rw (laned-lanes h0) at (alone-le one0) in
-      let le1 : e1 ≤ 0x00FF_00FF = rw (laned-lanes h1) at (alone-le one1) in
+      let le0 : e0 ≤ 0x00FF_00FF = rw (laned-lanes h0) at (alone-le (m .first)) in
+      let le1 : e1 ≤ 0x00FF_00FF = rw (laned-lanes h1) at (alone-le (m .second)) in
       let times1 : w * e1 ≤ 0x0100_0000_0100 * e1 = mul-le-mul-right e1 most in
       record { halves = omega arith; less = mul-le-mul-right e0 most; times = omega arith; whole = rw mixed-2-word (laned-lt blends-fit) }
 

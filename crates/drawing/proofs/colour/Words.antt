@@ -21,6 +21,7 @@ use Rattle.bcn_format.specs.Block.{field}
 use Rattle.bcn_format.specs.Drawing.{promoted}
 use Rattle.drawing.specs.declared.colour.Ends.{Ends}
 use Rattle.bcn_format.specs.Painting.{endOf, endOfP, solid}
+use Rattle.drawing.specs.Asked.{Promotable, PromotableP, Width, WidthP}
 use Rattle.drawing.specs.Words.{endpoint, endsOf, first, Holds, HoldsOne, laned, Lanes, lanesOf}
 
 -- a word and its lanes
@@ -133,17 +134,19 @@ filled =
 pub promoted-lt : (n : ℕ) {v : ℕ} → 4 ≤ n → n ≤ 8 → v < 2 ^ n → promoted n v < 256
 promoted-lt n {v} least most h = filled n least most v h .1
 
-module _ (n x : ℕ) (least : 4 ≤ n) (most : n ≤ 8) (hx : x < 2 ^ 64) (small : Lanes n x) where
+module _ (n x : ℕ) (hx : x < 2 ^ 64) (p : Promotable n x) where
   promoted-fits : Fit (replicate 4 8) (map (promoted n) (lanesOf x))
-  promoted-fits = fit-map 4 n 8 (promoted n) (λ v h. promoted-lt n least most h) small
+  promoted-fits = fit-map 4 n 8 (promoted n) (λ v h. promoted-lt n (p .width .least) (p .width .most) h) (p .lanes)
 
   sum : x * 2 ^ (8 - n) + laned (map (λ v. field v (2 * n - 8) (8 - n)) (lanesOf x)) ≡ laned (map (promoted n) (lanesOf x))
   unfolding laned lanesOf field
   sum =
       let c : ℕ = 2 ^ (8 - n) in
+      let filled-is : (v : ℕ) → v < 2 ^ n → c * v + v / 2 ^ (2 * n - 8) % 2 ^ (8 - n) ≡ promoted n v =
+      λ v h. filled n (p .width .least) (p .width .most) v h .0 in
       ap (λ (y : ℕ). y + lanes 16 (map (λ v. v / 2 ^ (2 * n - 8) % 2 ^ (8 - n)) (lanesOf x)))
       (ap (λ (y : ℕ). y * c) (sym (laned-lanes hx)) ∙ mul-comm (laned (lanesOf x)) c ∙ sym (scale 16 c (lanesOf x)))
-      ∙ lane-sums 4 n (λ v. c * v) (λ v. v / 2 ^ (2 * n - 8) % 2 ^ (8 - n)) (promoted n) (λ v h. filled n least most v h .0) small
+      ∙ lane-sums 4 n (λ v. c * v) (λ v. v / 2 ^ (2 * n - 8) % 2 ^ (8 - n)) (promoted n) filled-is (p .lanes)
 
   sum-fits : laned (map (promoted n) (lanesOf x)) < 2 ^ 64
   sum-fits = laned-lt (wider 4 8 16 (omega arith) promoted-fits)
@@ -166,7 +169,7 @@ four-sums : (a b c d e f g h : ℕ)
 unfolding laned
 four-sums a b c d e f g h = omega arith
 
-module _ (n x p : ℕ) (most : n ≤ 7) (hx : x < 2 ^ 64) (hp : p < 2 ^ 64) (values : Lanes n x) (ps : Lanes 1 p) where
+module _ (n x p : ℕ) (hx : x < 2 ^ 64) (hp : p < 2 ^ 64) (a : PromotableP n x p) where
   abbrev joined : List ℕ
   joined = zipWith (λ v q. v * 2 + q) (lanesOf x) (lanesOf p)
 
@@ -175,13 +178,13 @@ module _ (n x p : ℕ) (most : n ≤ 7) (hx : x < 2 ^ 64) (hp : p < 2 ^ 64) (val
   with-p = ap₂ (λ (y z : ℕ). y * 2 + z) (sym (laned-lanes hx)) (sym (laned-lanes hp)) ∙ four-sums _ _ _ _ _ _ _ _
 
   with-p-16 : Fit (replicate 4 16) joined
-  with-p-16 = wider 4 (n + 1) 16 (omega arith) (with-p-fits n values ps)
+  with-p-16 = wider 4 (n + 1) 16 (omega arith) (with-p-fits n (a .lanes) (a .ps))
 
   with-p-lanes : lanesOf (x * 2 + p) ≡ joined
   with-p-lanes = ap lanesOf with-p ∙ lanes-laned with-p-16
 
   pub with-p-small : Lanes (n + 1) (x * 2 + p)
-  with-p-small = rw with-p-lanes (with-p-fits n values ps)
+  with-p-small = rw with-p-lanes (with-p-fits n (a .lanes) (a .ps))
 
   pub promoted-p : laned (map (promoted (n + 1)) (lanesOf (x * 2 + p)))
       ≡ laned (zipWith (λ v q. promoted (n + 1) (v * 2 + q)) (lanesOf x) (lanesOf p))
@@ -227,11 +230,11 @@ half-ones n (suc zero) h =
     ∙ mod-eq-of-lt (ones-lt n)
 half-ones n (suc (suc k)) h = absurd (let z : ⊥ = omega arith in z)
 
-pub full : (n : ℕ) → 4 ≤ n → n ≤ 8 → {v : ℕ} → v ≡ 2 ^ (n + n) - 1 → (k : ℕ) → k < 2 → endOf n k v ≡ 255
-full n least most e k h = ap (endOf n k) e ∙ ap (promoted n) (half-ones n k h) ∙ ones-255 n least most
+pub full : (n : ℕ) → Width n → {v : ℕ} → v ≡ 2 ^ (n + n) - 1 → (k : ℕ) → k < 2 → endOf n k v ≡ 255
+full n w e k h = ap (endOf n k) e ∙ ap (promoted n) (half-ones n k h) ∙ ones-255 n (w .least) (w .most)
 
-pub full-p : (n : ℕ) → 3 ≤ n → n ≤ 7 → {v : ℕ} → v ≡ 2 ^ (n + n) - 1 → (k : ℕ) → k < 2 → endOfP n k v 3 ≡ 255
-full-p n least most e k h =
+pub full-p : (n : ℕ) → WidthP n → {v : ℕ} → v ≡ 2 ^ (n + n) - 1 → (k : ℕ) → k < 2 → endOfP n k v 3 ≡ 255
+full-p n w e k h =
     ap (λ (v : ℕ). endOfP n k v 3) e
     ∙ ap₂ (λ (x y : ℕ). promoted (n + 1) (x * 2 + y)) (half-ones n k h) (ap (λ (s : ℕ). field 3 s 1) (sym (one-mul k)) ∙ half-ones 1 k h)
     ∙ ap (promoted (n + 1)) (sym (ones-split n 1)) ∙ ones-255 (n + 1) (omega arith) (omega arith)
@@ -245,13 +248,13 @@ unfolding promoted
 promoted-none = at-width (λ n. promoted n 0 ≡ 0) refl refl refl refl refl
 
 -- an endpoint's channel is a byte
-pub end-lt : (n k v : ℕ) → 4 ≤ n → n ≤ 8 → endOf n k v < 2 ^ 8
+pub end-lt : (n k v : ℕ) → Width n → endOf n k v < 2 ^ 8
 unfolding field
-end-lt n k v least most = promoted-lt n least most (mod-lt (v / 2 ^ (n * k)) (pow-pos n))
+end-lt n k v w = promoted-lt n (w .least) (w .most) (mod-lt (v / 2 ^ (n * k)) (pow-pos n))
 
-pub end-p-lt : (n k v p : ℕ) → 3 ≤ n → n ≤ 7 → endOfP n k v p < 2 ^ 8
+pub end-p-lt : (n k v p : ℕ) → WidthP n → endOfP n k v p < 2 ^ 8
 unfolding field
-end-p-lt n k v p least most =
+end-p-lt n k v p w =
     promoted-lt (n + 1) (omega arith) (omega arith)
     (rw (pow-add 2 n 1) (omega (arith, mod-lt (v / 2 ^ (n * k)) (pow-pos n), mod-lt (p / 2 ^ k) (pow-pos 1))))
 
@@ -294,20 +297,20 @@ module _ (f : ℕ → ℕ → ℕ → ℕ) (each : (l k c : ℕ) → f l k c < 2
   endpoint-of (suc (suc l)) k hl hk = absurd (let z : ⊥ = omega arith in z)
 
 -- of two widths, either
-pub end-either-lt : (b : Bool) (n w k v : ℕ) → 4 ≤ n → n ≤ 8 → 4 ≤ w → w ≤ 8 → endOf (pick b w n) k v < 2 ^ 8
-end-either-lt true n w k v least most least' most' = end-lt w k v least' most'
-end-either-lt false n w k v least most least' most' = end-lt n k v least most
+pub end-either-lt : (b : Bool) (n w k v : ℕ) → Width n → Width w → endOf (pick b w n) k v < 2 ^ 8
+end-either-lt true n w k v hn hw = end-lt w k v hw
+end-either-lt false n w k v hn hw = end-lt n k v hn
 
 -- where alpha is 255
 pub solid-lt : {f : ℕ → ℕ → ℕ} → ((k c : ℕ) → f k c < 2 ^ 8) → (k c : ℕ) → solid f k c < 2 ^ 8
 solid-lt {f} h k c = pick-lt (eqb c 3) 255 (f k c) (2 ^ 8) (omega arith) (h k c)
 
 -- where nothing is stored there is 0
-end-none : (n k : ℕ) → 4 ≤ n → n ≤ 8 → endOf n k 0 ≡ 0
-end-none n k least most = ap (promoted n) (field-none (n * k) n) ∙ promoted-none n least most
+end-none : (n k : ℕ) → Width n → endOf n k 0 ≡ 0
+end-none n k w = ap (promoted n) (field-none (n * k) n) ∙ promoted-none n (w .least) (w .most)
 
-pub end-p-none : (n k : ℕ) → 3 ≤ n → n ≤ 7 → endOfP n k 0 0 ≡ 0
-end-p-none n k least most =
+pub end-p-none : (n k : ℕ) → WidthP n → endOfP n k 0 0 ≡ 0
+end-p-none n k w =
     ap₂ (λ (v p : ℕ). promoted (n + 1) (v * 2 + p)) (field-none (n * k) n) (field-none k 1) ∙ promoted-none (n + 1) (omega arith) (omega arith)
 
 pub nothing : (c : ℕ) → _≡_ {A = ℕ} (getD (0 ∷ 0 ∷ 0 ∷ 0 ∷ []) c 0) 0
@@ -345,20 +348,20 @@ ends-first h z = λ i. record {
 }
 
 -- its words: red and blue, and green and alpha that are promoted apart
-module _ (n k : ℕ) (least : 4 ≤ n) (most : n ≤ 8) where
+module _ (n k : ℕ) (hn : Width n) where
   pub end-two : {vs : List ℕ} {z a b : ℕ} → vs ≡ a ∷ b ∷ 0 ∷ 0 ∷ [] → z ≡ laned (map (endOf n k) vs)
       → z ≡ laned (endOf n k a ∷ endOf n k b ∷ 0 ∷ 0 ∷ [])
   end-two {a = a} {b = b} er ez =
-      let zero-is = end-none n k least most in
+      let zero-is = end-none n k hn in
       ez ∙ ap (λ (l : List ℕ). laned (map (endOf n k) l)) er ∙ (λ i. laned (endOf n k a ∷ endOf n k b ∷ zero-is i ∷ zero-is i ∷ []))
 
-  module _ (w : ℕ) (least' : 4 ≤ w) (most' : w ≤ 8) {us vs : List ℕ} {z y g a : ℕ} (er : us ≡ g ∷ 0 ∷ 0 ∷ 0 ∷ []) (eq : vs ≡ 0 ∷ a ∷ 0 ∷ 0 ∷ [])
+  module _ (w : ℕ) (hw : Width w) {us vs : List ℕ} {z y g a : ℕ} (er : us ≡ g ∷ 0 ∷ 0 ∷ 0 ∷ []) (eq : vs ≡ 0 ∷ a ∷ 0 ∷ 0 ∷ [])
       (ez : z ≡ laned (map (endOf n k) us)) (ey : y ≡ laned (map (endOf w k) vs)) where
     pub end-apart : z + y ≡ laned (endOf n k g ∷ endOf w k a ∷ 0 ∷ 0 ∷ [])
     unfolding laned
     end-apart =
-        let zero-n = end-none n k least most in
-        let zero-w = end-none w k least' most' in
+        let zero-n = end-none n k hn in
+        let zero-w = end-none w k hw in
         ap₂ (λ (u v : ℕ). u + v)
         (ez ∙ ap (λ (l : List ℕ). laned (map (endOf n k) l)) er ∙ (λ i. laned (endOf n k g ∷ zero-n i ∷ zero-n i ∷ zero-n i ∷ [])))
         (ey ∙ ap (λ (l : List ℕ). laned (map (endOf w k) l)) eq ∙ (λ i. laned (zero-w i ∷ endOf w k a ∷ zero-w i ∷ zero-w i ∷ [])))
@@ -368,4 +371,4 @@ module _ (n k : ℕ) (least : 4 ≤ n) (most : n ≤ 8) where
     end-apart-fits =
         rw end-apart
         (laned-lt (wider 4 8 16 (omega arith)
-        (more (end-lt n k g least most) (more (end-lt w k a least' most') (more {w = 8} (omega arith) (more {w = 8} (omega arith) none))))))
+        (more (end-lt n k g hn) (more (end-lt w k a hw) (more {w = 8} (omega arith) (more {w = 8} (omega arith) none))))))

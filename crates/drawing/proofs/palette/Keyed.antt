@@ -13,7 +13,8 @@ use Rattle.bcn_format.specs.Drawing.{weightOf}
 use Rattle.bcn_format.specs.Painting.{between}
 use Rattle.weights.specs.Weights.{Weighed}
 use Rattle.drawing.specs.declared.colour.Ends.{Ends}
-use Rattle.drawing.specs.Words.{Alone, blend, blends, Bytes, endpoint, laned, Lanes, lanesOf, woven}
+use Rattle.drawing.specs.Asked.{Mixable2, Shaded2}
+use Rattle.drawing.specs.Words.{blend, blends, Bytes, endpoint, laned, Lanes, lanesOf, woven}
 use Rattle.drawing.proofs.colour.Mixing.{blend-lt, blends-fit}
 use Rattle.drawing.proofs.colour.Words.{fit-zip, lanes-laned}
 use Rattle.drawing.specs.Colours.{keyed, lerped, shade}
@@ -49,16 +50,18 @@ module _ (b k : ℕ) (index : Weighed b k) {w : ℕ} (ew : w ≡ 4 * weightOf b 
   high-is j v ex ep = ep ∙ ap (drop 4) ex ∙ shade-is
 
 -- one colour at two weights
-pub shades-2 : (w : ℕ) (e : Ends) → w % 2 ^ 32 ≤ 256 → w / 2 ^ 32 ≤ 256 → e .rb0 < 2 ^ 64 → e .ga0 < 2 ^ 64 → e .rb1 < 2 ^ 64 → e .ga1 < 2 ^ 64
-    → Alone e → {rb ga : ℕ} {bytes : List ℕ}
+pub shades-2 : (w : ℕ) (e : Ends) → Shaded2 w e → e .rb0 < 2 ^ 64 → e .ga0 < 2 ^ 64 → e .rb1 < 2 ^ 64 → e .ga1 < 2 ^ 64
+    → {rb ga : ℕ} {bytes : List ℕ}
     → rb ≡ laned (blends (w % 2 ^ 32) (w / 2 ^ 32) (lanesOf (e .rb0)) (lanesOf (e .rb1)))
     → ga ≡ laned (blends (w % 2 ^ 32) (w / 2 ^ 32) (lanesOf (e .ga0)) (lanesOf (e .ga1)))
     → bytes ≡ woven (lanesOf rb) (lanesOf ga) → bytes ≡ shade e 0 (w % 2 ^ 32) ++ shade e 0 (w / 2 ^ 32)
 unfolding shade endpoint lerped
-shades-2 w e hw hv r0 g0 r1 g1 one er eg ex =
+shades-2 w e s r0 g0 r1 g1 er eg ex =
+    let rb : Mixable2 w (e .rb0) (e .rb1) = record { weights = s .weights; first = s .ends .rb0; second = s .ends .rb1 } in
+    let ga : Mixable2 w (e .ga0) (e .ga1) = record { weights = s .weights; first = s .ends .ga0; second = s .ends .ga1 } in
     ex
-    ∙ ap₂ woven (ap lanesOf er ∙ lanes-laned (blends-fit w (e .rb0) (e .rb1) hw hv r0 r1 (one .rb0) (one .rb1)))
-    (ap lanesOf eg ∙ lanes-laned (blends-fit w (e .ga0) (e .ga1) hw hv g0 g1 (one .ga0) (one .ga1)))
+    ∙ ap₂ woven (ap lanesOf er ∙ lanes-laned (blends-fit w (e .rb0) (e .rb1) r0 r1 rb))
+    (ap lanesOf eg ∙ lanes-laned (blends-fit w (e .ga0) (e .ga1) g0 g1 ga))
 
 -- the place of index k in subset l
 pub keyed-at : (b t : ℕ) (ends : ℕ → ℕ → List ℕ) (k l : ℕ) → l < t → keyed b t ends (t * k + l) ≡ between b (ends l 0) (ends l 1) k

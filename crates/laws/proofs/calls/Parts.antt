@@ -42,7 +42,8 @@ module _ {S B C D : Type 0} {after : S → C → S} {act : B → D → B} {part 
 
   -- calls that leave every part alike leave the same
   pub alike : (cs ds : List C) (s : S) → Good s
-      → ((b : ℕ) → In b → run act (get s b) (callsOn part there b cs) ≡ run act (get s b) (callsOn part there b ds)) → run after s cs ≡ run after s ds
+      → ((b : ℕ) → In b → run act (get s b) (callsOn part there b cs) ≡ run act (get s b) (callsOn part there b ds))
+      → run after s cs ≡ run after s ds
   alike cs ds s g e =
       p .whole _ _ (run-good after Good (p .good) cs s g) (run-good after Good (p .good) ds s g)
       (λ b i. part-run cs s b g i ∙ e b i ∙ sym (part-run ds s b g i))

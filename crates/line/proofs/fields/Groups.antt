@@ -11,11 +11,12 @@ use native.Mathlib.Omega.{arith}
 use lib.Arith.{lt-one}
 use lib.Dec.{T}
 use lib.Pow.{high, low}
+use Rattle.bc7_format.specs.declared.Place.{Place}
 use Rattle.bc7_format.specs.declared.Split.{Split}
 use Rattle.laws.specs.Digits.{replacedAt}
 use Rattle.laws.proofs.Tests.{no-both, not-so}
 use Rattle.bc7_format.specs.Lines.{Line, has, laid, withLine}
-use Rattle.bc7_format.specs.Places.{Place, inside, pos, width, placeCount}
+use Rattle.bc7_format.specs.Places.{inside, pos, width, placeCount}
 use Rattle.bc7_format.specs.Splits.{anchors}
 use Rattle.bc7_format.proofs.Places.{placeAt-pos, pos-one}
 use Rattle.bc7_format.proofs.Starts.{start, start-next}

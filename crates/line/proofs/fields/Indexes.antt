@@ -7,6 +7,8 @@ use Prim.Native.Nat.{ℕ, zero, suc, _+_, _-_, _*_, _^_, _≤_, _<_}
 use native.Mathlib.Nat.{add-zero, lt-of-lt-of-le, zero-add}
 use native.Mathlib.Omega.{arith}
 use lib.Pow.{pow-mono, pow-pos}
+use Rattle.bc7_format.specs.declared.Place.{Place}
+use Rattle.bc7_format.specs.declared.Place.the-variants.{Index}
 use Rattle.bc7_format.specs.declared.Split.{Split}
 use Rattle.bc7_places.specs.declared.lines.LinePart.{LinePart}
 use Rattle.laws.specs.Digits.{Fit, join, replacedAt, split, total}
@@ -17,7 +19,7 @@ use Rattle.laws.proofs.Rows.{fit-table, split-table}
 use Rattle.bc7_format.specs.Lines.{Line, indexSetOf, has, indexPlace, laid, lineBits, withLine}
 use Rattle.bc7_format.specs.Modes.{indexBits, kindOfMode}
 use Rattle.bcn_format.specs.Partitions.{among}
-use Rattle.bc7_format.specs.Places.{Place, atPlace, index, width, firstFrom}
+use Rattle.bc7_format.specs.Places.{atPlace, width, firstFrom}
 use Rattle.bc7_format.specs.Splits.{anchors}
 use Rattle.bc7_format.specs.WellFormed.{WellFormed}
 use Rattle.bc7_format.proofs.Meaning.{index-set-lt}
@@ -88,7 +90,7 @@ module _ {m : ℕ} {s : Split} {f : Place → ℕ} (g : WellFormed m s f) (l : �
   -- as it stands
   pub stood-small : Small w stood
   unfolding indexPlace width
-  stood-small q h = rw bits (lt-of-lt-of-le (g .fits (index a q) (inside-index ha h)) (pow-mono (pick-less (among q (anchors s)) (indexBits m a))))
+  stood-small q h = rw bits (lt-of-lt-of-le (g .fits (Index a q) (inside-index ha h)) (pow-mono (pick-less (among q (anchors s)) (indexBits m a))))
 
   pub before-word : (n b : ℕ) → b ≡ start m s (firstFrom + (16 * a + 0)) → ((q : ℕ) → q < 16 → atPlace m s n (indexPlace s l q) ≡ stood q)
       → setBefore n k b x ≡ word w stood
@@ -107,7 +109,7 @@ module _ {m : ℕ} {s : Split} {f : Place → ℕ} (g : WellFormed m s f) (l : �
     by-own q h = go (own q) (is .index q h)
       where
         go : (b : Bool) → ownWidth m s l (indexPlace s l q) ≡ pick b w 0
-            → pick (has m s l (index a q)) (o .index q) (f (index a q)) ≡ pick b (o .index q) (f (index a q))
+            → pick (has m s l (Index a q)) (o .index q) (f (Index a q)) ≡ pick b (o .index q) (f (Index a q))
         go true e = rw (own-some m s l (indexPlace s l q) (λ z. omega (arith, is .least, sym e ∙ z)))
         go false e = rw (own-none m s l (indexPlace s l q) e)
 

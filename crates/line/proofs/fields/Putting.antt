@@ -10,6 +10,8 @@ use native.Mathlib.Omega.{arith}
 use borrow.Author.Tests.{eq-eqb, ne-eqb}
 use lib.Dec.{T, eqb, lit<, ltb, ltb→lt}
 use lib.ListN.{getD}
+use Rattle.bc7_format.specs.declared.Place.{Place}
+use Rattle.bc7_format.specs.declared.Place.the-variants.{Lead, Value, PBit, Index}
 use Rattle.bc7_format.specs.declared.Split.{Split}
 use Rattle.laws.specs.Digits.{join, replacedAt, split, total}
 use Rattle.laws.specs.Tables.{pick, table}
@@ -21,7 +23,7 @@ use Rattle.laws.proofs.Tests.{both-left, both-right, not-so}
 use Rattle.bcn_format.specs.Block.{bytesOf}
 use Rattle.bc7_format.specs.Lines.{Line, indexSetOf, has, indexPlace, laid, pPlace, valuePlace, withLine}
 use Rattle.bc7_format.specs.Modes.{indexBits, lines, pCount}
-use Rattle.bc7_format.specs.Places.{Place, atPlace, blockOf, lead, index, inside, pbit, pos, value, width, widths, valuesFrom, psFrom, firstFrom}
+use Rattle.bc7_format.specs.Places.{atPlace, blockOf, inside, pos, width, widths, valuesFrom, psFrom, firstFrom}
 use Rattle.bc7_format.specs.Places.{placeCount}
 use Rattle.bc7_format.specs.Splits.{anchors, isVector}
 use Rattle.bc7_format.specs.WellFormed.{WellFormed}
@@ -42,7 +44,7 @@ use Rattle.line.proofs.fields.Groups.{own-laid, pair-put}
 use Rattle.line.proofs.fields.Runs.{Upto, begin, more, passed}
 
 -- in mode 1 one p bit serves both endpoints
-p-place-1 : (m l k : ℕ) → m ≡ 1 → pPlace m l k ≡ pbit l
+p-place-1 : (m l k : ℕ) → m ≡ 1 → pPlace m l k ≡ PBit l
 unfolding pPlace
 p-place-1 m l k e = rw (eq-eqb m 1 e)
 
@@ -89,10 +91,10 @@ module _ {m : ℕ} {s : Split} {f : Place → ℕ} (g : WellFormed m s f) (l : �
   after-lead n e = passed m s l o f valuesFrom (omega arith) (begin m s l o f n e) none
     where
       none : (x : Place) → T (inside x) → 0 ≤ pos x → pos x < valuesFrom → has m s l x ≡ false
-      none (lead k) i p q = has-lead m s l k (omega (arith, h3 g l hl))
-      none (value c e) i p q = absurd (let y : ⊥ = omega arith in y)
-      none (pbit k) i p q = absurd (let y : ⊥ = omega arith in y)
-      none (index a q') i p q = absurd (let y : ⊥ = omega arith in y)
+      none (Lead k) i p q = has-lead m s l k (omega (arith, h3 g l hl))
+      none (Value c e) i p q = absurd (let y : ⊥ = omega arith in y)
+      none (PBit k) i p q = absurd (let y : ⊥ = omega arith in y)
+      none (Index a q') i p q = absurd (let y : ⊥ = omega arith in y)
 
   -- the pair of channel c
   either : (x : Place) (j : ℕ) (at : ℕ → Place) → j < 2 → at j ≡ x → (x ≡ at 0) ⊎ (x ≡ at 1)
@@ -117,24 +119,24 @@ module _ {m : ℕ} {s : Split} {f : Place → ℕ} (g : WellFormed m s f) (l : �
 
       only : (x : Place) → T (inside x) → valuesFrom + 6 * c ≤ pos x → pos x < valuesFrom + 6 * c + 6 → has m s l x ≡ true
           → (x ≡ valuePlace s l 0 c) ⊎ (x ≡ valuePlace s l 1 c)
-      only (lead k) i p q h = absurd (let k4 : k < 4 = ltb→lt k 4 i in let y : ⊥ = omega arith in y)
-      only (value c' e) i p q h =
+      only (Lead k) i p q h = absurd (let k4 : k < 4 = ltb→lt k 4 i in let y : ⊥ = omega arith in y)
+      only (Value c' e) i p q h =
           let he : e < 6 = ltb→lt e 6 (both-right (ltb c' 4) (ltb e 6) i) in
           let ec : c' ≡ c = omega arith in
-          either (value c' e) (e % 2) (λ k. valuePlace s l k c) (mod-lt e (lit< tt)) (rw (← ec) (own-value g l c' e h))
-      only (pbit k) i p q h = absurd (let y : ⊥ = omega arith in y)
-      only (index a q') i p q h = absurd (let y : ⊥ = omega arith in y)
+          either (Value c' e) (e % 2) (λ k. valuePlace s l k c) (mod-lt e (lit< tt)) (rw (← ec) (own-value g l c' e h))
+      only (PBit k) i p q h = absurd (let y : ⊥ = omega arith in y)
+      only (Index a q') i p q h = absurd (let y : ⊥ = omega arith in y)
 
   -- the p bits
-  p-only : (x : Place) → T (inside x) → psFrom ≤ pos x → pos x < firstFrom → has m s l x ≡ true → (k : ℕ) × (x ≡ pbit k)
+  p-only : (x : Place) → T (inside x) → psFrom ≤ pos x → pos x < firstFrom → has m s l x ≡ true → (k : ℕ) × (x ≡ PBit k)
   unfolding pos
-  p-only (lead k) i p q h = absurd (let k4 : k < 4 = ltb→lt k 4 i in let y : ⊥ = omega arith in y)
-  p-only (value c e) i p q h =
+  p-only (Lead k) i p q h = absurd (let k4 : k < 4 = ltb→lt k 4 i in let y : ⊥ = omega arith in y)
+  p-only (Value c e) i p q h =
       absurd
       (let c4 : c < 4 = ltb→lt c 4 (both-left (ltb c 4) (ltb e 6) i) in
       let e6 : e < 6 = ltb→lt e 6 (both-right (ltb c 4) (ltb e 6) i) in let y : ⊥ = omega arith in y)
-  p-only (pbit k) i p q h = (k, refl)
-  p-only (index a q') i p q h = absurd (let y : ⊥ = omega arith in y)
+  p-only (PBit k) i p q h = (k, refl)
+  p-only (Index a q') i p q h = absurd (let y : ⊥ = omega arith in y)
 
   pub p-put : (w n n' : ℕ) → m ≢ 1 → pick (eqb (pCount m) 0) 0 1 ≡ w → o .p 0 < 2 ^ w → o .p 1 < 2 ^ w
       → n' ≡ replacedAt n (start m s (pos (pPlace m l 0))) (2 * w) (o .p 1 * 2 ^ w + o .p 0) → Until psFrom n → Until firstFrom n'
@@ -167,35 +169,36 @@ module _ {m : ℕ} {s : Split} {f : Place → ℕ} (g : WellFormed m s f) (l : �
       (rw one h0)
       (rw one e) u holds others
     where
-      here : pPlace m l 0 ≡ pbit l
+      here : pPlace m l 0 ≡ PBit l
       here = p-place-1 m l 0 e1
 
-      there : T (inside (pbit l))
+      there : T (inside (PBit l))
       there = inside-pbit {k = l} (omega (arith, h3 g l hl))
 
-      mine : has m s l (pbit l) ≡ true
+      mine : has m s l (PBit l) ≡ true
       mine = rw here at (has-p g l hl 0 (omega arith) some)
 
-      bit : width m (anchors s) (pbit l) ≡ 1
-      bit = sym (has-width m s l (pbit l) mine) ∙ (rw (here, ne-eqb (pCount m) 0 some) at (ws g l hl .p 0 (omega arith)))
+      bit : width m (anchors s) (PBit l) ≡ 1
+      bit = sym (has-width m s l (PBit l) mine) ∙ (rw (here, ne-eqb (pCount m) 0 some) at (ws g l hl .p 0 (omega arith)))
 
       one : start m s (psFrom + l + 1) - start m s (psFrom + l) ≡ 1
       one =
           let z : psFrom + l + 1 ≡ suc (psFrom + l) = omega arith in
           let n : start m s (psFrom + l + 1) ≡ start m s (psFrom + l) + 1 =
           ap (start m s) z ∙ start-next m s (psFrom + l) (omega (arith, h3 g l hl))
-          ∙ ap (λ (c : ℕ). start m s (psFrom + l) + c) (ap (width m (anchors s)) (placeAt-pos (pbit l) there) ∙ bit) in
+          ∙ ap (λ (c : ℕ). start m s (psFrom + l) + c) (ap (width m (anchors s)) (placeAt-pos (PBit l) there) ∙ bit) in
           omega (arith, n)
 
       holds : (x : Place) → T (inside x) → psFrom + l ≤ pos x → pos x < psFrom + l + 1
           → o .p 0 / 2 ^ (start m s (pos x) - start m s (psFrom + l)) % 2 ^ width m (anchors s) x ≡ withLine m s l o f x
       holds x i p q =
-          let ex : pbit l ≡ x = pos-one (pbit l) x there i (let z : psFrom + l ≡ pos x = omega arith in z) in
+          let ex : PBit l ≡ x = pos-one (PBit l) x there i (let z : psFrom + l ≡ pos x = omega arith in z) in
           subst (λ (x : Place). o .p 0 / 2 ^ (start m s (pos x) - start m s (psFrom + l)) % 2 ^ width m (anchors s) x ≡ withLine m s l o f x) ex
           (let z : start m s (psFrom + l) - start m s (psFrom + l) ≡ 0 = omega arith in
-          rw (z, bit, own-laid m s l o f (pbit l) mine, ← here, laid-p-1 m l o e1) (ap (λ (c : ℕ). c % 2) (div-one (o .p 0)) ∙ mod-eq-of-lt h0))
+          rw (z, bit, own-laid m s l o f (PBit l) mine, ← here, laid-p-1 m l o e1) (ap (λ (c : ℕ). c % 2) (div-one (o .p 0)) ∙ mod-eq-of-lt h0))
 
-      others : (x : Place) → T (inside x) → psFrom ≤ pos x → pos x < firstFrom → (pos x < psFrom + l) ⊎ (psFrom + l + 1 ≤ pos x) → has m s l x ≡ false
+      others : (x : Place) → T (inside x) → psFrom ≤ pos x → pos x < firstFrom → (pos x < psFrom + l) ⊎ (psFrom + l + 1 ≤ pos x)
+          → has m s l x ≡ false
       others x i p q r =
           not-so (has m s l x) (λ t.
           let (k, ex) = p-only x i p q t in
@@ -227,30 +230,31 @@ module _ {m : ℕ} {s : Split} {f : Place → ℕ} (g : WellFormed m s f) (l : �
       all = omega (arith, begins m s a ha 16 (omega arith))
 
       at-pixel : (q : ℕ) → q < 16
-          → v / 2 ^ (start m s (firstFrom + (16 * a + q)) - start m s (firstFrom + (16 * a + 0))) % 2 ^ wide q ≡ withLine m s l o f (index a q)
+          → v / 2 ^ (start m s (firstFrom + (16 * a + q)) - start m s (firstFrom + (16 * a + 0))) % 2 ^ wide q ≡ withLine m s l o f (Index a q)
       at-pixel q hq =
           let z : start m s (firstFrom + (16 * a + q)) - start m s (firstFrom + (16 * a + 0)) ≡ total (table q wide) =
           omega (arith, begins m s a ha q (omega arith)) in
-          rw z (sym (digit 16 wide v q hq) ∙ ap (λ (vs : List ℕ). getD vs q 0) sv ∙ getD-table 16 (λ q. withLine m s l o f (index a q)) 0 q hq)
+          rw z (sym (digit 16 wide v q hq) ∙ ap (λ (vs : List ℕ). getD vs q 0) sv ∙ getD-table 16 (λ q. withLine m s l o f (Index a q)) 0 q hq)
 
       holds : (x : Place) → T (inside x) → firstFrom + (16 * a + 0) ≤ pos x → pos x < firstFrom + (16 * a + 16)
           → v / 2 ^ (start m s (pos x) - start m s (firstFrom + (16 * a + 0))) % 2 ^ width m (anchors s) x ≡ withLine m s l o f x
       holds x i p q =
           let k : ℕ = pos x - (firstFrom + 16 * a) in
           let hk : k < 16 = omega arith in
-          subst (λ (x : Place). v / 2 ^ (start m s (pos x) - start m s (firstFrom + (16 * a + 0))) % 2 ^ width m (anchors s) x ≡ withLine m s l o f x)
-          (pos-one (index a k) x (inside-index ha hk) i (let z : firstFrom + (16 * a + k) ≡ pos x = omega arith in z)) (at-pixel k hk)
+          subst
+          (λ (x : Place). v / 2 ^ (start m s (pos x) - start m s (firstFrom + (16 * a + 0))) % 2 ^ width m (anchors s) x ≡ withLine m s l o f x)
+          (pos-one (Index a k) x (inside-index ha hk) i (let z : firstFrom + (16 * a + k) ≡ pos x = omega arith in z)) (at-pixel k hk)
 
       others : (x : Place) → T (inside x) → firstFrom ≤ pos x → pos x < placeCount
           → (pos x < firstFrom + (16 * a + 0)) ⊎ (firstFrom + (16 * a + 16) ≤ pos x) → has m s l x ≡ false
-      others (lead k) i p q r = absurd (let k4 : k < 4 = ltb→lt k 4 i in let y : ⊥ = omega arith in y)
-      others (value c e) i p q r =
+      others (Lead k) i p q r = absurd (let k4 : k < 4 = ltb→lt k 4 i in let y : ⊥ = omega arith in y)
+      others (Value c e) i p q r =
           absurd
           (let c4 : c < 4 = ltb→lt c 4 (both-left (ltb c 4) (ltb e 6) i) in
           let e6 : e < 6 = ltb→lt e 6 (both-right (ltb c 4) (ltb e 6) i) in let y : ⊥ = omega arith in y)
-      others (pbit k) i p q r = absurd (let k6 : k < 6 = ltb→lt k 6 i in let y : ⊥ = omega arith in y)
-      others (index b k) i p q r =
-          not-so (has m s l (index b k)) (λ t.
+      others (PBit k) i p q r = absurd (let k6 : k < 6 = ltb→lt k 6 i in let y : ⊥ = omega arith in y)
+      others (Index b k) i p q r =
+          not-so (has m s l (Index b k)) (λ t.
           let k16 : k < 16 = ltb→lt k 16 (both-right (ltb b 2) (ltb k 16) i) in
           let eb : b ≡ a = has-index-set g l b k t in
           ⊎-elim {C = ⊥} (λ d. omega arith) (λ d. omega arith) r)

@@ -8,12 +8,13 @@ use native.Mathlib.Nat.{le-trans}
 use native.Mathlib.Omega.{arith}
 use lib.Dec.{T}
 use lib.Pow.{split}
+use Rattle.bc7_format.specs.declared.Place.{Place}
 use Rattle.bc7_format.specs.declared.Split.{Split}
 use Rattle.laws.specs.Digits.{replacedAt}
 use Rattle.laws.proofs.Cases.{lt-or}
 use Rattle.laws.proofs.Replacing.{is-inside, stays-above, stays-below}
 use Rattle.bc7_format.specs.Lines.{Line, has, withLine}
-use Rattle.bc7_format.specs.Places.{Place, atPlace, inside, pos, width, placeCount}
+use Rattle.bc7_format.specs.Places.{atPlace, inside, pos, width, placeCount}
 use Rattle.bc7_format.specs.Splits.{anchors}
 use Rattle.bc7_format.proofs.Places.{placeAt-pos, pos-lt}
 use Rattle.bc7_format.proofs.Starts.{at-field, start, start-le, start-room}

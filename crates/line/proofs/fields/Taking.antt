@@ -7,12 +7,13 @@ use mathlib.Core.List.{[]}
 use Prim.Native.Nat.{ℕ, suc, _+_, _/_, _%_, _^_}
 use native.Mathlib.Nat.{mod-one}
 use lib.Dec.{T}
+use Rattle.bc7_format.specs.declared.Place.{Place}
 use Rattle.bc7_format.specs.declared.Split.{Split}
 use Rattle.laws.specs.Tables.{pick}
 use Rattle.laws.proofs.Tests.{no-both}
 use Rattle.bcn_format.specs.Block.{field}
 use Rattle.bc7_format.specs.Lines.{has, own}
-use Rattle.bc7_format.specs.Places.{Place, atPlace, inside, pos, width}
+use Rattle.bc7_format.specs.Places.{atPlace, inside, pos, width}
 use Rattle.bc7_format.specs.Splits.{anchors}
 use Rattle.bc7_format.proofs.Places.{placeAt-pos, pos-lt}
 use Rattle.bc7_format.proofs.Starts.{at-field, start, start-next}

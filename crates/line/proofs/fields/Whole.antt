@@ -11,6 +11,8 @@ use borrow.Author.Tests.{eq-eqb, eqb-false, eqb-true, ne-eqb}
 use lib.Arith.{digits-lt, lt-one}
 use lib.Dec.{T, eqb, leb, leb→le}
 use lib.ListN.{getD}
+use Rattle.bc7_format.specs.declared.Place.{Place}
+use Rattle.bc7_format.specs.declared.Place.the-variants.{Index}
 use Rattle.bits.specs.declared.stream.BitStream.{BitStream}
 use Rattle.bc7_places.specs.declared.places.Fields.{Fields}
 use Rattle.bc7_places.specs.declared.lines.LinePart.{LinePart}
@@ -24,7 +26,7 @@ use Rattle.laws.proofs.Tests.{at as at-each}
 use Rattle.bcn_format.specs.Block.{bytesOf}
 use Rattle.bc7_format.specs.Lines.{Line, indexSetOf, indexPlace, lineBits, pPlace, turned, withLine}
 use Rattle.bc7_format.specs.Modes.{indexBits, kindOfMode, lines, modeRow, pCount}
-use Rattle.bc7_format.specs.Places.{Place, atPlace, blockOf, index, inside, placeAt, pos, width, widths, valuesFrom, psFrom, firstFrom, placeCount}
+use Rattle.bc7_format.specs.Places.{atPlace, blockOf, inside, placeAt, pos, width, widths, valuesFrom, psFrom, firstFrom, placeCount}
 use Rattle.bc7_format.specs.Splits.{anchors}
 use Rattle.bc7_format.specs.WellFormed.{WellFormed}
 use Rattle.bc7_format.proofs.Meaning.{index-set-lt}
@@ -113,7 +115,7 @@ module _ {m : ℕ} {s : Split} {f : Place → ℕ} (g : WellFormed m s f) (l : �
 
   stands-fits : (q : ℕ) → q < 16 → withLine m s l o f (indexPlace s l q) < 2 ^ indexWidth (indexBits m (indexSetOf s l)) (anchors s) q
   unfolding put indexPlace width
-  stands-fits q h = put-good g l ln acc .fits (index (indexSetOf s l) q) (inside-index (index-set-lt s l (good-index-mode g)) h)
+  stands-fits q h = put-good g l ln acc .fits (Index (indexSetOf s l) q) (inside-index (index-set-lt s l (good-index-mode g)) h)
 
   -- the fields, where they start
   abbrev at : Fields
@@ -166,7 +168,8 @@ module _ {m : ℕ} {s : Split} {f : Place → ℕ} (g : WellFormed m s f) (l : �
         e1 : p1 ≡ o .p 1
         e1 = ist .p 1 (omega arith)
 
-        others : m ≢ 1 → twoPut n (at .p + 2 * l) (x .p) p0 p1 ≡ replacedAt n (start m s (pos (pPlace m l 0))) (2 * x .p) (o .p 1 * 2 ^ x .p + o .p 0)
+        others : m ≢ 1
+            → twoPut n (at .p + 2 * l) (x .p) p0 p1 ≡ replacedAt n (start m s (pos (pPlace m l 0))) (2 * x .p) (o .p 1 * 2 ^ x .p + o .p 0)
         others n1 = either (ℕ-discrete (pCount m) 0)
           where
             none : x .p ≡ 0 → (b : ℕ) → replacedAt n b (2 * x .p) (o .p 1 * 2 ^ x .p + o .p 0) ≡ n
@@ -205,7 +208,7 @@ module _ {m : ℕ} {s : Split} {f : Place → ℕ} (g : WellFormed m s f) (l : �
 
       as-stood : (q : ℕ) → q < 16 → atPlace m s n' (indexPlace s l q) ≡ f (indexPlace s l q)
       unfolding indexPlace pos
-      as-stood q h = until-first .rest (index (indexSetOf s l) q) (inside-index (index-set-lt s l (good-index-mode g)) h) (omega arith)
+      as-stood q h = until-first .rest (Index (indexSetOf s l) q) (inside-index (index-set-lt s l (good-index-mode g)) h) (omega arith)
 
       module _ {mask : ℕ} (em : mask ≡ word (x .index) (maskPart x)) (q : BitStream) (hq : held q ≡ n) (aq : q .at ≡ leadEnd m) {row : ModeRow}
           (er : row ≡ modeRowOf m) where
@@ -252,11 +255,14 @@ module _ {m : ℕ} {s : Split} {f : Place → ℕ} (g : WellFormed m s f) (l : �
               rw fields-are
               (pair 3 (x .alpha) 3 7 (at .alpha) (omega arith) refl (is .alpha-small) refl (ist .value 0 3 (omega arith) (omega arith))
               (ist .value 1 3 (omega arith) (omega arith)));
-          p-start = rw fields-are p-at-low;
-          p-width = is .p-small;
-          p-first = rw (ist .p 0 (omega arith)) (o-p 0 (omega arith));
-          p-second = rw (ist .p 1 (omega arith)) (o-p 1 (omega arith));
-          p-there = λ m1. sym p-is ∙ rw (ne-eqb (pCount m) 0 (two-of-1 m m1));
+          p = record {
+            start = rw fields-are p-at-low;
+            line = l3;
+            width = is .p-small;
+            first = rw (ist .p 0 (omega arith)) (o-p 0 (omega arith));
+            second = rw (ist .p 1 (omega arith)) (o-p 1 (omega arith));
+            there = λ m1. sym p-is ∙ rw (ne-eqb (pCount m) 0 (two-of-1 m m1));
+          };
           set = rw (values-are, fields-are, er) ready-set;
         }
 

@@ -5,13 +5,13 @@ use mathlib.Core.Bool.{Bool, true, false}
 use Prim.Native.Nat.{ℕ, _≤_, _<_}
 use native.Mathlib.Omega.{arith}
 use lib.Dec.{eqb}
+use Rattle.bc7_format.specs.declared.Place.{Place}
 use Rattle.bc7_format.specs.declared.Split.{Split}
 use Rattle.bc7_places.specs.declared.lines.LinePart.{LinePart}
 use Rattle.bc7_places.specs.declared.modes.ModeRow.{ModeRow}
 use Rattle.laws.specs.Tables.{pick}
 use Rattle.bc7_format.specs.Lines.{anchorOf, indexSetOf, indexPlace, lineBits, pPlace, valuePlace}
 use Rattle.bc7_format.specs.Modes.{kindOfMode, lines, pCount}
-use Rattle.bc7_format.specs.Places.{Place}
 use Rattle.bc7_format.specs.WellFormed.{WellFormed}
 use Rattle.bc7_format.proofs.Meaning.{line-bits}
 use Rattle.bc7_format.proofs.Modes.{anchor-lt, good-64, lines-le}

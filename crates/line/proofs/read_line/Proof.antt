@@ -68,15 +68,12 @@ returns-2 c =
     c .unread2 .ensures ∙ read-2 _ _ (low d) k
 
 open-line-requires : tie.Need-open-line-requires
-open-line-requires c κs = (
-  record {
-    mode-is = mode-is (unreserved c);
-    low = rw (mode-is (unreserved c))
-        (low (unreserved c));
-    mode-row-is = c .before .before .mode-row .ensures;
-  },
-  rw (mode-is (unreserved c)) (counted c),
-)
+open-line-requires c κs =
+    let e = mode-is (unreserved c) in
+    record {
+      of-block = record { mode-is = e; low = rw e (low (unreserved c)); mode-row-is = c .before .before .mode-row .ensures };
+      there = rw e (counted c);
+    }
 
 line-held-requires : tie.Need-line-held-requires
 line-held-requires c κs =

@@ -117,15 +117,12 @@ returns-2 c =
     c .refused2 .ensures ∙ way-2 _ (sixteen (call d)) _ _ (long (call d)) (low d) k
 
 open-line-requires : tie.Need-open-line-requires
-open-line-requires c κs = (
-  record {
-    mode-is = mode-is (unreserved c);
-    low = rw (mode-is (unreserved c))
-        (low (unreserved c));
-    mode-row-is = c .before .before .mode-row .ensures;
-  },
-  rw (mode-is (unreserved c)) (counted c),
-)
+open-line-requires c κs =
+    let e = mode-is (unreserved c) in
+    record {
+      of-block = record { mode-is = e; low = rw e (low (unreserved c)); mode-row-is = c .before .before .mode-row .ensures };
+      there = rw e (counted c);
+    }
 
 parts-fit-requires : tie.Need-parts-fit-requires
 parts-fit-requires c κs = let i = line-is (c .before) in

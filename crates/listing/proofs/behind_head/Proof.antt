@@ -16,7 +16,7 @@ unfolding begun
 returns c = c .stopped .ensures ∙ sym (rw (ne-eqb _ 0 (c .before .if1 .taken)))
 
 in-blocks-requires : tie.Need-in-blocks-requires
-in-blocks-requires c κs = (c .before .before .before .pre (c .if1 .left), omega arith)
+in-blocks-requires c κs = record { sized = c .before .before .before .pre (c .if1 .left); within = omega arith }
 
 returns-2 : tie.Need-returns-2
 unfolding begun

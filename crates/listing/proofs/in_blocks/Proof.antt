@@ -15,14 +15,14 @@ blocks-of-requires c κs = search needs
 
 returns : tie.Need-returns
 unfolding inBlocks
-returns c = rw (no-blocks _ _ (c .if1 .taken ∙ c .before .blocks-of .ensures .0))
+returns c = rw (no-blocks _ _ (c .if1 .taken ∙ c .before .blocks-of .ensures .same))
 
 returns-2 : tie.Need-returns-2
 unfolding inBlocks
 returns-2 c =
-    let all = c .before .blocks-of .ensures .0 in
+    let all = c .before .blocks-of .ensures .same in
     let s = c .before .before .before in
-    rw (some-blocks (blocksOf (s .args .reader .head) - s .args .from) (λ z. c .if1 .left (omega (arith, z, all, s .pre .1))))
+    rw (some-blocks (blocksOf (s .args .reader .head) - s .args .from) (λ z. c .if1 .left (omega (arith, z, all, s .pre .within))))
 
 pub in-blocks-spec : {M : Type 1} → statement M
 in-blocks-spec = tie.close (tie.spec blocks-of-requires returns returns-2)

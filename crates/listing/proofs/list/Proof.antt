@@ -2,10 +2,13 @@
 -- Assumes nothing.
 use native.Mathlib.Omega.{arith}
 use mathlib.Core.Bool.{true, false}
+use mathlib.Core.Path.{ap, subst}
 use lib.Dec.{eqb}
 use lib.ListN.{length}
 use Rattle.laws.proofs.Padding.{written-none}
-use Rattle.listing_rules.proofs.Room.{asked, says, spare-ended, spare-next}
+use Rattle.listing_rules.specs.declared.Phase.{Phase}
+use Rattle.listing_rules.specs.Machine.{ReadyIn, spareIn, wantedIn}
+use Rattle.listing_rules.proofs.Room.{spare-ended, spare-next}
 use Rattle.listing_rules.proofs.Runs.{run-inside}
 use borrow.Author.Needs.{needs}
 use Rattle.listing.proofs.list.Statement.{statement}
@@ -17,8 +20,8 @@ enum-told c = search needs
 list-at-head-requires : tie.Need-list-at-head-requires
 list-at-head-requires c κs =
     let a = c .before .before .before .before .before .before in
-    let h = asked (a .args .machine) (a .args .came .now) (a .args .at) (length (a .args .out .now)) (c .before .enum-told .given .1) (a .pre) in
-    (h .0, omega (arith, h .2))
+    let at = c .before .enum-told .given .1 in
+    record { going = subst (λ (p : Phase). ReadyIn p (a .args .machine)) at (a .pre .ready); fits = omega (arith, ap spareIn at) }
 
 enum-told-2 : tie.Need-enum-told-2
 enum-told-2 c = search needs
@@ -26,17 +29,17 @@ enum-told-2 c = search needs
 list-run-requires : tie.Need-list-run-requires
 list-run-requires c κs =
     let a = c .before .before .before .before .before .before in
-    let h = asked (a .args .machine) (a .args .came .now) (a .args .at) (length (a .args .out .now)) (c .before .enum-told2 .given .1) (a .pre) in
-    (h .0, record { sized = h .0 .sized; there = omega (arith, run-inside (h .0), h .1); fits = omega (arith, h .2) })
+    let at = c .before .enum-told2 .given .1 in
+    let inside = subst (λ (p : Phase). ReadyIn p (a .args .machine)) at (a .pre .ready) in
+    let few = ap (λ (p : Phase). wantedIn p (a .args .machine)) at in
+    let run = run-inside inside in
+    record { inside = inside; blocks = record { sized = inside .sized; there = omega (arith, run, few); fits = omega (arith, ap spareIn at) } }
 
 enum-told-3 : tie.Need-enum-told-3
 enum-told-3 c = search needs
 
 refuse-unless-requires : tie.Need-refuse-unless-requires
-refuse-unless-requires c κs =
-    let a = c .before .before .before .before .before .before in
-    let h = asked (a .args .machine) (a .args .came .now) (a .args .at) (length (a .args .out .now)) (c .before .enum-told3 .given .1) (a .pre) in
-    omega (arith, h .2)
+refuse-unless-requires c κs = omega (arith, ap spareIn (c .before .enum-told3 .given .1))
 
 enum-told-4 : tie.Need-enum-told-4
 enum-told-4 c = search needs
@@ -50,9 +53,8 @@ same-length c = search needs
 returns : tie.Need-returns
 returns c =
     let told = c .before .before in
-    let a = told .before .before .before .before .before .before .before in
-    says (a .args .machine) (a .args .came .now) (told .before .before .enum-told .given .1) (told .list-at-head .ensures .0)
-    (omega (arith, told .list-at-head .ensures .1))
+    rw (told .before .before .enum-told .given .1)
+    (record { text = told .list-at-head .ensures .text; room = omega (arith, told .list-at-head .ensures) })
 
 same-length-2 : tie.Need-same-length-2
 same-length-2 c = search needs
@@ -61,9 +63,9 @@ returns-2 : tie.Need-returns-2
 returns-2 c =
     let told = c .before .before in
     let a = told .before .before .before .before .before .before .before in
-    let m = a .args .machine in
-    says m (a .args .came .now) (told .before .before .enum-told2 .given .1) (told .list-run .ensures .0)
-    (omega (arith, told .list-run .ensures .1, spare-next (m .reader) (m .from) (length (a .args .came .now))))
+    let spared = spare-next (a .args .machine .reader) (a .args .machine .from) (length (a .args .came .now)) in
+    rw (told .before .before .enum-told2 .given .1)
+    (record { text = told .list-run .ensures .text; room = omega (arith, told .list-run .ensures, spared) })
 
 same-length-3 : tie.Need-same-length-3
 same-length-3 c = search needs
@@ -72,18 +74,17 @@ returns-3 : tie.Need-returns-3
 returns-3 c =
     let told = c .before .before in
     let a = told .before .before .before .before .before .before .before in
-    says (a .args .machine) (a .args .came .now) (told .before .before .enum-told3 .given .1) (told .refuse-unless .ensures .0)
-    (omega (arith, told .refuse-unless .ensures .1, spare-ended (eqb (length (a .args .came .now)) 0)))
+    let spared = spare-ended (eqb (length (a .args .came .now)) 0) in
+    rw (told .before .before .enum-told3 .given .1)
+    (record { text = told .refuse-unless .ensures .text; room = omega (arith, told .refuse-unless .ensures, spared) })
 
 returns-4 : tie.Need-returns-4
 returns-4 c =
-    let a = c .before .before .before .before .before in
-    says (a .args .machine) (a .args .came .now) (c .enum-told4 .given .1) written-none (omega (arith, spare-ended true))
+    rw (c .enum-told4 .given .1) (record { text = written-none; room = omega (arith, spare-ended true) })
 
 returns-5 : tie.Need-returns-5
 returns-5 c =
-    let a = c .before .before .before .before .before in
-    says (a .args .machine) (a .args .came .now) (c .enum-told5 .given .1) written-none (omega (arith, spare-ended false))
+    rw (c .enum-told5 .given .1) (record { text = written-none; room = omega (arith, spare-ended false) })
 
 pub list-spec : {M : Type 1} → statement M
 list-spec =

@@ -23,17 +23,15 @@ returns : tie.Need-returns
 returns c =
     let told = c .before .before in
     let head = told .before .before in
-    let taken = head .before .before .before .take-next in (
-      rw (← taken .ensures .0, ← head .before .before .has-ended .ensures, head .before .if1 .taken) (told .list-head .ensures .0),
-      rw (← taken .ensures .0, ← head .before .before .has-ended .ensures, head .before .if1 .taken)
-          (omega (arith, spare-begun (taken .result), told .list-head .ensures .1)),
-    )
+    let taken = head .before .before .before .take-next in
+    rw (← taken .ensures .same, ← head .before .before .has-ended .ensures, head .before .if1 .taken)
+    (record { text = told .list-head .ensures .text; room = omega (arith, spare-begun (taken .result)) })
 
 returns-2 : tie.Need-returns-2
 returns-2 c =
     let taken = c .before .before .take-next in
     let ended = c .before .has-ended .ensures in
-    (rw (← taken .ensures .0, ← ended, c .if1 .left) written-none, rw (← taken .ensures .0, ← ended, c .if1 .left) (omega arith))
+    rw (← taken .ensures .same, ← ended, c .if1 .left) (record { text = written-none; room = omega arith })
 
 pub list-at-head-spec : {M : Type 1} → statement M
 list-at-head-spec =

@@ -28,10 +28,8 @@ unfolding blockListed
 returns c =
     let told = c .before .before in
     let mode = told .before .before in
-    let mark = mode .before .before in (
-      rw (mode .mode-of .ensures, mark .is-opaque-in .ensures, mark .before .decode-bc7-block .ensures) at (told .block-text .ensures .0),
-      told .block-text .ensures .1,
-    )
+    let mark = mode .before .before in
+    rw (mode .mode-of .ensures, mark .is-opaque-in .ensures, mark .before .decode-bc7-block .ensures) at (told .block-text .ensures)
 
 pub list-block-spec : {M : Type 1} → statement M
 list-block-spec =

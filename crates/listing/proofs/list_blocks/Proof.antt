@@ -7,7 +7,7 @@ use lib.ListN.{length}
 use Rattle.laws.proofs.Padding.{written-long}
 use Rattle.listing_rules.specs.Listing.{listed}
 use Rattle.listing_rules.proofs.Rounds.{few-in-all}
-use Rattle.listing.proofs.Texts.{Texts, texts-more, texts-none}
+use Rattle.listing.proofs.Listed.{Texts, texts-more, texts-none}
 use Rattle.listing.proofs.list_blocks.Statement.{statement}
 use Rattle.listing.proofs.list_blocks.Tie as tie
 
@@ -52,9 +52,9 @@ loop-again c =
     let b = c .before .before in
     let l = b .before .before .before .before in (
       omega arith,
-      omega (arith, b .list-block .ensures .1),
+      omega arith,
       texts-more _ _ _ _ _ (l .loop .k) (l .loop .inv .2)
-          (rw (b .before .before .load .ensures) at (b .list-block .ensures .0)),
+          (rw (b .before .before .load .ensures) at (b .list-block .ensures .text)),
     )
 
 same-length : tie.Need-same-length Inv-loop μ-loop
@@ -66,7 +66,7 @@ returns c =
     let e = c .before .loop .inv .2 in
     let a = c .before .before .before .before .args in
     let all : c .before .loop .k ≡ length (a .blocks .now) / 16 = omega arith in
-    (rw (← all) e, omega arith)
+    record { text = rw (← all) e; within = omega arith }
 
 pub list-blocks-spec : {M : Type 1} → statement M
 list-blocks-spec =

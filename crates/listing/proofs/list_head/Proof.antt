@@ -1,6 +1,5 @@
 -- `list_head` meets its contract.
 -- Assumes nothing.
-use native.Mathlib.Omega.{arith}
 use borrow.Author.Tests.{eq-eqb, ne-eqb}
 use Rattle.listing_rules.specs.Machine.{headText}
 use borrow.Author.Needs.{needs}
@@ -15,7 +14,7 @@ same-length c = search needs
 
 returns : tie.Need-returns
 unfolding headText
-returns c = let told = c .before .before in (rw (ne-eqb _ 0 (told .before .before .if1 .taken)) (told .refused-text .ensures .0), omega arith)
+returns c = let told = c .before .before in rw (ne-eqb _ 0 (told .before .before .if1 .taken)) (told .refused-text .ensures)
 
 sheet-text-requires : tie.Need-sheet-text-requires
 sheet-text-requires c κs = search needs
@@ -25,7 +24,7 @@ same-length-2 c = search needs
 
 returns-2 : tie.Need-returns-2
 unfolding headText
-returns-2 c = let told = c .before .before in (rw (eq-eqb _ 0 (told .before .before .if1 .left)) (told .sheet-text .ensures .0), omega arith)
+returns-2 c = let told = c .before .before in rw (eq-eqb _ 0 (told .before .before .if1 .left)) (told .sheet-text .ensures)
 
 pub list-head-spec : {M : Type 1} → statement M
 list-head-spec =

@@ -28,10 +28,9 @@ returns : tie.Need-returns
 returns c =
     let refused = c .before .before in
     let whole = refused .before .before in
-    let lines = refused .before .before .before .before .before in (
-      written-then (lines .list-blocks .ensures .0) (rw (whole .run-of .ensures .0) at (refused .refuse-unless .ensures .0)),
-      omega (arith, rw (whole .run-of .ensures .0) at (refused .refuse-unless .ensures .1), lines .list-blocks .ensures .1),
-    )
+    let lines = refused .before .before .before .before .before in
+    let told = rw (whole .run-of .ensures .same) at (refused .refuse-unless .ensures) in
+    record { text = written-then (lines .list-blocks .ensures .text) (told .text); room = omega (arith, told, lines .list-blocks .ensures) }
 
 pub list-run-spec : {M : Type 1} → statement M
 list-run-spec =

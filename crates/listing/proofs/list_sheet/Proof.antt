@@ -18,13 +18,13 @@ abbrev μ-loop : tie.MeasureT-loop
 ends : (c : tie.After-end-of Inv-loop μ-loop)
     → NextEnd (c .before .before .before .before .loop .at) (wantedOf (c .before .before .before .before .loop .machine))
     (length (c .before .before .before .before .before .before .before .before .args .sheet .now)) (c .end-of .result)
-ends c = rw (c .before .wanted2 .ensures .0) at (c .end-of .ensures)
+ends c = rw (c .before .wanted2 .ensures .wants) at (c .end-of .ensures)
 
 start-requires : tie.Need-start-requires Inv-loop μ-loop
 start-requires c κs = tt
 
 loop-holds : tie.Need-loop-holds Inv-loop μ-loop
-loop-holds c = fed-start _ _ (c .start .ensures .0) (omega arith)
+loop-holds c = fed-start _ _ (c .start .ensures .same) (omega arith)
 
 wanted-requires : tie.Need-wanted-requires Inv-loop μ-loop
 wanted-requires c κs = c .loop .inv .ready
@@ -62,15 +62,14 @@ next-requires c κs = c .before .before .before .before .before .before .before 
 loop-less : tie.Need-loop-less Inv-loop μ-loop
 loop-less c = omega (
   arith,
-  c .next .ensures .1 .1,
-  c .before .before .before .before .before .before .before .before .before .before .wanted .ensures .1 .1,
+  c .next .ensures .fewer,
+  c .before .before .before .before .before .before .before .before .before .before .wanted .ensures .none,
   c .before .before .before .before .before .before .before .before .before .if1 .taken,
 )
 
 loop-again : tie.Need-loop-again Inv-loop μ-loop
 loop-again c = fed-round (c .before .before .before .before .before .before .before .before .before .before .before .loop .inv)
-    (ends (c .before .before .before .before .before .before .before)) (c .before .before .before .before .list .ensures .0)
-    (c .before .before .before .before .list .ensures .1) (c .next .ensures .0) (c .next .ensures .1 .0)
+    (ends (c .before .before .before .before .before .before .before)) (c .before .before .before .before .list .ensures) (c .next .ensures)
 
 same-length : tie.Need-same-length Inv-loop μ-loop
 same-length c = c .before .before .loop .inv .long
@@ -78,7 +77,7 @@ same-length c = c .before .before .loop .inv .long
 returns : tie.Need-returns Inv-loop μ-loop
 returns c =
     let f = c .before .before .loop .inv in
-    (fed-whole f (omega (arith, c .before .wanted .ensures .0, c .if1 .left)), omega (arith, f .room, f .long))
+    record { says = fed-whole f (omega (arith, c .before .wanted .ensures .wants, c .if1 .left)); fits = omega (arith, f .room, f .long) }
 
 pub list-sheet-spec : {M : Type 1} → statement M
 list-sheet-spec =

@@ -1,9 +1,13 @@
 -- `next` meets its contract.
 -- Assumes nothing.
-use mathlib.Core.Path.{_∙_, ap, sym, subst}
+use mathlib.Core.Path.{_≡_, _∙_, ap, sym, subst}
+use mathlib.Core.List.{List}
+use Prim.Native.Nat.{ℕ}
+use Rattle.listing_rules.specs.declared.Machine.{Machine}
 use Rattle.listing_rules.specs.declared.Phase.{Phase}
-use Rattle.listing_rules.specs.Machine.{ReadyIn, nextIn}
-use Rattle.listing_rules.proofs.Rounds.{nexts}
+use Rattle.listing_rules.specs.Machine.{Ready, ReadyIn, nextIn, nextOf}
+use Rattle.listing_rules.proofs.Rounds.{ready-next, rounds-next}
+use Rattle.listing.specs.Promised.{GoesOnReady}
 use borrow.Author.Needs.{needs}
 use Rattle.listing.proofs.next.Statement.{statement}
 use Rattle.listing.proofs.next.Tie as tie
@@ -39,6 +43,10 @@ enum-told-5 c = search needs
 
 stopped-requires-3 : tie.Need-stopped-requires-3
 stopped-requires-3 c κs = search needs
+
+-- the next state is ready, and has fewer rounds to go
+nexts : (m : Machine) (came : List ℕ) → Ready m → {n : Machine} → n ≡ nextOf m came → GoesOnReady m came n
+nexts m came h e = record { next = e; ready = rw e (ready-next (m .phase) m came h); fewer = rw e (rounds-next (m .phase) m came h) }
 
 returns : tie.Need-returns
 returns c =

@@ -24,20 +24,20 @@ stopped-requires c κs = search needs
 returns : tie.Need-returns
 returns c =
     let cut = c .before in
-    c .stopped .ensures ∙ sym (rw (ne-eqb _ _ (rw (cut .before .run-of .ensures .0) at (cut .if1 .taken))))
+    c .stopped .ensures ∙ sym (rw (ne-eqb _ _ (rw (cut .before .run-of .ensures .same) at (cut .if1 .taken))))
 
 add-in-blocks : tie.Need-add-in-blocks
 add-in-blocks c =
     let s = c .before .before .before in
-    omega (arith, c .before .run-of .ensures .1 .1, few-in-all (s .args .reader .head) (s .pre .sized))
+    omega (arith, c .before .run-of .ensures .inside, few-in-all (s .args .reader .head) (s .pre .sized))
 
 in-blocks-requires : tie.Need-in-blocks-requires
-in-blocks-requires c κs = (c .before .before .before .pre .sized, c .before .run-of .ensures .1 .1)
+in-blocks-requires c κs = record { sized = c .before .before .before .pre .sized; within = c .before .run-of .ensures .inside }
 
 returns-2 : tie.Need-returns-2
 returns-2 c =
     let whole = c .before in
-    let run = whole .before .run-of .ensures .0 in
+    let run = whole .before .run-of .ensures .same in
     rw (eq-eqb _ _ (whole .if1 .left ∙ ap (λ (n : ℕ). 16 * n) run), ← run) (c .in-blocks .ensures)
 
 pub next-in-blocks-spec : {M : Type 1} → statement M

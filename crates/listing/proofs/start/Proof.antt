@@ -14,7 +14,7 @@ at-head-requires : tie.Need-at-head-requires
 at-head-requires c κs = search needs
 
 returns : tie.Need-returns
-returns c = let e = c .at-head .ensures ∙ ap atHead (c .before .start .ensures) in (e, subst Ready (sym e) ready-start)
+returns c = let e = c .at-head .ensures ∙ ap atHead (c .before .start .ensures) in record { same = e; ready = subst Ready (sym e) ready-start }
 
 pub start-spec : {M : Type 1} → statement M
 start-spec = tie.close (tie.spec start-requires at-head-requires returns)

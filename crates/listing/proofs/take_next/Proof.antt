@@ -10,8 +10,10 @@ refused-with-requires : tie.Need-refused-with-requires
 refused-with-requires c κs = search needs
 
 returns : tie.Need-returns
-returns c = let a = c .before .before .before in head-sized (a .args .came .now) (a .pre)
-    (c .refused-with .ensures ∙ taken-none (a .args .reader) (a .args .came .now) (c .before .if1 .taken))
+returns c =
+    let a = c .before .before .before in
+    let taken = c .refused-with .ensures ∙ taken-none (a .args .reader) (a .args .came .now) (c .before .if1 .taken) in
+    record { same = taken; sized = head-sized (a .args .came .now) (a .pre) taken }
 
 shared-slice-read-take-byte : tie.Need-shared-slice-read-take-byte
 shared-slice-read-take-byte c = search needs
@@ -20,8 +22,10 @@ take-byte-requires : tie.Need-take-byte-requires
 take-byte-requires c κs = search needs
 
 returns-2 : tie.Need-returns-2
-returns-2 c = let a = c .before .before .before .before in head-sized (a .args .came .now) (a .pre)
-    (c .take-byte .ensures ∙ taken-one (a .args .reader) (a .args .came .now) (c .before .before .if1 .left))
+returns-2 c =
+    let a = c .before .before .before .before in
+    let taken = c .take-byte .ensures ∙ taken-one (a .args .reader) (a .args .came .now) (c .before .before .if1 .left) in
+    record { same = taken; sized = head-sized (a .args .came .now) (a .pre) taken }
 
 pub take-next-spec : {M : Type 1} → statement M
 take-next-spec =

@@ -4,7 +4,8 @@ use mathlib.Core.Path.{_≡_, refl}
 use mathlib.Core.Bool.{false}
 use mathlib.Core.List.{List, [], _∷_, _++_}
 use Prim.Native.Nat.{ℕ}
-use Rattle.listing_rules.specs.Text.{ascii, blockText, channels, decimal, digitsIn, newline, opacityMark, sheetText}
+use Rattle.laws.specs.Text.{ascii, decimal, digitsIn, newline}
+use Rattle.listing_rules.specs.Text.{blockText, channels, opacityMark, sheetText}
 
 pub document-example : _≡_ {A = List (List ℕ)}
     (sheetText 5 4 ∷ blockText 0 5 (255 ∷ 0 ∷ 0 ∷ 0 ∷ []) false ∷ blockText 1 8 (0 ∷ 0 ∷ 0 ∷ 0 ∷ []) false ∷ [])

@@ -63,8 +63,8 @@ returns-2 c =
     let first = c .before .before .before .eight .ensures in
     let second = c .eight2 .ensures in
     record {
-      is = some-width (a .t1) (a .t2) (a .channel) (a .wanted) (e .if1 .left) (first .0 ∙ first-end (a .t1) (a .t2) (a .channel)) (second .0);
-      byte = record { first = first .1; second = second .1; wanted = search needs };
+      is = some-width (a .t1) (a .t2) (a .channel) (a .wanted) (e .if1 .left) (first .is ∙ first-end (a .t1) (a .t2) (a .channel)) (second .is);
+      byte = record { first = first .low; second = second .low; wanted = search needs };
     }
 
 pub channel-of-spec : {M : Type 1} → statement M

@@ -33,7 +33,8 @@ returns : tie.Need-returns
 unfolding distanceAt
 returns c =
     let f = c .before .before .before in
-    rw (f .far .ensures .0, c .before .before .far2 .ensures .0, c .before .far3 .ensures .0, c .far4 .ensures .0, f .before .weight-64 .ensures .0)
+    let b = c .before in
+    rw (f .far .ensures .is, b .before .far2 .ensures .is, b .far3 .ensures .is, c .far4 .ensures .is, f .before .weight-64 .ensures .is)
 
 pub distance-spec : {M : Type 1} → statement M
 distance-spec =

@@ -31,7 +31,7 @@ promote-requires : tie.Need-promote-requires
 promote-requires c κs = record { least = c .pre .least; most = c .pre .most; value = rw (left c) (whole c) }
 
 returns : tie.Need-returns
-returns c = (rw (left (c .before)) at (c .promote .ensures .0), c .promote .ensures .1)
+returns c = record { is = rw (left (c .before)) at (c .promote .ensures .is); low = c .promote .ensures .low }
 
 pub eight-spec : {M : Type 1} → statement M
 eight-spec = tie.close (tie.spec shl-promote add-promote add-promote-2 cast-promote promote-requires returns)

@@ -14,10 +14,13 @@ squared-requires : tie.Need-squared-requires
 squared-requires c κs = search needs
 
 returns : tie.Need-returns
-returns c = (c .squared .ensures .0 ∙ far-counts _ _ (c .before .before .if1 .taken) (c .before .interpolate .ensures .0), c .squared .ensures .1)
+returns c = record {
+  is = c .squared .ensures .is ∙ far-counts _ _ (c .before .before .if1 .taken) (c .before .interpolate .ensures .is);
+  low = c .squared .ensures .low;
+}
 
 returns-2 : tie.Need-returns-2
-returns-2 c = (far-not _ _ (c .if1 .left), lit< tt)
+returns-2 c = record { is = far-not _ _ (c .if1 .left); low = lit< tt }
 
 pub far-spec : {M : Type 1} → statement M
 far-spec = tie.close (tie.spec interpolate-requires squared-requires returns returns-2)

@@ -34,7 +34,10 @@ add-result-2 c = omega (arith, sum c)
 
 returns : tie.Need-returns
 unfolding drawn
-returns c = (refl, drawn-lt (c .args .first) (c .args .second) (c .args .weight) (c .pre .first) (c .pre .second) (c .pre .weight))
+returns c = record {
+  is = refl;
+  low = drawn-lt (c .args .first) (c .args .second) (c .args .weight) (c .pre .first) (c .pre .second) (c .pre .weight);
+}
 
 pub interpolate-spec : {M : Type 1} → statement M
 interpolate-spec = tie.close (tie.spec sub-result mul-result mul-result-2 add-result add-result-2 returns)

@@ -31,7 +31,7 @@ add-result c = rw (top c) (let h = byte c in omega arith)
 
 returns : tie.Need-returns
 unfolding promoted
-returns c = rw (top c) (refl, byte c)
+returns c = rw (top c) (record { is = refl; low = byte c })
 
 pub promote-spec : {M : Type 1} → statement M
 promote-spec = tie.close (tie.spec sub-top shl-top shr-result add-result returns)

@@ -17,13 +17,13 @@ mul-result : tie.Need-mul-result
 mul-result c = omega (arith, square-lt (c .before .args .b - c .before .args .a) (omega arith))
 
 returns : tie.Need-returns
-returns c = (squared-up _ _ (c .if1 .taken), square-lt (c .before .args .b - c .before .args .a) (omega arith))
+returns c = record { is = squared-up _ _ (c .if1 .taken); low = square-lt (c .before .args .b - c .before .args .a) (omega arith) }
 
 mul-result-2 : tie.Need-mul-result-2
 mul-result-2 c = omega (arith, square-lt (c .before .args .a - c .before .args .b) (omega arith))
 
 returns-2 : tie.Need-returns-2
-returns-2 c = (squared-down _ _ (c .if1 .left), square-lt (c .before .args .a - c .before .args .b) (omega arith))
+returns-2 c = record { is = squared-down _ _ (c .if1 .left); low = square-lt (c .before .args .a - c .before .args .b) (omega arith) }
 
 pub squared-spec : {M : Type 1} → statement M
 squared-spec =

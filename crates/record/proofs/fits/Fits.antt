@@ -9,6 +9,7 @@ use borrow.Author.Tests.{eq-eqb, eqb-true, le-ltb, lt-ltb, ltb-true}
 use lib.Dec.{T, eqb, ltb, ltb→lt}
 use lib.ListN.{getD, replicate}
 use lib.Pow.{pow-lt}
+use Rattle.bc7_format.specs.declared.Place.the-variants.{Lead, Value, PBit, Index}
 use Rattle.record_rules.specs.declared.Record.{Record}
 use Rattle.bc7_places.specs.declared.splits.Anchors.{Anchors}
 use Rattle.bc7_places.specs.declared.modes.ModeRow.{ModeRow}
@@ -22,7 +23,7 @@ use Rattle.laws.proofs.Scan.{scan-same}
 use Rattle.laws.proofs.Tests.{at, both-left, both-right, both-true, no-both, not-so, true-T}
 use Rattle.bc7_format.specs.Modes.{indexBits, secondBits}
 use Rattle.bcn_format.specs.Partitions.{among, or}
-use Rattle.bc7_format.specs.Places.{lead, index, pbit, value, width}
+use Rattle.bc7_format.specs.Places.{width}
 use Rattle.bc7_format.specs.Splits.{anchors, indexMode, partition, rotation}
 use Rattle.bc7_format.proofs.Modes.{by-subset}
 use Rattle.bc7_format.proofs.Places.{inside-index, inside-pbit, inside-value}
@@ -78,28 +79,29 @@ module _ (r : Record) {row : ModeRow} (hm : r .mode < 8) (er : row ≡ modeRowOf
   -- what fits everywhere fits in each group
   pub split-from : Within r → splitFits (r .split) row ≡ true
   unfolding says width
-  split-from w = rw (er, lt-ltb _ _ (w (lead 1) tt), lt-ltb _ _ (w (lead 2) tt)) (lt-ltb _ _ (w (lead 3) tt))
+  split-from w = rw (er, lt-ltb _ _ (w (Lead 1) tt), lt-ltb _ _ (w (Lead 2) tt)) (lt-ltb _ _ (w (Lead 3) tt))
 
   pub values-from : Within r → allFit 24 (λ i. getD (r .endpoints) i 0) (valueBits row) ≡ true
   unfolding says width
   values-from w =
       rw er (fits-all 24 (λ i. getD (r .endpoints) i 0) (valueBits (modeRowOf (r .mode))) (λ i l.
       subst (λ (j : ℕ). getD (r .endpoints) j 0 < 2 ^ valueBits (modeRowOf (r .mode)) i) (let z : 4 * (i / 4) + i % 4 ≡ i = omega arith in z)
-      (w (value (i % 4) (i / 4)) (inside-value {c = i % 4} {e = i / 4} (omega arith) (omega arith)))))
+      (w (Value (i % 4) (i / 4)) (inside-value {c = i % 4} {e = i / 4} (omega arith) (omega arith)))))
 
   pub ps-from : Within r → allFit 6 (λ k. getD (r .p) k 0) (λ k. pick (ltb k (row .p)) 1 0) ≡ true
   unfolding says width
-  ps-from w = rw er (fits-all 6 (λ k. getD (r .p) k 0) (λ k. pick (ltb k (modeRowOf (r .mode) .p)) 1 0) (λ k l. w (pbit k) (inside-pbit l)))
+  ps-from w = rw er (fits-all 6 (λ k. getD (r .p) k 0) (λ k. pick (ltb k (modeRowOf (r .mode) .p)) 1 0) (λ k l. w (PBit k) (inside-pbit l)))
 
   pub first-from : Within r → allFit 16 (λ q. getD (r .first) q 0) (λ q. row .first) ≡ true
   unfolding says width
   first-from w =
-      rw er (fits-all 16 (λ q. getD (r .first) q 0) (λ q. modeRowOf (r .mode) .first) (λ q l. w (index 0 q) (inside-index {a = 0} (omega arith) l)))
+      rw er (fits-all 16 (λ q. getD (r .first) q 0) (λ q. modeRowOf (r .mode) .first) (λ q l. w (Index 0 q) (inside-index {a = 0} (omega arith) l)))
 
   pub second-from : Within r → allFit 16 (λ q. getD (r .second) q 0) (λ q. row .second) ≡ true
   unfolding says width
   second-from w =
-      rw er (fits-all 16 (λ q. getD (r .second) q 0) (λ q. modeRowOf (r .mode) .second) (λ q l. w (index 1 q) (inside-index {a = 1} (omega arith) l)))
+      rw er
+      (fits-all 16 (λ q. getD (r .second) q 0) (λ q. modeRowOf (r .mode) .second) (λ q l. w (Index 1 q) (inside-index {a = 1} (omega arith) l)))
 
   -- and back
   module _ (s : splitFits (r .split) row ≡ true) (v : allFit 24 (λ i. getD (r .endpoints) i 0) (valueBits row) ≡ true)
@@ -114,23 +116,23 @@ module _ (r : Record) {row : ModeRow} (hm : r .mode < 8) (er : row ≡ modeRowOf
 
     within : allFit 16 (λ q. getD (r .second) q 0) (λ q. row .second) ≡ true → Within r
     unfolding says width
-    within g (lead zero) h = pow-lt {i = r .mode} {j = suc (r .mode)} (omega arith)
-    within g (lead (suc zero)) h = rw er at (leads .0)
-    within g (lead (suc (suc zero))) h = rw er at (leads .1)
-    within g (lead (suc (suc (suc zero)))) h = rw er at (leads .2)
-    within g (lead (suc (suc (suc (suc k))))) h = absurd (let l = ltb→lt (suc (suc (suc (suc k)))) 4 h in let z : ⊥ = omega arith in z)
-    within g (value c e) h =
+    within g (Lead zero) h = pow-lt {i = r .mode} {j = suc (r .mode)} (omega arith)
+    within g (Lead (suc zero)) h = rw er at (leads .0)
+    within g (Lead (suc (suc zero))) h = rw er at (leads .1)
+    within g (Lead (suc (suc (suc zero)))) h = rw er at (leads .2)
+    within g (Lead (suc (suc (suc (suc k))))) h = absurd (let l = ltb→lt (suc (suc (suc (suc k)))) 4 h in let z : ⊥ = omega arith in z)
+    within g (Value c e) h =
         let hc : c < 4 = ltb→lt c 4 (both-left (ltb c 4) (ltb e 6) h) in
         let he : e < 6 = ltb→lt e 6 (both-right (ltb c 4) (ltb e 6) h) in
         let d : (4 * e + c) / 4 ≡ e = omega arith in
         let q : (4 * e + c) % 4 ≡ c = omega arith in
         rw (er, d, q) at (fits-each 24 (λ i. getD (r .endpoints) i 0) (valueBits row) v (4 * e + c) (omega arith))
-    within g (pbit k) h = rw er at (fits-each 6 (λ k. getD (r .p) k 0) (λ k. pick (ltb k (row .p)) 1 0) p k (ltb→lt k 6 h))
-    within g (index zero q) h =
+    within g (PBit k) h = rw er at (fits-each 6 (λ k. getD (r .p) k 0) (λ k. pick (ltb k (row .p)) 1 0) p k (ltb→lt k 6 h))
+    within g (Index zero q) h =
         rw er at (fits-each 16 (λ q. getD (r .first) q 0) (λ q. row .first) f q (ltb→lt q 16 (both-right (ltb 0 2) (ltb q 16) h)))
-    within g (index (suc zero) q) h =
+    within g (Index (suc zero) q) h =
         rw er at (fits-each 16 (λ q. getD (r .second) q 0) (λ q. row .second) g q (ltb→lt q 16 (both-right (ltb 1 2) (ltb q 16) h)))
-    within g (index (suc (suc a)) q) h =
+    within g (Index (suc (suc a)) q) h =
         absurd (let l = ltb→lt (suc (suc a)) 2 (both-left (ltb (suc (suc a)) 2) (ltb q 16) h) in let z : ⊥ = omega arith in z)
 
   -- so where a group fails all fails, and where the others hold the last one decides
@@ -171,7 +173,7 @@ one-of-three P q a b c t pa pb pc = first (eqb q a) refl t
 module _ {r : Record} {row : ModeRow} (full : Full r row) where
   pub part-64 : partition (r .split) < 64
   unfolding says width
-  part-64 = low-partition (r .mode) _ (full .low) (full .within (lead 1) tt)
+  part-64 = low-partition (r .mode) _ (full .low) (full .within (Lead 1) tt)
 
   module _ {a : Anchors} (ea : a ≡ anchorsOf (r .split)) where
     pub pixels : ArePixels a
@@ -181,7 +183,7 @@ module _ {r : Record} {row : ModeRow} (full : Full r row) where
     are q = rw ea (three-are (r .split) part-64 q)
 
     -- a set whose values are these
-    module _ (k : ℕ) (hk : k < 2) (vs : List ℕ) (ev : (q : ℕ) → q < 16 → says r (index k q) ≡ getD vs q 0) where
+    module _ (k : ℕ) (hk : k < 2) (vs : List ℕ) (ev : (q : ℕ) → q < 16 → says r (Index k q) ≡ getD vs q 0) where
       abbrev w : ℕ
       w = indexBits (r .mode) k - 1
 
@@ -195,7 +197,7 @@ module _ {r : Record} {row : ModeRow} (full : Full r row) where
           )
           (tops-are-zero (a .c) (pixels .third) (rw (eq-eqb (a .c) (a .c) refl, or-true, or-true)))
 
-      from-tops : topsZero vs a w ≡ true → (q : ℕ) → q < 16 → T (among q (anchors (r .split))) → says r (index k q) < 2 ^ w
+      from-tops : topsZero vs a w ≡ true → (q : ℕ) → q < 16 → T (among q (anchors (r .split))) → says r (Index k q) < 2 ^ w
       from-tops t q h i =
           let rest = both-true (ltb (getD vs (a .a) 0) (2 ^ w)) (both (ltb (getD vs (a .b) 0) (2 ^ w)) (ltb (getD vs (a .c) 0) (2 ^ w))) t in
           let last = both-true (ltb (getD vs (a .b) 0) (2 ^ w)) (ltb (getD vs (a .c) 0) (2 ^ w)) (rest .1) in
@@ -218,7 +220,7 @@ module _ {r : Record} {row : ModeRow} (full : Full r row) where
     unfolding says
     second-from-zero c = rw (full .is) (tops-from 1 (omega arith) (r .second) (λ q h. refl) c)
 
-    tops-are-zero : firstZero ≡ true → ((q : ℕ) → q < 16 → T (among q (anchors (r .split))) → says r (index 1 q) < 2 ^ (secondBits (r .mode) - 1))
+    tops-are-zero : firstZero ≡ true → ((q : ℕ) → q < 16 → T (among q (anchors (r .split))) → says r (Index 1 q) < 2 ^ (secondBits (r .mode) - 1))
         → TopsZero r
     unfolding says
     tops-are-zero f g zero q i t =
@@ -241,7 +243,7 @@ module _ {r : Record} {row : ModeRow} (full : Full r row) where
     unfolding width
     first-only e k =
         let none : secondBits (r .mode) ≡ 0 = by-subset (r .mode) (full .low) (λ z. k (ap (λ (x : ModeRow). x .kind) (full .is) ∙ z)) .second in
-        sym (stored-of (tops-are-zero e (λ q h t. rw none (rw none at (full .within (index 1 q) (inside-index {a = 1} (omega arith) h))))))
+        sym (stored-of (tops-are-zero e (λ q h t. rw none (rw none at (full .within (Index 1 q) (inside-index {a = 1} (omega arith) h))))))
 
     pub second-decides : firstZero ≡ true → secondZero ≡ storedFit r
     unfolding says

@@ -13,6 +13,8 @@ use lib.Arith.{le-zero}
 use lib.Dec.{T, eqb, ltb}
 use lib.ListN.{replicate}
 use lib.Pow.{field as part-of, mod-mod-pow, pow-mono, shr-shr}
+use Rattle.bc7_format.specs.declared.Place.{Place}
+use Rattle.bc7_format.specs.declared.Place.the-variants.{Value, PBit, Index}
 use Rattle.record.specs.declared.reading.ReadEndpoints.{ReadEndpoints}
 use Rattle.record.specs.declared.reading.ReadP.{ReadP}
 use Rattle.bc7_places.specs.declared.splits.ReadSplit.{ReadSplit}
@@ -29,8 +31,8 @@ use Rattle.bcn_format.specs.Block.{eights, field, number}
 use Rattle.bc7_format.specs.Modes.{modeOf, alphaBits, channelBits, colourBits, endpointCount, firstBits, indexBits, kindOfMode, pCount}
 use Rattle.bc7_format.specs.Modes.{indexModeBits, partitionBits, rotationBits, secondBits}
 use Rattle.bcn_format.specs.Partitions.{among}
-use Rattle.bc7_format.specs.Places.{Place, atPlace, index, inside, opened, pbit, pos, value, width, firstFrom, secondFrom}
-use Rattle.bc7_format.specs.Splits.{anchors, kindOf, partition, splitAt, splitOf}
+use Rattle.bc7_format.specs.Places.{atPlace, inside, opened, pos, width, firstFrom, secondFrom}
+use Rattle.bc7_format.specs.Splits.{anchors, kindOf, partition, splitOf}
 use Rattle.bc7_format.proofs.Modes.{by-subset, good-64}
 use Rattle.bc7_format.proofs.Opening.{good-kind, opened-good}
 use Rattle.bc7_format.proofs.Places.{inside-index, inside-pbit, inside-value}
@@ -46,10 +48,9 @@ use Rattle.bc7_format.specs.Fields.{leadEnd, valueStart}
 use Rattle.bc7_format.proofs.Fields.{begins, bit-at, first-start, index-at, value-at, valuesEnd}
 use Rattle.record_rules.specs.Records.{made, recordOf}
 use Rattle.bc7_places.specs.Modes.{OfMode, modeRowOf}
-use Rattle.bc7_places.specs.Splits.{anchorsOf, splitRead}
+use Rattle.bc7_places.specs.Splits.{IsLead, anchorsOf}
 use Rattle.bc7_places.proofs.modes.Bounds.{second-bits, small}
 use Rattle.record.specs.Reading.{channelOf, endpointsOf, endpointsRead, pRead, secondRead}
-use Rattle.bc7_places.proofs.splits.Leads.{split-is, split-on}
 use Rattle.bc7_places.proofs.splits.AnchorPixels.{anchors-kind, anchors-rise}
 
 -- a part of a field is a field
@@ -94,8 +95,8 @@ module _ (m : ℕ) (hm : m < 8) where
   second-fits =
       let x : ℕ = endpointCount m * colourBits m in
       let y : ℕ = endpointCount m * alphaBits m in
-      let f : suc m + (0 + firstSize + pCount m + y + x + x + x + (partitionBits m + rotationBits m + indexModeBits m)) + (16 * secondBits m - 1) ≤ 128 =
-      taking-fits m 7 hm in
+      let lead : ℕ = partitionBits m + rotationBits m + indexModeBits m in
+      let f : suc m + (0 + firstSize + pCount m + y + x + x + x + lead) + (16 * secondBits m - 1) ≤ 128 = taking-fits m 7 hm in
       omega (arith, values-end m)
 
   first-fits : valuesEnd m + pCount m + firstSize ≤ 128
@@ -168,7 +169,7 @@ module _ (m : ℕ) (s : Split) (n : ℕ) (hm : m < 8) where
     channel-word (suc (suc (suc (suc c)))) h = absurd (let z : ⊥ = omega arith in z)
 
     value-there : (c e : ℕ) → c < 4 → e < endpointCount m
-        → part (channelOf (reds .value) (greens .value) (blues .value) (alphas .value) c) (channelBits m c) e ≡ at (value c e)
+        → part (channelOf (reds .value) (greens .value) (blues .value) (alphas .value) c) (channelBits m c) e ≡ at (Value c e)
     unfolding valueStart
     value-there c e hc he =
         let k : ℕ = endpointCount m in
@@ -180,18 +181,18 @@ module _ (m : ℕ) (s : Split) (n : ℕ) (hm : m < 8) where
         ap (λ (x : ℕ). part x b e) (channel-word c hc) ∙ part-field n _ (k * b) b e room
         ∙ ap (λ (x : ℕ). field n x b) place ∙ sym (value-at m s n hm c e hc he)
 
-    pub values-stand : endpointsRead (modeRowOf m) t .endpoints ≡ table 24 (λ i. at (value (i % 4) (i / 4)))
+    pub values-stand : endpointsRead (modeRowOf m) t .endpoints ≡ table 24 (λ i. at (Value (i % 4) (i / 4)))
     unfolding endpointsRead endpointsOf width
     values-stand = table-same 0 24 _ _ (λ i l. stands (i % 4) (i / 4) (omega arith) (omega arith))
       where
         stands : (c e : ℕ) → c < 4 → e < 6
             → pick (ltb e (endpointCount m))
             (part (channelOf (reds .value) (greens .value) (blues .value) (alphas .value) c) (channelBits m c) e) 0
-            ≡ at (value c e)
+            ≡ at (Value c e)
         stands c e hc he =
             ⊎-elim
             (λ l. rw (lt-ltb e (endpointCount m) l) (value-there c e hc l))
-            (λ l. rw (le-ltb e (endpointCount m) l) (sym (nothing (value c e) (inside-value hc he) (rw (le-ltb e (endpointCount m) l)))))
+            (λ l. rw (le-ltb e (endpointCount m) l) (sym (nothing (Value c e) (inside-value hc he) (rw (le-ltb e (endpointCount m) l)))))
             (lt-or e (endpointCount m))
 
     pub values-on : On n (valuesEnd m) (endpointsRead (modeRowOf m) t .stream)
@@ -200,16 +201,16 @@ module _ (m : ℕ) (s : Split) (n : ℕ) (hm : m < 8) where
 
   -- the p bits
   module _ {t : BitStream} (o : On n (valuesEnd m) t) (fits : valuesEnd m + pCount m ≤ 128) where
-    pub ps-stand : pRead (modeRowOf m) t .p ≡ table 6 (λ k. at (pbit k))
+    pub ps-stand : pRead (modeRowOf m) t .p ≡ table 6 (λ k. at (PBit k))
     unfolding pRead width
     ps-stand = table-same 0 6 _ _ (λ k l. ap (λ (x : ℕ). part x 1 k) (got o (pCount m) fits refl) ∙ stands k l)
       where
-        stands : (k : ℕ) → k < 6 → part (field n (valuesEnd m) (pCount m)) 1 k ≡ at (pbit k)
+        stands : (k : ℕ) → k < 6 → part (field n (valuesEnd m) (pCount m)) 1 k ≡ at (PBit k)
         stands k h =
             ⊎-elim
             (λ (l : k < pCount m). part-field n (valuesEnd m) (pCount m) 1 k (rw (mul-one k) (omega arith))
             ∙ ap (λ (x : ℕ). field n (valuesEnd m + x) 1) (mul-one k) ∙ sym (bit-at m s n hm k l))
-            (λ l. part-past n (valuesEnd m) (pCount m) k l ∙ sym (nothing (pbit k) (inside-pbit h) (rw (le-ltb k (pCount m) l))))
+            (λ l. part-past n (valuesEnd m) (pCount m) k l ∙ sym (nothing (PBit k) (inside-pbit h) (rw (le-ltb k (pCount m) l))))
             (lt-or k (pCount m))
 
     pub ps-on : On n (start m s firstFrom) (pRead (modeRowOf m) t .stream)
@@ -219,7 +220,7 @@ module _ (m : ℕ) (s : Split) (n : ℕ) (hm : m < 8) where
   -- a set of indexes, read whole
   pub set-stands : (a : ℕ) → a < 2 → {an : List ℕ} {t : BitStream} (b : ℕ) → an ≡ anchors s → b ≡ total (indexWidths (indexBits m a) (anchors s))
       → start m s (firstFrom + (16 * a + 0)) + b ≤ 128 → On n (start m s (firstFrom + (16 * a + 0))) t
-      → table 16 (part (newIndexes (indexBits m a) an t b .indexes .uncompressed) (indexBits m a)) ≡ table 16 (λ q. at (index a q))
+      → table 16 (part (newIndexes (indexBits m a) an t b .indexes .uncompressed) (indexBits m a)) ≡ table 16 (λ q. at (Index a q))
   set-stands a ha {an} {t} b ea eb fits o =
       table-same 0 16 _ _ (λ q l.
       ap₂ (λ (l : List ℕ) (x : ℕ). part (expanded (indexBits m a) l x) (indexBits m a) q) ea
@@ -227,11 +228,11 @@ module _ (m : ℕ) (s : Split) (n : ℕ) (hm : m < 8) where
       ∙ index-at m s a ha n q l)
 
   -- and one that the mode hasn't got
-  pub set-none : secondBits m ≡ 0 → replicate 16 0 ≡ table 16 (λ q. at (index 1 q))
+  pub set-none : secondBits m ≡ 0 → replicate 16 0 ≡ table 16 (λ q. at (Index 1 q))
   unfolding table tableFrom width
   set-none e =
-      table-same 0 16 (λ q. 0) (λ q. at (index 1 q))
-      (λ q l. sym (nothing (index 1 q) (inside-index {a = 1} (omega arith) l) (rw e (le-zero (pick-less (among q (anchors s)) 0)))))
+      table-same 0 16 (λ q. 0) (λ q. at (Index 1 q))
+      (λ q l. sym (nothing (Index 1 q) (inside-index {a = 1} (omega arith) l) (rw e (le-zero (pick-less (among q (anchors s)) 0)))))
 
 -- A BLOCK READ, of mode m, whose row is `row`
 module _ (bs : List ℕ) (sixteen : Fit eights bs) {m : ℕ} (em : m ≡ modeOf bs) (hm : m < 8) {row : ModeRow} (er : row ≡ modeRowOf m) where
@@ -241,15 +242,11 @@ module _ (bs : List ℕ) (sixteen : Fit eights bs) {m : ℕ} (em : m ≡ modeOf 
   pub of-mode : OfMode row
   of-mode = record { mode = m; low = hm; is = er }
 
-  module _ {s : Split} (es : s ≡ splitAt m n) where
-    is-split : s ≡ splitOf bs
-    unfolding splitOf
-    is-split = es ∙ ap (λ (m : ℕ). splitAt m n) em
-
+  module _ {s : Split} (is-split : s ≡ splitOf bs) where
     low : modeOf bs < 8
     low = subst (λ (m : ℕ). m < 8) em hm
 
-    pub partition-64 : partition s < 64
+    partition-64 : partition s < 64
     partition-64 = subst (λ (s : Split). partition s < 64) (sym is-split) (good-64 (opened-good bs sixteen low))
 
     kind : row .kind ≡ kindOf s
@@ -280,14 +277,14 @@ module _ (bs : List ℕ) (sixteen : Fit eights bs) {m : ℕ} (em : m ≡ modeOf 
           subst (λ (a : ℕ). On n a (set .stream)) (sym second-start)
           (rw e (on-read o (16 * row .first - anchorCount (row .kind)) (rw (er, first-start m s hm) (first-fits m hm)) refl))
 
-      second-stands : {t : BitStream} → On n (start m s secondFrom) t → secondRead row a t ≡ table 16 (λ q. atPlace m s n (index 1 q))
+      second-stands : {t : BitStream} → On n (start m s secondFrom) t → secondRead row a t ≡ table 16 (λ q. atPlace m s n (Index 1 q))
       unfolding secondRead
       second-stands {t} o = go (eqb (row .kind) 3) refl
         where
           two : row .kind ≡ 3 → table 16
               (part (newIndexes (row .second) (anchorsOfKind (row .kind) (a .b) (a .c)) t (16 * row .second - anchorCount (row .kind)) .indexes
               .uncompressed) (row .second))
-              ≡ table 16 (λ q. atPlace m s n (index 1 q))
+              ≡ table 16 (λ q. atPlace m s n (Index 1 q))
           two k =
               let e : row .second ≡ secondBits m = ap (λ (r : ModeRow). r .second) er in
               let fits : start m s secondFrom + (16 * row .second - anchorCount (row .kind)) ≤ 128 =
@@ -297,30 +294,27 @@ module _ (bs : List ℕ) (sixteen : Fit eights bs) {m : ℕ} (em : m ≡ modeOf 
           go : (b : Bool) → eqb (row .kind) 3 ≡ b
               → pick b (table 16 (part (newIndexes (row .second) (anchorsOfKind (row .kind) (a .b) (a .c)) t
               (16 * row .second - anchorCount (row .kind)) .indexes .uncompressed) (row .second))) (replicate 16 0)
-              ≡ table 16 (λ q. atPlace m s n (index 1 q))
+              ≡ table 16 (λ q. atPlace m s n (Index 1 q))
           go true e = two (eqb-true (row .kind) 3 e)
           go false e = set-none m s n hm (by-subset m hm (λ k. eqb-false (row .kind) 3 e (ap (λ (r : ModeRow). r .kind) er ∙ k)) .second)
 
       first-stands : {t : BitStream} → On n (start m s firstFrom) t
           → table 16 (part (newIndexes (row .first) (anchorsOfKind (row .kind) (a .b) (a .c)) t (16 * row .first - anchorCount (row .kind)) .indexes
           .uncompressed) (row .first))
-          ≡ table 16 (λ q. atPlace m s n (index 0 q))
+          ≡ table 16 (λ q. atPlace m s n (Index 0 q))
       first-stands o =
           let e : row .first ≡ firstBits m = ap (λ (r : ModeRow). r .first) er in
+          let fits : start m s firstFrom + (16 * row .first - anchorCount (row .kind)) ≤ 128 = rw (er, first-start m s hm) (first-fits m hm) in
           rw e (set-stands m s n hm 0 (omega arith) _ anchors-are (rw e at (set-size (row .first) (omega (arith, small of-mode .least))))
-          (rw e at (let f : start m s firstFrom + (16 * row .first - anchorCount (row .kind)) ≤ 128 = rw (er, first-start m s hm) (first-fits m hm) in f)) o)
+          (rw e at fits) o)
 
   -- the reads one after the other
-  module _ {t : BitStream} (o : On n (m + 1) t) {h : ReadSplit} (eh : h ≡ splitRead row t) where
+  module _ {h : ReadSplit} (lead : IsLead bs h) where
     abbrev s : Split
     s = h .split
 
-    pub the-split : h .split ≡ splitAt m n
-    the-split = split-is m hm er o eh
-
     lead-on : On n (leadEnd m) (h .stream)
-    unfolding leadEnd
-    lead-on = subst (λ (a : ℕ). On n a (h .stream)) (omega arith) (split-on m hm er o eh)
+    lead-on = subst (λ (m : ℕ). On n (leadEnd m) (h .stream)) (sym em) (lead .stands)
 
     module _ {v : ReadEndpoints} (ev : v ≡ endpointsRead row (h .stream)) where
       values-behind : On n (valuesEnd m) (v .stream)
@@ -334,11 +328,12 @@ module _ (bs : List ℕ) (sixteen : Fit eights bs) {m : ℕ} (em : m ≡ modeOf 
             → set ≡ newIndexes (row .first) (anchorsOfKind (row .kind) (a .b) (a .c)) (p .stream) (16 * row .first - anchorCount (row .kind))
             → {first second : List ℕ} → first ≡ table 16 (part (set .indexes .uncompressed) (row .first)) → second ≡ secondRead row a (set .stream)
             → record { mode = m; split = h .split; endpoints = v .endpoints; p = p .p; first = first; second = second } ≡ recordOf bs
-        unfolding recordOf made opened
+        unfolding recordOf made opened splitOf
         record-read {a} ea {set} eset {first} {second} ef eg =
             let s : Split = h .split in
-            let e1 : v .endpoints ≡ table 24 (λ i. atPlace m s n (value (i % 4) (i / 4))) = rw (ev, er) (values-stand m s n hm lead-on) in
-            let e2 : p .p ≡ table 6 (λ k. atPlace m s n (pbit k)) = rw (ep, er) (ps-stand m s n hm values-behind (p-fits m hm)) in
-            let e3 : first ≡ table 16 (λ q. atPlace m s n (index 0 q)) = ef ∙ rw eset (first-stands the-split ea p-behind) in
-            let e4 : second ≡ table 16 (λ q. atPlace m s n (index 1 q)) = eg ∙ second-stands the-split ea (second-on the-split ea p-behind eset) in
-            rw (e1, e2, e3, e4) (ap₂ (λ (m : ℕ) (s : Split). made m s (atPlace m s n)) em (is-split the-split))
+            let e1 : v .endpoints ≡ table 24 (λ i. atPlace m s n (Value (i % 4) (i / 4))) = rw (ev, er) (values-stand m s n hm lead-on) in
+            let e2 : p .p ≡ table 6 (λ k. atPlace m s n (PBit k)) = rw (ep, er) (ps-stand m s n hm values-behind (p-fits m hm)) in
+            let e3 : first ≡ table 16 (λ q. atPlace m s n (Index 0 q)) = ef ∙ rw eset (first-stands (lead .split) ea p-behind) in
+            let e4 : second ≡ table 16 (λ q. atPlace m s n (Index 1 q)) =
+            eg ∙ second-stands (lead .split) ea (second-on (lead .split) ea p-behind eset) in
+            rw (e1, e2, e3, e4) (ap₂ (λ (m : ℕ) (s : Split). made m s (atPlace m s n)) em (lead .split))

@@ -10,6 +10,7 @@ use borrow.Author.Tests.{le-ltb, lt-ltb}
 use lib.Arith.{le-zero}
 use lib.Dec.{eqb, ltb}
 use lib.ListN.{getD, length}
+use Rattle.bc7_format.specs.declared.Place.the-variants.{Lead, Value, PBit, Index}
 use Rattle.record_rules.specs.declared.Record.{Record}
 use Rattle.bc7_places.specs.declared.splits.Anchors.{Anchors}
 use Rattle.bc7_places.specs.declared.modes.ModeRow.{ModeRow}
@@ -24,7 +25,7 @@ use Rattle.laws.proofs.RowParts.{rows-join, rows-total, tail-join, tail-total}
 use Rattle.laws.proofs.Rows.{fit-table, total-same}
 use Rattle.bc7_format.specs.Modes.{channelBits, endpointCount, indexBits, pCount, partitionBits, secondBits}
 use Rattle.bcn_format.specs.Partitions.{among}
-use Rattle.bc7_format.specs.Places.{blockOf, lead, index, listOf, pbit, placeAt, pos, value, width, widths, valuesFrom, psFrom, firstFrom, secondFrom}
+use Rattle.bc7_format.specs.Places.{blockOf, listOf, placeAt, pos, width, widths, valuesFrom, psFrom, firstFrom, secondFrom}
 use Rattle.bc7_format.specs.Places.{placeCount}
 use Rattle.bcn_format.specs.Block.{bytesOf}
 use Rattle.bc7_format.specs.Splits.{anchors, indexMode, kindOf, partition, rotation}
@@ -32,7 +33,7 @@ use Rattle.bc7_format.proofs.Modes.{by-subset}
 use Rattle.bc7_format.proofs.Places.{inside-index, inside-pbit, inside-placeAt, inside-value, placeAt-pos, total-128}
 use Rattle.bcn_format.specs.Indexes.{Rising, anchorCount, anchorsOfKind, indexWidths}
 use Rattle.indexes.proofs.Remove.{size-kind}
-use Rattle.bits.specs.Writer.{pushed, writerOf, written}
+use Rattle.bits.specs.Writer.{Pushable, pushed, writerOf, written}
 use Rattle.bits.proofs.Puts.{pushes-ask, pushes-more, pushes-none, pushes-written, written-of}
 use Rattle.laws.proofs.Words.{one-shl}
 use Rattle.record_rules.specs.Records.{says}
@@ -48,7 +49,7 @@ module _ {r : Record} {row : ModeRow} (p : Packable r row) where
 
   part-fits : partition (r .split) < 2 ^ partitionBits (r .mode)
   unfolding says width
-  part-fits = p .fits (lead 1) tt
+  part-fits = p .fits (Lead 1) tt
 
   pub part-64 : partition (r .split) < 64
   part-64 = low-partition (r .mode) _ (p .low) part-fits
@@ -68,15 +69,17 @@ module _ {r : Record} {row : ModeRow} (p : Packable r row) where
   -- a group of k places from i on: what a push asks, and what it gives
   module _ (i k : ℕ) (room : i + k ≤ placeCount) {b : BitWriter} (eb : b ≡ upto r i) {x n : ℕ}
       (ex : x ≡ join (table k (λ j. wide r (i + j))) (table k (λ j. said r (i + j)))) (en : n ≡ total (table k (λ j. wide r (i + j)))) where
-    pub group-asks : (x < 2 ^ n) × (b .at + n ≤ 128) × (written b < 2 ^ b .at)
+    pub group-asks : Pushable b x n
     unfolding upto
     group-asks =
-        rw (ex, en, eb) (
-          join-lt (fit-table k (λ j. wide r (i + j)) (λ j. said r (i + j)) (λ j l. each (i + j) (omega arith))),
-          rw (← (rows-total i k (wide r) (said r))) (room-128 (i + k) room),
-          rw (written-of (join (table i (wide r)) (table i (said r))) (total (table i (wide r))))
-              (join-lt (fit-table i (wide r) (said r) (λ j l. each j (omega arith)))),
-        )
+        rw (ex, en, eb)
+        (record {
+          fits = join-lt (fit-table k (λ j. wide r (i + j)) (λ j. said r (i + j)) (λ j l. each (i + j) (omega arith)));
+          room = rw (← (rows-total i k (wide r) (said r))) (room-128 (i + k) room);
+          below =
+              rw (written-of (join (table i (wide r)) (table i (said r))) (total (table i (wide r))))
+              (join-lt (fit-table i (wide r) (said r) (λ j l. each j (omega arith))));
+        })
 
     pub group-next : {c : BitWriter} → c ≡ pushed b x n → c ≡ upto r (i + k)
     unfolding upto
@@ -92,7 +95,7 @@ module _ {r : Record} {row : ModeRow} (p : Packable r row) where
 
   -- one place
   module _ (i : ℕ) (h : i < placeCount) {b : BitWriter} (eb : b ≡ upto r i) {v w : ℕ} (ev : v ≡ said r i) (ew : w ≡ wide r i) where
-    pub place-asks : (v < 2 ^ w) × (b .at + w ≤ 128) × (written b < 2 ^ b .at)
+    pub place-asks : Pushable b v w
     unfolding upto
     place-asks = rw (ev, ew) (pushes-ask (wide r) (said r) placeCount each i h eb (le-of-eq all-128))
 
@@ -160,9 +163,9 @@ module _ {r : Record} {row : ModeRow} (p : Packable r row) where
 
   -- the values of channel c
   module _ (c : ℕ) (hc : c < 4) where
-    value-place : (j : ℕ) → j < 6 → placeAt (valuesFrom + 6 * c + j) ≡ value c j
+    value-place : (j : ℕ) → j < 6 → placeAt (valuesFrom + 6 * c + j) ≡ Value c j
     unfolding pos
-    value-place j h = rw (add-assoc valuesFrom (6 * c) j) (placeAt-pos (value c j) (inside-value hc h))
+    value-place j h = rw (add-assoc valuesFrom (6 * c) j) (placeAt-pos (Value c j) (inside-value hc h))
 
     pub value-wide : (j : ℕ) → j < 6 → wide r (valuesFrom + 6 * c + j) ≡ pick (ltb j (endpointCount (r .mode))) (channelBits (r .mode) c) 0
     unfolding width
@@ -195,16 +198,16 @@ module _ {r : Record} {row : ModeRow} (p : Packable r row) where
         size : row .endpoints * w ≡ total (table 6 (λ j. wide r (valuesFrom + 6 * c + j)))
         size = run-size (valuesFrom + 6 * c) (omega arith) (row .endpoints) w values (small of-mode .endpoints) wides value-said
 
-        pub channel-asks : (x < 2 ^ (row .endpoints * w)) × (b .at + row .endpoints * w ≤ 128) × (written b < 2 ^ b .at)
+        pub channel-asks : Pushable b x (row .endpoints * w)
         channel-asks = group-asks (valuesFrom + 6 * c) 6 (omega arith) eb joined size
 
         pub channel-next : {d : BitWriter} → d ≡ pushed b x (row .endpoints * w) → d ≡ upto r (valuesFrom + 6 * c + 6)
         channel-next = group-next (valuesFrom + 6 * c) 6 (omega arith) eb joined size
 
   -- the p bits
-  p-place : (j : ℕ) → j < 6 → placeAt (psFrom + j) ≡ pbit j
+  p-place : (j : ℕ) → j < 6 → placeAt (psFrom + j) ≡ PBit j
   unfolding pos
-  p-place j h = placeAt-pos (pbit j) (inside-pbit h)
+  p-place j h = placeAt-pos (PBit j) (inside-pbit h)
 
   pub p-wide : (j : ℕ) → j < 6 → wide r (psFrom + j) ≡ pick (ltb j (pCount (r .mode))) 1 0
   unfolding width
@@ -227,7 +230,7 @@ module _ {r : Record} {row : ModeRow} (p : Packable r row) where
     bits-size : row .p ≡ total (table 6 (λ j. wide r (psFrom + j)))
     bits-size = sym (mul-one (row .p)) ∙ run-size psFrom (omega arith) (row .p) 1 (λ k. getD (r .p) k 0) (small of-mode .p) bits-wide p-said
 
-    pub bits-ask : (x < 2 ^ row .p) × (b .at + row .p ≤ 128) × (written b < 2 ^ b .at)
+    pub bits-ask : Pushable b x (row .p)
     bits-ask = group-asks psFrom 6 (omega arith) eb bits-joined bits-size
 
     pub bits-next : {d : BitWriter} → d ≡ pushed b x (row .p) → d ≡ upto r firstFrom
@@ -235,9 +238,9 @@ module _ {r : Record} {row : ModeRow} (p : Packable r row) where
 
   -- the indexes of set a
   module _ (a : ℕ) (ha : a < 2) where
-    index-place : (q : ℕ) → q < 16 → placeAt (firstFrom + 16 * a + q) ≡ index a q
+    index-place : (q : ℕ) → q < 16 → placeAt (firstFrom + 16 * a + q) ≡ Index a q
     unfolding pos
-    index-place q h = rw (add-assoc firstFrom (16 * a) q) (placeAt-pos (index a q) (inside-index ha h))
+    index-place q h = rw (add-assoc firstFrom (16 * a) q) (placeAt-pos (Index a q) (inside-index ha h))
 
     abbrev stored : List ℕ
     stored = indexWidths (indexBits (r .mode) a) (anchors (r .split))
@@ -246,7 +249,7 @@ module _ {r : Record} {row : ModeRow} (p : Packable r row) where
     unfolding width indexWidths
     set-wide = table-same 0 16 _ _ (λ q h. sym (ap (width (r .mode) (anchors (r .split))) (index-place q h)))
 
-    module _ (vs : List ℕ) (long : length vs ≡ 16) (ev : (q : ℕ) → q < 16 → says r (index a q) ≡ getD vs q 0) where
+    module _ (vs : List ℕ) (long : length vs ≡ 16) (ev : (q : ℕ) → q < 16 → says r (Index a q) ≡ getD vs q 0) where
       set-said : vs ≡ table 16 (λ q. said r (firstFrom + 16 * a + q))
       set-said = sym (table-is 16 _ vs long (λ q h. ap (says r) (index-place q h) ∙ ev q h))
 
@@ -275,7 +278,7 @@ module _ {r : Record} {row : ModeRow} (p : Packable r row) where
     anchors-are = rw (kind-is, ea) (anchors-kind (r .split) part-64)
 
     module _ (k : ℕ) (hk : k < 2) {w : ℕ} (ew : w ≡ indexBits (r .mode) k) (hw : 0 < w) (vs : List ℕ) (long : length vs ≡ 16)
-        (ev : (q : ℕ) → q < 16 → says r (index k q) ≡ getD vs q 0) where
+        (ev : (q : ℕ) → q < 16 → says r (Index k q) ≡ getD vs q 0) where
       abbrev at-anchors : List ℕ
       at-anchors = indexWidths w (anchorsOfKind (row .kind) (a .b) (a .c))
 
@@ -293,7 +296,7 @@ module _ {r : Record} {row : ModeRow} (p : Packable r row) where
 
       module _ {b : BitWriter} (eb : b ≡ upto r (firstFrom + 16 * k)) where
         pub set-asks : (b .at + (16 * w - anchorCount (row .kind)) ≤ 128) × (written b < 2 ^ b .at)
-        set-asks = let g = group-asks (firstFrom + 16 * k) 16 (omega arith) eb values-are bits-are in (g .1, g .2)
+        set-asks = let g = group-asks (firstFrom + 16 * k) 16 (omega arith) eb values-are bits-are in (g .room, g .below)
 
         pub set-next : {d : BitWriter} → d ≡ pushed b (join at-anchors vs) (16 * w - anchorCount (row .kind)) → d ≡ upto r (firstFrom + 16 * k + 16)
         set-next = group-next (firstFrom + 16 * k) 16 (omega arith) eb values-are bits-are

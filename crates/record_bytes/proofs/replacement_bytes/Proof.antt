@@ -33,7 +33,8 @@ abbrev from-1 : tie.After-lay → tie.Start
 from-1 c = c .before .before .before .before
 
 filled-8 : (c : tie.After-lay) → Filled 26 0 (valueAt (from-1 c .args .from)) 8 (c .lay .last .1 .1 .0)
-filled-8 c = laid 0 8 (from-1 c .args .from .endpoints) (endpoints-long (from-1 c)) (c .lay .ensures) (filled-none refl) (omega arith) (endpoint-at _)
+filled-8 c =
+    laid 0 8 (from-1 c .args .from .endpoints) (endpoints-long (from-1 c)) (c .lay .ensures) (filled-none refl) (omega arith) (endpoint-at _)
 
 slice-aggregate-lay-3 : tie.Need-slice-aggregate-lay-3
 slice-aggregate-lay-3 c = search needs

@@ -16,23 +16,23 @@ next-number-requires : tie.Need-next-number-requires
 next-number-requires c κs = omega (arith, ap (λ (r : HeadReader). r .head .start) (c .start .ensures))
 
 next-number-requires-2 : tie.Need-next-number-requires-2
-next-number-requires-2 c κs = omega (arith, ap (λ (r : HeadReader). r .head .start) (c .before .start .ensures), c .next-number .ensures .1)
+next-number-requires-2 c κs = omega (arith, ap (λ (r : HeadReader). r .head .start) (c .before .start .ensures), c .next-number .ensures .near)
 
 next-number-requires-3 : tie.Need-next-number-requires-3
 next-number-requires-3 c κs = omega (
   arith,
   ap (λ (r : HeadReader). r .head .start)
       (c .before .before .start .ensures),
-  c .before .next-number .ensures .1,
-  c .next-number2 .ensures .1,
+  c .before .next-number .ensures .near,
+  c .next-number2 .ensures .near,
 )
 
 returns : tie.Need-returns
 returns c =
     let on = nextNumber (c .before .before .before .before .before .before .args .sheet .now) in
     ap (λ (r : HeadReader). r .head)
-    (c .before .next-number3 .ensures .0 ∙ ap on (c .before .before .next-number2 .ensures .0
-    ∙ ap on (c .before .before .before .next-number .ensures .0 ∙ ap on (c .before .before .before .before .start .ensures))))
+    (c .before .next-number3 .ensures .same ∙ ap on (c .before .before .next-number2 .ensures .same
+    ∙ ap on (c .before .before .before .next-number .ensures .same ∙ ap on (c .before .before .before .before .start .ensures))))
     ∙ three-numbers _
 
 pub read-head-spec : {M : Type 1} → statement M

@@ -14,7 +14,7 @@ push-requires : tie.Need-push-requires
 push-requires c κs = search needs
 
 returns : tie.Need-returns
-returns c = c .push .ensures .0 ∙ one-group _ _ (omega arith)
+returns c = c .push .ensures .same ∙ one-group _ _ (omega arith)
 
 add-push : tie.Need-add-push
 add-push c = search needs
@@ -32,7 +32,7 @@ push-requires-3 : tie.Need-push-requires-3
 push-requires-3 c κs = search needs
 
 returns-2 : tie.Need-returns-2
-returns-2 c = rw (c .push3 .ensures .0, c .before .before .push2 .ensures .0) (two-groups _ _ (omega arith) (omega arith))
+returns-2 c = rw (c .push3 .ensures .same, c .before .before .push2 .ensures .same) (two-groups _ _ (omega arith) (omega arith))
 
 add-push-2 : tie.Need-add-push-2
 add-push-2 c = search needs
@@ -50,7 +50,7 @@ push-requires-5 : tie.Need-push-requires-5
 push-requires-5 c κs = search needs
 
 returns-3 : tie.Need-returns-3
-returns-3 c = rw (c .push5 .ensures .0, c .before .push4 .ensures .0, c .before .before .before .push2 .ensures .0)
+returns-3 c = rw (c .push5 .ensures .same, c .before .push4 .ensures .same, c .before .before .before .push2 .ensures .same)
     (three-groups _ _ (omega arith) (omega arith) (omega arith))
 
 pub write-number-spec : {M : Type 1} → statement M

@@ -51,25 +51,22 @@ part-list-end c = search needs
 
 list-requires : tie.Need-list-requires Inv-loop μ-loop
 list-requires c κs =
-    let l = c .before .before .before .before .before .before .before .before .before .before .before .loop in
-    let w = c .before .before .before .before .before .before .before .before .wanted2 .ensures in (
-      l .inv .0,
-      simp (length-take, length-drop) (omega (arith, w .0, c .before .before .before .before .before .before .read-wanted .ensures .0)),
-      simp (length-take, length-drop)
-          (omega (
-            arith,
-            w .1 .0,
-            c .before .before .before .before .before .before .read-wanted .ensures .0,
-            spare-most (l .machine),
-            l .inv .2,
-            c .before .before .before .before .before .before .before .before .before .before .before .before .before .before .before .pre .1,
-          )),
-    )
+    let got = c .before .before .before .before .before .before in
+    let came = got .read-wanted .ensures .few in
+    let w = got .before .before .wanted2 .ensures in
+    let begun = got .before .before .before .before .before in
+    let l = begun .loop in
+    let asked = begun .before .before .before .before .pre in
+    record {
+      ready = l .inv .0;
+      few = simp (length-take, length-drop) (omega (arith, w .wants, came));
+      fits = simp (length-take, length-drop) (omega (arith, w .few, came, spare-most (l .machine), l .inv .2, asked .texts));
+    }
 
 write-whole-requires : tie.Need-write-whole-requires Inv-loop μ-loop
 write-whole-requires c κs =
     let told = c .before .before .before in
-    omega (arith, told .list .ensures .1, list-requires (told .before) (told .list .lifetimes) .2, written-long (told .list .ensures .0))
+    omega (arith, told .list .ensures .room, list-requires (told .before) (told .list .lifetimes) .fits, written-long (told .list .ensures .text))
 
 same-length-3 : tie.Need-same-length-3 Inv-loop μ-loop
 same-length-3 c = search needs
@@ -94,18 +91,17 @@ next-requires c κs = search needs
 
 loop-less : tie.Need-loop-less Inv-loop μ-loop
 loop-less c =
-    let begun =
-    c .before .before .before .before .before .before .before .before .before .before .before .before .before .before .before .before .before .before in
-    omega (arith, c .next .ensures .1 .1, begun .before .wanted .ensures .1 .1, begun .if1 .taken)
+    let got = c .before .before .before .before .before .before .before .before .before .before .before .before .before .before .before in
+    let begun = got .before .before .before in
+    omega (arith, c .next .ensures .fewer, begun .before .wanted .ensures .none, begun .if1 .taken)
 
 loop-again : tie.Need-loop-again Inv-loop μ-loop
 loop-again c =
-    let l = c .before .before .before .before .before .before .before .before .before .before .before .before .before .before .before .before .before .before .before .before .loop in (
-      c .next .ensures .1 .0,
-      omega
-          (arith, c .before .before .before .before .before .before .before .before .before .before .before .before .before .before .before .read-wanted .ensures .1, l .inv .1),
-      omega (arith, written-long (c .before .before .before .before .before .before .before .before .list .ensures .0), l .inv .2),
-    )
+    let told = c .before .before .before .before .before .before .before .before in
+    let got = told .before .before .before .before .before .before .before in
+    let inv = got .before .before .before .before .before .loop .inv in
+    let long = written-long (told .list .ensures .text) in
+    (c .next .ensures .ready, omega (arith, got .read-wanted .ensures .long, inv .1), omega (arith, long, inv .2))
 
 enum-told : tie.Need-enum-told Inv-loop μ-loop
 enum-told c = search needs

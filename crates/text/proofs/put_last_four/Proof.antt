@@ -1,8 +1,7 @@
 -- `text::put_last_four` meets its contract.
 -- Assumes nothing.
-use native.Mathlib.Omega.{arith}
-use Rattle.laws.proofs.Padding.{written-then}
 use borrow.Author.Needs.{needs}
+use Rattle.text.proofs.Puts.{puts-then}
 use Rattle.text.proofs.put_last_four.Statement.{statement}
 use Rattle.text.proofs.put_last_four.Tie as tie
 
@@ -27,8 +26,8 @@ returns c =
     let ten = one .before .before .before .before in
     let hundred = ten .before .before .before .before in
     let thousand = hundred .before .before .before .before in
-    let e = written-then (thousand .put-digit .ensures .0) (hundred .put-digit2 .ensures .0) in
-    (written-then (written-then e (ten .put-digit3 .ensures .0)) (one .put-digit4 .ensures .0), omega arith)
+    let high = puts-then (thousand .put-digit .ensures) (hundred .put-digit2 .ensures) in
+    puts-then (puts-then high (ten .put-digit3 .ensures)) (one .put-digit4 .ensures)
 
 pub put-last-four-spec : {M : Type 1} → statement M
 put-last-four-spec =

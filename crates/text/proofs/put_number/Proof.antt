@@ -2,9 +2,9 @@
 -- Assumes nothing.
 use native.Mathlib.Omega.{arith}
 use Prim.Native.Nat.{_/_}
-use Rattle.laws.proofs.Padding.{written-then}
-use Rattle.listing_rules.proofs.text.Decimal.{four-more}
+use Rattle.laws.proofs.Decimal.{four-more}
 use borrow.Author.Needs.{needs}
+use Rattle.text.proofs.Puts.{puts-then, puts-within}
 use Rattle.text.proofs.put_number.Statement.{statement}
 use Rattle.text.proofs.put_number.Tie as tie
 
@@ -31,7 +31,7 @@ returns-2 c =
     let low = c .before .before in
     let above = low .before .before .before .before in
     let n = above .before .before .before .before .before .args .n in
-    (rw (four-more n (omega arith) (omega arith)) (written-then (above .put-few2 .ensures .0) (low .put-last-four .ensures .0)), omega arith)
+    rw (four-more n (omega arith) (omega arith)) (puts-within (puts-then (above .put-few2 .ensures) (low .put-last-four .ensures)) 12 (omega arith))
 
 put-few-requires-3 : tie.Need-put-few-requires-3
 put-few-requires-3 c κs = search needs
@@ -50,11 +50,9 @@ returns-3 c =
     let low = c .before .before in
     let middle = low .before .before .before .before in
     let top = middle .before .before .before .before in
-    let n = top .before .before .before .before .before .args .n in (
-      rw (four-more n (omega arith) (omega arith), four-more (n / 10000) (omega arith) (omega arith))
-          (written-then (written-then (top .put-few3 .ensures .0) (middle .put-last-four2 .ensures .0)) (low .put-last-four3 .ensures .0)),
-      omega arith,
-    )
+    let n = top .before .before .before .before .before .args .n in
+    rw (four-more n (omega arith) (omega arith), four-more (n / 10000) (omega arith) (omega arith))
+    (puts-then (puts-then (top .put-few3 .ensures) (middle .put-last-four2 .ensures)) (low .put-last-four3 .ensures))
 
 pub put-number-spec : {M : Type 1} → statement M
 put-number-spec =

@@ -1,8 +1,7 @@
 -- `text::put_spaced` meets its contract.
 -- Assumes nothing.
-use native.Mathlib.Omega.{arith}
-use Rattle.laws.proofs.Padding.{written-then}
 use borrow.Author.Needs.{needs}
+use Rattle.text.proofs.Puts.{puts-then}
 use Rattle.text.proofs.put_spaced.Statement.{statement}
 use Rattle.text.proofs.put_spaced.Tie as tie
 
@@ -18,7 +17,7 @@ same-length c = search needs
 returns : tie.Need-returns
 returns c =
     let digits = c .before .before in
-    (written-then (digits .before .before .before .before .put .ensures .0) (digits .put-few .ensures .0), omega arith)
+    puts-then (digits .before .before .before .before .put .ensures) (digits .put-few .ensures)
 
 pub put-spaced-spec : {M : Type 1} → statement M
 put-spaced-spec = tie.close (tie.spec put-requires put-few-requires same-length returns)

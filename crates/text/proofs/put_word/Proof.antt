@@ -4,6 +4,7 @@ use mathlib.Core.Path.{_≡_, refl, sym, ap, _∙_}
 use mathlib.Core.List.{List, _++_}
 use Prim.Native.Nat.{ℕ, _+_, _-_, _≤_}
 use native.Mathlib.Nat.{le-refl}
+use native.Mathlib.Omega.{arith}
 use borrow.Author.Needs.{needs}
 use lib.ListN.{drop, length, take}
 use mathlib.Core.List.{append-assoc}
@@ -42,13 +43,9 @@ copied-sets l vs o h =
 
 returns : tie.Need-returns
 returns c =
-    let s = c .before .before .before .before .before .before in (
-      record {
-        bytes = rw (c .before .before .copy .ensures .1) (copied-sets (s .args .out .now) (s .args .word .now) (s .args .at) (s .pre));
-        ends = refl;
-      },
-      refl,
-    )
+    let s = c .before .before .before .before .before .before in
+    let copied = copied-sets (s .args .out .now) (s .args .word .now) (s .args .at) (s .pre) in
+    record { text = record { bytes = rw (c .before .before .copy .ensures .1) copied; ends = refl }; within = omega arith }
 
 pub put-word-spec : {M : Type 1} → statement M
 put-word-spec =

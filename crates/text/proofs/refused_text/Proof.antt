@@ -1,9 +1,9 @@
 -- `text::refused_text` meets its contract.
 -- Assumes nothing.
 use native.Mathlib.Omega.{arith}
-use Rattle.laws.proofs.Padding.{written-then}
-use Rattle.listing_rules.specs.Text.{ascii, refusedText}
+use Rattle.laws.specs.Text.{ascii, refusedText}
 use borrow.Author.Needs.{needs}
+use Rattle.text.proofs.Puts.{puts-then, puts-within}
 use Rattle.text.proofs.refused_text.Statement.{statement}
 use Rattle.text.proofs.refused_text.Tie as tie
 
@@ -26,11 +26,9 @@ returns : tie.Need-returns
 unfolding refusedText ascii
 returns c =
     let ended = c .before .before in
-    let number = ended .before .before .before .before in (
-      written-then (written-then (number .before .before .before .before .put-word .ensures .0) (number .put-spaced .ensures .0))
-          (ended .put .ensures .0),
-      omega arith,
-    )
+    let number = ended .before .before .before .before in
+    let told = puts-then (number .before .before .before .before .put-word .ensures) (number .put-spaced .ensures) in
+    puts-within (puts-then told (ended .put .ensures)) 40 (omega arith)
 
 pub refused-text-spec : {M : Type 1} → statement M
 refused-text-spec =

@@ -21,7 +21,7 @@ mul-result : tie.Need-mul-result
 mul-result c = search needs
 
 returns : tie.Need-returns
-returns c = ap (λ (w : ℕ). 4 * w) (c .weight-64 .ensures .0)
+returns c = ap (λ (w : ℕ). 4 * w) (c .weight-64 .ensures .is)
 
 pub weight-256-spec : {M : Type 1} → statement M
 weight-256-spec =

@@ -31,7 +31,7 @@ unfolding computed
 returns c =
     let i = c .args .index in
     let e = ap (λ (n : ℕ). (64 * i + (n - 1) / 2) / (n - 1)) (cnt c .is) ∙ computed-weight (c .args .bits) i (c .pre) in
-    (e, rw e (weight-le _ _ (c .pre .least) (c .pre .most) (c .pre .within)))
+    record { is = e; most = rw e (weight-le _ _ (c .pre .least) (c .pre .most) (c .pre .within)) }
 
 pub weight-64-spec : {M : Type 1} → statement M
 weight-64-spec = tie.close (tie.spec shl-last sub-last mul-result add-result div-result returns)

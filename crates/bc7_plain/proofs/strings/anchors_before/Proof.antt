@@ -38,8 +38,8 @@ inside : (c : tie.In-loop Inv-loop μ-loop) → c .before .loop .k < length (c .
 inside c =
     let l = c .before in
     let s = l .before .before .before .before in
-    let some : s .args .pixel - 1 < 16 = omega (arith, s .pre .1, l .before .before .if1 .left) in
-    omega (arith, c .loop-test .taken, l .before .place .ensures, s .pre .0 .found (s .args .pixel - 1) some)
+    let some : s .args .pixel - 1 < 16 = omega (arith, s .pre .most, l .before .before .if1 .left) in
+    omega (arith, c .loop-test .taken, l .before .place .ensures, s .pre .sixteen .found (s .args .pixel - 1) some)
 
 shared-slice-read-if2 : tie.Need-shared-slice-read-if2 Inv-loop μ-loop
 shared-slice-read-if2 c = inside (c .before)

@@ -23,12 +23,12 @@ place-requires c κs = search needs
 sub-result : tie.Need-sub-result
 sub-result c =
     let s = c .before .before .before in
-    omega (arith, c .place .ensures, s .pre .0 .past (s .args .pixel) (s .pre .1), c .before .if1 .left)
+    omega (arith, c .place .ensures, s .pre .sixteen .past (s .args .pixel) (s .pre .pixel), c .before .if1 .left)
 
 shared-slice-read-result : tie.Need-shared-slice-read-result
 shared-slice-read-result c =
     let s = c .before .before .before .before in
-    omega (arith, c .before .place .ensures, s .pre .0 .found (s .args .pixel) (s .pre .1))
+    omega (arith, c .before .place .ensures, s .pre .sixteen .found (s .args .pixel) (s .pre .pixel))
 
 returns-2 : tie.Need-returns-2
 unfolding isAnchorIn

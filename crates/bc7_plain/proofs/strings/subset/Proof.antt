@@ -15,12 +15,14 @@ place-requires c κs = search needs
 shared-slice-read-result : tie.Need-shared-slice-read-result
 shared-slice-read-result c =
     let s = c .before .before .before in
-    subst (λ (k : ℕ). k < length (s .args .string .now)) (sym (c .before .place .ensures)) (s .pre .0 .found (s .args .pixel) (s .pre .1))
+    let found = s .pre .sixteen .found (s .args .pixel) (s .pre .pixel) in
+    subst (λ (k : ℕ). k < length (s .args .string .now)) (sym (c .before .place .ensures)) found
 
 sub-result : tie.Need-sub-result
 sub-result c =
     let s = c .before .before .before in
-    subst (λ (k : ℕ). 48 ≤ getD (s .args .string .now) k 0) (sym (c .before .place .ensures)) (s .pre .0 .digit (s .args .pixel) (s .pre .1))
+    let digit = s .pre .sixteen .digit (s .args .pixel) (s .pre .pixel) in
+    subst (λ (k : ℕ). 48 ≤ getD (s .args .string .now) k 0) (sym (c .before .place .ensures)) digit
 
 cast-result : tie.Need-cast-result
 cast-result c = omega (arith, c .shared-slice-known2 .given (c .before .place .result))

@@ -20,7 +20,7 @@ use Rattle.bcn_format.specs.Painting.{solid}
 use Rattle.drawing.specs.Words.{withP}
 use Rattle.bc7_format.proofs.Ends.{opaque-p-shown, two-ps}
 use Rattle.bc7_subsets.proofs.Palettes.{three-palette}
-use Rattle.bc7_subsets.proofs.Laws.{fixes-3, lower, three-keys, upper}
+use Rattle.bc7_subsets.proofs.Laws.{anchored-3, lower, three-keys, upper}
 use Rattle.bc7_subsets.proofs.three.mode_0.Statement.{statement}
 use Rattle.bc7_subsets.proofs.three.mode_0.Tie as tie
 
@@ -58,13 +58,7 @@ indexes-3-requires : tie.Need-indexes-3-requires
 indexes-3-requires c κs =
     let set = c .before .before .before .before .before .before .before in
     let id = set .before .before .extract-partition-set-id .ensures in
-    let fixes = fixes-3 {w = 3} (omega (arith, id .small)) (omega arith) (omega arith) (set .partition-word-3-3 .ensures) in (
-      omega arith,
-      omega arith,
-      fixes .above,
-      fixes .next,
-      fixes .last,
-    )
+    anchored-3 (omega (arith, id .small)) (omega arith) (omega arith) (set .partition-word-3-3 .ensures)
 
 keys-3-requires : tie.Need-keys-3-requires
 keys-3-requires c κs = search needs
@@ -98,19 +92,28 @@ returns c =
     let on-p = on-read on-b 24 (fits 3) b in
     let p = at-p .take4 .ensures .same in
     let on-x = on-read on-p 6 (fits 4) p in
-    three-keys 0 n 3 (omega arith) refl (omega arith) (omega arith) (omega (arith, id .small)) on-x (ap Three (sym (got start 4 (fits 0) (id .same))))
+    let reds = got on-r 24 (fits 1) r in
+    let greens = got on-g 24 (fits 2) g in
+    let blues = got on-b 24 (fits 3) b in
+    let ps = got on-p 6 (fits 4) p in
+    three-keys 0 n 3 (omega arith) refl (omega arith) (omega arith) (omega (arith, id .small)) on-x
+    (ap Three (sym (got start 4 (fits 0) (id .same))))
     (set .partition-word-3-3 .ensures) (fits 5) (c .before .before .indexes-3 .ensures) (c .before .keys-3 .ensures)
     (three-palette 0 n 3 (λ x. solid (withP 4 x)) _ _ (colours .before .before .opaque-p .ensures)
     (opaque-p-shown 0 n {l = 0} refl
-    (record { red = lower n 5 16 8 (got on-r 24 (fits 1) r); green = lower n 29 16 8 (got on-g 24 (fits 2) g); blue = lower n 53 16 8 (got on-b 24 (fits 3) b) })
-    refl (two-ps 0 n 0 refl (lower n 77 4 2 (got on-p 6 (fits 4) p))) refl)
+    (record { red = lower n 5 16 8 reds; green = lower n 29 16 8 greens; blue = lower n 53 16 8 blues })
+    refl (two-ps 0 n 0 refl (lower n 77 4 2 ps)) refl)
     (opaque-p-shown 0 n {l = 1} refl
-    (record { red = lower n 13 8 8 (upper n 5 16 8 (got on-r 24 (fits 1) r)); green = lower n 37 8 8 (upper n 29 16 8 (got on-g 24 (fits 2) g)); blue = lower n 61 8 8 (upper n 53 16 8 (got on-b 24 (fits 3) b)) })
-    refl (two-ps 0 n 1 refl (lower n 79 2 2 (upper n 77 4 2 (got on-p 6 (fits 4) p)))) refl)
+    (record {
+      red = lower n 13 8 8 (upper n 5 16 8 reds);
+      green = lower n 37 8 8 (upper n 29 16 8 greens);
+      blue = lower n 61 8 8 (upper n 53 16 8 blues);
+    })
+    refl (two-ps 0 n 1 refl (lower n 79 2 2 (upper n 77 4 2 ps))) refl)
     _ _ (colours .before .opaque-p2 .ensures)
     (opaque-p-shown 0 n {l = 2} refl
-    (record { red = upper n 5 8 16 (got on-r 24 (fits 1) r); green = upper n 29 8 16 (got on-g 24 (fits 2) g); blue = upper n 53 8 16 (got on-b 24 (fits 3) b) })
-    refl (two-ps 0 n 2 refl (upper n 77 2 4 (got on-p 6 (fits 4) p))) refl)
+    (record { red = upper n 5 8 16 reds; green = upper n 29 8 16 greens; blue = upper n 53 8 16 blues })
+    refl (two-ps 0 n 2 refl (upper n 77 2 4 ps)) refl)
     (colours .palette-3-3 .ensures))
     (c .paint-3-3 .ensures)
 

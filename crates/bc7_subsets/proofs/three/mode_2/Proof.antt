@@ -20,7 +20,7 @@ use Rattle.bcn_format.specs.Painting.{solid}
 use Rattle.drawing.specs.Words.{plain}
 use Rattle.bc7_format.proofs.Ends.{opaque-shown}
 use Rattle.bc7_subsets.proofs.Palettes.{three-palette}
-use Rattle.bc7_subsets.proofs.Laws.{fixes-3, three-keys}
+use Rattle.bc7_subsets.proofs.Laws.{anchored-3, three-keys}
 use Rattle.bc7_subsets.proofs.three.mode_2.Statement.{statement}
 use Rattle.bc7_subsets.proofs.three.mode_2.Tie as tie
 
@@ -82,13 +82,7 @@ indexes-3-requires : tie.Need-indexes-3-requires
 indexes-3-requires c κs =
     let set = c .before .before .before .before .before .before .before .before .before .before .before .before in
     let id = set .before .before .extract-partition-set-id .ensures in
-    let fixes = fixes-3 {w = 2} (omega (arith, id .small)) (omega arith) (omega arith) (set .partition-word-3-2 .ensures) in (
-      omega arith,
-      omega arith,
-      fixes .above,
-      fixes .next,
-      fixes .last,
-    )
+    anchored-3 (omega (arith, id .small)) (omega arith) (omega arith) (set .partition-word-3-2 .ensures)
 
 keys-2-requires : tie.Need-keys-2-requires
 keys-2-requires c κs = search needs
@@ -137,7 +131,8 @@ returns c =
     let on-b2 = on-read on-b1 10 (fits 8) b1 in
     let b2 = at-b2 .take9 .ensures .same in
     let on-x = on-read on-b2 10 (fits 9) b2 in
-    three-keys 2 n 2 (omega arith) refl (omega arith) (omega arith) (omega (arith, id .small)) on-x (ap Three (sym (got start 6 (fits 0) (id .same))))
+    three-keys 2 n 2 (omega arith) refl (omega arith) (omega arith) (omega (arith, id .small)) on-x
+    (ap Three (sym (got start 6 (fits 0) (id .same))))
     (set .partition-word-3-2 .ensures) (fits 10) (c .before .before .indexes-3 .ensures) (c .before .keys-2 .ensures)
     (three-palette 2 n 2 (λ x. solid (plain 5 x)) _ _ (colours .before .before .opaque .ensures)
     (opaque-shown 2 n {l = 0} {a = 0} {p = 0} refl

@@ -11,19 +11,19 @@ use Rattle.bc7_subsets.proofs.three.mode_subset_3.Tie as tie
 
 -- behind the other arms
 the-last : (c : tie.At-match-rest) → c .before .args .mode ≡ 2
-the-last c = last-of-2 _ 0 2 (c .before .pre .0) (c .match .rest .1)
+the-last c = last-of-2 _ 0 2 (c .before .pre .mode) (c .match .rest .1)
 
 skip-requires : tie.Need-skip-requires
 skip-requires c κs = search needs
 
 mode-0-requires : tie.Need-mode-0-requires
-mode-0-requires c κs = rw (c .skip .ensures) (omega (arith, c .before .before .pre .1))
+mode-0-requires c κs = rw (c .skip .ensures) (omega (arith, c .before .before .pre .stands))
 
 skip-requires-2 : tie.Need-skip-requires-2
 skip-requires-2 c κs = search needs
 
 mode-2-requires : tie.Need-mode-2-requires
-mode-2-requires c κs = rw (c .skip2 .ensures) (omega (arith, c .before .before .pre .1))
+mode-2-requires c κs = rw (c .skip2 .ensures) (omega (arith, c .before .before .pre .stands))
 
 returns : tie.Need-returns
 returns c = rw (c .before .before .match .keys1) (c .mode-0 .ensures ∙ ap (directPixels 0) (held-skipped _ 1 (c .before .skip .ensures)))

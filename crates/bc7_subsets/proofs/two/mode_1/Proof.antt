@@ -20,7 +20,7 @@ use Rattle.bcn_format.specs.Painting.{solid}
 use Rattle.drawing.specs.Words.{withP}
 use Rattle.bc7_format.proofs.Ends.{one-p, opaque-p-shown}
 use Rattle.bc7_subsets.proofs.Palettes.{two-palette}
-use Rattle.bc7_subsets.proofs.Laws.{fixes-2, two-keys}
+use Rattle.bc7_subsets.proofs.Laws.{anchored-2, two-keys}
 use Rattle.bc7_subsets.proofs.two.mode_1.Statement.{statement}
 use Rattle.bc7_subsets.proofs.two.mode_1.Tie as tie
 
@@ -84,8 +84,7 @@ indexes-2-requires : tie.Need-indexes-2-requires
 indexes-2-requires c κs =
     let set = c .before .before .before .before .before .before .before .before .before .before .before .before in
     let id = set .before .before .extract-partition-set-id .ensures in
-    let fixes = fixes-2 {w = 3} (omega (arith, id .small)) (omega arith) (omega arith) (set .partition-word-2-3 .ensures) in
-    (omega arith, omega arith, fixes .above, fixes .last)
+    anchored-2 (omega (arith, id .small)) (omega arith) (omega arith) (set .partition-word-2-3 .ensures)
 
 keys-3-requires : tie.Need-keys-3-requires
 keys-3-requires c κs = search needs

@@ -11,25 +11,25 @@ use Rattle.bc7_subsets.proofs.two.mode_subset_2.Tie as tie
 
 -- behind the other arms
 the-last : (c : tie.At-match-rest) → c .before .args .mode ≡ 7
-the-last c = last-of-3 _ 1 3 7 (c .before .pre .0) (c .match .rest .0 .1) (c .match .rest .1)
+the-last c = last-of-3 _ 1 3 7 (c .before .pre .mode) (c .match .rest .0 .1) (c .match .rest .1)
 
 skip-requires : tie.Need-skip-requires
 skip-requires c κs = search needs
 
 mode-1-requires : tie.Need-mode-1-requires
-mode-1-requires c κs = rw (c .skip .ensures) (omega (arith, c .before .before .pre .1))
+mode-1-requires c κs = rw (c .skip .ensures) (omega (arith, c .before .before .pre .stands))
 
 skip-requires-2 : tie.Need-skip-requires-2
 skip-requires-2 c κs = search needs
 
 mode-3-requires : tie.Need-mode-3-requires
-mode-3-requires c κs = rw (c .skip2 .ensures) (omega (arith, c .before .before .pre .1))
+mode-3-requires c κs = rw (c .skip2 .ensures) (omega (arith, c .before .before .pre .stands))
 
 skip-requires-3 : tie.Need-skip-requires-3
 skip-requires-3 c κs = search needs
 
 mode-7-requires : tie.Need-mode-7-requires
-mode-7-requires c κs = rw (c .skip3 .ensures) (omega (arith, c .before .before .pre .1))
+mode-7-requires c κs = rw (c .skip3 .ensures) (omega (arith, c .before .before .pre .stands))
 
 returns : tie.Need-returns
 returns c = rw (c .before .before .match .keys1) (c .mode-1 .ensures ∙ ap (directPixels 1) (held-skipped _ 2 (c .before .skip .ensures)))

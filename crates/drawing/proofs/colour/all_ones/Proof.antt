@@ -24,7 +24,7 @@ sub-result c = rw (one-shl (c .args .bits + c .args .bits) (omega arith)) (pow-p
 returns : tie.Need-returns
 returns c =
     rw (one-shl (c .args .bits + c .args .bits) (omega arith))
-    (refl, omega (arith, pow-mono {i = c .args .bits + c .args .bits} {j = 16} (omega arith)))
+    (record { is = refl; fits = omega (arith, pow-mono {i = c .args .bits + c .args .bits} {j = 16} (omega arith)) })
 
 pub all-ones-spec : {M : Type 1} → statement M
 all-ones-spec = tie.close (tie.spec add-result cast-result shl-result sub-result returns)

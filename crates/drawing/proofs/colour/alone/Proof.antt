@@ -47,7 +47,7 @@ add-t10 c =
     let words = c .before .before .before in
     let s = start words in
     record {
-      fits = end-apart-fits (s .args .bits) 0 (s .pre .width .least) (s .pre .width .most) (s .args .alpha-bits) (s .pre .alpha .least) (s .pre .alpha .most) (green words)
+      fits = end-apart-fits (s .args .bits) 0 (s .pre .width) (s .args .alpha-bits) (s .pre .alpha) (green words)
           (alpha words) (c .before .end-of2 .ensures) (c .end-of3 .ensures);
     }
 
@@ -65,7 +65,7 @@ add-t14 c =
     let words = c .before .before .before .before .before .before in
     let s = start words in
     record {
-      fits = end-apart-fits (s .args .bits) 1 (s .pre .width .least) (s .pre .width .most) (s .args .alpha-bits) (s .pre .alpha .least) (s .pre .alpha .most) (green words)
+      fits = end-apart-fits (s .args .bits) 1 (s .pre .width) (s .args .alpha-bits) (s .pre .alpha) (green words)
           (alpha words) (c .before .end-of5 .ensures) (c .end-of6 .ensures);
     }
 
@@ -78,11 +78,11 @@ returns c =
     let n = s .args .bits in
     let w = s .args .alpha-bits in
     let p = s .pre in
-    holds-one (withAlpha n w (s .args .x)) (λ k c. end-either-lt (eqb c 3) n w k _ (p .width .least) (p .width .most) (p .alpha .least) (p .alpha .most)) (λ i. record {
-      rb0 = end-two n 0 (p .width .least) (p .width .most) (red-blue words) (e3 .before .before .end-of .ensures) i;
-      ga0 = end-apart n 0 (p .width .least) (p .width .most) w (p .alpha .least) (p .alpha .most) (green words) (alpha words) (e3 .before .end-of2 .ensures) (e3 .end-of3 .ensures) i;
-      rb1 = end-two n 1 (p .width .least) (p .width .most) (red-blue words) (c .before .before .end-of4 .ensures) i;
-      ga1 = end-apart n 1 (p .width .least) (p .width .most) w (p .alpha .least) (p .alpha .most) (green words) (alpha words) (c .before .end-of5 .ensures) (c .end-of6 .ensures) i;
+    holds-one (withAlpha n w (s .args .x)) (λ k c. end-either-lt (eqb c 3) n w k _ (p .width) (p .alpha)) (λ i. record {
+      rb0 = end-two n 0 (p .width) (red-blue words) (e3 .before .before .end-of .ensures) i;
+      ga0 = end-apart n 0 (p .width) w (p .alpha) (green words) (alpha words) (e3 .before .end-of2 .ensures) (e3 .end-of3 .ensures) i;
+      rb1 = end-two n 1 (p .width) (red-blue words) (c .before .before .end-of4 .ensures) i;
+      ga1 = end-apart n 1 (p .width) w (p .alpha) (green words) (alpha words) (c .before .end-of5 .ensures) (c .end-of6 .ensures) i;
     })
 
 pub alone-spec : {M : Type 1} → statement M

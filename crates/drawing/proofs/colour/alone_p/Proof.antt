@@ -16,8 +16,9 @@ returns : tie.Need-returns
 returns c =
     let s = c .before in
     let n = s .args .bits in
-    holds-one (withP n (s .args .x)) (λ k c. end-p-lt n k _ _ (s .pre .width .least) (s .pre .width .most))
-    (c .translucent-p .ensures .same ∙ ends-first _ (λ k c. ap (λ (v : ℕ). endOfP n k v 0) (nothing c) ∙ end-p-none n k (s .pre .width .least) (s .pre .width .most)))
+    let w = s .pre .width in
+    holds-one (withP n (s .args .x)) (λ k c. end-p-lt n k _ _ w)
+    (c .translucent-p .ensures .same ∙ ends-first _ (λ k c. ap (λ (v : ℕ). endOfP n k v 0) (nothing c) ∙ end-p-none n k w))
 
 pub alone-p-spec : {M : Type 1} → statement M
 alone-p-spec = tie.close (tie.spec translucent-p-requires returns)

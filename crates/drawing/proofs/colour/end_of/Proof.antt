@@ -18,8 +18,9 @@ promote-requires c κs =
 
 returns : tie.Need-returns
 returns c =
-    let s =
-    c .before .before in end-of (s .args .bits) (s .args .k) (s .args .x) (s .pre .two) (s .pre .width .most) (c .before .parts .ensures) (c .promote .ensures)
+    let s = c .before .before in
+    let parts = c .before .parts .ensures in
+    end-of (s .args .bits) (s .args .k) (s .args .x) (s .pre .two) (s .pre .width .most) parts (c .promote .ensures)
 
 pub end-of-spec : {M : Type 1} → statement M
 end-of-spec = tie.close (tie.spec mul-parts parts-requires promote-requires returns)

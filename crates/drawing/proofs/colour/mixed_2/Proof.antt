@@ -7,7 +7,7 @@ use Rattle.drawing.proofs.colour.mixed_2.Statement.{statement}
 use Rattle.drawing.proofs.colour.mixed_2.Tie as tie
 
 on : (s : tie.Start) → Steps 0x0100_0000_0100 (s .args .weights) (s .args .e0) (s .args .e1)
-on s = steps-2 (s .args .weights) (s .args .e0) (s .args .e1) (s .pre .weights .low) (s .pre .weights .high) (search needs) (search needs) (s .pre .first) (s .pre .second)
+on s = steps-2 (s .args .weights) (s .args .e0) (s .args .e1) (search needs) (search needs) (s .pre)
 
 mul-result : tie.Need-mul-result
 mul-result c = omega (arith, on c)
@@ -28,7 +28,7 @@ add-result-2 : tie.Need-add-result-2
 add-result-2 c = record { fits = on c .whole }
 
 returns : tie.Need-returns
-returns c = mixed-2-word (c .args .weights) (c .args .e0) (c .args .e1) (c .pre .weights .low) (c .pre .weights .high) (search needs) (search needs) (c .pre .first) (c .pre .second)
+returns c = mixed-2-word (c .args .weights) (c .args .e0) (c .args .e1) (search needs) (search needs) (c .pre)
 
 pub mixed-2-spec : {M : Type 1} → statement M
 mixed-2-spec =

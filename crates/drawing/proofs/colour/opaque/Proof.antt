@@ -50,14 +50,14 @@ returns c =
     let one = g .before .before .all-ones .ensures in
     let two = g .before .all-ones2 .ensures in
     let rb = lanes-four (r .lanes .ensures) (hx .red) (hx .blue) (hy .red) (hy .blue) in
-    let ga = lanes-four (g .lanes2 .ensures) (hx .green) (one .1) (hy .green) (two .1) in
-    let alpha = full n (s .pre .width .least) (s .pre .width .most) (one .0) in
-    let alpha' = full n (s .pre .width .least) (s .pre .width .most) (two .0) in
+    let ga = lanes-four (g .lanes2 .ensures) (hx .green) (one .fits) (hy .green) (two .fits) in
+    let alpha = full n (s .pre .width) (one .is) in
+    let alpha' = full n (s .pre .width) (two .is) in
     let g1 = c .end-of4 .ensures in
     let r1 = c .before .end-of3 .ensures in
     let g0 = c .before .before .end-of2 .ensures in
     let r0 = c .before .before .before .end-of .ensures in
-    holds (λ l. solid (plain n (pick (eqb l 0) x y))) (λ l. solid-lt (λ k c. end-lt n k _ (s .pre .width .least) (s .pre .width .most)))
+    holds (λ l. solid (plain n (pick (eqb l 0) x y))) (λ l. solid-lt (λ k c. end-lt n k _ (s .pre .width)))
     ((λ i. record { rb0 = r0 i; ga0 = g0 i; rb1 = r1 i; ga1 = g1 i })
     ∙ (λ i. record {
       rb0 = laned (map (endOf n 0) (rb i));

@@ -49,12 +49,12 @@ returns c =
     let one = g .before .before .all-ones .ensures in
     let two = g .before .all-ones2 .ensures in
     let rb = lanes-four (r .lanes .ensures) (hx .red) (hx .blue) (hy .red) (hy .blue) in
-    let ga = lanes-four (g .lanes2 .ensures) (hx .green) (one .1) (hy .green) (two .1) in
+    let ga = lanes-four (g .lanes2 .ensures) (hx .green) (one .fits) (hy .green) (two .fits) in
     let ps = lanes-four (p .lanes3 .ensures) (hx .ps) (hx .ps) (hy .ps) (hy .ps) in
     let qs = lanes-four (q .lanes4 .ensures) (hx .ps) (omega arith) (hy .ps) (omega arith) in
-    let alpha = full-p n (s .pre .width .least) (s .pre .width .most) (one .0) in
-    let alpha' = full-p n (s .pre .width .least) (s .pre .width .most) (two .0) in
-    holds (λ l. solid (withP n (pick (eqb l 0) x y))) (λ l. solid-lt (λ k c. end-p-lt n k _ _ (s .pre .width .least) (s .pre .width .most)))
+    let alpha = full-p n (s .pre .width) (one .is) in
+    let alpha' = full-p n (s .pre .width) (two .is) in
+    holds (λ l. solid (withP n (pick (eqb l 0) x y))) (λ l. solid-lt (λ k c. end-p-lt n k _ _ (s .pre .width)))
     (c .ends-p .ensures
     ∙ (λ i. endsP n (rb i) (ga i) (ps i) (qs i))
     ∙ (λ i. record {

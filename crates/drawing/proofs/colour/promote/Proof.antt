@@ -29,12 +29,12 @@ parts-requires c κs = search needs
 add-result : tie.Need-add-result
 add-result c =
     let s = c .before in
-    record { fits = promoted-word-fits (s .args .bits) (s .args .x) (s .pre .width .least) (s .pre .width .most) (search needs) (s .pre .lanes) (c .parts .ensures) }
+    record { fits = promoted-word-fits (s .args .bits) (s .args .x) (search needs) (s .pre) (c .parts .ensures) }
 
 returns : tie.Need-returns
 returns c =
     let s = c .before in
-    promoted-word (s .args .bits) (s .args .x) (s .pre .width .least) (s .pre .width .most) (search needs) (s .pre .lanes) (c .parts .ensures)
+    promoted-word (s .args .bits) (s .args .x) (search needs) (s .pre) (c .parts .ensures)
 
 pub promote-spec : {M : Type 1} → statement M
 promote-spec =

@@ -27,13 +27,13 @@ add-promote-2 c = search needs
 promote-requires : tie.Need-promote-requires
 promote-requires c κs = record {
   width = record { least = omega arith; most = omega arith };
-  lanes = with-p-small (c .args .bits) (c .args .x) (c .args .p) (c .pre .width .most) (search needs) (search needs) (c .pre .lanes) (c .pre .ps);
+  lanes = with-p-small (c .args .bits) (c .args .x) (c .args .p) (search needs) (search needs) (c .pre);
 }
 
 returns : tie.Need-returns
 returns c =
     let s = c .before in
-    c .promote .ensures ∙ promoted-p (s .args .bits) (s .args .x) (s .args .p) (s .pre .width .most) (search needs) (search needs) (s .pre .lanes) (s .pre .ps)
+    c .promote .ensures ∙ promoted-p (s .args .bits) (s .args .x) (s .args .p) (search needs) (search needs) (s .pre)
 
 pub promote-p-spec : {M : Type 1} → statement M
 promote-p-spec =

@@ -35,7 +35,7 @@ returns c =
     let rb = lanes-four (r .lanes .ensures) (x .red) (x .blue) (y .red) (y .blue) in
     let ga = lanes-four (g .lanes2 .ensures) (x .green) (x .alpha) (y .green) (y .alpha) in
     let ps = lanes-four (p .lanes3 .ensures) (x .ps) (x .ps) (y .ps) (y .ps) in
-    holds (λ l. withP n (pick (eqb l 0) (s .args .x) (s .args .y))) (λ l k c. end-p-lt n k _ _ (s .pre .width .least) (s .pre .width .most))
+    holds (λ l. withP n (pick (eqb l 0) (s .args .x) (s .args .y))) (λ l k c. end-p-lt n k _ _ (s .pre .width))
     (c .ends-p .ensures ∙ (λ i. endsP n (rb i) (ga i) (ps i) (ps i)))
 
 pub translucent-p-spec : {M : Type 1} → statement M

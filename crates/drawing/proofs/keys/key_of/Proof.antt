@@ -23,7 +23,7 @@ rem-result : tie.Need-rem-result
 rem-result c = search needs
 
 returns : tie.Need-returns
-returns c = (refl, mod-lt _ (c .pre .some))
+returns c = record { is = refl; below = mod-lt _ (c .pre .some) }
 
 pub key-of-spec : {M : Type 1} → statement M
 key-of-spec =

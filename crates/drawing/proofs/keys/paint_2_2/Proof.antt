@@ -67,7 +67,7 @@ loop-again : tie.Need-loop-again Inv-loop μ-loop
 loop-again c =
     let at = c .before .before .before .before in
     two-more 2 1 _ (at .before .before .args .t1) _ (at .before .loop .inv) (at .loop-test .taken)
-    (c .before .before .before .key-of .ensures .0) (c .before .key-of2 .ensures .0)
+    (c .before .before .before .key-of .ensures .is) (c .before .key-of2 .ensures .is)
 
 returns : tie.Need-returns Inv-loop μ-loop
 unfolding painted

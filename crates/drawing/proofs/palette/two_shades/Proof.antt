@@ -17,7 +17,7 @@ two-colours-requires c κs = search needs
 returns : tie.Need-returns
 returns c =
     let s = c .before .before .before in
-    shades-2 (s .args .weights) (s .args .e) (s .pre .weights .low) (s .pre .weights .high) (search needs) (search needs) (search needs) (search needs) (s .pre .ends)
+    shades-2 (s .args .weights) (s .args .e) (s .pre) (search needs) (search needs) (search needs) (search needs)
     (c .before .before .mixed-2 .ensures) (c .before .mixed-22 .ensures) (c .two-colours .ensures)
 
 pub two-shades-spec : {M : Type 1} → statement M

@@ -18,7 +18,8 @@ decompress-single-index-requires c κs =
 returns : tie.Need-returns
 returns c =
     let s = c .before in
-    rw (one-anchor (s .args .bits) (s .pre .anchors .least) (s .args .compressed) 0 _ (omega arith) (s .pre .enough) (c .decompress-single-index .ensures))
+    let least = s .pre .anchors .least in
+    rw (one-anchor (s .args .bits) least (s .args .compressed) 0 _ (omega arith) (s .pre .enough) (c .decompress-single-index .ensures))
 
 pub from-compressed-p1-spec : {M : Type 1} → statement M
 from-compressed-p1-spec = tie.close (tie.spec decompress-single-index-requires returns)

@@ -24,7 +24,7 @@ decompress-single-index-requires-2 c κs =
     record {
       least = s .pre .anchors .least;
       most = s .pre .anchors .most;
-      pixel = omega (arith, s .pre .anchors .pixel);
+      pixel = omega (arith, s .pre .anchors .fixup .pixel);
       room = spare-bit w 1 (x .result) (s .pre .anchors .most) (omega arith) below;
     }
 
@@ -32,7 +32,7 @@ returns : tie.Need-returns
 returns c =
     let s = c .before .before in
     let all = two-anchors (s .args .bits) (s .pre .anchors .least) (s .args .compressed) 0 (s .args .p2-fixup) _ _
-    (s .pre .anchors .above) (s .pre .anchors .pixel) (s .pre .enough)
+    (s .pre .anchors .fixup .above) (s .pre .anchors .fixup .pixel) (s .pre .enough)
     (c .before .decompress-single-index .ensures) (c .decompress-single-index2 .ensures) in
     rw all
 

@@ -26,7 +26,7 @@ decompress-single-index-requires-2 c κs =
     record {
       least = s .pre .anchors .least;
       most = s .pre .anchors .most;
-      pixel = omega (arith, s .pre .anchors .rising, s .pre .anchors .pixel);
+      pixel = omega (arith, s .pre .anchors .fixups .rising, s .pre .anchors .fixups .pixel);
       room = spare-bit w 2 (x .result) (s .pre .anchors .most) (omega arith) below;
     }
 
@@ -37,15 +37,20 @@ decompress-single-index-requires-3 c κs =
     let x = c .before .decompress-single-index in
     let y = c .decompress-single-index2 in
     let first = after-2 w (s .pre .anchors .least) (s .args .compressed) (x .result) (s .pre .enough) (x .ensures) in
-    let second : s .args .p2-fixup < 15 = omega (arith, s .pre .anchors .rising, s .pre .anchors .pixel) in
+    let second : s .args .p2-fixup < 15 = omega (arith, s .pre .anchors .fixups .rising, s .pre .anchors .fixups .pixel) in
     let below = after-1 w (s .pre .anchors .least) (x .result) (s .args .p2-fixup) (y .result) second first (y .ensures) in
-    record { least = s .pre .anchors .least; most = s .pre .anchors .most; pixel = s .pre .anchors .pixel; room = spare-bit w 1 (y .result) (s .pre .anchors .most) (omega arith) below }
+    record {
+      least = s .pre .anchors .least;
+      most = s .pre .anchors .most;
+      pixel = s .pre .anchors .fixups .pixel;
+      room = spare-bit w 1 (y .result) (s .pre .anchors .most) (omega arith) below;
+    }
 
 returns : tie.Need-returns
 returns c =
     let s = c .before .before .before in
     let all = three-anchors (s .args .bits) (s .pre .anchors .least) (s .args .compressed) (s .args .p2-fixup) (s .args .p3-fixup) _ _ _
-    (s .pre .anchors .above) (s .pre .anchors .rising) (s .pre .anchors .pixel) (s .pre .enough)
+    (s .pre .anchors .fixups .above) (s .pre .anchors .fixups .rising) (s .pre .anchors .fixups .pixel) (s .pre .enough)
     (c .before .before .decompress-single-index .ensures) (c .before .decompress-single-index2 .ensures) (c .decompress-single-index3 .ensures) in
     rw all
 

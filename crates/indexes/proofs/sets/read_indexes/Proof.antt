@@ -8,34 +8,26 @@ use Rattle.indexes.proofs.sets.read_indexes.Statement.{statement}
 use Rattle.indexes.proofs.sets.read_indexes.Tie as tie
 
 cast-new-p2 : tie.Need-cast-new-p2
-cast-new-p2 c = omega (arith, c .before .pre .rising .two (c .if1 .taken) .1)
+cast-new-p2 c = omega (arith, c .before .pre .rising .two (c .if1 .taken) .pixel)
 
 new-p2-requires : tie.Need-new-p2-requires
 new-p2-requires c κs =
     let s = c .before in
-    let r = s .pre .rising .two (c .if1 .taken) in
-    record { least = s .pre .least; most = s .pre .most; above = r .0; pixel = r .1 }
+    record { least = s .pre .least; most = s .pre .most; fixup = s .pre .rising .two (c .if1 .taken) }
 
 returns : tie.Need-returns
 returns c = c .new-p2 .ensures ∙ rw (c .before .if1 .taken)
 
 cast-new-p3 : tie.Need-cast-new-p3
-cast-new-p3 c = let r = c .before .before .pre .rising .three (c .if2 .taken) in omega (arith, r .1, r .2)
+cast-new-p3 c = let r = c .before .before .pre .rising .three (c .if2 .taken) in omega (arith, r .rising, r .pixel)
 
 cast-new-p3-2 : tie.Need-cast-new-p3-2
-cast-new-p3-2 c = omega (arith, c .before .before .pre .rising .three (c .if2 .taken) .2)
+cast-new-p3-2 c = omega (arith, c .before .before .pre .rising .three (c .if2 .taken) .pixel)
 
 new-p3-requires : tie.Need-new-p3-requires
 new-p3-requires c κs =
     let s = c .before .before in
-    let r = s .pre .rising .three (c .if2 .taken) in
-    record {
-      least = s .pre .least;
-      most = s .pre .most;
-      above = r .0;
-      rising = r .1;
-      pixel = r .2;
-    }
+    record { least = s .pre .least; most = s .pre .most; fixups = s .pre .rising .three (c .if2 .taken) }
 
 returns-2 : tie.Need-returns-2
 returns-2 c = c .new-p3 .ensures ∙ rw (c .before .if2 .taken)

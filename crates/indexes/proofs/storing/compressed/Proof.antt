@@ -7,7 +7,9 @@ use Rattle.indexes.proofs.storing.compressed.Statement.{statement}
 use Rattle.indexes.proofs.storing.compressed.Tie as tie
 
 compress-single-index-requires : tie.Need-compress-single-index-requires
-compress-single-index-requires c κs = let s = c .before .pre in record { least = s .least; most = s .most; pixel = s .rising .two (c .if1 .taken) .1 }
+compress-single-index-requires c κs =
+    let s = c .before .pre in
+    record { least = s .least; most = s .most; pixel = s .rising .two (c .if1 .taken) .pixel }
 
 compress-single-index-requires-2 : tie.Need-compress-single-index-requires-2
 compress-single-index-requires-2 c κs = search needs
@@ -21,13 +23,13 @@ returns c =
 compress-single-index-requires-3 : tie.Need-compress-single-index-requires-3
 compress-single-index-requires-3 c κs =
     let s = c .before .before .pre in
-    record { least = s .least; most = s .most; pixel = s .rising .three (c .if2 .taken) .2 }
+    record { least = s .least; most = s .most; pixel = s .rising .three (c .if2 .taken) .pixel }
 
 compress-single-index-requires-4 : tie.Need-compress-single-index-requires-4
 compress-single-index-requires-4 c κs =
     let s = c .before .before .before .pre in
     let r = s .rising .three (c .before .if2 .taken) in
-    record { least = s .least; most = s .most; pixel = omega (arith, r .1, r .2) }
+    record { least = s .least; most = s .most; pixel = omega (arith, r .rising, r .pixel) }
 
 compress-single-index-requires-5 : tie.Need-compress-single-index-requires-5
 compress-single-index-requires-5 c κs = search needs

@@ -22,7 +22,8 @@ shl-exchanged-2 c = search needs
 exchanged-requires : tie.Need-exchanged-requires
 exchanged-requires c κs =
     let s = c .before .before .before in
-    rw (read-at (s .args .s) (s .args .at) (s .args .count) (s .pre .room) (c .before .before .standing-at .ensures) (c .before .take .ensures .same))
+    let from = c .before .before in
+    rw (read-at (s .args .s) (s .args .at) (s .args .count) (s .pre .room) (from .standing-at .ensures) (c .before .take .ensures .same))
     (in-low (s .args .s .low) (s .args .s .high) (s .args .at) (s .args .count) (s .args .value) (search needs) (search needs) (s .pre .fits)
     (omega arith) (s .pre .room) .low)
 
@@ -78,7 +79,8 @@ shl-exchanged-4 c = search needs
 exchanged-requires-3 : tie.Need-exchanged-requires-3
 exchanged-requires-3 c κs =
     let s = c .before .before .before in
-    rw (read-at (s .args .s) (s .args .at) (s .args .count) (s .pre .room) (c .before .before .standing-at .ensures) (c .before .take .ensures .same))
+    let from = c .before .before in
+    rw (read-at (s .args .s) (s .args .at) (s .args .count) (s .pre .room) (from .standing-at .ensures) (c .before .take .ensures .same))
     (in-high (s .args .s .low) (s .args .s .high) (s .args .at) (s .args .count) (s .args .value) (search needs) (search needs) (s .pre .fits)
     (omega arith) (s .pre .room) .high)
 
@@ -86,8 +88,8 @@ returns-2 : tie.Need-returns-2
 unfolding held
 returns-2 c =
     let s = c .before .before .before .before in
-    let e =
-    read-at (s .args .s) (s .args .at) (s .args .count) (s .pre .room) (c .before .before .before .standing-at .ensures) (c .before .before .take .ensures .same) in
+    let old = c .before .before in
+    let e = read-at (s .args .s) (s .args .at) (s .args .count) (s .pre .room) (old .before .standing-at .ensures) (old .take .ensures .same) in
     rw (c .exchanged3 .ensures, e)
     (in-high (s .args .s .low) (s .args .s .high) (s .args .at) (s .args .count) (s .args .value) (search needs) (search needs) (s .pre .fits)
     (omega arith) (s .pre .room) .whole)

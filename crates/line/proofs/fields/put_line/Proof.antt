@@ -52,8 +52,8 @@ put-two-requires-4 c κs =
 
 put-p-requires : tie.Need-put-p-requires
 put-p-requires c κs =
-    let r = c .before .before .before .before .before .before .before .pre in
-    rw (c .before .before .before .before .before .before .fields-of .ensures) (r .p-start, r .line, r .p-width, r .p-first, r .p-second, r .p-there)
+    let fields = c .before .before .before .before .before .before in
+    rw (fields .fields-of .ensures) (fields .before .pre .p)
 
 -- what is put before the indexes
 values : (c : tie.After-put-p)

@@ -23,7 +23,7 @@ put-requires c κs =
       width = omega arith;
       below = omega arith;
       room = omega arith;
-      fits = rw (c .wide .ensures) (rw (s .pre .5 (c .before .if1 .taken)) at (s .pre .3));
+      fits = rw (c .wide .ensures) (rw (s .pre .there (c .before .if1 .taken)) at (s .pre .first));
     }
 
 returns : tie.Need-returns
@@ -45,7 +45,7 @@ array-read-put-two-2 c = search needs
 put-two-requires : tie.Need-put-two-requires
 put-two-requires c κs =
     let s = c .before in
-    record { width = omega arith; below = omega arith; room = omega arith; first = s .pre .3; second = s .pre .4 }
+    record { width = omega arith; below = omega arith; room = omega arith; first = s .pre .first; second = s .pre .second }
 
 returns-2 : tie.Need-returns-2
 unfolding psPut

@@ -47,8 +47,8 @@ part-is : (c : tie.After-at-own Inv-loop μ-loop)
     → c .at-own .result ≡ getD (parts (c .before .before .before .args .pixels) (c .before .before .before .args .width))
     (c .before .before .loop .i - 1) 0
 part-is c =
-    c .at-own .ensures
-    ∙ ap (λ (v : ℕ). pick (ownPixel (c .before .before .before .args .pixels) (c .before .before .loop .i - 1)) v 0) (c .before .before .loop .inv .1)
+    let l = c .before .before in
+    c .at-own .ensures ∙ ap (λ (v : ℕ). pick (ownPixel (l .before .args .pixels) (l .loop .i - 1)) v 0) (l .loop .inv .1)
     ∙ sym
     (getD-table 16 (λ q. pick (ownPixel (c .before .before .before .args .pixels) q) (2 ^ c .before .before .before .args .width - 1) 0) 0
     (c .before .before .loop .i - 1) (omega arith))

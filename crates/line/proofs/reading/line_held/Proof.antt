@@ -9,22 +9,21 @@ fields-of-requires : tie.Need-fields-of-requires
 fields-of-requires c κs = search needs
 
 two-at-requires : tie.Need-two-at-requires
-two-at-requires c κs = let r = c .before .pre in rw (c .fields-of .ensures) (r .red, r .small .colour)
+two-at-requires c κs = let r = c .before .pre in rw (c .fields-of .ensures) (r .red)
 
 two-at-requires-2 : tie.Need-two-at-requires-2
-two-at-requires-2 c κs = let r = c .before .before .pre in rw (c .before .fields-of .ensures) (r .green, r .small .colour)
+two-at-requires-2 c κs = let r = c .before .before .pre in rw (c .before .fields-of .ensures) (r .green)
 
 two-at-requires-3 : tie.Need-two-at-requires-3
-two-at-requires-3 c κs = let r = c .before .before .before .pre in rw (c .before .before .fields-of .ensures) (r .blue, r .small .colour)
+two-at-requires-3 c κs = let r = c .before .before .before .pre in rw (c .before .before .fields-of .ensures) (r .blue)
 
 two-at-requires-4 : tie.Need-two-at-requires-4
 two-at-requires-4 c κs =
-    let r = c .before .before .before .before .pre in rw (c .before .before .before .fields-of .ensures) (r .alpha, r .small .alpha)
+    let r = c .before .before .before .before .pre in rw (c .before .before .before .fields-of .ensures) (r .alpha)
 
 p-at-requires : tie.Need-p-at-requires
 p-at-requires c κs =
-    let r = c .before .before .before .before .before .pre in rw (c .before .before .before .before .fields-of .ensures)
-    (r .p-start, r .line, r .small .p)
+    let r = c .before .before .before .before .before .pre in rw (c .before .before .before .before .fields-of .ensures) (r .p)
 
 set-at-requires : tie.Need-set-at-requires
 set-at-requires c κs =

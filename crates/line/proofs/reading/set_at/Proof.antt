@@ -28,12 +28,15 @@ parts-of-requires c κs = search needs
 returns : tie.Need-returns
 unfolding setAt
 returns c =
-    let s = c .before .before .before .before .before .before .before .before in
+    let set = c .before .before .before in
+    let from = set .before in
+    let mask = from .before in
+    let s = mask .before .before .before in
+    let part = s .args .part in
     c .parts-of .ensures
     ∙ rw (
-      before-is (s .args .s) (s .args .kind) (s .args .at) (s .args .part) 0 0 (s .pre .room) (c .before .before .before .before .standing-at .ensures)
-          (c .before .before .before .read-indexes .ensures),
-      c .before .before .before .before .before .mask-of .ensures,
+      before-is (s .args .s) (s .args .kind) (s .args .at) part 0 0 (s .pre .room) (from .standing-at .ensures) (set .read-indexes .ensures),
+      mask .mask-of .ensures,
     )
 
 pub set-at-spec : {M : Type 1} → statement M

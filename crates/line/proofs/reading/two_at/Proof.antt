@@ -30,7 +30,7 @@ cast-t11 : tie.Need-cast-t11
 cast-t11 c =
     let s = c .before .before in
     let w = s .args .width in
-    record { fits = rw (one-shl w (omega arith)) (lt-of-lt-of-le (mod-lt _ (pow-pos w)) (pow-mono {j = 8} (s .pre .1))) }
+    record { fits = rw (one-shl w (omega arith)) (lt-of-lt-of-le (mod-lt _ (pow-pos w)) (pow-mono {j = 8} (s .pre .width))) }
 
 shr-t13 : tie.Need-shr-t13
 shr-t13 c = search needs
@@ -40,7 +40,7 @@ cast-t14 c =
     let s = c .before .before in
     let w = s .args .width in
     let e : 2 * w ≡ w + w = omega arith in
-    record { fits = lt-of-lt-of-le (shr-lt w w (rw e at (c .take .ensures .small))) (pow-mono {j = 8} (s .pre .1)) }
+    record { fits = lt-of-lt-of-le (shr-lt w w (rw e at (c .take .ensures .small))) (pow-mono {j = 8} (s .pre .width)) }
 
 returns : tie.Need-returns
 returns c =

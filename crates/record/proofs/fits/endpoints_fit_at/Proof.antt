@@ -26,7 +26,8 @@ pair-fits-requires c κs = record { colour = omega arith; alpha = omega arith }
 returns : tie.Need-returns
 returns c =
     let s = c .before .before .before .before in
-    pair-none (s .args .row) (s .args .e) _ (byte s) (s .pre .even) (c .before .before .if1 .taken) (c .before .pair .ensures) (c .pair-fits .ensures)
+    pair-none (s .args .row) (s .args .e) _ (byte s) (s .pre .even) (c .before .before .if1 .taken) (c .before .pair .ensures)
+    (c .pair-fits .ensures)
 
 pair-requires-2 : tie.Need-pair-requires-2
 pair-requires-2 c κs = c .before .before .pre .inside

@@ -1,20 +1,17 @@
 -- `reading::read_record` meets its contract.
 -- Assumes nothing.
 use mathlib.Core.Path.{_≡_}
-use Prim.Native.Nat.{ℕ, _+_}
+use Prim.Native.Nat.{ℕ}
 use native.Mathlib.Omega.{arith}
 use mir.Syntax.{w8}
 use mir.Val.{Fits}
 use lib.ListN.{getD, length}
 use Rattle.laws.specs.Digits.{Fit}
-use Rattle.bcn_format.specs.Block.{eights, number}
-use Rattle.bc7_format.specs.Splits.{splitAt}
+use Rattle.bcn_format.specs.Block.{eights}
 use Rattle.bc7_format.proofs.Subsets.{sixteen-bytes}
-use Rattle.bits.proofs.On.{On}
 use Rattle.bc7_places.specs.Modes.{OfMode}
 use Rattle.bc7_places.proofs.modes.Bounds.{small}
-use Rattle.bc7_places.proofs.splits.Leads.{marker-on}
-use Rattle.record.proofs.reading.Standing.{partition-64, record-read, rise, the-split}
+use Rattle.record.proofs.reading.Standing.{record-read, rise}
 use borrow.Author.Needs.{needs}
 use Rattle.record.proofs.reading.read_record.Statement.{statement}
 use Rattle.record.proofs.reading.read_record.Tie as tie
@@ -31,83 +28,58 @@ sixteen s = sixteen-bytes _ (size s) (λ i l. byte s i .fits)
 of-mode : (s : tie.Start) → OfMode (s .args .row)
 of-mode s = record { mode = _; low = s .pre .low; is = s .pre .mode-row-is }
 
-behind : (c : tie.After-skip) → On (number (c .before .before .args .block)) (c .before .before .args .mode + 1) (c .skip .result)
-behind c = marker-on _ (c .before .new .ensures .of) (c .before .new .ensures .stands) (c .skip .ensures)
-
-split-of : (c : tie.After-read-split)
-    → c .read-split .result .split ≡ splitAt (c .before .before .before .args .mode) (number (c .before .before .before .args .block))
-split-of c =
-    let s = c .before .before .before in
-    the-split _ (sixteen s) (s .pre .mode-is) (s .pre .low) (s .pre .mode-row-is) (behind (c .before)) (c .read-split .ensures)
-
-new-requires : tie.Need-new-requires
-new-requires c κs = search needs
-
-add-skip : tie.Need-add-skip
-add-skip c = search needs
-
-skip-requires : tie.Need-skip-requires
-skip-requires c κs = search needs
-
-read-split-requires : tie.Need-read-split-requires
-read-split-requires c κs = of-mode (c .before .before)
+read-lead-requires : tie.Need-read-lead-requires
+read-lead-requires c κs = c .pre
 
 read-endpoints-requires : tie.Need-read-endpoints-requires
-read-endpoints-requires c κs = of-mode (c .before .before .before)
+read-endpoints-requires c κs = of-mode (c .before)
 
 read-p-requires : tie.Need-read-p-requires
-read-p-requires c κs = of-mode (c .before .before .before .before .before)
+read-p-requires c κs = of-mode (c .before .before .before)
 
 anchors-of-requires : tie.Need-anchors-of-requires
-anchors-of-requires c κs =
-    let s = c .before .before .before .before .before .before .before in
-    partition-64 _ (sixteen s) (s .pre .mode-is) (s .pre .low) (s .pre .mode-row-is) (split-of (c .before .before .before .before))
+anchors-of-requires c κs = c .before .before .before .before .read-lead .ensures .few
 
 read-indexes-requires : tie.Need-read-indexes-requires
 read-indexes-requires c κs =
-    let s = c .before .before .before .before .before .before .before .before in
+    let lead = c .before .before .before .before .before in
+    let s = lead .before in
     let b = small (of-mode s) in
     record {
       least = omega (arith, b .least);
       most = b .most;
       rising =
-          rise _ (sixteen s) (s .pre .mode-is) (s .pre .low) (s .pre .mode-row-is) (split-of (c .before .before .before .before .before))
-          (c .anchors-of .ensures);
+          rise _ (sixteen s) (s .pre .mode-is) (s .pre .low) (s .pre .mode-row-is) (lead .read-lead .ensures .split) (c .anchors-of .ensures);
     }
 
 parts-of-requires : tie.Need-parts-of-requires
-parts-of-requires c κs = small (of-mode (c .before .before .before .before .before .before .before .before .before .before)) .most
+parts-of-requires c κs = small (of-mode (c .before .before .before .before .before .before .before .before)) .most
 
 read-second-requires : tie.Need-read-second-requires
 read-second-requires c κs =
-    let s = c .before .before .before .before .before .before .before .before .before .before .before in
+    let lead = c .before .before .before .before .before .before .before .before in
+    let s = lead .before in
     record {
       of-mode = of-mode s;
       rising =
-          rise _ (sixteen s) (s .pre .mode-is) (s .pre .low) (s .pre .mode-row-is)
-          (split-of (c .before .before .before .before .before .before .before .before))
+          rise _ (sixteen s) (s .pre .mode-is) (s .pre .low) (s .pre .mode-row-is) (lead .read-lead .ensures .split)
           (c .before .before .before .anchors-of .ensures);
     }
 
 returns : tie.Need-returns
 returns c =
-    let s = c .before .before .before .before .before .before .before .before .before .before .before .before in
-    record-read _ (sixteen s) (s .pre .mode-is) (s .pre .low) (s .pre .mode-row-is)
-    (behind (c .before .before .before .before .before .before .before .before .before .before))
-    (c .before .before .before .before .before .before .before .before .before .read-split .ensures)
-    (c .before .before .before .before .before .before .before .before .read-endpoints .ensures)
-    (c .before .before .before .before .before .before .read-p .ensures)
-    (c .before .before .before .before .anchors-of .ensures) (c .before .before .before .read-indexes .ensures) (c .before .parts-of .ensures)
-    (c .read-second .ensures)
+    let anchors = c .before .before .before .before in
+    let values = anchors .before .before .before .before in
+    let s = values .before .before in
+    record-read _ (sixteen s) (s .pre .mode-is) (s .pre .low) (s .pre .mode-row-is) (values .before .read-lead .ensures)
+    (values .read-endpoints .ensures) (anchors .before .before .read-p .ensures) (anchors .anchors-of .ensures)
+    (c .before .before .before .read-indexes .ensures) (c .before .parts-of .ensures) (c .read-second .ensures)
 
 pub read-record-spec : {M : Type 1} → statement M
 read-record-spec =
     tie.close
     (tie.spec
-    new-requires
-    add-skip
-    skip-requires
-    read-split-requires
+    read-lead-requires
     read-endpoints-requires
     read-p-requires
     anchors-of-requires

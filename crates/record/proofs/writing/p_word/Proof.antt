@@ -19,8 +19,8 @@ step : (c : tie.In-loop Inv-loop μ-loop)
     → Step 1 (c .before .before .args .count) (λ i. getD (c .before .before .args .t1) i 0) (c .before .loop .k) (c .before .loop .word)
 step c =
     let s = c .before .before in
-    down-next _ _ _ (s .pre .bits) (omega (arith, s .pre .count)) (c .before .loop .k) (c .before .loop .word) (omega arith) (c .before .loop .inv .0)
-    (c .before .loop .inv .1)
+    let l = c .before .loop in
+    down-next _ _ _ (s .pre .bits) (omega (arith, s .pre .count)) (l .k) (l .word) (omega arith) (l .inv .0) (l .inv .1)
 
 loop-holds : tie.Need-loop-holds Inv-loop μ-loop
 loop-holds c = (omega arith, down-none _ _ _ (c .pre .bits))

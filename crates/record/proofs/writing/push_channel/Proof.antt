@@ -22,7 +22,7 @@ cast-push c = omega (arith, small (of-mode (c .before .before .before .pre .pack
 mul-push : tie.Need-mul-push
 mul-push c =
     let s = c .before .before .before in
-    omega (arith, channel-asks (s .pre .packs) _ (s .pre .channel) (s .pre .width-is) (s .pre .before) (c .before .channel-word .ensures) .1)
+    omega (arith, channel-asks (s .pre .packs) _ (s .pre .channel) (s .pre .width-is) (s .pre .before) (c .before .channel-word .ensures) .room)
 
 push-requires : tie.Need-push-requires
 push-requires c κs =
@@ -32,7 +32,8 @@ push-requires c κs =
 returns : tie.Need-returns
 returns c =
     let s = c .before .before .before .before in
-    channel-next (s .pre .packs) _ (s .pre .channel) (s .pre .width-is) (s .pre .before) (c .before .before .channel-word .ensures) (c .push .ensures)
+    channel-next (s .pre .packs) _ (s .pre .channel) (s .pre .width-is) (s .pre .before) (c .before .before .channel-word .ensures)
+    (c .push .ensures)
 
 pub push-channel-spec : {M : Type 1} → statement M
 push-channel-spec =

@@ -45,7 +45,11 @@ push-requires : tie.Need-push-requires
 push-requires c κs =
     let s = c .before .before .before .before .before in
     rw (stored (c .before), c .stored-bits .ensures)
-    (rw (size-kind _ _ _ _ (s .pre .least) (s .pre .rising)) at (join-lt (s .pre .fits)), s .pre .room, s .pre .holds)
+    (record {
+      fits = rw (size-kind _ _ _ _ (s .pre .least) (s .pre .rising)) at (join-lt (s .pre .fits));
+      room = s .pre .room;
+      below = s .pre .holds;
+    })
 
 returns : tie.Need-returns
 returns c = c .push .ensures ∙ rw (stored (c .before .before), c .before .stored-bits .ensures)

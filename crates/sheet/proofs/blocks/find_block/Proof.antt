@@ -43,7 +43,7 @@ returns-3 c =
     let e = w .before .before in
     c .not-found3 .ensures ∙ not-found _ _ (e .before .before .read-head .ensures)
     (then (e .if1 .left) (then (w .if2 .left ∙ w .before .whole-length .ensures)
-    (here (λ n. omega (arith, c .before .if3 .taken, c .before .before .blocks-of .ensures .0, n))))) (λ z. omega arith)
+    (here (λ n. omega (arith, c .before .if3 .taken, c .before .before .blocks-of .ensures .same, n))))) (λ z. omega arith)
 
 place-of-requires : tie.Need-place-of-requires
 place-of-requires c κs = search needs
@@ -58,7 +58,7 @@ returns-4 c =
       (
         w .if2 .left
             ∙ w .before .whole-length .ensures,
-        (omega (arith, c .before .if3 .left, c .before .before .blocks-of .ensures .0), tt),
+        (omega (arith, c .before .if3 .left, c .before .before .blocks-of .ensures .same), tt),
       ),
     )
 

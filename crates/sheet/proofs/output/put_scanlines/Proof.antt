@@ -55,14 +55,16 @@ loop-again c =
     let l = c .before .before in
     let i = l .before .before in
     let p = i .before .before .before .pre in
-    (omega arith, scanlines-more _ _ _ _ (p .block .column) _ _ (i .loop-test .taken) _ (p .pixels) (i .before .loop .inv .1) (l .put-scanline .ensures))
+    let so-far = i .before .loop .inv .1 in
+    (omega arith, scanlines-more _ _ _ _ (p .block .column) _ _ (i .loop-test .taken) _ (p .pixels) so-far (l .put-scanline .ensures))
 
 same-length : tie.Need-same-length Inv-loop μ-loop
 same-length c = c .before .loop .inv .1 .long ∙ sym (c .before .before .before .pre .block .whole)
 
 returns : tie.Need-returns Inv-loop μ-loop
 returns c =
-    scanlines-all _ _ _ _ (c .before .before .before .pre .block .column) (c .before .before .before .pre .block .whole) (c .loop-test .left) (c .before .loop .inv .1)
+    let p = c .before .before .before .pre .block in
+    scanlines-all _ _ _ _ (p .column) (p .whole) (c .loop-test .left) (c .before .loop .inv .1)
 
 pub put-scanlines-spec : {M : Type 1} → statement M
 put-scanlines-spec =

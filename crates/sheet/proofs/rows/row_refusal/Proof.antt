@@ -43,7 +43,7 @@ shown-in-requires : tie.Need-shown-in-requires
 shown-in-requires c κs = search needs
 
 out-length-requires : tie.Need-out-length-requires
-out-length-requires c κs = (size (c .before .before .before .before .before) .within-wide, omega (arith, c .shown-in .ensures))
+out-length-requires c κs = record { wide = size (c .before .before .before .before .before) .within-wide; few = omega (arith, c .shown-in .ensures) }
 
 returns-4 : tie.Need-returns-4
 returns-4 c =

@@ -22,7 +22,7 @@ mul-result c = let e = ap₂ (λ (x y : ℕ). x * y) (c .before .blocks-across .
 returns : tie.Need-returns
 unfolding blocksOf
 returns c = let e = ap₂ (λ (x y : ℕ). x * y) (c .before .blocks-across .ensures) (c .blocks-across2 .ensures) in
-    (e, omega (arith, e, few-blocks (c .before .before .pre)))
+    record { same = e; few = omega (arith, e, few-blocks (c .before .before .pre)) }
 
 pub blocks-of-spec : {M : Type 1} → statement M
 blocks-of-spec =

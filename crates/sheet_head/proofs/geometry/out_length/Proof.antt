@@ -11,7 +11,7 @@ mul-result : tie.Need-mul-result
 mul-result c = search needs
 
 mul-result-2 : tie.Need-mul-result-2
-mul-result-2 c = omega (arith, mul-le-mul-right (4 * c .args .width) (c .pre .1), c .pre .0)
+mul-result-2 c = omega (arith, mul-le-mul-right (4 * c .args .width) (c .pre .few), c .pre .wide)
 
 returns : tie.Need-returns
 returns c = search needs

@@ -14,7 +14,7 @@ place-of-requires c κs = search needs
 
 returns : tie.Need-returns
 unfolding placeOf
-returns c = c .place-of .ensures ∙ ap (placeOf (c .before .before .args .head)) (c .before .blocks-of .ensures .0)
+returns c = c .place-of .ensures ∙ ap (placeOf (c .before .before .args .head)) (c .before .blocks-of .ensures .same)
 
 pub whole-length-spec : {M : Type 1} → statement M
 whole-length-spec = tie.close (tie.spec blocks-of-requires place-of-requires returns)

@@ -23,14 +23,14 @@ group-requires : tie.Need-group-requires
 group-requires c κs = search needs
 
 add-t9 : tie.Need-add-t9
-add-t9 c = omega (arith, c .before .group .ensures .1, low-small (c .before .before .before .before .before .before .pre))
+add-t9 c = omega (arith, c .before .group .ensures .small, low-small (c .before .before .before .before .before .before .pre))
 
 add-t10 : tie.Need-add-t10
 add-t10 c = search needs
 
 returns-2 : tie.Need-returns-2
 unfolding groupTaken
-returns-2 c = rw (c .before .before .group .ensures .0, c .before .before .before .wide .ensures)
+returns-2 c = rw (c .before .before .group .ensures .same, c .before .before .before .wide .ensures)
     (sym (rw (ne-eqb _ 2 (c .before .before .before .before .before .if1 .left))))
 
 pub take-group-spec : {M : Type 1} → statement M

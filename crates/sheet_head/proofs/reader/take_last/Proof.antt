@@ -26,18 +26,20 @@ group-requires : tie.Need-group-requires
 group-requires c κs = search needs
 
 add-n : tie.Need-add-n
-add-n c = omega (arith, c .before .group .ensures .1, low-small (c .before .before .before .before .before .before .pre .0))
+add-n c = omega (arith, c .before .group .ensures .small, low-small (c .before .before .before .before .before .before .pre .going))
 
 wide-requires-2 : tie.Need-wide-requires-2
 wide-requires-2 c κs = search needs
 
 add-take-number : tie.Need-add-take-number
 add-take-number c =
-    omega (arith, not-far (c .before .before .before .before .before .before .before .before .pre .0), c .before .before .before .before .before .before .before .before .pre .0 .few, c .before .wide2 .ensures)
+    let going = c .before .before .before .before .before .before .before .before .pre .going in
+    omega (arith, not-far going, going .few, c .before .wide2 .ensures)
 
 add-take-number-2 : tie.Need-add-take-number-2
 add-take-number-2 c =
-    omega (arith, not-far (c .before .before .before .before .before .before .before .before .pre .0), c .before .before .before .before .before .before .before .before .pre .0 .few, c .before .wide2 .ensures)
+    let going = c .before .before .before .before .before .before .before .before .pre .going in
+    omega (arith, not-far going, going .few, c .before .wide2 .ensures)
 
 take-number-requires : tie.Need-take-number-requires
 take-number-requires c κs = search needs
@@ -45,13 +47,14 @@ take-number-requires c κs = search needs
 returns-2 : tie.Need-returns-2
 unfolding lastTaken
 returns-2 c =
-    let a = c .before .before .before .before .before .before .before .before .before .args .reader in
+    let counted = c .before .before .before .before in
+    let whole = counted .before .before .before in
+    let a = whole .before .before .args .reader in
     c .take-number .ensures
     ∙ ap₂ (numberIn (a .stage) (a .head))
-    (ap (λ (v : ℕ). a .low + v) (c .before .before .before .before .group .ensures .0 ∙ ap (λ (v : ℕ). v * 128 ^ a .groups)
-    (c .before .before .before .before .before .wide .ensures)))
+    (ap (λ (v : ℕ). a .low + v) (counted .group .ensures .same ∙ ap (λ (v : ℕ). v * 128 ^ a .groups) (counted .before .wide .ensures)))
     (ap (λ (g : ℕ). a .head .start + g + 1) (c .before .before .wide2 .ensures))
-    ∙ sym (rw (← c .before .before .before .before .before .before .before .before .empty-above .ensures, c .before .before .before .before .before .before .before .if1 .left))
+    ∙ sym (rw (← whole .before .empty-above .ensures, whole .if1 .left))
 
 pub take-last-spec : {M : Type 1} → statement M
 take-last-spec =

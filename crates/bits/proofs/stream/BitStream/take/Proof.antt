@@ -41,8 +41,8 @@ unfolding held
 returns-2 c =
     let s = c .before .before .before .before in
     let w = s .args .count in
-    reads (s .args .self) w
-    (c .accepted .ensures ∙ rw (in-window _ _ (s .args .self .at) w (s .pre) (c .before .window .ensures) (omega arith)) (sym (read-fits (s .args .self) w (omega arith))))
+    let value = in-window _ _ (s .args .self .at) w (s .pre) (c .before .window .ensures) (omega arith) in
+    reads (s .args .self) w (c .accepted .ensures ∙ rw value (sym (read-fits (s .args .self) w (omega arith))))
 
 pub take-spec : {M : Type 1} → statement M
 take-spec =

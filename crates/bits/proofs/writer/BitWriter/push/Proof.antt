@@ -36,17 +36,17 @@ add-t22 c = search needs
 returns : tie.Need-returns
 returns c =
     let s = c .before .before .before in
-    push-low (s .args .self) (s .args .value) (s .args .count) (omega arith) (s .pre .1) (s .pre .0) (s .pre .2) (omega arith)
+    push-low (s .args .self) (s .args .value) (s .args .count) (omega arith) (s .pre) (omega arith)
 
 returns-2 : tie.Need-returns-2
 returns-2 c =
     let s = c .before .before .before in
-    push-high (s .args .self) (s .args .value) (s .args .count) (omega arith) (s .pre .1) (s .pre .0) (s .pre .2) (omega arith)
+    push-high (s .args .self) (s .args .value) (s .args .count) (omega arith) (s .pre) (omega arith)
 
 returns-3 : tie.Need-returns-3
 returns-3 c =
     let s = c .before .before in
-    push-none (s .args .self) (s .args .value) (s .args .count) (omega arith) (s .pre .1) (s .pre .0) (s .pre .2) (omega arith)
+    push-none (s .args .self) (s .args .value) (s .args .count) (omega arith) (s .pre) (omega arith)
 
 pub push-spec : {M : Type 1} → statement M
 push-spec =
