@@ -1,4 +1,4 @@
--- What the printed table of modes says, in the format's words, and how large it is: computed tests over the modes.
+-- How large the numbers of the modes are, by the printed table and the format's: computed tests over the modes.
 -- Assumes nothing.
 use mathlib.Core.Path.{_≡_, refl}
 use mathlib.Core.Logic.{_≢_}
@@ -10,58 +10,14 @@ use borrow.Author.Tests.{ne-eqb}
 use lib.Dec.{T, eqb, eqb→eq, leb, leb→le, ltb, ltb→lt, lt→ltb}
 use Rattle.laws.specs.Tables.{below, both, implies, pick}
 use Rattle.laws.proofs.Tests.{at, both-left, both-right, implied}
-use Rattle.bcn_format.specs.Drawing.{promoted}
 use Rattle.bc7_format.specs.Fields.{leadEnd, pStart, valueStart}
 use Rattle.bc7_format.specs.Modes.{alphaBits, channelBits, colourBits, endpointCount, firstBits, indexBits, indexModeBits, modeRow, pCount}
 use Rattle.bc7_format.specs.Modes.{partitionBits, rotationBits, secondBits}
 use Rattle.pixel_rules.specs.Columns.{columnOf, printedRows}
 use Rattle.pixel_rules.specs.Plain.{firstStart, setFor}
 
-by-row : (f g : ℕ → ℕ) → T (below 8 (λ m. eqb (f m) (g m))) → (m : ℕ) → m < 8 → f m ≡ g m
-by-row f g t m h = eqb→eq (f m) (g m) (at 8 (λ m. eqb (f m) (g m)) t m h)
-
 row-le : (f : ℕ → ℕ) (n : ℕ) → T (below 8 (λ m. leb (f m) n)) → (m : ℕ) → m < 8 → f m ≤ n
 row-le f n t m h = leb→le (f m) n (at 8 (λ m. leb (f m) n) t m h)
-
--- a test as a number
-abbrev pub flag : Bool → ℕ
-flag b = pick b 1 0
-
--- the columns
-pub record Row (m : ℕ) : Type 0 where
-  pub ends : 2 * columnOf m 0 ≡ endpointCount m
-  pub partition : columnOf m 1 ≡ partitionBits m
-  pub rotation : columnOf m 2 ≡ rotationBits m
-  pub index-mode : columnOf m 3 ≡ indexModeBits m
-  pub colour : columnOf m 4 ≡ colourBits m
-  pub alpha : columnOf m 5 ≡ alphaBits m
-  pub ps : endpointCount m * columnOf m 6 + columnOf m 0 * columnOf m 7 ≡ pCount m
-  pub none : flag (eqb (columnOf m 6 + columnOf m 7) 0) ≡ flag (eqb (pCount m) 0)
-  pub shared : flag (eqb (columnOf m 7) 1) ≡ flag (eqb m 1)
-  pub first : columnOf m 8 ≡ firstBits m
-  pub second : columnOf m 9 ≡ secondBits m
-
-pub row : (m : ℕ) → m < 8 → Row m
-unfolding columnOf printedRows modeRow endpointCount
-row m h = record {
-  ends = by-row (λ m. 2 * columnOf m 0) endpointCount tt m h;
-  partition = by-row (λ m. columnOf m 1) partitionBits tt m h;
-  rotation = by-row (λ m. columnOf m 2) rotationBits tt m h;
-  index-mode = by-row (λ m. columnOf m 3) indexModeBits tt m h;
-  colour = by-row (λ m. columnOf m 4) colourBits tt m h;
-  alpha = by-row (λ m. columnOf m 5) alphaBits tt m h;
-  ps = by-row (λ m. endpointCount m * columnOf m 6 + columnOf m 0 * columnOf m 7) pCount tt m h;
-  none = by-row (λ m. flag (eqb (columnOf m 6 + columnOf m 7) 0)) (λ m. flag (eqb (pCount m) 0)) tt m h;
-  shared = by-row (λ m. flag (eqb (columnOf m 7) 1)) (λ m. flag (eqb m 1)) tt m h;
-  first = by-row (λ m. columnOf m 8) firstBits tt m h;
-  second = by-row (λ m. columnOf m 9) secondBits tt m h;
-}
-
-pub same-flag : (a b : Bool) → flag a ≡ flag b → a ≡ b
-same-flag true true e = refl
-same-flag true false e = absurd (let z : ⊥ = omega arith in z)
-same-flag false true e = absurd (let z : ⊥ = omega arith in z)
-same-flag false false e = refl
 
 -- how large they are
 pub column-le : (m k : ℕ) → m < 8 → k < 10 → columnOf m k ≤ 8
@@ -164,20 +120,6 @@ serves m i d h hi hd =
 -- a product of two small numbers
 pub product : {a b : ℕ} (x y : ℕ) → a ≤ x → b ≤ y → a * b ≤ x * y
 product {a} {b} x y h l = le-trans (mul-le-mul-right b h) (mul-le-mul-left x l)
-
--- a promoted value is a byte
-pub promoted-byte : (b v : ℕ) → 4 ≤ b → b ≤ 8 → v < 2 ^ b → promoted b v < 256
-unfolding promoted
-promoted-byte zero v h l e = absurd (let z : ⊥ = omega arith in z)
-promoted-byte (suc zero) v h l e = absurd (let z : ⊥ = omega arith in z)
-promoted-byte (suc (suc zero)) v h l e = absurd (let z : ⊥ = omega arith in z)
-promoted-byte (suc (suc (suc zero))) v h l e = absurd (let z : ⊥ = omega arith in z)
-promoted-byte (suc (suc (suc (suc zero)))) v h l e = omega arith
-promoted-byte (suc (suc (suc (suc (suc zero))))) v h l e = omega arith
-promoted-byte (suc (suc (suc (suc (suc (suc zero)))))) v h l e = omega arith
-promoted-byte (suc (suc (suc (suc (suc (suc (suc zero))))))) v h l e = omega arith
-promoted-byte (suc (suc (suc (suc (suc (suc (suc (suc zero)))))))) v h l e = omega arith
-promoted-byte (suc (suc (suc (suc (suc (suc (suc (suc (suc b))))))))) v h l e = absurd (let z : ⊥ = omega arith in z)
 
 -- an index has four bits at the most
 pub index-le : (m a : ℕ) → m < 8 → a < 2 → indexBits m a ≤ 4

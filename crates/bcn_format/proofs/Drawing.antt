@@ -7,11 +7,21 @@ use Prim.Native.Nat.{ℕ, zero, suc, _+_, _-_, _*_, _/_, _^_, _<_, _≤_}
 use native.Mathlib.Nat.{mul-le-mul-left, mul-assoc, le-of-suc-le-suc}
 use native.Mathlib.Omega.{arith}
 use lib.Dec.{T, eqb, eqb→eq}
-use lib.Arith.{sub-sub-self}
+use lib.Arith.{digits-lt, sub-sub-self}
 use lib.ListN.{getD}
+use lib.Pow.{pow-add, shl-lt, shr-lt}
 use Rattle.laws.specs.Tables.{below}
 use Rattle.laws.proofs.Tests.{at}
-use Rattle.bcn_format.specs.Drawing.{drawn, weightOf, weights}
+use Rattle.bcn_format.specs.Drawing.{drawn, promoted, weightOf, weights}
+
+-- what is promoted is a byte
+pub promoted-lt : (b x : ℕ) → b ≤ 8 → x < 2 ^ b → promoted b x < 256
+unfolding promoted
+promoted-lt b x hb hx =
+    let whole : b + (8 - b) ≡ 8 = omega arith in
+    let turned : b + (8 - b) ≡ 8 - b + b = omega arith in
+    let low : x * 2 ^ (8 - b) / 2 ^ b < 2 ^ (8 - b) = shr-lt (8 - b) b (rw turned at (shl-lt b (8 - b) hx)) in
+    rw (← (pow-add 2 b (8 - b)), whole) at (digits-lt hx low)
 
 -- a weighted mean of two bytes, not yet divided, fits sixteen bits
 pub mean : (a b x y : ℕ) → a + b ≡ 256 → x < 256 → y < 256 → a * x + b * y ≤ 65280

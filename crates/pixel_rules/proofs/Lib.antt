@@ -2,3 +2,4 @@ pub mod Attested
 pub mod Walking
 pub mod Reading
 pub mod Theorems
+pub mod Rows

@@ -6,10 +6,9 @@ use mathlib.Core.List.{List, [], _∷_}
 use Prim.Native.Nat.{ℕ, zero, suc, _+_, _-_, _*_, _/_, _%_, _^_, _≤_, _<_}
 use native.Mathlib.Nat.{mod-eq-of-lt, mod-lt}
 use native.Mathlib.Omega.{arith}
-use lib.Arith.{digits-lt}
 use lib.Dec.{T, eqb, leb, leb→le, lit<}
 use lib.ListN.{getD}
-use lib.Pow.{pow-add, pow-pos, shl-lt, shr-lt}
+use lib.Pow.{pow-add, pow-pos}
 use Rattle.bc7_format.specs.declared.Place.the-variants.{Index}
 use Rattle.bc7_format.specs.declared.Split.{Split}
 use Rattle.laws.specs.Digits.{total}
@@ -18,7 +17,7 @@ use Rattle.laws.proofs.Tests.{at}
 use Rattle.bcn_format.specs.Block.{field}
 use Rattle.bcn_format.specs.Drawing.{drawn, promoted, weightOf}
 use Rattle.bc7_format.specs.Lines.{eight, isDrawn}
-use Rattle.bcn_format.proofs.Drawing.{weightOf256, weights256, mean, weight-le}
+use Rattle.bcn_format.proofs.Drawing.{weightOf256, weights256, mean, promoted-lt, weight-le}
 use Rattle.bc7_format.specs.Modes.{channelBits, indexBits, modeRow, pCount}
 use Rattle.bc7_format.specs.Places.{atPlace, firstFrom}
 use Rattle.bc7_format.specs.Splits.{anchors}
@@ -35,15 +34,6 @@ use Rattle.published.specs.BcnUtil.{get-index}
 use Rattle.published.specs.Machine.{sub}
 use Rattle.published.specs.Bc7.{WEIGHTS-2, WEIGHTS-3, interpolate-2-or-3, interpolate-colors, interpolate-colors-alpha, mixed, rgba}
 use Rattle.published.proofs.Expanding.{get-index-is, indexesAre}
-
--- what is promoted is a byte
-promoted-lt : (b x : ℕ) → b ≤ 8 → x < 2 ^ b → promoted b x < 256
-unfolding promoted
-promoted-lt b x hb hx =
-    let whole : b + (8 - b) ≡ 8 = omega arith in
-    let turned : b + (8 - b) ≡ 8 - b + b = omega arith in
-    let low : x * 2 ^ (8 - b) / 2 ^ b < 2 ^ (8 - b) = shr-lt (8 - b) b (rw turned at (shl-lt b (8 - b) hx)) in
-    rw (← (pow-add 2 b (8 - b)), whole) at (digits-lt hx low)
 
 -- a byte of an endpoint is a byte: with p a channel has seven bits at the most
 narrow : Bool → ℕ → Bool

@@ -12,7 +12,8 @@ use Rattle.bcn_format.proofs.Fields.{field-below, field-lt}
 use Rattle.bc7_format.specs.Fields.{pStart, valueStart}
 use Rattle.bc7_format.specs.Modes.{channelBits, pCount}
 use Rattle.bc7_plain.proofs.EndBytes.{bit-below, none-stored, plain-value, value-with-p}
-use Rattle.bc7_plain.proofs.Rows.{deep, fits, p-room, row, same-flag, value-room}
+use Rattle.pixel_rules.proofs.Rows.{row, same-flag}
+use Rattle.bc7_plain.proofs.Rows.{deep, fits, p-room, value-room}
 use Rattle.bc7_plain.proofs.endpoint_of.Statement.{statement}
 use Rattle.bc7_plain.proofs.endpoint_of.Tie as tie
 

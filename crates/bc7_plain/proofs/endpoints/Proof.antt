@@ -2,7 +2,7 @@
 -- Assumes nothing.
 use borrow.Author.Needs.{needs}
 use native.Mathlib.Omega.{arith}
-use Rattle.bc7_plain.proofs.Rows.{row}
+use Rattle.pixel_rules.proofs.Rows.{row}
 use Rattle.bc7_plain.proofs.endpoints.Statement.{statement}
 use Rattle.bc7_plain.proofs.endpoints.Tie as tie
 

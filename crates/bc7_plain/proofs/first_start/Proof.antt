@@ -6,7 +6,8 @@ use native.Mathlib.Omega.{arith}
 use borrow.Author.Needs.{needs}
 use Rattle.bc7_format.specs.Modes.{pCount}
 use Rattle.pixel_rules.specs.Plain.{firstStart}
-use Rattle.bc7_plain.proofs.Rows.{fits, product, row}
+use Rattle.pixel_rules.proofs.Rows.{row}
+use Rattle.bc7_plain.proofs.Rows.{fits, product}
 use Rattle.bc7_plain.proofs.first_start.Statement.{statement}
 use Rattle.bc7_plain.proofs.first_start.Tie as tie
 

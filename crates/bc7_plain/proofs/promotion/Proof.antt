@@ -6,7 +6,7 @@ use native.Mathlib.Omega.{arith}
 use borrow.Author.Needs.{needs}
 use lib.Pow.{shl-exact, shl-lt, shr-le}
 use Rattle.bcn_format.specs.Drawing.{promoted}
-use Rattle.bc7_plain.proofs.Rows.{promoted-byte}
+use Rattle.bcn_format.proofs.Drawing.{promoted-lt}
 use Rattle.bc7_plain.proofs.promotion.Statement.{statement}
 use Rattle.bc7_plain.proofs.promotion.Tie as tie
 
@@ -39,7 +39,7 @@ unfolding promoted
 returns c =
     let w : ℕ = c .args .width in
     let e = ap (λ (x : ℕ). x + x / 2 ^ w) (top c) in
-    record { is = e; small = subst (λ (x : ℕ). x < 256) (sym e) (promoted-byte w (c .args .value) (c .pre .least) (c .pre .most) (c .pre .within)) }
+    record { is = e; small = subst (λ (x : ℕ). x < 256) (sym e) (promoted-lt w (c .args .value) (c .pre .most) (c .pre .within)) }
 
 pub promotion-spec : {M : Type 1} → statement M
 promotion-spec = tie.close (tie.spec sub-top shl-top shr-result add-result returns)

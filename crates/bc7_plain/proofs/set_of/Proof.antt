@@ -4,7 +4,7 @@ use mathlib.Core.Path.{sym, _∙_}
 use borrow.Author.Needs.{needs}
 use borrow.Author.Tests.{eq-eqb, ne-eqb}
 use Rattle.pixel_rules.specs.Plain.{setFor}
-use Rattle.bc7_plain.proofs.Rows.{row}
+use Rattle.pixel_rules.proofs.Rows.{row}
 use Rattle.bc7_plain.proofs.set_of.Statement.{statement}
 use Rattle.bc7_plain.proofs.set_of.Tie as tie
 

@@ -5,7 +5,7 @@ use Prim.Native.Nat.{ℕ, _+_}
 use native.Mathlib.Numerals.{add-one}
 use borrow.Author.Needs.{needs}
 use Rattle.bcn_format.specs.Block.{field, number}
-use Rattle.bc7_plain.proofs.Rows.{row}
+use Rattle.pixel_rules.proofs.Rows.{row}
 use Rattle.bc7_plain.proofs.split_of.Statement.{statement}
 use Rattle.bc7_plain.proofs.split_of.Tie as tie
 

@@ -6,7 +6,8 @@ use native.Mathlib.Omega.{arith}
 use borrow.Author.Needs.{needs}
 use Rattle.bc7_format.specs.Fields.{leadEnd}
 use Rattle.bc7_format.specs.Modes.{alphaBits, colourBits, endpointCount}
-use Rattle.bc7_plain.proofs.Rows.{fits, product, row}
+use Rattle.pixel_rules.proofs.Rows.{row}
+use Rattle.bc7_plain.proofs.Rows.{fits, product}
 use Rattle.bc7_plain.proofs.values_end.Statement.{statement}
 use Rattle.bc7_plain.proofs.values_end.Tie as tie
 

@@ -19,6 +19,7 @@ use Rattle.laws.proofs.Lanes.{lanes, scale}
 use Rattle.laws.proofs.Evenly.{evenly-mask}
 use Rattle.bcn_format.specs.Block.{field}
 use Rattle.bcn_format.specs.Drawing.{promoted}
+use Rattle.bcn_format.proofs.Drawing.{promoted-lt}
 use Rattle.drawing.specs.declared.colour.Ends.{Ends}
 use Rattle.bcn_format.specs.Painting.{endOf, endOfP, solid}
 use Rattle.drawing.specs.Asked.{Promotable, PromotableP, Width, WidthP}
@@ -123,27 +124,21 @@ at-width P p4 p5 p6 p7 p8 (suc (suc (suc (suc (suc (suc (suc (suc zero)))))))) l
 at-width P p4 p5 p6 p7 p8 (suc (suc (suc (suc (suc (suc (suc (suc (suc n))))))))) l h = absurd (let z : ⊥ = omega arith in z)
 
 abbrev Filled : ℕ → Type 0
-Filled n = (v : ℕ) → v < 2 ^ n → (2 ^ (8 - n) * v + v / 2 ^ (2 * n - 8) % 2 ^ (8 - n) ≡ promoted n v) × (promoted n v < 256)
+Filled n = (v : ℕ) → v < 2 ^ n → 2 ^ (8 - n) * v + v / 2 ^ (2 * n - 8) % 2 ^ (8 - n) ≡ promoted n v
 
 filled : (n : ℕ) → 4 ≤ n → n ≤ 8 → Filled n
 unfolding promoted
-filled =
-    at-width Filled (λ v h. (omega arith, omega arith)) (λ v h. (omega arith, omega arith)) (λ v h. (omega arith, omega arith))
-    (λ v h. (omega arith, omega arith)) (λ v h. (omega arith, omega arith))
-
-pub promoted-lt : (n : ℕ) {v : ℕ} → 4 ≤ n → n ≤ 8 → v < 2 ^ n → promoted n v < 256
-promoted-lt n {v} least most h = filled n least most v h .1
+filled = at-width Filled (λ v h. omega arith) (λ v h. omega arith) (λ v h. omega arith) (λ v h. omega arith) (λ v h. omega arith)
 
 module _ (n x : ℕ) (hx : x < 2 ^ 64) (p : Promotable n x) where
   promoted-fits : Fit (replicate 4 8) (map (promoted n) (lanesOf x))
-  promoted-fits = fit-map 4 n 8 (promoted n) (λ v h. promoted-lt n (p .width .least) (p .width .most) h) (p .lanes)
+  promoted-fits = fit-map 4 n 8 (promoted n) (λ v h. promoted-lt n v (p .width .most) h) (p .lanes)
 
   sum : x * 2 ^ (8 - n) + laned (map (λ v. field v (2 * n - 8) (8 - n)) (lanesOf x)) ≡ laned (map (promoted n) (lanesOf x))
   unfolding laned lanesOf field
   sum =
       let c : ℕ = 2 ^ (8 - n) in
-      let filled-is : (v : ℕ) → v < 2 ^ n → c * v + v / 2 ^ (2 * n - 8) % 2 ^ (8 - n) ≡ promoted n v =
-      λ v h. filled n (p .width .least) (p .width .most) v h .0 in
+      let filled-is : (v : ℕ) → v < 2 ^ n → c * v + v / 2 ^ (2 * n - 8) % 2 ^ (8 - n) ≡ promoted n v = filled n (p .width .least) (p .width .most) in
       ap (λ (y : ℕ). y + lanes 16 (map (λ v. v / 2 ^ (2 * n - 8) % 2 ^ (8 - n)) (lanesOf x)))
       (ap (λ (y : ℕ). y * c) (sym (laned-lanes hx)) ∙ mul-comm (laned (lanesOf x)) c ∙ sym (scale 16 c (lanesOf x)))
       ∙ lane-sums 4 n (λ v. c * v) (λ v. v / 2 ^ (2 * n - 8) % 2 ^ (8 - n)) (promoted n) filled-is (p .lanes)
@@ -250,12 +245,12 @@ promoted-none = at-width (λ n. promoted n 0 ≡ 0) refl refl refl refl refl
 -- an endpoint's channel is a byte
 pub end-lt : (n k v : ℕ) → Width n → endOf n k v < 2 ^ 8
 unfolding field
-end-lt n k v w = promoted-lt n (w .least) (w .most) (mod-lt (v / 2 ^ (n * k)) (pow-pos n))
+end-lt n k v w = promoted-lt n _ (w .most) (mod-lt (v / 2 ^ (n * k)) (pow-pos n))
 
 pub end-p-lt : (n k v p : ℕ) → WidthP n → endOfP n k v p < 2 ^ 8
 unfolding field
 end-p-lt n k v p w =
-    promoted-lt (n + 1) (omega arith) (omega arith)
+    promoted-lt (n + 1) _ (omega arith)
     (rw (pow-add 2 n 1) (omega (arith, mod-lt (v / 2 ^ (n * k)) (pow-pos n), mod-lt (p / 2 ^ k) (pow-pos 1))))
 
 -- the words of bytes: their lanes, and the endpoints that are found in them

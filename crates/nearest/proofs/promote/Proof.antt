@@ -5,7 +5,7 @@ use Prim.Native.Nat.{_-_, _*_, _%_, _^_, _<_}
 use native.Mathlib.Omega.{arith}
 use borrow.Author.Needs.{needs}
 use Rattle.bcn_format.specs.Drawing.{promoted}
-use Rattle.drawing.proofs.colour.Words.{promoted-lt}
+use Rattle.bcn_format.proofs.Drawing.{promoted-lt}
 use Rattle.nearest.proofs.Numbers.{shifted}
 use Rattle.nearest.proofs.promote.Statement.{statement}
 use Rattle.nearest.proofs.promote.Tie as tie
@@ -14,7 +14,7 @@ top : (c : tie.Start) → (c .args .value * 2 ^ (8 - c .args .bits)) % 2 ^ 32 �
 top c = shifted (c .args .bits) (c .args .value) (8 - c .args .bits) (omega arith) (c .pre .value)
 
 byte : (c : tie.Start) → promoted (c .args .bits) (c .args .value) < 256
-byte c = promoted-lt (c .args .bits) (c .pre .least) (c .pre .most) (c .pre .value)
+byte c = promoted-lt (c .args .bits) (c .args .value) (c .pre .most) (c .pre .value)
 
 sub-top : tie.Need-sub-top
 sub-top c = search needs
