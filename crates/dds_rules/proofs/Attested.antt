@@ -8,10 +8,12 @@ use lib.ListN.{drop, replicate, set, take}
 use lib.Seq.{sets}
 use Rattle.head_rules.specs.declared.ColourSpace.{ColourSpace}
 use Rattle.head_rules.specs.declared.ColourSpace.the-variants.{Unspecified, Linear, Srgb}
+use Rattle.head_rules.specs.declared.Form.the-variants.{Rows}
 use Rattle.head_rules.specs.declared.Head.{Head}
 use Rattle.head_rules.specs.Colours.{colourOf, colourRefusal}
 use Rattle.head_rules.specs.Geometry.{blocksOf}
-use Rattle.head_rules.specs.Heads.{formIn, headBytes, headRefusalUpTo, heightIn, readHeadUpTo, sizeRefusalUpTo, widthIn}
+use Rattle.head_rules.specs.Heads.{colourIn, formIn, formOf, headBytes, headRefusalUpTo, heightIn, ofFormRefusal, readHeadUpTo, readOfForm}
+use Rattle.head_rules.specs.Heads.{sizeRefusalUpTo, widthIn}
 use Rattle.head_rules.specs.Numbers.{groups, raised, readGroups, readNumber}
 use Rattle.laws.specs.Digits.{evenly}
 use Rattle.laws.specs.Refusals.{first}
@@ -32,10 +34,10 @@ abbrev nines : ℕ → List ℕ
 nines n = replicate n 9
 
 abbrev head : ColourSpace → ℕ → ℕ → ℕ → Head
-head c w h start = record { refusal = 0; width = w; height = h; start = start; «colour_space» = c }
+head c w h start = record { refusal = 0; form = Rows; width = w; height = h; start = start; «colour_space» = c }
 
 abbrev noHead : ℕ → Head
-noHead r = record { refusal = r; width = 0; height = 0; start = 0; «colour_space» = Unspecified }
+noHead r = record { refusal = r; form = Rows; width = 0; height = 0; start = 0; «colour_space» = Unspecified }
 
 abbrev three : List ColourSpace
 three = Unspecified ∷ Linear ∷ Srgb ∷ []
@@ -220,7 +222,7 @@ pub record Files : Type 0 where
 pub files-hold : Files
 unfolding evenly table tableFrom first numberAt entries headerNumber canonicalHeader isTexture headMade sheetMade fileRefusalUpTo importRefusalUpTo
     importAfterUpTo wholeRefusalBy exportRefusalBy fileMadeBy exportAfterBy importLength exportLength importHead exportHead blocksOf
-    sizeRefusalUpTo headBytes groups readHeadUpTo headRefusalUpTo formIn widthIn heightIn readNumber readGroups raised formatSays
+    sizeRefusalUpTo headBytes groups readOfForm ofFormRefusal colourIn formOf readHeadUpTo headRefusalUpTo formIn widthIn heightIn readNumber readGroups raised formatSays
     importAnswer numberedRefusal numberedAfter colourOf colourRefusal
 files-hold = record {
   in-order = refl;

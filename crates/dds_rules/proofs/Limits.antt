@@ -1,7 +1,7 @@
 -- MAPS UP TO 16,384, IN DDS FILES: what the old limit accepted is imported and exported as it was; of what it didn't, a console with the old
 -- limit answers 9 and leaves the output.
 -- Assumes nothing.
-use mathlib.Core.Path.{_≡_, refl, ap}
+use mathlib.Core.Path.{_≡_, refl, _∙_, ap}
 use mathlib.Core.Logic.{_⊎_}
 use mathlib.Core.Bool.{true}
 use mathlib.Core.List.{List}
@@ -10,11 +10,12 @@ use native.Mathlib.Omega.{arith}
 use lib.ListN.{length}
 use Rattle.laws.specs.Refusals.{first}
 use Rattle.head_rules.specs.declared.ColourSpace.{ColourSpace}
+use Rattle.head_rules.specs.declared.Form.the-variants.{Rows}
 use Rattle.head_rules.specs.declared.Head.{Head}
 use Rattle.head_rules.specs.Heads.{SizedUpTo, limit, oldLimit, readHead, readHeadUpTo}
 use Rattle.head_rules.proofs.Heading.{size-0, size-9}
 use Rattle.head_rules.proofs.Limits.{wider}
-use Rattle.head_rules.proofs.Theorems.{old-console-refuses, stored-heads-keep}
+use Rattle.head_rules.proofs.Theorems.{old-console-refuses, of-form-when, stored-heads-keep}
 use Rattle.dds_rules.specs.Header.{fieldIn, height, isTexture, width}
 use Rattle.dds_rules.specs.Files.{exportAfter, exportAfterBy, exportRefusal, exportRefusalBy, fileRefusalUpTo, importAfter, importAfterUpTo}
 use Rattle.dds_rules.specs.Files.{importRefusal, importRefusalUpTo, wholeRefusalBy}
@@ -31,11 +32,12 @@ module _ (dds out : List ℕ) where
   old-console-imports-nothing t n = rw (t, size-9 oldLimit _ _ n) (refl, refl)
 
 module _ (s : List ℕ) (c : ColourSpace) (out : List ℕ) where
-  pub stored-sheets-export : readHeadUpTo oldLimit s .refusal ≡ 0
+  pub stored-sheets-export : readHeadUpTo oldLimit s .refusal ≡ 0 → readHeadUpTo oldLimit s .form ≡ Rows
       → (exportRefusal s (length out) ≡ exportRefusalBy (readHeadUpTo oldLimit s) s (length out))
       × (exportAfter s c out ≡ exportAfterBy (readHeadUpTo oldLimit s) c s out)
-  stored-sheets-export e =
-      let k = stored-heads-keep s e in
+  stored-sheets-export e f =
+      let q = stored-heads-keep s e in
+      let k = of-form-when Rows s (ap (λ (h : Head). h .refusal) q ∙ e) (ap (λ (h : Head). h .form) q ∙ f) ∙ q in
       (ap (λ (h : Head). exportRefusalBy h s (length out)) k, ap (λ (h : Head). exportAfterBy h c s out) k)
 
   pub old-console-exports-nothing : readHead s .refusal ≡ 0 → (oldLimit < readHead s .width) ⊎ (oldLimit < readHead s .height)

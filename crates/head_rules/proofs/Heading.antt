@@ -13,8 +13,9 @@ use Rattle.head_rules.specs.declared.Head.{Head}
 use Rattle.laws.specs.Tables.{both}
 use Rattle.laws.proofs.Refusals.{Answers, Decided, answers, by-answer, by-not, by-not-eqb, decided-is, decided-not, decided-so, none, rule}
 use Rattle.laws.proofs.Tests.{both-true}
-use Rattle.head_rules.specs.Heads.{SizedUpTo, form, formIn, headOf, headRefusalUpTo, headRulesUpTo, heightIn, readHeadUpTo, sideUpTo}
-use Rattle.head_rules.specs.Heads.{sizeRefusalUpTo, widthIn}
+use Rattle.head_rules.specs.Heads.{SizedUpTo, formIn, formNumber, formOf, headOf, headRefusalUpTo, headRulesUpTo, headTold, readHeadUpTo}
+use Rattle.head_rules.specs.Heads.{sideUpTo, sizeRefusalUpTo}
+use Rattle.head_rules.proofs.Colours.{colour-test}
 
 -- refusal 9
 module _ (top w h : ℕ) where
@@ -44,17 +45,17 @@ module _ (top w h : ℕ) where
   sized = decided-is size-test
 
 module _ (top : ℕ) (s : List ℕ) where
-  pub head-rules : Answers (headRefusalUpTo top s) (headRulesUpTo top (formIn s) (widthIn s) (heightIn s))
+  pub head-rules : Answers (headRefusalUpTo top s) (headRulesUpTo top s)
   unfolding headRefusalUpTo
   head-rules =
-      answers (rule by-answer λ a. rule (by-not-eqb tt (formIn s .value) form) λ b. rule by-answer λ c. rule by-answer λ d. rule
-      (size-test _ _ _) λ z. none)
+      answers (rule by-answer λ a. rule (by-not-eqb tt (formNumber (formOf (formIn s .value))) (formIn s .value)) λ b. rule by-answer λ c. rule
+      by-answer λ d. rule by-answer λ e. rule (colour-test _) λ k. rule (size-test _ _ _) λ z. none)
 
   pub refused : (r : ℕ) → headRefusalUpTo top s ≡ r → r ≢ 0 → headOf r 0 0 0 ≡ readHeadUpTo top s
   unfolding readHeadUpTo
   refused r e ne = rw (e, ne-eqb r 0 ne)
 
-  pub accepted : headRefusalUpTo top s ≡ 0 → headOf 0 (widthIn s .value) (heightIn s .value) (heightIn s .next) ≡ readHeadUpTo top s
+  pub accepted : headRefusalUpTo top s ≡ 0 → headTold s ≡ readHeadUpTo top s
   unfolding readHeadUpTo
   accepted e = rw (eq-eqb (headRefusalUpTo top s) 0 e)
 

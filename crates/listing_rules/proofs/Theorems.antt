@@ -18,7 +18,9 @@ use Rattle.bc7_format.specs.Places.{atPlace, opened, placeAt, pos, width, width
 use Rattle.bc7_format.specs.Splits.{splitAt, splitOf}
 use Rattle.head_rules.specs.declared.Head.{Head}
 use Rattle.head_rules.specs.Geometry.{blocksOf}
-use Rattle.head_rules.specs.Heads.{formIn, headRefusalUpTo, heightIn, oldLimit, readHead, readHeadUpTo, sizeRefusalUpTo, widthIn}
+use Rattle.head_rules.specs.Colours.{colourRefusal}
+use Rattle.head_rules.specs.Geometry.{numberAt}
+use Rattle.head_rules.specs.Heads.{colourIn, formIn, formOf, headRefusalUpTo, heightIn, oldLimit, readHead, readHeadUpTo, sizeRefusalUpTo, widthIn}
 use Rattle.head_rules.proofs.Theorems.{old-console-refuses, stored-heads-keep}
 use Rattle.head_rules.specs.Numbers.{raised, readGroups, readNumber}
 use Rattle.laws.specs.Text.{ascii, decimal, digitsIn, newline, refusedText}
@@ -78,5 +80,5 @@ unfolding listingBy blocksListing listed blocksText blockListed readHeadUpTo hea
     first sizeRefusalUpTo blocksOf blockAt sheetText blockText channels opacityMark decimal digitsIn ascii table tableFrom digits marks strings2
     strings3 subset2 subset3 anchors2 anchors3 weights weightOf drawn promoted eight modeRow kindOfMode endpointCount placeAt pos width widths
     trailing number modeOf splitAt splitOf atPlace opened has valuePlace pPlace indexSetOf indexPlace own lineOf lineBits meansStored rotated
-    lineAt shown pixel pixels implies isVisible passes opaque opaqueIn
+    lineAt shown pixel pixels implies isVisible passes opaque opaqueIn colourIn formOf colourRefusal numberAt
 document-lists = refl

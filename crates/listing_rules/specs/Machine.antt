@@ -124,7 +124,7 @@ Ready m = ReadyIn (m .phase) m
 
 -- how many rounds it still takes at the most
 abbrev pub roundsIn : Phase → Machine → ℕ
-roundsIn Head m = 9 - (m .reader .head .start + m .reader .groups) + (mostBlocks + 2)
+roundsIn Head m = 12 - (m .reader .head .start + m .reader .groups) + (mostBlocks + 2)
 roundsIn Blocks m = blocksOf (m .reader .head) - m .from + 1
 roundsIn End m = 1
 roundsIn Listed m = 0

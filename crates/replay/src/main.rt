@@ -385,6 +385,9 @@ enum DdsCall {
     Export,
     ImportColour,
     ExportColour(u8),
+    ToTiles,
+    ToRows,
+    Row(u32),
 }
 
 fn import_of(given: &[u8], out: &mut [u8]) -> bool {
@@ -409,6 +412,21 @@ fn export_colour_of(colour_space: u8, given: &[u8], out: &mut [u8]) -> bool {
     io::write_all(STDOUT_FILENO, out)
 }
 
+fn to_tiles_of(given: &[u8], out: &mut [u8]) -> bool {
+    write_u8(moves::to_tiles(given, out));
+    io::write_all(STDOUT_FILENO, out)
+}
+
+fn to_rows_of(given: &[u8], out: &mut [u8]) -> bool {
+    write_u8(moves::to_rows(given, out));
+    io::write_all(STDOUT_FILENO, out)
+}
+
+fn sheet_row_of(row: u32, given: &[u8], out: &mut [u8]) -> bool {
+    write_u8(sheet::decode_sheet_row(given, row, out));
+    io::write_all(STDOUT_FILENO, out)
+}
+
 // All are asked for in the same bytes. What stands in the output before is read too.
 fn dds_call_of(asked: DdsCall, given: &mut [u8], out: &mut [u8]) -> bool {
     if !filled(given) {
@@ -422,6 +440,9 @@ fn dds_call_of(asked: DdsCall, given: &mut [u8], out: &mut [u8]) -> bool {
         DdsCall::Export => export_of(given, out),
         DdsCall::ImportColour => import_colour_of(given, out),
         DdsCall::ExportColour(colour_space) => export_colour_of(colour_space, given, out),
+        DdsCall::ToTiles => to_tiles_of(given, out),
+        DdsCall::ToRows => to_rows_of(given, out),
+        DdsCall::Row(row) => sheet_row_of(row, given, out),
     }
 }
 
@@ -459,6 +480,14 @@ fn export_colour_call() -> bool {
         return false;
     }
     dds_call(DdsCall::ExportColour(colour_space[0]))
+}
+
+fn sheet_row_call() -> bool {
+    let mut row = [0u8; 4];
+    if !filled(&mut row) {
+        return false;
+    }
+    dds_call(DdsCall::Row(number(&row, 0)))
 }
 
 // The length that importing needs, or exporting.
@@ -587,6 +616,9 @@ fn call(letter: u8) -> bool {
         b'x' => export_colour_call(),
         b'd' => length_call(false),
         b's' => length_call(true),
+        b'T' => dds_call(DdsCall::ToTiles),
+        b'Z' => dds_call(DdsCall::ToRows),
+        b'V' => sheet_row_call(),
         b'Q' => pixel_call(),
         b'B' => reads_call(),
         _ => false,

@@ -27,8 +27,9 @@ use Rattle.nearest_rules.specs.Nearest.{nearestRefusal, squared, withIndex, zer
 use Rattle.opacity_rules.specs.Opacity.{isVisible, opaque, passes}
 use Rattle.head_rules.specs.Colours.{colourOf, colourRefusal}
 use Rattle.pixel_rules.specs.Pixels.{pixelRead, pixelRefusal}
-use Rattle.head_rules.specs.Geometry.{blocksOf, placeOf}
-use Rattle.head_rules.specs.Heads.{formIn, headBytes, headRefusalUpTo, heightIn, readHeadUpTo, sizeRefusalUpTo, widthIn, writeHead}
+use Rattle.head_rules.specs.Geometry.{blocksOf, placeOf, storedAt}
+use Rattle.head_rules.specs.Heads.{colourIn, formIn, formOf, headBytes, headRefusalUpTo, heightIn, ofFormRefusal, readHeadUpTo, readOfForm}
+use Rattle.head_rules.specs.Heads.{sizeRefusalUpTo, widthIn, writeHead}
 use Rattle.head_rules.specs.Numbers.{groups, raised, readGroups, readNumber}
 use Rattle.sheet_rules.specs.Rows.{blockAt, channel, rowByte, rowBytes, rowOutUpTo, rowRefusalUpTo}
 use Rattle.sheet_rules.specs.Sheets.{blockBy, findRefusalBy, putBlock, replacedBy, sheetAfterBy, sheetRefusalBy}
@@ -102,9 +103,9 @@ pub record Calls : Type 0 where
   pub reads-pixel : ReadsPixel block4 1 (nines 4) 0 (rgba 13 31 46 29)
   pub reads-pixel-not : ReadsPixel block4 16 (nines 4) 21 (nines 4)
   pub reads-head : ReadsHead small (nines 3) 0 (5 ∷ 6 ∷ 3 ∷ [])
-  pub reads-head-not : ReadsHead (0x02 ∷ []) (nines 3) 8 (nines 3)
+  pub reads-head-not : ReadsHead (0x03 ∷ []) (nines 3) 8 (nines 3)
   pub reads-colour-head : ReadsColourHead small (nines 4) 0 (5 ∷ 6 ∷ 3 ∷ 0 ∷ [])
-  pub reads-colour-head-not : ReadsColourHead (0x02 ∷ []) (nines 4) 8 (nines 4)
+  pub reads-colour-head-not : ReadsColourHead (0x03 ∷ []) (nines 4) 8 (nines 4)
   pub writes-head : WritesHead 5 6 (nines 7, 9) 0 (0x01 ∷ 0x05 ∷ 0x06 ∷ zeros 4, 3)
   pub writes-head-not : WritesHead 5 16385 (nines 7, 9) 9 (nines 7, 9)
   pub decodes-row : DecodesRow 5 6 1 lower (nines 40) 0 lowerScanlines
@@ -134,7 +135,7 @@ unfolding padded first over table tableFrom weights weightOf drawn promoted eigh
     lineBits meansStored rotated lineAt shown pixel pixels digits marks strings2 strings3 subset2 subset3 anchors2 anchors3 takenApart
     recordOf made packed packRefusal fits says blockOf listOf bytesOf replaced after refusal refusalIn lineFits valueFits pFits
     indexFits ownWidth lineGiven put oriented withLine laid turned anchorOf lineRead readRefusal givenAs widthsOf valueAt
-    recordByte recordBytes recordOfBytes replacementOf replacementBytes packedBytes bytesRefusal spelt readHeadUpTo headRefusalUpTo formIn
+    recordByte recordBytes recordOfBytes replacementOf replacementBytes packedBytes bytesRefusal spelt readHeadUpTo headRefusalUpTo colourIn formOf readOfForm ofFormRefusal storedAt formIn
     widthIn heightIn readNumber readGroups raised sizeRefusalUpTo writeHead headBytes groups blockAt channel rowByte rowBytes rowOutUpTo
     rowRefusalUpTo blockBy blocksOf findRefusalBy placeOf putBlock replacedBy sheetAfterBy sheetRefusalBy draws meansShown channelDistance
     distance drawnWith exactIndex exactRefusal inLine indexCount leastAt nearestIndex nearestRefusal squared withIndex zeroAt

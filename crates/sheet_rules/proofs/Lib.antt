@@ -4,6 +4,7 @@ pub mod Limits
 pub mod Finding
 pub mod Replacing
 pub mod Pictures
+pub mod SheetRows
 pub mod Storing
 pub mod Calling
 pub mod Theorems

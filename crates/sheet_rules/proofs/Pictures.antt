@@ -12,13 +12,18 @@ use Rattle.laws.specs.Tables.{table, tableFrom}
 use Rattle.laws.proofs.Joining.{table-append, table-same}
 use Rattle.laws.proofs.Part.{getD-table, length-table}
 use Rattle.bc7_format.specs.Lines.{pixel, pixels}
-use Rattle.head_rules.specs.Geometry.{across, placeOf, sideShown}
+use Rattle.head_rules.specs.declared.Form.the-variants.{Rows}
+use Rattle.head_rules.specs.Geometry.{across, blocksOf, placeOf, sideShown, wholeLength}
 use Rattle.head_rules.specs.Heads.{Sized, readHead}
+use Rattle.head_rules.proofs.Orders.{stored-in-rows}
 use Rattle.laws.proofs.Refusals.{accepted-when}
-use Rattle.sheet_rules.specs.Pictures.{blockShowing, decodedRows, picture, pictureByte, pixelIn, rowOf}
+use Rattle.sheet_rules.specs.Calls.{WholeSheet}
+use Rattle.sheet_rules.specs.Pictures.{allBlocks, blockShowing, decodedRows, picture, pictureByte, pixelIn, rowOf}
 use Rattle.sheet_rules.specs.Rows.{blockAt, channel, rowByte, rowBytes, rowOut, rowRefusal}
 use Rattle.sheet_rules.specs.Sheets.{blockIn, blockBy}
+use Rattle.sheet_rules.proofs.Finding.{room}
 use Rattle.sheet_rules.proofs.Refusing.{drawn, row-rules}
+use Rattle.sheet_rules.proofs.Storing.{block-get, block-long}
 
 -- a part of a part is a part of the whole
 part-get : (s : List ℕ) (at n i : ℕ) → i < n → getD (take n (drop at s)) i 0 ≡ getD s (at + i) 0
@@ -31,7 +36,7 @@ part-part s m n at c h =
     part-get (take n (drop m s)) at c i l' ∙ part-get s m n (at + i) (omega arith) ∙ ap (λ (k : ℕ). getD s k 0) (sym (add-assoc m at i))
     ∙ sym (part-get s (m + at) c i l'))
 
-block-of-part : (s : List ℕ) (m n at : ℕ) → at + 16 ≤ n → blockAt (take n (drop m s)) at ≡ blockAt s (m + at)
+pub block-of-part : (s : List ℕ) (m n at : ℕ) → at + 16 ≤ n → blockAt (take n (drop m s)) at ≡ blockAt s (m + at)
 unfolding blockAt
 block-of-part s m n at h = part-part s m n at 16 h
 
@@ -127,19 +132,46 @@ picture-shows w h all x y c lx ly lc =
     ∙ rw (digits-mod y l, digits-div y l, low, px) (channel-is (blockShowing w all x y) (pixelIn x y) c (omega arith) lc)
 
 -- block b of a sheet is the one that the picture shows in its column and its row: at x, y is block y / 4 · columns + x / 4
-module _ (s : List ℕ) (b x y : ℕ) (column : x / 4 ≡ b % across (readHead s .width)) (row : y / 4 ≡ b / across (readHead s .width)) where
-  pub block-shown-there : blockShowing (readHead s .width) (drop (readHead s .start) s) x y ≡ blockIn s b
-  unfolding blockAt blockBy placeOf
+module _ (s : List ℕ) (told : readHead s .refusal ≡ 0) (whole : length s ≡ wholeLength (readHead s)) where
+  pub all-long : length (allBlocks s) ≡ 16 * blocksOf (readHead s)
+  unfolding allBlocks
+  all-long = length-table (16 * blocksOf (readHead s)) _
+
+  pub block-in-all : (b : ℕ) → b < blocksOf (readHead s) → blockAt (allBlocks s) (16 * b) ≡ blockIn s b
+  unfolding blockBy allBlocks
+  block-in-all b l =
+      let at = placeOf (readHead s) b in
+      let long : length (blockAt s at) ≡ 16 = block-long s at (room s b (record { head-told = told; whole = whole; number = l })) in
+      let all = block-long (allBlocks s) (16 * b) (omega (arith, all-long, l)) in
+      ext-getD 0 (blockAt (allBlocks s) (16 * b)) (blockAt s at) (all ∙ sym long)
+      (λ j lj. let lj' : j < 16 = omega (arith, all, lj) in
+      let up : (16 * b + j) / 16 ≡ b = omega arith in
+      let low : (16 * b + j) % 16 ≡ j = omega arith in
+      block-get (allBlocks s) (16 * b) j lj' ∙ getD-table (16 * blocksOf (readHead s)) _ 0 (16 * b + j) (omega (arith, l)) ∙ rw (up, low))
+
+  -- in form 1 they are the bytes behind the head
+  pub all-in-rows : readHead s .form ≡ Rows → allBlocks s ≡ drop (readHead s .start) s
+  unfolding allBlocks blockBy placeOf
+  all-in-rows e =
+      ext-getD 0 (allBlocks s) (drop (readHead s .start) s) (all-long ∙ sym (length-drop (readHead s .start) s ∙ omega (arith, whole)))
+      (λ k l. let q = k / 16 in
+      getD-table (16 * blocksOf (readHead s)) _ 0 k (omega (arith, all-long, l)) ∙ block-get s (placeOf (readHead s) q) (k % 16) (omega arith)
+      ∙ ap (λ (i : ℕ). getD s i 0) (ap (λ (i : ℕ). readHead s .start + 16 * i + k % 16) (sym (stored-in-rows (readHead s) e q)) ∙ omega arith)
+      ∙ sym (getD-drop (readHead s .start) s k 0))
+
+module _ (s : List ℕ) (z : WholeSheet s) (b x y : ℕ) (l : b < blocksOf (readHead s)) (column : x / 4 ≡ b % across (readHead s .width))
+    (row : y / 4 ≡ b / across (readHead s .width)) where
+  pub block-shown-there : blockShowing (readHead s .width) (allBlocks s) x y ≡ blockIn s b
   block-shown-there =
       let n = across (readHead s .width) in
       let e : y / 4 * n + x / 4 ≡ b = rw (row, column) (div-add-mod' b n) in
-      rw e (ap (take 16) (drop-drop (16 * b) (readHead s .start) s))
+      rw e (block-in-all s (z .told) (z .long) b l)
 
   pub picture-shows-block : (h c : ℕ) → x < readHead s .width → y < h → c < 4
-      → getD (picture (readHead s .width) h (drop (readHead s .start) s)) (y * (4 * readHead s .width) + (4 * x + c)) 0
+      → getD (picture (readHead s .width) h (allBlocks s)) (y * (4 * readHead s .width) + (4 * x + c)) 0
       ≡ pixel (blockIn s b) (pixelIn x y) c
   picture-shows-block h c lx ly lc =
-      picture-shows (readHead s .width) h (drop (readHead s .start) s) x y c lx ly lc
+      picture-shows (readHead s .width) h (allBlocks s) x y c lx ly lc
       ∙ ap (λ (bs : List ℕ). pixel bs (pixelIn x y) c) block-shown-there
 
 -- each byte is a channel of exactly one shown pixel

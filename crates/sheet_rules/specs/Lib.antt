@@ -2,4 +2,5 @@
 pub mod Rows
 pub mod Sheets
 pub mod Pictures
+pub mod SheetRows
 pub mod Calls

@@ -2,11 +2,17 @@
 -- Assumes nothing.
 use Prim.Native.Nat.{ℕ, zero, suc, _+_, _*_, _/_, _%_}
 use mathlib.Core.List.{List, [], _++_}
-use lib.ListN.{take, drop}
+use lib.ListN.{getD, take, drop}
 use Rattle.laws.specs.Tables.{table}
 use Rattle.bc7_format.specs.Lines.{pixels}
-use Rattle.head_rules.specs.Geometry.{across}
+use Rattle.head_rules.specs.Geometry.{across, blocksOf}
+use Rattle.head_rules.specs.Heads.{readHead}
 use Rattle.sheet_rules.specs.Rows.{blockAt, channel, rowOut}
+use Rattle.sheet_rules.specs.Sheets.{blockIn}
+
+-- the bytes of all blocks of a sheet by their numbers, row by row, in whatever order it stores them
+unfoldable pub allBlocks : List ℕ → List ℕ
+allBlocks s = table (16 * blocksOf (readHead s)) (λ k. getD (blockIn s (k / 16)) (k % 16) 0)
 
 -- the block that shows pixel x, y, and the number of the pixel in it; `all` is the bytes of all blocks
 abbrev pub blockShowing : ℕ → List ℕ → ℕ → ℕ → List ℕ

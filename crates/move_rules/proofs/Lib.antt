@@ -1,0 +1,3 @@
+pub mod Attested
+pub mod Theorems
+pub mod Showing

@@ -1,0 +1,152 @@
+// Tile order: where a block of a sheet stands, and which block stands at a place. A tile's 64 places are column and row
+// interleaved; only at the edges, where places are skipped, it takes more than that.
+ghost use mathlib.Core.Path.{_≡_};
+ghost use Prim.Native.Nat.{_*_, _≤_, _<_};
+ghost use Rattle.tile_rules.specs.Computed.{ahead, left, orderInTile};
+ghost use Rattle.tile_rules.specs.Tiles.{numberInTiles, columnOfSlot, slotIn, storedInTiles, rowOfSlot};
+ghost use Rattle.tiles.specs.Parts.{CellFound, Inside, Numbered, Small, SpotFound, drawn, spread};
+use tile_rules::Cell;
+
+// Bits 0, 1 and 2 to bits 0, 2 and 4.
+fn apart(v: u8) -> u8
+    ensures { λ r. ⌜ r ≡ spread v ⌝ }
+{
+    (((v >> 2) & 1) << 4) | (((v >> 1) & 1) << 2) | (v & 1)
+}
+
+// Bits 0, 2 and 4 to bits 0, 1 and 2.
+fn together(v: u8) -> u8
+    ensures { λ r. ⌜ r ≡ drawn v ⌝ }
+{
+    (((v >> 4) & 1) << 2) | (((v >> 2) & 1) << 1) | (v & 1)
+}
+
+// Column and row of a block in its tile interleaved to a place: the column's bits take the even places, the row's the odd ones.
+pub fn interleave(column: u8, row: u8) -> u8
+    ensures { λ r. ⌜ r ≡ slotIn column row ⌝ }
+{
+    (apart(row) << 1) | apart(column)
+}
+
+// And parted again.
+pub fn column_of_slot(place: u8) -> u8
+    ensures { λ r. ⌜ r ≡ columnOfSlot place ⌝ }
+{
+    together(place)
+}
+
+pub fn row_of_slot(place: u8) -> u8
+    ensures { λ r. ⌜ r ≡ rowOfSlot place ⌝ }
+{
+    together(place >> 1)
+}
+
+// Of n columns or rows of blocks, those of cell q of side s.
+fn cell_side(s: usize, n: usize, q: usize) -> usize
+    requires { ⌜ s * q ≤ n ⌝ }
+    ensures { λ r. ⌜ r ≡ left s n q ⌝ }
+{
+    let rest = n - s * q;
+    if rest < s { rest } else { s }
+}
+
+// Of w columns and h rows of blocks, those before the cell in column x and row y of cells of side s.
+fn blocks_ahead(s: usize, w: usize, h: usize, x: usize, y: usize) -> usize
+    requires { ⌜ Inside s w h x y ⌝ }
+    ensures { λ r. ⌜ Small 33554432 r (ahead s w h x y) ⌝ }
+{
+    s * y * w + s * x * cell_side(s, h, y)
+}
+
+// The place of the block in column x and row y among the w by h of a tile.
+fn order_in_tile(w: usize, h: usize, x: usize, y: usize) -> usize
+    requires { ⌜ (x < w) × (y < h) × (w ≤ 8) × (h ≤ 8) ⌝ }
+    ensures { λ r. ⌜ Small 100663296 r (orderInTile w h x y) ⌝ }
+{
+    let a = x / 4 % 2;
+    let b = y / 4 % 2;
+    let first = blocks_ahead(4, w, h, a, b);
+    let w4 = cell_side(4, w, a);
+    let h4 = cell_side(4, h, b);
+    let d = x / 2 % 2;
+    let e = y / 2 % 2;
+    let second = blocks_ahead(2, w4, h4, d, e);
+    let w2 = cell_side(2, w4, d);
+    let h2 = cell_side(2, h4, e);
+    first + second + blocks_ahead(1, w2, h2, x % 2, y % 2)
+}
+
+// Where block `block` stands in tile order.
+pub fn stored_in_tiles(columns: usize, rows: usize, block: usize) -> usize
+    requires { ⌜ Numbered columns rows block ⌝ }
+    ensures { λ r. ⌜ r ≡ storedInTiles columns rows block ⌝ }
+{
+    let x = block % columns;
+    let y = block / columns;
+    let before = blocks_ahead(8, columns, rows, x / 8, y / 8);
+    let w = cell_side(8, columns, x / 8);
+    let h = cell_side(8, rows, y / 8);
+    if w == 8 {
+        if h == 8 {
+            return before + interleave((x % 8) as u8, (y % 8) as u8) as usize;
+        }
+    }
+    before + order_in_tile(w, h, x % 8, y % 8)
+}
+
+// The cell of side s that holds place m of w columns and h rows of blocks.
+fn cell_at(s: usize, w: usize, h: usize, m: usize) -> Cell
+    requires { ⌜ (0 < s) × (s ≤ 8) × Numbered w h m ⌝ }
+    ensures { λ r. ⌜ CellFound s w h m r ⌝ }
+{
+    let line = s * w;
+    let y = m / line;
+    let past = m % line;
+    let high = cell_side(s, h, y);
+    let column = s * high;
+    let x = past / column;
+    Cell {
+        x: x,
+        y: y,
+        w: cell_side(s, w, x),
+        h: high,
+        rest: past % column,
+    }
+}
+
+// Column and row of a block in its tile.
+pub struct Spot {
+    pub x: usize,
+    pub y: usize,
+}
+
+// Those of the block at place m among the w by h of a tile.
+fn spot_in_tile(w: usize, h: usize, m: usize) -> Spot
+    requires { ⌜ (w ≤ 8) × (h ≤ 8) × (m < h * w) ⌝ }
+    ensures { λ r. ⌜ SpotFound w h m r ⌝ }
+{
+    let b = cell_at(4, w, h, m);
+    let d = cell_at(2, b.w, b.h, b.rest);
+    let e = cell_at(1, d.w, d.h, d.rest);
+    Spot {
+        x: 4 * b.x + 2 * d.x + e.x,
+        y: 4 * b.y + 2 * d.y + e.y,
+    }
+}
+
+// The number of the block that stands at place `place` in tile order.
+pub fn number_in_tiles(columns: usize, rows: usize, place: usize) -> usize
+    requires { ⌜ Numbered columns rows place ⌝ }
+    ensures { λ r. ⌜ r ≡ numberInTiles columns rows place ⌝ }
+{
+    let a = cell_at(8, columns, rows, place);
+    if a.w == 8 {
+        if a.h == 8 {
+            let p = a.rest as u8;
+            return (8 * a.y + row_of_slot(p) as usize) * columns
+                + (8 * a.x + column_of_slot(p) as usize);
+        }
+    }
+    let t = spot_in_tile(a.w, a.h, a.rest);
+    (8 * a.y + t.y) * columns + (8 * a.x + t.x)
+}
