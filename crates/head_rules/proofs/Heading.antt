@@ -2,19 +2,23 @@
 -- Assumes nothing.
 use mathlib.Core.Path.{_≡_, refl, _∙_, ap, sym}
 use mathlib.Core.Logic.{_≢_, ⊎-elim}
-use mathlib.Core.Bool.{true}
-use mathlib.Core.List.{List}
+use mathlib.Core.Bool.{true, not}
+use mathlib.Core.List.{List, [], _∷_}
 use Prim.Native.Nat.{ℕ}
 use native.Mathlib.Nat.{eq-zero-or-pos}
 use native.Mathlib.Omega.{arith}
 use borrow.Author.Tests.{eq-eqb, le-leb, leb-true, ne-eqb}
-use lib.Dec.{leb}
+use lib.Dec.{eqb, leb}
 use Rattle.head_rules.specs.declared.Head.{Head}
+use Rattle.head_rules.specs.declared.Form.{Form}
+use Rattle.laws.specs.Refusals.{Given, refuse}
 use Rattle.laws.specs.Tables.{both}
-use Rattle.laws.proofs.Refusals.{Answers, Decided, answers, by-answer, by-not, by-not-eqb, decided-is, decided-not, decided-so, none, rule}
+use Rattle.laws.proofs.First.{first-last, first-skip}
+use Rattle.laws.proofs.Refusals.{Answers, Decided, answers, by-answer, by-not, by-not-eqb, decided-is, decided-not, decided-so, exactly, none, rule}
+use Rattle.laws.proofs.Refusals.{rules}
 use Rattle.laws.proofs.Tests.{both-true}
 use Rattle.head_rules.specs.Heads.{SizedUpTo, formIn, formNumber, formOf, headOf, headRefusalUpTo, headRulesUpTo, headTold, readHeadUpTo}
-use Rattle.head_rules.specs.Heads.{sideUpTo, sizeRefusalUpTo}
+use Rattle.head_rules.specs.Heads.{ofFormRefusalUpTo, ofFormRulesUpTo, readOfFormUpTo, sideUpTo, sizeRefusalUpTo}
 use Rattle.head_rules.proofs.Colours.{colour-test}
 
 -- refusal 9
@@ -64,3 +68,35 @@ module _ (top : ℕ) (s : List ℕ) where
       ⊎-elim (λ z. sym (ap (λ (h : Head). h .refusal) (accepted z)) ∙ sym z)
       (λ p. sym (ap (λ (h : Head). h .refusal) (refused (headRefusalUpTo top s) refl (λ q. omega arith))))
       (eq-zero-or-pos (headRefusalUpTo top s))
+
+-- one form only: the form is looked at first, and where it is f's the rest is as for any head
+module _ (top : ℕ) (f : Form) (s : List ℕ) where
+  pub of-form-rules : Answers (ofFormRefusalUpTo top f s) (ofFormRulesUpTo top f s)
+  unfolding ofFormRefusalUpTo
+  of-form-rules = answers (rule by-answer λ a. rule (by-not-eqb tt (formIn s .value) (formNumber f)) λ b. rules (head-rules top s) λ m. none)
+
+  pub of-form-told : ofFormRefusalUpTo top f s ≡ 0 → headTold s ≡ readOfFormUpTo top f s
+  unfolding readOfFormUpTo
+  of-form-told e = rw e
+
+  pub of-form-not : (n : ℕ) → Given (ofFormRulesUpTo top f s) n → n ≢ 0 → headOf n 0 0 0 ≡ readOfFormUpTo top f s
+  unfolding readOfFormUpTo
+  of-form-not n g ne = rw (exactly of-form-rules n .1 g, ne-eqb n 0 ne)
+
+  pub of-form-same : formIn s .refusal ≡ 0 → formIn s .value ≡ formNumber f → readOfFormUpTo top f s ≡ readHeadUpTo top s
+  unfolding readOfFormUpTo ofFormRefusalUpTo readHeadUpTo
+  of-form-same a b =
+      let behind = headRefusalUpTo top s ∷ [] in
+      rw (
+        first-skip (formIn s .refusal) (refuse 8 (not (eqb (formIn s .value) (formNumber f))) ∷ behind) a,
+        eq-eqb _ _ b,
+        first-skip 0 behind refl,
+        first-last (headRefusalUpTo top s),
+      )
+
+  pub of-form-number : readOfFormUpTo top f s .refusal ≡ ofFormRefusalUpTo top f s
+  of-form-number =
+      ⊎-elim (λ z. sym (ap (λ (h : Head). h .refusal) (of-form-told z)) ∙ sym z)
+      (λ p. let ne : ofFormRefusalUpTo top f s ≢ 0 = λ q. omega arith in
+      sym (ap (λ (h : Head). h .refusal) (of-form-not (ofFormRefusalUpTo top f s) (of-form-rules .given) ne)))
+      (eq-zero-or-pos (ofFormRefusalUpTo top f s))
