@@ -29,8 +29,8 @@ use Rattle.head_rules.specs.Geometry.{across}
 use Rattle.head_rules.specs.Reader.{atForm, readBy}
 use Rattle.head_rules.proofs.Bytewise.{bytes-behind-head, bytes-read-head}
 use Rattle.head_rules.proofs.Colours.{colour-back, number-back}
-use Rattle.head_rules.proofs.Heading.{accepted, head-rules, of-form-not, of-form-number, of-form-rules, of-form-same, of-form-told}
-use Rattle.head_rules.proofs.Heading.{refusal-is, refused, size-test}
+use Rattle.head_rules.proofs.Heading.{accepted, form-back, form-kept, head-rules, of-a-form, of-form-not, of-form-number, of-form-rules}
+use Rattle.head_rules.proofs.Heading.{of-form-same, of-form-told, refusal-is, refused, size-test}
 use Rattle.head_rules.proofs.Limits.{head-kept, head-refused-before}
 use Rattle.head_rules.proofs.Reading.{every-number, raised-some, read-last, read-more, value-small}
 use Rattle.head_rules.proofs.Writing.{groups-last, groups-more, nothing, written}
@@ -137,22 +137,6 @@ module _ (s : List ℕ) (at : ℕ) where
     λ n. ⊎-elim (λ z. absurd (n (number-read-when y .0 z))) (λ e. e) zero-or-seven,
   )
 
--- FORMS: 1 and 2, and no other number
-pub form-back : (f : Form) → formOf (formNumber f) ≡ f
-unfolding formOf
-form-back Rows = refl
-form-back Tiles = refl
-
-pub two-forms : (n : ℕ) → IsForm n ↔ ((n ≡ 1) ⊎ (n ≡ 2))
-two-forms n = (
-  λ e. ⊎-elim (λ (l : formNumber (formOf n) ≡ 1). inl (sym e ∙ l)) (λ (l : formNumber (formOf n) ≡ 2). inr (sym e ∙ l)) (number (formOf n)),
-  λ o. ⊎-elim (λ e. rw e (ap formNumber (form-back Rows))) (λ e. rw e (ap formNumber (form-back Tiles))) o,
-)
-  where
-    number : (f : Form) → (formNumber f ≡ 1) ⊎ (formNumber f ≡ 2)
-    number Rows = inl refl
-    number Tiles = inr refl
-
 -- the number of the colour space, by the form
 module _ (s : List ℕ) where
   colour-rows : formOf (formIn s .value) ≡ Rows → colourIn s ≡ found 0 (heightIn s .next)
@@ -188,7 +172,7 @@ read-as : (s : List ℕ) (f : Form) (c : ColourSpace) (w h : ℕ) {i j k n : ℕ
     → heightIn s ≡ found h k → colourIn s ≡ found (colourNumber c) n → Sized w h → readHead s ≡ headIn f c 0 w h n
 read-as s f c w h ef ew eh ec z =
     sym (accepted limit s (accepted-when (head-rules limit s) .1 (rw (ef, ew, eh, ec)
-    (refl, (ap formNumber (form-back f), (refl, (refl, (refl, (colour-small c, (z, tt)))))))))) ∙ rw (ef, ew, eh, ec, form-back f, colour-back c .0)
+    (refl, (of-a-form f, (refl, (refl, (refl, (colour-small c, (z, tt)))))))))) ∙ rw (ef, ew, eh, ec, form-back f, colour-back c .0)
 
 -- a head that was written is read back, with where the blocks start: its numbers stand one behind the other
 module _ (f w h : ℕ) (z : Sized w h) (l : f < numbersEnd) (rest : List ℕ) where
@@ -291,14 +275,14 @@ module _ (s : List ℕ) (p : Parts s) (y : Bytes s) where
 
   spelt-in : (f : Form) → formOf (formIn s .value) ≡ f → s ≡ headSpelt f (colourOf (colourIn s .value)) w h ++ drop (colourIn s .next) s
   spelt-in Rows e =
-      three-spelt ∙ ap (λ (n : ℕ). numberBytes n ++ (numberBytes w ++ (numberBytes h ++ drop (heightIn s .next) s))) (sym (p .form-one) ∙ ap formNumber e)
+      three-spelt ∙ ap (λ (n : ℕ). numberBytes n ++ (numberBytes w ++ (numberBytes h ++ drop (heightIn s .next) s))) (sym (form-kept (p .form-one)) ∙ ap formNumber e)
       ∙ sym (in-one w h (drop (heightIn s .next) s)) ∙ ap (λ (r : Number). headBytes w h ++ drop (r .next) s) (sym (colour-rows s e))
   spelt-in Tiles e =
       let c = colourOf (colourIn s .value) in
       let last : drop (heightIn s .next) s ≡ numberBytes (colourNumber c) ++ drop (colourIn s .next) s
       = number-one-form s (heightIn s .next) y (ap (λ (r : Number). r .refusal) (sym (colour-tiles s e)) ∙ p .colour-told)
       ∙ ap (λ (r : Number). numberBytes (r .value) ++ drop (r .next) s) (sym (colour-tiles s e)) ∙ ap (λ (n : ℕ). numberBytes n ++ drop (colourIn s .next) s) (sym (number-back (colourIn s .value) (p .space))) in
-      three-spelt ∙ ap (λ (n : ℕ). numberBytes n ++ (numberBytes w ++ (numberBytes h ++ drop (heightIn s .next) s))) (sym (p .form-one) ∙ ap formNumber e)
+      three-spelt ∙ ap (λ (n : ℕ). numberBytes n ++ (numberBytes w ++ (numberBytes h ++ drop (heightIn s .next) s))) (sym (form-kept (p .form-one)) ∙ ap formNumber e)
       ∙ ap (λ (t : List ℕ). numberBytes 2 ++ (numberBytes w ++ (numberBytes h ++ t))) last ∙ sym (in-two w h (drop (colourIn s .next) s) c)
 
   spelt : s ≡ headSpelt (formOf (formIn s .value)) (colourOf (colourIn s .value)) w h ++ drop (colourIn s .next) s
@@ -320,7 +304,7 @@ module _ (s : List ℕ) where
   pub form-stated : readHead s .refusal ≡ 0 → (formIn s .refusal ≡ 0) × (formIn s .value ≡ formNumber (readHead s .form))
   form-stated e =
       let z = sym (refusal-is limit s) ∙ e in
-      let p = parts z in (p .form-told, sym (p .form-one) ∙ ap (λ (h : Head). formNumber (h .form)) (accepted limit s z))
+      let p = parts z in (p .form-told, sym (form-kept (p .form-one)) ∙ ap (λ (h : Head). formNumber (h .form)) (accepted limit s z))
 
   pub head-sized : (readHead s) .refusal ≡ 0 → Sized ((readHead s) .width) ((readHead s) .height)
   head-sized e = let z = sym (refusal-is limit s) ∙ e in subst (λ (r : Head). Sized (r .width) (r .height)) (accepted limit s z) ((parts z) .size)
@@ -430,7 +414,7 @@ module _ (s : List ℕ) where
   rows-given (here x) = here x
   rows-given (then a (here x)) = then a (here x)
   rows-given (then a (then b (here x))) = absurd (x a)
-  rows-given (then a (then b (then c (here x)))) = absurd (x (two-forms _ .1 (inl b)))
+  rows-given (then a (then b (then c (here x)))) = absurd (x (inl b))
   rows-given (then a (then b (then c (then d (here x))))) = then a (then b (here x))
   rows-given (then a (then b (then c (then d (then w (here x)))))) = then a (then b (then w (here x)))
   rows-given (then a (then b (then c (then d (then w (then h (here x))))))) = absurd (x (ap (λ (r : Number). r .refusal) (no-colour b)))

@@ -2,6 +2,7 @@
 -- Assumes nothing.
 use Prim.Native.Nat.{ℕ, _≤_}
 use mathlib.Core.Path.{_≡_}
+use mathlib.Core.Logic.{_⊎_}
 use mathlib.Core.Bool.{Bool, not}
 use mathlib.Core.List.{List, [], _∷_, _++_}
 use lib.Dec.{eqb, leb}
@@ -29,7 +30,7 @@ unfoldable pub formOf : ℕ → Form
 formOf n = pick (eqb n 2) Tiles Rows
 
 abbrev pub IsForm : ℕ → Type 0
-IsForm n = formNumber (formOf n) ≡ n
+IsForm n = (n ≡ formNumber Rows) ⊎ (n ≡ formNumber Tiles)
 
 -- the largest width and height; the largest that consoles of before took
 abbrev pub limit : ℕ
