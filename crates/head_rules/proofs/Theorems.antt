@@ -1,5 +1,5 @@
 -- A number that was written is read back, with its end; an accepted number has exactly one form; the same for heads. A number is
--- refused exactly when none stands there.
+-- refused exactly when none stands there. Each block of a sheet has exactly one place.
 -- Assumes nothing.
 use mathlib.Core.Path.{_≡_, refl, _∙_, ap, ap₂, sym, subst}
 use mathlib.Core.Logic.{_↔_, _⊎_, inl, inr, ⊎-elim, _≢_}
@@ -18,6 +18,7 @@ use Rattle.head_rules.specs.declared.Form.the-variants.{Rows, Tiles}
 use Rattle.head_rules.specs.declared.HeadBytes.{HeadBytes}
 use Rattle.laws.specs.Refusals.{Given, here, then}
 use Rattle.laws.proofs.Cases.{lt-or}
+use Rattle.tile_rules.specs.Moves.{Inverse}
 use Rattle.laws.proofs.Refusals.{Answers, accepted-when, alone, exactly}
 use Rattle.head_rules.specs.Colours.{colourNumber, colourOf}
 use Rattle.head_rules.specs.Heads.{IsForm, ReadsHead, Sized, WritesHead, bytesOfHead, colourIn, formIn, formNumber, formOf, headBytes}
@@ -25,13 +26,15 @@ use Rattle.head_rules.specs.Heads.{headIn, headOf, headRefusal, headRule
 use Rattle.head_rules.specs.Heads.{ofFormRules, readHead, readOfForm, rowsRules}
 use Rattle.head_rules.specs.Heads.{sizeRefusal, sizeRules, tiledBytes, under, widthIn, writeHead}
 use Rattle.head_rules.specs.Numbers.{Bytes, found, groups, noNumber, numberBytes, numbersEnd, raised, readGroups, readNumber}
-use Rattle.head_rules.specs.Geometry.{across}
+use Rattle.head_rules.specs.Geometry.{across, blocksOf, numberAt, placeOf, storedAt, wholeLength}
 use Rattle.head_rules.specs.Reader.{atForm, readBy}
+use Rattle.head_rules.proofs.Blocks.{some-blocks}
 use Rattle.head_rules.proofs.Bytewise.{bytes-behind-head, bytes-read-head}
 use Rattle.head_rules.proofs.Colours.{colour-back, number-back}
 use Rattle.head_rules.proofs.Heading.{accepted, form-back, form-kept, head-rules, of-a-form, of-form-not, of-form-number, of-form-rules}
 use Rattle.head_rules.proofs.Heading.{of-form-same, of-form-told, refusal-is, refused, size-test}
 use Rattle.head_rules.proofs.Limits.{head-kept, head-refused-before}
+use Rattle.head_rules.proofs.Orders.{blocks-apart, blocks-behind-head, blocks-within, each-place, numbered-in, one-order}
 use Rattle.head_rules.proofs.Reading.{every-number, raised-some, read-last, read-more, value-small}
 use Rattle.head_rules.proofs.Writing.{groups-last, groups-more, nothing, written}
 
@@ -523,3 +526,23 @@ across-shows-all n = omega arith
 
 pub across-as-few : (n : ℕ) → 1 ≤ n → 4 * (across n - 1) < n
 across-as-few n l = omega (arith, l)
+
+-- EACH BLOCK HAS EXACTLY ONE PLACE, in either form
+pub record ExactlyOnePlace (h : Head) : Type 0 where
+  -- from a block's number to its stored number and back, both ways, on all numbers below the count
+  pub both-ways : Inverse (blocksOf h) (storedAt h) (numberAt h)
+  -- no two blocks share a byte
+  pub apart : (a b : ℕ) → a < blocksOf h → b < blocksOf h → a ≢ b → (placeOf h a + 16 ≤ placeOf h b) ⊎ (placeOf h b + 16 ≤ placeOf h a)
+  -- each stands behind the head and ends within the sheet
+  pub within : (b : ℕ) → b < blocksOf h → (h .start ≤ placeOf h b) × (placeOf h b + 16 ≤ wholeLength h)
+  -- each sixteen bytes behind the head belong to one block
+  pub filled : (p : ℕ) → p < blocksOf h → (numberAt h p < blocksOf h) × (placeOf h (numberAt h p) ≡ h .start + 16 * p)
+
+pub exactly-one-place : (s : List ℕ) → readHead s .refusal ≡ 0 → ExactlyOnePlace (readHead s)
+unfolding blocksOf
+exactly-one-place s e = record {
+  both-ways = one-order (readHead s) (some-blocks (head-sized s e));
+  apart = blocks-apart (readHead s);
+  within = λ b l. (blocks-behind-head (readHead s) b, blocks-within (readHead s) b l);
+  filled = λ p l. (numbered-in (readHead s) p l, each-place (readHead s) p l);
+}
