@@ -17,7 +17,7 @@ use Rattle.head_rules.specs.Heads.{bytesOfHead, colourIn, formIn, formNu
 use Rattle.head_rules.specs.Heads.{ofFormRefusalUpTo, readHead, readHeadUpTo, readOfForm, readOfFormUpTo, sizeRefusalUpTo, tiledBytes}
 use Rattle.head_rules.specs.Heads.{under, widthIn, writeHead}
 use Rattle.head_rules.specs.declared.Stage.the-variants.{Width}
-use Rattle.tile_rules.specs.Counting.{count}
+use Rattle.laws.specs.Counting.{count}
 use Rattle.tile_rules.specs.Tiles.{columnAt, columnOfSlot, inSheet, slotIn, storedInTiles, rowAt, rowOfSlot, slotOf, tiles}
 use Rattle.head_rules.specs.Geometry.{across, blocksOf, outLength, placeOf, rowLength, sideShown, storedAt, wholeLength}
 use Rattle.head_rules.specs.Reader.{Reading, atForm, byteTaken, colourTaken, formTaken, groupTaken, lastTaken, readBy, sizeTaken}

@@ -18,7 +18,7 @@ use Rattle.head_rules.specs.declared.Form.the-variants.{Rows, Tiles}
 use Rattle.head_rules.specs.declared.HeadBytes.{HeadBytes}
 use Rattle.laws.specs.Refusals.{Given, here, then}
 use Rattle.laws.proofs.Cases.{lt-or}
-use Rattle.tile_rules.specs.Moves.{Inverse}
+use Rattle.laws.specs.Inverse.{Inverse}
 use Rattle.laws.proofs.Refusals.{Answers, accepted-when, alone, exactly}
 use Rattle.head_rules.specs.Colours.{colourNumber, colourOf}
 use Rattle.head_rules.specs.Heads.{IsForm, ReadsHead, Sized, WritesHead, bytesOfHead, colourIn, formIn, formNumber, formOf, headBytes}

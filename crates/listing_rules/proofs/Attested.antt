@@ -19,7 +19,7 @@ use Rattle.bc7_format.specs.Places.{atPlace, opened, placeAt, pos, width, width
 use Rattle.bc7_format.specs.Splits.{splitAt, splitOf}
 use Rattle.bc7_format.proofs.Examples.{block3, block4}
 use Rattle.head_rules.specs.Geometry.{blocksOf}
-use Rattle.tile_rules.specs.Counting.{kept}
+use Rattle.laws.specs.Counting.{kept}
 use Rattle.tile_rules.specs.Tiles.{numberInTiles, columnAt, columnOfSlot, inSheet, rowAt, rowOfSlot, slots, storedOrder, tiles}
 use Rattle.tile_rules.specs.Tiles as tiling
 use Rattle.head_rules.specs.Colours.{colourOf, colourRefusal}

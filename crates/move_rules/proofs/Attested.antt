@@ -6,7 +6,7 @@ use Prim.Native.Nat.{ℕ}
 use lib.ListN.{replicate}
 use Rattle.laws.specs.Refusals.{first}
 use Rattle.laws.specs.Tables.{table, tableFrom}
-use Rattle.tile_rules.specs.Counting.{count, kept}
+use Rattle.laws.specs.Counting.{count, kept}
 use Rattle.tile_rules.specs.Moves.{moved, movedByte}
 use Rattle.tile_rules.specs.Tiles.{numberInTiles, columnAt, columnOfSlot, inSheet, numberInSlot, slotIn, storedInTiles, rowAt, rowOfSlot, slotOf, slots, storedOrder}
 use Rattle.tile_rules.specs.Tiles.{tiles}

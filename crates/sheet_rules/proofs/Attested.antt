@@ -14,7 +14,7 @@ use Rattle.bc7_format.specs.Lines.{eight, anchorOf, indexSetOf, has, indexPlace
 use Rattle.bc7_format.specs.Lines.{pixels, rotated, shown, turned, valuePlace, withLine}
 use Rattle.bc7_format.specs.Places.{atPlace, blockOf, listOf, opened, placeAt, pos, width, widths}
 use Rattle.bc7_format.specs.Splits.{splitAt, splitOf}
-use Rattle.tile_rules.specs.Counting.{count}
+use Rattle.laws.specs.Counting.{count}
 use Rattle.tile_rules.specs.Tiles.{columnAt, columnOfSlot, inSheet, slotIn, storedInTiles, rowAt, rowOfSlot, slotOf, tiles}
 use Rattle.head_rules.specs.Colours.{colourOf, colourRefusal}
 use Rattle.head_rules.specs.Geometry.{across, blocksOf, placeOf, sideShown, storedAt}
