@@ -1,4 +1,5 @@
--- In tile order each block has exactly one stored number, and each number below the count is one block's; what follows for moves.
+-- In tile order each block has exactly one stored number, and each number below the count is one block's; what follows for moves; and
+-- column and row of a tile interleaved to a slot and parted again.
 -- Assumes nothing.
 use mathlib.Core.Path.{_≡_, refl, _∙_, ap, ap₂, sym, subst}
 use mathlib.Core.Bool.{Bool}
@@ -17,7 +18,9 @@ use Rattle.laws.proofs.Inverse.{inverse-turn}
 use Rattle.laws.proofs.Tests.{at}
 use Rattle.tile_rules.specs.Computed.{orderAt, orderInTile}
 use Rattle.tile_rules.specs.Moves.{toRows, toTiles}
-use Rattle.tile_rules.specs.Tiles.{inSheet, numberInSlot, numberInTiles, slotOf, slots, storedInTiles, storedOrder}
+use Rattle.tile_rules.specs.Tiles.{columnOfSlot, inSheet, numberInSlot, numberInTiles, rowOfSlot, slotIn, slotOf, slots, storedInTiles}
+use Rattle.tile_rules.specs.Tiles.{storedOrder}
+use Rattle.tile_rules.proofs.InTile.{column-lt, column-of-slot, row-lt, row-of-slot, slot-parted, slot-small}
 use Rattle.tile_rules.proofs.Moving.{moved-back, moved-piece}
 use Rattle.tile_rules.proofs.Slots.{number-lt, number-of-slot, slot-in, slot-lt, slot-of-number}
 use Rattle.tile_rules.proofs.Tiling.{count-all, stored-is}
@@ -105,3 +108,20 @@ module _ (b : ℕ) (h : b < 4096) where
 
   pub one-row-back : numberInTiles 4096 1 b ≡ b
   one-row-back = ap (numberInTiles 4096 1) (sym one-row) ∙ number-of-stored 4096 1 (omega arith) b (omega arith)
+
+-- THE NAMED FORM of document 01: column and row of a tile interleaved to a slot, and parted again, inverse to each other
+pub record Interleaved : Type 0 where
+  pub slots-64 : (x y : ℕ) → slotIn x y < 64
+  pub columns-8 : (p : ℕ) → columnOfSlot p < 8
+  pub rows-8 : (p : ℕ) → rowOfSlot p < 8
+  pub parted : (x y : ℕ) → x < 8 → y < 8 → (columnOfSlot (slotIn x y) ≡ x) × (rowOfSlot (slotIn x y) ≡ y)
+  pub interleaved-again : (p : ℕ) → p < 64 → slotIn (columnOfSlot p) (rowOfSlot p) ≡ p
+
+pub interleaved : Interleaved
+interleaved = record {
+  slots-64 = slot-small;
+  columns-8 = column-lt;
+  rows-8 = row-lt;
+  parted = λ x y hx hy. (column-of-slot x y hx hy, row-of-slot x y hx hy);
+  interleaved-again = slot-parted;
+}
