@@ -370,7 +370,7 @@ static inline const char *rinchovek_refusal_text(uint32_t refusal) {
     case RINCHOVEK_WRONG_KIND: return "no such mode, or a kind of split that is not the mode's";
     case RINCHOVEK_ANCHOR_BIT_SET: return "the index at an anchor has its top bit set";
     case RINCHOVEK_BAD_NUMBER: return "a number of the head is cut off, too long or not in its shortest form";
-    case RINCHOVEK_UNKNOWN_FORM: return "the form of the sheet is not one that is taken here";
+    case RINCHOVEK_UNKNOWN_FORM: return "the form of the sheet is not one that the call takes";
     case RINCHOVEK_BAD_SIDE: return "the width or the height is 0 or too large";
     case RINCHOVEK_WRONG_BLOCK_BYTES: return "too few or too many bytes of blocks";
     case RINCHOVEK_WRONG_OUTPUT_LENGTH: return "the output is too short or too long";
