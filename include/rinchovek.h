@@ -231,23 +231,22 @@ uint32_t rinchovek_bc7_is_opaque(const uint8_t block[RINCHOVEK_BLOCK_BYTES], uin
  * Refusals: 21. */
 uint32_t rinchovek_bc7_pixel(const uint8_t block[RINCHOVEK_BLOCK_BYTES], uint32_t pixel, uint8_t rgba[RINCHOVEK_PIXEL_BYTES]);
 
-/* Opens a sheet of either form: writes the eight numbers of its head (enum rinchovek_open_number). With them
- * rinchovek_sheet_show_row draws its rows, and rinchovek_sheet_block gives its blocks, whatever the form. What stands behind the head
- * isn't looked at: the first RINCHOVEK_OPEN_BYTES bytes of a sheet, or all of a shorter one, give the same answer as the whole. (An accepted
- * head has at most 8. But 02 80 80 01 80 80 01 80 01, whose colour space is 128, is refused with 18, and cut to eight bytes with 7.) An empty
- * sheet is refused with 7.
+/* Opens a sheet of either form: writes its eight numbers (enum rinchovek_open_number). Its rows are drawn by rinchovek_sheet_show_row then,
+ * and its blocks read by rinchovek_sheet_block, whatever the form. What stands behind the head isn't looked at: the first
+ * RINCHOVEK_OPEN_BYTES bytes of a sheet are enough. (An accepted head has at most 8 bytes. But 02 80 80 01 80 80 01 80 01, whose colour
+ * space is 128, is refused with 18, and with 7 where it is cut to 8 bytes.) An empty sheet is refused with 7.
  * Refusals: 7 and 8 on the form, 7 on width, height and (in form 2) the number of the colour space, 18, 9. */
 uint32_t rinchovek_sheet_open(const uint8_t *sheet, size_t length, uint32_t numbers[RINCHOVEK_OPEN_NUMBERS]);
 
 /* Reads the head of a sheet of form 1: writes width, height and start (enum rinchovek_head_number). What stands behind the head isn't
- * looked at: the first RINCHOVEK_HEAD_BYTES bytes of a sheet are enough. An empty sheet is refused with 7. A sheet of form 2 is refused with
- * 8, as before version 1.7.0: three numbers don't say the form, and a program that knows no more would show tiles as rows. Call
- * rinchovek_sheet_open for a sheet of either form.
+ * looked at: the first RINCHOVEK_HEAD_BYTES bytes of a sheet are enough. An empty sheet is refused with 7. A sheet of form 2 is refused
+ * with 8, as it was before version 1.7.0: three numbers don't say the form, and a program that knows no more would show tiles as rows.
+ * Call rinchovek_sheet_open, which takes either form and says which it is.
  * Refusals: 7 and 8 on the form, 7 on width and height, 9. */
 uint32_t rinchovek_sheet_read_head(const uint8_t *sheet, size_t length, uint32_t head[RINCHOVEK_HEAD_NUMBERS]);
 
 /* The same with four numbers: behind the start stands the colour space, which is RINCHOVEK_UNSPECIFIED for every sheet of form 1. A sheet
- * of form 2, whose colour space may be stated, is refused with 8 here too: call rinchovek_sheet_open.
+ * of form 2 is refused with 8 here too: call rinchovek_sheet_open, which says its colour space.
  * Refusals: 7 and 8 on the form, 7 on width and height, 9. */
 uint32_t rinchovek_sheet_read_colour_head(const uint8_t *sheet, size_t length, uint32_t head[RINCHOVEK_COLOUR_HEAD_NUMBERS]);
 
@@ -299,9 +298,10 @@ uint32_t rinchovek_sheet_to_tiles(const uint8_t *sheet, size_t length, uint8_t *
 uint32_t rinchovek_sheet_to_rows(const uint8_t *sheet, size_t length, uint8_t *out, size_t out_length);
 
 /* DDS FILES, as office tools exchange them: RINCHOVEK_DDS_HEADER_BYTES of header with the DX10 extension, by Microsoft's guide, and behind
- * it the blocks row by row. So they are exchanged with sheets of form 1 alone: importing writes form 1, and the calls that export refuse
- * form 2 with 8, before they look at anything else; rinchovek_sheet_to_rows comes first. Both ways the blocks are copied as they stand, so a
- * sheet that was exported and imported again is the same byte for byte. What stands in a file's header and has no place in a sheet is lost by importing. Whether its colours are sRGB has none
+ * it the blocks row by row. So a file is exchanged with a sheet of form 1: importing writes form 1, and the three calls that export refuse
+ * form 2 with 8 at the form, before they look at anything behind it, the colour space that is given included; a sheet in tiles goes through
+ * rinchovek_sheet_to_rows first. Both ways the blocks are copied as they stand, so a sheet that was exported and imported again is the same
+ * byte for byte. What stands in a file's header and has no place in a sheet is lost by importing. Whether its colours are sRGB has none
  * either: rinchovek_dds_import_colour says it beside the sheet, and rinchovek_dds_export_colour takes it.
  *
  * Refusal 15 says that a file isn't what can be imported: there are fewer than 148 bytes; or at a byte of the header stands another number
@@ -313,7 +313,7 @@ uint32_t rinchovek_sheet_to_rows(const uint8_t *sheet, size_t length, uint8_t *o
  *   byte 76    32, the pixel format's size   byte 140   1, the array's size
  *   byte 84    "DX10"
  *
- * Writes the sheet of a DDS file: its head, which has the file's sides (height at byte 12, width at byte 16), then its blocks.
+ * Writes the sheet of a DDS file, in form 1: its head, which has the file's sides (height at byte 12, width at byte 16), then its blocks.
  * Both lengths are exact: the file has 148 bytes and 16 for each block, no more behind them (10 otherwise), and the sheet as many as
  * rinchovek_dds_import_length writes (11 otherwise).
  * Refusals: 15, 9, 10, 11. */
@@ -325,8 +325,8 @@ uint32_t rinchovek_dds_import(const uint8_t *dds, size_t dds_length, uint8_t *sh
 uint32_t rinchovek_dds_import_colour(const uint8_t *dds, size_t dds_length, uint8_t *sheet, size_t sheet_length,
                                      uint32_t head[RINCHOVEK_COLOUR_HEAD_NUMBERS]);
 
-/* Writes the DDS file of a sheet of form 1: a header that says format 98 and has all that the table above asks for, then the sheet's blocks. Both
- * lengths are exact: the sheet has its head and 16 bytes for each block (10 otherwise), and the file as many as
+/* Writes the DDS file of a sheet of form 1: a header that says format 98 and has all that the table above asks for, then the sheet's
+ * blocks. Both lengths are exact: the sheet has its head and 16 bytes for each block (10 otherwise), and the file as many as
  * rinchovek_dds_export_length writes, which is 148 and 16 for each block (11 otherwise).
  * Refusals: 7 and 8 on the form, 7 on width and height, 9, 10, 11. */
 uint32_t rinchovek_dds_export(const uint8_t *sheet, size_t sheet_length, uint8_t *dds, size_t dds_length);
