@@ -2,7 +2,6 @@ pub mod Counting
 pub mod InTile
 pub mod Slots
 pub mod Tiling
-pub mod Moving
 pub mod Sums
 pub mod Theorems
 pub mod Cells

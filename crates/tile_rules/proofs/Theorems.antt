@@ -6,17 +6,15 @@ use mathlib.Core.Logic.{⊎-elim}
 use mathlib.Core.List.{List, [], _∷_, map}
 use Prim.Native.Nat.{ℕ, zero, suc, _*_, _<_}
 use native.Mathlib.Nat.{eq-zero-or-pos, le-of-suc-le-suc, mul-zero, not-suc-le-zero}
-use native.Mathlib.Omega.{arith}
 use lib.Dec.{eqb}
-use lib.ListN.{length, getD, take, drop, length-map}
+use lib.ListN.{length, getD, length-map}
 use lib.Seq.{ext-getD}
 use Rattle.laws.specs.Tables.{table}
 use Rattle.laws.proofs.Part.{getD-table, length-table}
 use Rattle.tile_rules.specs.Counting.{count, kept}
-use Rattle.tile_rules.specs.Moves.{Inverse, toRows, toTiles}
+use Rattle.tile_rules.specs.Moves.{Inverse}
 use Rattle.tile_rules.specs.Tiles.{numberInTiles, inSheet, numberInSlot, storedInTiles, slotOf, slots, storedOrder}
 use Rattle.tile_rules.proofs.Counting.{Kept, at-kept, count-lt, kept-at, kept-long}
-use Rattle.tile_rules.proofs.Moving.{moved-back, moved-piece}
 use Rattle.tile_rules.proofs.Slots.{number-lt, number-of-slot, slot-in, slot-lt, slot-of-number}
 use Rattle.tile_rules.proofs.Sums.{count-moved, count-one}
 use Rattle.tile_rules.proofs.Tiling.{count-all}
@@ -81,19 +79,6 @@ module _ (c r : ℕ) (hc : 0 < c) where
   pub in-order : (a b : ℕ) → a < r * c → slotOf c a < slotOf c b → storedInTiles c r a < storedInTiles c r b
   unfolding storedInTiles
   in-order a b h l = count-lt (inSheet c r) (slotOf c a) (slotOf c b) l (slot-in c a hc r h)
-
-  -- moving all blocks there and back restores their bytes, both ways
-  pub there-and-back : (l : List ℕ) → length l ≡ r * c * 16 → toRows c r (toTiles c r l) ≡ l
-  there-and-back l e = moved-back 16 (omega arith) (inverse-turn tile-order) l e
-
-  pub back-and-there : (l : List ℕ) → length l ≡ r * c * 16 → toTiles c r (toRows c r l) ≡ l
-  back-and-there l e = moved-back 16 (omega arith) tile-order l e
-
-  -- block b stands at its place
-  pub block-in-tiles : (l : List ℕ) → length l ≡ r * c * 16 → (b : ℕ) → b < r * c → take 16 (drop (16 * storedInTiles c r b) (toTiles c r l)) ≡ take 16 (drop (16 * b) l)
-  block-in-tiles l e b h =
-      moved-piece 16 (omega arith) (r * c) (numberInTiles c r) l (storedInTiles c r b) e (place-lt b h) (block-lt (storedInTiles c r b) (place-lt b h))
-      ∙ ap (λ (k : ℕ). take 16 (drop (16 * k) l)) (block-of-place b h)
 
   -- the listing: walking the places in order gives the stored order, and each block number once
   pub walked : table (r * c) (numberInTiles c r) ≡ storedOrder c r
