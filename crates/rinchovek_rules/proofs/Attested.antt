@@ -28,7 +28,6 @@ use Rattle.opacity_rules.specs.Opacity.{isVisible, opaque, passes}
 use Rattle.head_rules.specs.Colours.{colourOf, colourRefusal}
 use Rattle.pixel_rules.specs.Pixels.{pixelRead, pixelRefusal}
 use Rattle.laws.specs.Counting.{count, kept}
-use Rattle.tile_rules.specs.Moves.{moved, movedByte}
 use Rattle.tile_rules.specs.Tiles.{columnAt, columnOfSlot, inSheet, numberInSlot, numberInTiles, rowAt, rowOfSlot, slotIn, slotOf, slots}
 use Rattle.tile_rules.specs.Tiles.{storedInTiles, storedOrder, tiles}
 use Rattle.head_rules.specs.Geometry.{blocksOf, placeOf, storedAt}
@@ -37,7 +36,7 @@ use Rattle.head_rules.specs.Heads.{sizeRefusalUpTo, tiledBytes, widthIn, writeH
 use Rattle.head_rules.specs.Numbers.{groups, raised, readGroups, readNumber}
 use Rattle.sheet_rules.specs.Rows.{blockAt, channel, rowByte, rowBytes, rowOutUpTo, rowRefusalUpTo}
 use Rattle.sheet_rules.specs.Blocks.{blockRead}
-use Rattle.sheet_rules.specs.Pictures.{allBlocks, rowOf}
+use Rattle.sheet_rules.specs.Pictures.{blocksAs, byteAs, rowOf}
 use Rattle.sheet_rules.specs.SheetRows.{rowBlocks, sheetRowOut, sheetRowRefusal}
 use Rattle.sheet_rules.specs.Sheets.{blockBy, findRefusalBy, putBlock, replacedBy, sheetAfterBy, sheetRefusalBy}
 use Rattle.sheet_rules.proofs.Attested.{lower, lowerScanlines, small, smallReplaced}
@@ -186,8 +185,8 @@ unfolding padded first over table tableFrom weights weightOf drawn promoted eigh
     implies isVisible passes opaque pixelRefusal pixelRead
     evenly numberAt entries headerNumber canonicalHeader isTexture headMade sheetMade fileRefusalUpTo importRefusalUpTo importAfterUpTo
     wholeRefusalBy exportRefusalBy fileMadeBy exportAfterBy importLength exportLength formatSays numberedRefusal numberedAfter colourOf colourRefusal
-    count kept moved movedByte columnAt columnOfSlot inSheet numberInSlot numberInTiles rowAt rowOfSlot slotIn slotOf slots storedInTiles storedOrder
-    tiles tiledBytes blockRead allBlocks rowOf rowBlocks sheetRowOut sheetRowRefusal moveAfter moveRefusal movedTo
+    count kept columnAt columnOfSlot inSheet numberInSlot numberInTiles rowAt rowOfSlot slotIn slotOf slots storedInTiles storedOrder
+    tiles tiledBytes blockRead blocksAs byteAs rowOf rowBlocks sheetRowOut sheetRowRefusal moveAfter moveRefusal movedTo
 calls-hold = record {
   version = refl;
   decodes = refl;

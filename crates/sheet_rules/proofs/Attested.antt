@@ -24,7 +24,7 @@ use Rattle.head_rules.specs.Heads.{readOfFormUpTo, sizeRefusalUpTo, widthIn}
 use Rattle.head_rules.specs.Numbers.{raised, readGroups, readNumber}
 use Rattle.line_rules.specs.Replace.{after, indexFits, lineFits, lineGiven, oriented, ownWidth, pFits, put, refusal, refusalIn, replaced, valueFits}
 use Rattle.sheet_rules.specs.Blocks.{blockRead}
-use Rattle.sheet_rules.specs.Pictures.{allBlocks, picture, pictureByte, rowOf}
+use Rattle.sheet_rules.specs.Pictures.{blocksAs, byteAs, picture, pictureByte, rowOf}
 use Rattle.sheet_rules.specs.SheetRows as whole
 use Rattle.sheet_rules.specs.SheetRows.{sheetRowOut, sheetRowRefusal}
 use Rattle.sheet_rules.specs.Rows.{blockAt, channel, rowByte, rowBytes, rowOut, rowOutUpTo, rowRefusal, rowRefusalUpTo}
@@ -224,7 +224,7 @@ unfolding over table tableFrom weights weightOf drawn promoted eight modeRow kin
     replacedBy sheetAfterBy sheetRefusalBy first sizeRefusalUpTo readHeadUpTo headRefusalUpTo formIn widthIn heightIn readNumber
     readGroups raised replaced after refusal refusalIn lineFits valueFits pFits indexFits ownWidth lineGiven put oriented withLine laid
     turned anchorOf blockOf listOf bytesOf colourIn formOf colourOf colourRefusal storedAt storedInTiles count slotOf slotIn inSheet columnAt
-    columnOfSlot rowAt rowOfSlot tiles blockRead allBlocks rowOf sheetRowOut sheetRowRefusal whole.rowBlocks
+    columnOfSlot rowAt rowOfSlot tiles blockRead blocksAs byteAs rowOf sheetRowOut sheetRowRefusal whole.rowBlocks
 sheets-hold = record {
   columns = refl;
   in-all = refl;

@@ -9,19 +9,16 @@ use Prim.Native.Nat.{ℕ, zero, suc, _*_, _/_, _%_, _<_}
 use native.Mathlib.Nat.{eq-zero-or-pos, le-of-suc-le-suc, mul-zero, not-suc-le-zero}
 use native.Mathlib.Omega.{arith}
 use lib.Dec.{T, eqb, eqb→eq}
-use lib.ListN.{length, getD, take, drop, length-map}
+use lib.ListN.{length, getD, length-map}
 use Rattle.laws.specs.Counting.{count, kept}
 use Rattle.laws.specs.Inverse.{Inverse}
 use Rattle.laws.specs.Tables.{below}
 use Rattle.laws.proofs.Counting.{Kept, at-kept, count-lt, kept-at, kept-long}
-use Rattle.laws.proofs.Inverse.{inverse-turn}
 use Rattle.laws.proofs.Tests.{at}
 use Rattle.tile_rules.specs.Computed.{orderAt, orderInTile}
-use Rattle.tile_rules.specs.Moves.{toRows, toTiles}
 use Rattle.tile_rules.specs.Tiles.{columnOfSlot, inSheet, numberInSlot, numberInTiles, rowOfSlot, slotIn, slotOf, slots, storedInTiles}
 use Rattle.tile_rules.specs.Tiles.{storedOrder}
 use Rattle.tile_rules.proofs.InTile.{column-lt, column-of-slot, row-lt, row-of-slot, slot-parted, slot-small}
-use Rattle.tile_rules.proofs.Moving.{moved-back, moved-piece}
 use Rattle.tile_rules.proofs.Slots.{number-lt, number-of-slot, slot-in, slot-lt, slot-of-number}
 use Rattle.tile_rules.proofs.Tiling.{count-all, stored-is}
 
@@ -74,21 +71,6 @@ module _ (c r : ℕ) (hc : 0 < c) where
   -- each block has exactly one stored number, and each of them is one block's
   pub tile-order : Inverse (r * c) (storedInTiles c r) (numberInTiles c r)
   tile-order = record { to = stored-within; from = number-within; from-to = number-of-stored; to-from = stored-of-number }
-
-  -- moving all blocks there and back restores their bytes, both ways
-  pub there-and-back : (l : List ℕ) → length l ≡ r * c * 16 → toRows c r (toTiles c r l) ≡ l
-  there-and-back l e = moved-back 16 (omega arith) (inverse-turn tile-order) l e
-
-  pub back-and-there : (l : List ℕ) → length l ≡ r * c * 16 → toTiles c r (toRows c r l) ≡ l
-  back-and-there l e = moved-back 16 (omega arith) tile-order l e
-
-  -- block b stands where its stored number says
-  pub block-in-tiles : (l : List ℕ) → length l ≡ r * c * 16 → (b : ℕ) → b < r * c
-      → take 16 (drop (16 * storedInTiles c r b) (toTiles c r l)) ≡ take 16 (drop (16 * b) l)
-  block-in-tiles l e b h =
-      moved-piece 16 (omega arith) (r * c) (numberInTiles c r) l (storedInTiles c r b) e (stored-within b h)
-      (number-within (storedInTiles c r b) (stored-within b h))
-      ∙ ap (λ (k : ℕ). take 16 (drop (16 * k) l)) (number-of-stored b h)
 
 -- one row of 4,096 blocks, the widest that there is, is stored as it stands
 widest : ℕ → Bool
