@@ -12,7 +12,7 @@ slice-aggregate-sheet-call-of : tie.Need-slice-aggregate-sheet-call-of
 slice-aggregate-sheet-call-of c = lent-length _ 65536 (search needs)
 
 sheet-call-of-requires : tie.Need-sheet-call-of-requires
-sheet-call-of-requires c κs = lent-within _ 65536 (search needs)
+sheet-call-of-requires c κs = lent-within (c .before .args .n) 65536 (c .before .pre)
 
 returns : tie.Need-returns
 returns c = search needs
