@@ -266,6 +266,11 @@ def some_output(dice, needed, wrong_percent=10):
     return dice.bytes(min(near(dice, needed, wrong_percent), protocol.LARGEST_LENGTH))
 
 
+def shown_length(width, height, row):
+    """How long the output of a row is."""
+    return 4 * width * max(0, min(4, height - 4 * row))
+
+
 def some_row(dice, largest=40):
     """The arguments of row decoding."""
     width, height = dice.within(1, largest), dice.within(1, largest)
@@ -296,6 +301,13 @@ def some_tile_sheet(dice, largest=20):
     head, blocks = some_sheet(dice, largest)
     width, height, *_ = model.read_head(head)[1]
     return model.write_tile_head(width, height, dice.one_of((0, 0, 1, 2))), blocks
+
+
+def sheet_of(form, width, height, blocks, colour=model.UNSPECIFIED):
+    """That head before the blocks as they stand; `blocks` makes so many of them."""
+    count = model.in_blocks(width) * model.in_blocks(height)
+    head = model.write_tile_head(width, height, colour) if form == model.TILES else model.write_head(width, height)[1]
+    return head + blocks(count)
 
 
 def of_form(form):
@@ -356,7 +368,7 @@ def some_shown_row(dice, largest=20):
     width, height, *_ = model.read_head(sheet)[1]
     rows = model.in_blocks(height)
     row = dice.below(rows) if rows and dice.chance(90) else dice.one_of((rows, rows + 1, *LARGE))
-    return row, sheet, some_output(dice, 4 * width * min(4, max(0, height - 4 * row)))
+    return row, sheet, some_output(dice, shown_length(width, height, row))
 
 
 # ---------------------------------------------------------------------------------------------------------------------

@@ -152,13 +152,13 @@ def check_charts():
 
 
 # Heads of form 2 and what they are refused with, on paper.
-TILE_HEADS = (("02000403", 18), ("02000400", 9), ("020004", 7), ("0205048000", 7), ("0205048001", 18), ("0205048101", 18), ("02050403", 18), ("02050402", 0))
+ON_PAPER = {"02000403": 18, "02000400": 9, "020004": 7, "0205048000": 7, "0205048001": 18, "0205048101": 18, "02050403": 18, "02050402": 0}
 
 
 def check_order():
     """Numbers on paper. Then the order by another way: sorted by tile, row by row, and by the bits of column and row in turn; each number once."""
     assert list(model.stored_order(3, 2, model.TILES)) == [0, 1, 3, 4, 2, 5]
-    for head, refusal in TILE_HEADS:
+    for head, refusal in ON_PAPER.items():
         assert model.read_head(bytes.fromhex(head))[0] == refusal, head
         assert model.read_head(bytes.fromhex(head), [model.ROWS])[0] == 8, head
     assert model.read_head(bytes.fromhex("01"), [model.TILES])[0] == 8

@@ -6,7 +6,7 @@ import time
 
 import document_01
 import model
-from cases import some_block, some_head, some_listed, some_opacity, some_sheet, some_tile_head, some_tile_sheet
+from cases import sheet_of, some_block, some_head, some_listed, some_opacity, some_sheet, some_tile_head, some_tile_sheet
 from dice import Dice
 
 TIMEOUT = 300
@@ -90,8 +90,7 @@ def tiles(dice):
     """Sheets of form 2: (what it is about, the inputs)"""
 
     def whole(width, height, block=some_block):
-        count = model.in_blocks(width) * model.in_blocks(height)
-        return model.write_tile_head(width, height, dice.below(3)) + b"".join(block(dice) for _ in range(count))
+        return sheet_of(model.TILES, width, height, lambda count: b"".join(block(dice) for _ in range(count)), dice.below(3))
 
     yield "form 2, sides 1 to 40", [whole(width, height, marked) for width in range(1, 41) for height in range(1, 41)]
     yield "form 2, refused heads", [some_tile_head(dice) for _ in range(150)]
@@ -99,8 +98,8 @@ def tiles(dice):
     cut = [sheet[:length] for length in range(len(sheet))]
     yield "form 2, bytes missing at each place, and surplus", cut + [sheet + dice.bytes(more) for more in (*range(34), 16384, 16385)]
     # A run takes 1,024 blocks at the most: ends within, at and after each; one row of tiles with cut ones, and several.
-    for what, width, height in (("four runs of tiles", 16384, 1), ("rows of tiles longer than a run", 600, 80), ("cut tiles on both sides", 1021, 250)):
-        wide = whole(width, height)
+    for what, *sides in (("four runs of tiles", 16384, 1), ("rows of tiles longer than a run", 600, 80), ("cut tiles on both sides", 1021, 250)):
+        wide = whole(*sides)
         start = model.read_head(wide)[1].start
         ends = [start + 16384 * run + more for run in range(1, 4) for more in (-17, -16, -1, 0, 1, 16)]
         yield "form 2, %s, cut and surplus" % what, [(wide + bytes(16))[:end] for end in (*ends, len(wide), len(wide) + 1)]

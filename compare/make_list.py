@@ -32,6 +32,8 @@ from cases import (
     either_form,
     fitting_replacement,
     nearly_opaque,
+    sheet_of,
+    shown_length,
     some_block,
     some_dds,
     some_head,
@@ -700,10 +702,10 @@ def reading_pixels(dice, shared):
 
 
 # ---------------------------------------------------------------------------------------------------------------------
-# M-108. What is wrong in a head of either form, alone and with what comes behind it in the order.
+# M-108: two forms.
 COLOUR_NUMBERS = (0, 1, 2, 3, 4, 127, 128, 129, 130, 256, 258, 16384, 16385, (1 << 21) - 1)
-# Cut off on the form, another form; the other number of a form 2 head cut off, with the colour space missing; not shortest (7), a space
-# that there isn't (18), sides that there aren't (9), and each with the ones that come behind; heads with nothing wrong.
+# Heads, in this order: form 2 with a number that is cut off, missing or not shortest (7); a colour space that there isn't (18), alone and beside
+# sides that there aren't; such sides (9), alone and beside a broken colour space (7); other forms (8), with every fault behind them; form 1.
 TILE_HEADS = """02 8000 8200 0205 0280 028000 020580 02058000 020504 02050480 0205048000 0205048080 020504808000 02050480808001
     020504ffffff7f 0205048001 0205048101 0205048201 02050403 020504ff7f 02050404 02000403 02040003 0200048001 02000400 02000401 02000402
     02040000 02000000 02818001040002 02048180010002 0281800104 028180010403 0204818001 020481800103 02000480 0200048000 020004808080 0200
@@ -715,13 +717,6 @@ TILE_SIDES = (1, 3, 4, 5, 8, 9, 16, 17, 28, 29, 31, 32, 33, 36, 37, 40)  # a til
 def marked(count):
     """Blocks of which no two are alike, so that each shows where it went; cheap to keep."""
     return b"".join(b"\x40" + number.to_bytes(3, "little") + bytes(12) for number in range(count))
-
-
-def sheet_of(form, width, height, blocks, colour=model.UNSPECIFIED):
-    """That head before the blocks as they stand; `blocks` makes so many of them."""
-    count = model.in_blocks(width) * model.in_blocks(height)
-    head = model.write_tile_head(width, height, colour) if form == model.TILES else model.write_head(width, height)[1]
-    return head + blocks(count)
 
 
 def tile_heads(dice):
@@ -766,6 +761,12 @@ def drawn_blocks(dice):
     return lambda count: blocks_for(dice, 16 * count)
 
 
+def edge_blocks(dice):
+    """Opaque but at one pixel of the last column or row: the mark goes by how many of them are shown."""
+    hidden = (3, 7, 11, 12, 13, 14, 15)
+    return lambda count: b"".join(nearly_opaque(dice, 6, ("whole",), [dice.one_of(hidden)]) for _ in range(count))
+
+
 def refused_sheets(dice):
     """Sheets that no call takes, or that only some take: every head of TILE_HEADS with nothing behind it, a block and two; whole sheets of
     both forms under each colour space with bytes missing and too many."""
@@ -808,10 +809,6 @@ def moving(letter, form):
         return found + [(letter, *some_move(dice, form, 44)) for _ in range(60)]
 
     return calls
-
-
-def shown_length(width, height, row):
-    return 4 * width * max(0, min(4, height - 4 * row))
 
 
 def showing_rows(dice, shared):
@@ -876,10 +873,13 @@ def replacing_in_tiles(dice, shared):
     """Replacement in form 2: each block of a sheet of cut tiles, and the first beyond; every refusal of a block and of the sheet, and of heads;
     a sheet of as many blocks as a call takes. A sequence on one sheet, and by chance."""
     del shared
-    calls, sheet = [], sheet_of(model.TILES, 37, 9, drawn_blocks(dice), 2)
-    for number in range(30):
-        calls.append(("S", sheet, number, *some_replacement(dice, model.block_in_sheet(sheet, number)[1], wrong_percent=0)))
-    calls += [("S", sheet, number, 0, bytes(26)) for number in (30, 31, *LARGE)]
+    calls = []
+    for sides, step in (((37, 9), 1), ((39, 35), 7)):
+        sheet = sheet_of(model.TILES, *sides, drawn_blocks(dice), 2)
+        count = model.in_blocks(sides[0]) * model.in_blocks(sides[1])
+        for number in range(0, count, step):
+            calls.append(("S", sheet, number, *some_replacement(dice, model.block_in_sheet(sheet, number)[1], wrong_percent=0)))
+        calls += [("S", sheet, number, 0, bytes(26)) for number in (count, count + 1, *(LARGE if step == 1 else ()))]
     wrong_value, wrong_p = bytes([255] + [0] * 25), bytes([0] * 8 + [0, 1] + [0] * 16)
     two = block_of(1, ("two", 13), bits_of_style(dice, "random"))
     sheet = model.write_tile_head(7, 6, 1) + document_01.C + bytes(16) + two + document_01.D
@@ -906,13 +906,13 @@ def listing_tiles(dice, shared):
     """Form 2 listed: pairs of sides; a sheet of cut tiles with every length up to the end of its third block and around each later one, and with
     bytes too many; marks at the edges, by column and row; 1,024 blocks and one more, cut there; refused heads, and by chance."""
     del shared
-    sheets = [sheet_of(model.TILES, width, height, drawn_blocks(dice), dice.below(3)) for width in TILE_SIDES for height in (1, 7, 29, 33, 38)]
+    sheets = []
+    for turn, (width, height) in enumerate((width, height) for width in TILE_SIDES for height in (1, 7, 29, 33, 38)):
+        sheets.append(sheet_of(model.TILES, width, height, (drawn_blocks, edge_blocks)[turn % 2](dice), dice.below(3)))
     sheet = sheet_of(model.TILES, 9, 10, drawn_blocks(dice), 1)
     sheets += [sheet[:length] for length in range(len(sheet)) if length < 56 or length % 16 in (3, 4, 5)]
     sheets += [sheet + dice.bytes(more) for more in (1, 15, 16, 17, 1000)]
-    for width, height in ((5, 6), (34, 3), (3, 35), (33, 33)):
-        count = model.in_blocks(width) * model.in_blocks(height)
-        sheets.append(model.write_tile_head(width, height, 0) + b"".join(some_opacity(dice)[0] for _ in range(count)))
+    sheets += [sheet_of(model.TILES, *sides, edge_blocks(dice)) for sides in ((5, 6), (34, 3), (3, 35), (33, 33), (35, 34))]
     wide = sheet_of(model.TILES, 132, 128, drawn_blocks(dice))
     sheets += [wide] + [wide[: len(wide) - 32 * 16 + end] for end in (-17, -16, -1, 0, 1, 16)]
     sheets += refused_sheets(dice)

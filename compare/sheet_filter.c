@@ -1,6 +1,7 @@
-/* Sheets of either form as a filter, for those that replay has no room for: one sheet on standard input; on standard output, by the word that is given,
- * the sheet moved to form 2 (tiles), moved back (rows), or its picture (show), row of blocks by row of blocks. Status 1 where a call refuses, 2 where
- * the words are others, or reading or writing fails. The kit has no C headers: what is needed of them is declared here. */
+/* Sheets of either form as a filter, for those that replay has no room for: one sheet on standard input; on standard output, by the word
+ * that is given, the sheet moved to form 2 (tiles), moved back (rows), or its picture (show), row of blocks by row of blocks. Status 1
+ * where a call refuses, 2 where the words are others, or reading or writing fails. The kit has no C headers: what is needed of them is
+ * declared here. */
 #include "rinchovek.h"
 
 long read(int file, void *to, unsigned long count);
