@@ -244,7 +244,7 @@ pub fn write_form(form: Form, width: u32, height: u32) -> FormBytes
             count: written.count,
         },
         Form::Tiles => FormBytes {
-            bytes: [2, b[1], b[2], b[3], b[4], b[5], b[6], 0],
+            bytes: [TILES as u8, b[1], b[2], b[3], b[4], b[5], b[6], 0],
             count: written.count + 1,
         },
     }

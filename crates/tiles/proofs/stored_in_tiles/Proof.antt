@@ -3,7 +3,7 @@
 use native.Mathlib.Nat.{le-of-lt}
 use native.Mathlib.Omega.{arith}
 use borrow.Author.Needs.{needs}
-use Rattle.tiles.proofs.Sizes.{block-inside, column-inside, columns-pos, place-sum, place-whole, row-inside}
+use Rattle.tiles.proofs.Sizes.{block-inside, column-inside, columns-pos, of-sheet, of-slot, row-inside, stored-sum, stored-whole}
 use Rattle.tiles.proofs.stored_in_tiles.Statement.{statement}
 use Rattle.tiles.proofs.stored_in_tiles.Tie as tie
 
@@ -35,7 +35,9 @@ cast-result : tie.Need-cast-result
 cast-result c = search needs
 
 add-result : tie.Need-add-result
-add-result c = search needs
+add-result c =
+    let f = c .before .before .before .before .before in
+    omega (arith, of-sheet (f .before .pre) (f .blocks-ahead .ensures .room), of-slot _ _ (c .interleave .ensures))
 
 returns : tie.Need-returns
 returns c =
@@ -43,24 +45,32 @@ returns c =
     let d = b .before in
     let e = d .before in
     let f = e .before in
-    place-whole (f .before .pre) (f .blocks-ahead .ensures) _ _ (e .cell-side .ensures) (d .cell-side2 .ensures) _ (b .if1 .taken) (c .before .if2 .taken) (c .interleave .ensures)
+    stored-whole (f .before .pre) (f .blocks-ahead .ensures .is) (e .cell-side .ensures) (d .cell-side2 .ensures) (b .if1 .taken)
+    (c .before .if2 .taken) (c .interleave .ensures)
 
 order-in-tile-requires : tie.Need-order-in-tile-requires
 order-in-tile-requires c κs =
     let b = c .before in
     let d = b .before in
     let i = d .before .before .pre in
-    (rw (d .cell-side .ensures) (column-inside i), rw (b .cell-side2 .ensures) (row-inside i), omega arith, omega arith)
+    record {
+      column = rw (d .cell-side .ensures) (column-inside i);
+      row = rw (b .cell-side2 .ensures) (row-inside i);
+      wide = omega arith;
+      high = omega arith;
+    }
 
 add-result-2 : tie.Need-add-result-2
-add-result-2 c = search needs
+add-result-2 c =
+    let f = c .before .before .before .before in
+    omega (arith, of-sheet (f .before .pre) (f .blocks-ahead .ensures .room), c .order-in-tile .ensures .room)
 
 returns-2 : tie.Need-returns-2
 returns-2 c =
     let d = c .before .before in
     let e = d .before in
     let f = e .before in
-    place-sum (f .before .pre) (f .blocks-ahead .ensures) _ _ (e .cell-side .ensures) (d .cell-side2 .ensures) _ (c .order-in-tile .ensures .is)
+    stored-sum (f .before .pre) (f .blocks-ahead .ensures .is) (e .cell-side .ensures) (d .cell-side2 .ensures) (c .order-in-tile .ensures .is)
 
 pub stored-in-tiles-spec : {M : Type 1} → statement M
 stored-in-tiles-spec =
