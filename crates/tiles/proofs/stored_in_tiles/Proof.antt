@@ -13,14 +13,14 @@ rem-x c = columns-pos (c .pre)
 div-y : tie.Need-div-y
 div-y c = columns-pos (c .pre)
 
-blocks-ahead-requires : tie.Need-blocks-ahead-requires
-blocks-ahead-requires c κs = block-inside (c .pre)
-
 cell-side-requires : tie.Need-cell-side-requires
-cell-side-requires c κs = le-of-lt (block-inside (c .before .pre) .columns)
+cell-side-requires c κs = le-of-lt (block-inside (c .pre) .columns)
 
 cell-side-requires-2 : tie.Need-cell-side-requires-2
 cell-side-requires-2 c κs = le-of-lt (block-inside (c .before .before .pre) .rows)
+
+blocks-ahead-requires : tie.Need-blocks-ahead-requires
+blocks-ahead-requires c κs = block-inside (c .before .before .before .before .pre)
 
 cast-interleave : tie.Need-cast-interleave
 cast-interleave c = search needs
@@ -39,28 +39,35 @@ add-result c = search needs
 
 returns : tie.Need-returns
 returns c =
-    let b = c .before .before in
-    let d = b .before in
-    let e = d .before in
-    let f = e .before in
-    place-whole (f .before .pre) (f .blocks-ahead .ensures) _ _ (e .cell-side .ensures) (d .cell-side2 .ensures) _ (b .if1 .taken) (c .before .if2 .taken) (c .interleave .ensures)
+    let ahead = c .before in
+    let whole-rows = ahead .before in
+    let high = whole-rows .before in
+    let whole-columns = high .before in
+    let wide = whole-columns .before in
+    place-whole (wide .before .pre) (ahead .blocks-ahead .ensures) _ _ (wide .cell-side .ensures) (high .cell-side2 .ensures) _ (whole-columns .if1 .taken)
+    (whole-rows .if2 .taken) (c .interleave .ensures)
+
+blocks-ahead-requires-2 : tie.Need-blocks-ahead-requires-2
+blocks-ahead-requires-2 c κs = block-inside (c .before .before .pre)
+
+cell-side-requires-3 : tie.Need-cell-side-requires-3
+cell-side-requires-3 c κs = le-of-lt (block-inside (c .before .before .before .pre) .rows)
 
 order-in-tile-requires : tie.Need-order-in-tile-requires
 order-in-tile-requires c κs =
-    let b = c .before in
-    let d = b .before in
-    let i = d .before .before .pre in
-    (rw (d .cell-side .ensures) (column-inside i), rw (b .cell-side2 .ensures) (row-inside i), omega arith, omega arith)
+    let wide = c .before .before .before in
+    let i = wide .before .pre in
+    (rw (wide .cell-side .ensures) (column-inside i), rw (c .cell-side3 .ensures) (row-inside i), omega arith, omega arith)
 
 add-result-2 : tie.Need-add-result-2
 add-result-2 c = search needs
 
 returns-2 : tie.Need-returns-2
 returns-2 c =
-    let d = c .before .before in
-    let e = d .before in
-    let f = e .before in
-    place-sum (f .before .pre) (f .blocks-ahead .ensures) _ _ (e .cell-side .ensures) (d .cell-side2 .ensures) _ (c .order-in-tile .ensures .is)
+    let high = c .before in
+    let ahead = high .before in
+    let wide = ahead .before .before in
+    place-sum (wide .before .pre) (ahead .blocks-ahead2 .ensures) _ _ (wide .cell-side .ensures) (high .cell-side3 .ensures) _ (c .order-in-tile .ensures .is)
 
 pub stored-in-tiles-spec : {M : Type 1} → statement M
 stored-in-tiles-spec =
@@ -68,15 +75,17 @@ stored-in-tiles-spec =
     (tie.spec
     rem-x
     div-y
-    blocks-ahead-requires
     cell-side-requires
     cell-side-requires-2
+    blocks-ahead-requires
     cast-interleave
     cast-interleave-2
     interleave-requires
     cast-result
     add-result
     returns
+    blocks-ahead-requires-2
+    cell-side-requires-3
     order-in-tile-requires
     add-result-2
     returns-2)
