@@ -127,7 +127,7 @@ static void try_moves(void) {
             const uint32_t many = numbers[RINCHOVEK_OPEN_BLOCKS];
             const size_t length = count + many * (size_t)RINCHOVEK_BLOCK_BYTES;
             for (uint32_t i = 0; i < many * RINCHOVEK_BLOCK_BYTES; i++)
-                rows[count + i] = (uint8_t)(i % RINCHOVEK_BLOCK_BYTES == 0 ? 1 << i / 16 % 8 : i * 37 + i / 16 * 11);
+                rows[count + i] = (uint8_t)(i % RINCHOVEK_BLOCK_BYTES == 0 ? 1u << i / 16 % 8 : i * 37 + i / 16 * 11);
             for (uint32_t off = 0; off <= 2; off++) {
                 const uint32_t answer = off == 1 ? RINCHOVEK_ACCEPTED : RINCHOVEK_WRONG_OUTPUT_LENGTH;
                 expect("to tiles", rinchovek_sheet_to_tiles(rows, length, tiles, length + off), answer);

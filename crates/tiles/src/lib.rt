@@ -83,15 +83,15 @@ pub fn stored_in_tiles(columns: usize, rows: usize, block: usize) -> usize
 {
     let x = block % columns;
     let y = block / columns;
-    let before = blocks_ahead(8, columns, rows, x / 8, y / 8);
     let w = cell_side(8, columns, x / 8);
-    let h = cell_side(8, rows, y / 8);
     if w == 8 {
-        if h == 8 {
+        if cell_side(8, rows, y / 8) == 8 {
+            let before = blocks_ahead(8, columns, rows, x / 8, y / 8);
             return before + interleave((x % 8) as u8, (y % 8) as u8) as usize;
         }
     }
-    before + order_in_tile(w, h, x % 8, y % 8)
+    let before = blocks_ahead(8, columns, rows, x / 8, y / 8);
+    before + order_in_tile(w, cell_side(8, rows, y / 8), x % 8, y % 8)
 }
 
 // The cell of side s that holds the block with m stored before it, of w columns and h rows of blocks.
