@@ -1,3 +1,4 @@
 pub mod Attested
+pub mod Moving
+pub mod Words
 pub mod Theorems
-pub mod Showing
