@@ -32,7 +32,8 @@ use Rattle.sheet_rules.proofs.Finding.{finding}
 use Rattle.sheet_rules.proofs.Pictures.{all-same}
 use Rattle.move_rules.specs.Moving.{MovesTo, headInForm, moveAfter, moveRefusal, moveRules, movedTo, other}
 use Rattle.move_rules.proofs.Moving.{Movable, accepts, back-is, back-movable, block-moved, head-moved, movable, moved-is, unmoved}
-use Rattle.move_rules.proofs.Words.{moving-in-words}
+use Rattle.move_rules.proofs.Whole.{whole-moved}
+use Rattle.move_rules.proofs.Words.{moving-in-words, tiles-answers}
 
 -- each refusal number of a move is given exactly when the request says (`moveRules` has the words of each direction)
 pub move-refused-when : (f : Form) (s : List ℕ) (room n : ℕ) → (moveRefusal f s room ≡ n) ↔ Given (moveRules f s room) n
@@ -70,3 +71,110 @@ there-and-back-restores f s out back y e eb =
     let b : Movable (other f) t (length s) = back-movable f s y (m .told) (m .long) (m .form-is) (m .unstated-head) in
     let a : moveRefusal (other f) t (length back) ≡ 0 = accepts (other f) t (length back) (subst (Movable (other f) t) (sym eb) b) in
     rw (moved-is f s out e) (a, moved-is (other f) t back a ∙ back-is f s y (m .told) (m .long) (m .form-is) (m .unstated-head))
+
+-- NOTHING IS LOST exactly where the colour space is not stated: of a whole sheet of form 2, with room for it in form 1, the way back is
+-- refused with 16 exactly where the number of the colour space is 1 or 2, and accepted exactly where it is 0
+stated : (n : ℕ) → n ≤ 2 → n ≢ 0 → (n ≡ 1) ⊎ (n ≡ 2)
+stated zero l ne = absurd (ne refl)
+stated (suc zero) l ne = inl refl
+stated (suc (suc zero)) l ne = inr refl
+stated (suc (suc (suc n))) l ne = absurd (let q : ⊥ = omega (arith, l) in q)
+
+module _ (s : List ℕ) (room : ℕ) (k : readOfForm Tiles s .refusal ≡ 0) (l : length s ≡ wholeLength (readHead s))
+    (r : room ≡ wholeLength (headInForm Rows (readHead s))) where
+  stated-refused : colourIn s .value ≢ 0 → moveRefusal Rows s room ≡ 16
+  stated-refused ne =
+      let (a, (b, (w, (h, (c, (v, (z, u))))))) = tiles-answers s .met k in
+      move-refused-when Rows s room 16 .1 (then a (then b (then w (then h (then c (then v (then z (then l (then r (here ne))))))))))
+
+  pub unstated-accepted : (moveRefusal Rows s room ≡ 0) ↔ (colourIn s .value ≡ 0)
+  unstated-accepted = (
+    λ e. let (a, (b, (w, (h, (c, (v, (z, (i, (o, (n, u)))))))))) = moving-in-words Rows s room .met e in n,
+    λ e.
+        let (a, (b, (w, (h, (c, (v, (z, u))))))) = tiles-answers s .met k in
+        accepted-when (moving-in-words Rows s room) .1 (a, (b, (w, (h, (c, (v, (z, (l, (r, (e, tt)))))))))),
+  )
+
+  pub stated-is-lost : (moveRefusal Rows s room ≡ 16) ↔ ((colourIn s .value ≡ 1) ⊎ (colourIn s .value ≡ 2))
+  stated-is-lost = (
+    λ e.
+        let (a, (b, (w, (h, (c, (v, (z, u))))))) = tiles-answers s .met k in
+        stated (colourIn s .value) v (λ n. let q : ⊥ = omega (arith, e, unstated-accepted .1 n) in q),
+    λ o. stated-refused (λ n. ⊎-elim (λ x. omega (arith, n, x)) (λ x. omega (arith, n, x)) o),
+  )
+
+-- and of any whole sheet of form 2, the bytes in form 1 lead to the same sheet again exactly where its head says no colour space
+pub kept-where-unstated : (s : List ℕ) → WholeSheet s → readHead s .form ≡ Tiles
+    → let t = movedTo Rows (readHead s) s in (movedTo Tiles (readHead t) t ≡ s) ↔ (readHead s .«colour_space» ≡ Unspecified)
+kept-where-unstated s z k = (
+  λ e.
+      let t = movedTo Rows (readHead s) s in
+      ap (λ (x : List ℕ). readHead x .«colour_space») (sym e)
+      ∙ ap (λ (h : Head). h .«colour_space») (head-moved Tiles t (ap (λ (h : Head). h .refusal) (head-moved Rows s (z .told)))),
+  λ u. back-is Rows s (z .bytes) (z .told) (z .long) k u,
+)
+
+-- A MOVED SHEET: t, from s
+module _ (f : Form) (s out : List ℕ) (y : Bytes s) (e : moveRefusal f s (length out) ≡ 0) where
+  abbrev t : List ℕ
+  t = moveAfter f s out
+
+  abbrev m : Movable f s (length out)
+  m = movable f s (length out) e
+
+  whole : WholeSheet s
+  whole = record { bytes = y; told = m .told; long = m .long }
+
+  -- it is whole, of the same width and height, and says no colour space
+  pub whole-there : WholeSheet t
+  whole-there = rw (moved-is f s out e) (whole-moved f s whole)
+
+  pub head-there : readHead t ≡ headInForm f (readHead s)
+  head-there = ap readHead (moved-is f s out e) ∙ head-moved f s (m .told)
+
+  as-many : blocksOf (readHead t) ≡ blocksOf (readHead s)
+  unfolding blocksOf
+  as-many = rw head-there
+
+  -- each block keeps its number
+  pub same-block : (b : ℕ) → b < blocksOf (readHead s) → blockIn t b ≡ blockIn s b
+  same-block b l =
+      ap (λ (h : Head). blockBy h t b) head-there
+      ∙ ap (λ (x : List ℕ). blockBy (headInForm f (readHead s)) x b) (moved-is f s out e) ∙ block-moved f (readHead s) s (m .long) b l
+
+  -- it shows the same picture
+  pub same-picture : picture (readHead t .width) (readHead t .height) (allBlocks t) ≡ picture (readHead s .width) (readHead s .height) (allBlocks s)
+  same-picture =
+      let w = ap (λ (h : Head). h .width) head-there in
+      let g = ap (λ (h : Head). h .height) head-there in
+      ap₂ (λ (a b : ℕ). picture a b (allBlocks t)) w g
+      ∙ ap (picture (readHead s .width) (readHead s .height)) (all-same Rows (readHead s) s (readHead t) t w g same-block)
+
+  -- and every call by block number is answered as before: a block is found, or not; a line of it is replaced, or not; and whatever list of
+  -- calls is made on both sheets, each block is the same in both afterwards
+  pub same-found : (b : ℕ) → findRefusal t b ≡ findRefusal s b
+  same-found b = ⊎-elim
+      (λ l. accepted-when (finding t b) .1 (whole-there .told, (whole-there .long, (rw as-many l, tt)))
+      ∙ sym (accepted-when (finding s b) .1 (m .told, (m .long, (l, tt)))))
+      (λ l. exactly (finding t b) 12 .1 (then (whole-there .told) (then (whole-there .long) (here (λ n. omega (arith, as-many, n, l)))))
+      ∙ sym (exactly (finding s b) 12 .1 (then (m .told) (then (m .long) (here (λ n. omega (arith, n, l)))))))
+      (lt-or b (blocksOf (readHead s)))
+
+  same-call : (c : SheetCall) → refusalOn t c ≡ refusalOn s c
+  same-call c = ⊎-elim
+      (λ l. answered-as-block t whole-there c (rw as-many l) ∙ ap (λ (x : List ℕ). refusal x (onBlock c)) (same-block (c .block) l)
+      ∙ sym (answered-as-block s whole c l))
+      (λ l. beyond t whole-there c (rw as-many l) ∙ sym (beyond s whole c l))
+      (lt-or (c .block) (blocksOf (readHead s)))
+
+  pub same-answer : (b l : ℕ) (new : Replacement) → sheetRefusal t b l new ≡ sheetRefusal s b l new
+  same-answer b l new = same-call (record { block = b; line = l; given = new })
+
+  pub same-after-all : (cs : List SheetCall) (b : ℕ) → b < blocksOf (readHead s) → blockIn (sheetWithAll t cs) b ≡ blockIn (sheetWithAll s cs) b
+  same-after-all cs b l =
+      all-block cs t whole-there b (rw as-many l) ∙ ap (λ (x : List ℕ). afterAll x (callsOn b cs)) (same-block b l) ∙ sym (all-block cs s whole b l)
+
+  pub same-after : (a l : ℕ) (new : Replacement) (b : ℕ) → b < blocksOf (readHead s)
+      → blockIn (sheetAfter t a l new) b ≡ blockIn (sheetAfter s a l new) b
+  unfolding calls.run
+  same-after a l new b lb = same-after-all (record { block = a; line = l; given = new } ∷ []) b lb
