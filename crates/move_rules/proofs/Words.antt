@@ -18,7 +18,7 @@ use Rattle.head_rules.specs.Geometry.{wholeLength}
 use Rattle.head_rules.specs.Heads.{colourIn, limit, ofFormRules, readHead, readOfForm}
 use Rattle.head_rules.proofs.Colours.{number-back}
 use Rattle.head_rules.proofs.Heading.{accepted as accepted-head, refusal-is}
-use Rattle.head_rules.proofs.Theorems.{form-1-unspecified, of-form-answers, of-form-is, parts, rows-answers, two-forms}
+use Rattle.head_rules.proofs.Theorems.{form-1-unspecified, of-form-answers, of-form-is, parts, rows-answers}
 use Rattle.move_rules.specs.Moving.{headInForm, lengthRules, moveRefusal, moveRules, tilesRules}
 
 -- of form 2 the form is looked at once
@@ -27,7 +27,7 @@ module _ (s : List ℕ) where
   tiles-given (here x) = here x
   tiles-given (then a (here x)) = then a (here x)
   tiles-given (then a (then b (here x))) = absurd (x a)
-  tiles-given (then a (then b (then c (here x)))) = absurd (x (two-forms _ .1 (inr b)))
+  tiles-given (then a (then b (then c (here x)))) = absurd (x (inr b))
   tiles-given (then a (then b (then c (then d g)))) = then a (then b g)
 
   pub tiles-answers : Answers (readOfForm Tiles s .refusal) (tilesRules s)
