@@ -4,8 +4,7 @@ use mathlib.Core.Path.{_≡_, _∙_, sym, subst}
 use Prim.Native.Nat.{ℕ, _+_, _*_, _-_, _<_, _≤_}
 use native.Mathlib.Omega.{arith}
 use borrow.Author.Needs.{needs}
-use Rattle.moves.proofs.Steps.{Counted, Moved, all-moved, all-of, block-there, count-fits, moved-on, none-moved, numbered, stored-fits}
-use Rattle.moves.proofs.Steps.{stored-within}
+use Rattle.moves.proofs.Steps.{Counted, Moved, all-moved, all-of, block-there, count-fits, moved-on, none-moved, numbered, stored-within}
 use Rattle.moves.proofs.move_blocks.Statement.{statement}
 use Rattle.moves.proofs.move_blocks.Tie as tie
 
@@ -35,13 +34,19 @@ abbrev all : Both → ℕ
 all c = c .blocks-across2 .result * c .before .blocks-across .result
 
 counted : (c : Both) → Counted (c .before .before .before .before .args .head) (c .before .blocks-across .result) (c .blocks-across2 .result)
-counted c = record { size = c .before .before .before .before .pre .size; columns-are = c .before .blocks-across .ensures; rows-are = c .blocks-across2 .ensures }
+counted c = record {
+  size = c .before .before .before .before .pre .size;
+  columns-are = c .before .blocks-across .ensures;
+  rows-are = c .blocks-across2 .ensures;
+}
 
 mul-b-end : tie.Need-mul-b-end Inv-loop μ-loop
 mul-b-end c = omega (arith, count-fits (counted c))
 
 loop-holds : tie.Need-loop-holds Inv-loop μ-loop
-loop-holds c = let a = c .before .before .before .before in (omega arith, none-moved (a .args .form) (a .args .head) (a .args .sheet .now) (a .pre .room))
+loop-holds c =
+    let a = c .before .before .before .before in
+    (omega arith, none-moved (a .args .form) (a .args .head) (a .args .sheet .now) (a .pre .room))
 
 cast-load : tie.Need-cast-load Inv-loop μ-loop
 cast-load c = search needs
@@ -53,23 +58,15 @@ stored-by-requires c κs =
     numbered (counted (l .before)) h
 
 mul-load : tie.Need-mul-load Inv-loop μ-loop
-mul-load c =
-    let l = c .before .before .before in
-    let h : l .loop .b < all (l .before) = omega arith in
-    omega (arith, stored-fits (counted (l .before)) h (l .before .before .before .before .before .args .head .form) (c .stored-by .ensures))
+mul-load c = omega (arith, c .stored-by .ensures .inside, count-fits (counted (c .before .before .before .before)))
 
 add-load : tie.Need-add-load Inv-loop μ-loop
-add-load c =
-    let l = c .before .before .before in
-    let h : l .loop .b < all (l .before) = omega arith in
-    omega (arith, stored-fits (counted (l .before)) h (l .before .before .before .before .before .args .head .form) (c .stored-by .ensures))
+add-load c = omega (arith, c .stored-by .ensures .inside, count-fits (counted (c .before .before .before .before)))
 
 load-requires : tie.Need-load-requires Inv-loop μ-loop
 load-requires c κs =
-    let l = c .before .before .before in
-    let h : l .loop .b < all (l .before) = omega arith in
-    let a = l .before .before .before .before .before in
-    block-there (counted (l .before)) h (a .args .sheet .now) (c .stored-by .ensures) (a .pre .whole)
+    let high = c .before .before .before .before in
+    block-there (counted high) (high .before .before .before .before .pre .whole) (c .stored-by .ensures .inside)
 
 stored-by-requires-2 : tie.Need-stored-by-requires-2 Inv-loop μ-loop
 stored-by-requires-2 c κs =
@@ -78,16 +75,12 @@ stored-by-requires-2 c κs =
     numbered (counted (l .before)) h
 
 mul-store : tie.Need-mul-store Inv-loop μ-loop
-mul-store c =
-    let l = c .before .before .before .before .before .before in
-    let h : l .loop .b < all (l .before) = omega arith in
-    omega (arith, stored-fits (counted (l .before)) h (l .before .before .before .before .before .args .form) (c .stored-by2 .ensures))
+mul-store c = omega (arith, c .stored-by2 .ensures .inside, count-fits (counted (c .before .before .before .before .before .before .before)))
 
 store-requires : tie.Need-store-requires Inv-loop μ-loop
 store-requires c κs =
     let l = c .before .before .before .before .before .before in
-    let h : l .loop .b < all (l .before) = omega arith in
-    omega (arith, l .loop .inv .1 .long, stored-within (counted (l .before)) h (l .before .before .before .before .before .args .form) (c .stored-by2 .ensures))
+    omega (arith, l .loop .inv .1 .long, stored-within (counted (l .before)) (c .stored-by2 .ensures .inside))
 
 add-b : tie.Need-add-b Inv-loop μ-loop
 add-b c =
@@ -113,7 +106,7 @@ loop-again c =
     let found = put .before in
     let loaded = found .before .before in (
       omega (arith, h),
-      moved-on (counted (l .before)) h (a .args .sheet .now) (loaded .before .stored-by .ensures) (a .args .form) (loaded .load .ensures)
+      moved-on (counted (l .before)) (a .args .sheet .now) h (loaded .before .stored-by .ensures) (a .args .form) (loaded .load .ensures)
           (found .stored-by2 .ensures) (l .loop .inv .1) (put .store .ensures),
     )
 

@@ -20,7 +20,8 @@ read-of-form-requires : tie.Need-read-of-form-requires
 read-of-form-requires c κs = search needs
 
 -- the head that was read, by the code's own words
-head-read : (c : tie.After-read-of-form) → c .read-of-form .result ≡ readOfForm (other (c .before .before .before .before .args .form)) (c .before .before .before .before .args .sheet .now)
+head-read : (c : tie.After-read-of-form) → let a = c .before .before .before .before .args in
+    c .read-of-form .result ≡ readOfForm (other (a .form)) (a .sheet .now)
 head-read c =
     c .read-of-form .ensures ∙ ap (λ (g : Form). readOfForm g (c .before .before .before .before .args .sheet .now)) (c .before .other .ensures)
 
@@ -41,7 +42,8 @@ returns-2 c =
     let told = c .before .before in
     let r = told .before .before in
     let a = r .before .before .before .before .args in
-    not-moved (a .form) (a .sheet .now) (a .out .now) (head-read r) (then (told .if1 .left) (here (λ q. c .if2 .taken (q ∙ sym (c .before .whole-length .ensures))))) (λ z. omega arith)
+    not-moved (a .form) (a .sheet .now) (a .out .now) (head-read r)
+    (then (told .if1 .left) (here (λ q. c .if2 .taken (q ∙ sym (c .before .whole-length .ensures))))) (λ z. omega arith)
 
 length-as-requires : tie.Need-length-as-requires
 length-as-requires c κs =
