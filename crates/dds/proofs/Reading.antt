@@ -13,7 +13,7 @@ use Rattle.head_rules.specs.declared.ColourSpace.{ColourSpace}
 use Rattle.head_rules.specs.declared.Head.{Head}
 use Rattle.head_rules.specs.declared.HeadBytes.{HeadBytes}
 use Rattle.head_rules.specs.Geometry.{blocksOf, wholeLength}
-use Rattle.head_rules.specs.Heads.{Sized, headBytes, headOf, limit, readHead, sevenOf, sizeRefusal, under, writeHead}
+use Rattle.head_rules.specs.Heads.{Sized, headBytes, headOf, limit, sevenOf, sizeRefusal, under, writeHead}
 use Rattle.head_rules.proofs.Heading.{size-0}
 use Rattle.head_rules.proofs.Theorems.{head-not-written-when}
 use Rattle.laws.specs.Padding.{padded}
@@ -22,7 +22,7 @@ use Rattle.laws.specs.Tables.{table}
 use Rattle.laws.proofs.Tests.{no-both}
 use Rattle.dds_rules.specs.Header.{Texture, bytesIn, canonicalHeader, fieldIn, format, formatSays, headerLength, headerNumber, height, isTexture}
 use Rattle.dds_rules.specs.Header.{width}
-use Rattle.dds_rules.specs.Files.{exportHead, fileLength, fileMadeBy, headMade, importHead, sheetMade}
+use Rattle.dds_rules.specs.Files.{exportHead, fileLength, fileMadeBy, headMade, importHead, sheetHead, sheetMade}
 use Rattle.dds_rules.specs.Promises.{Exports, Imports}
 use Rattle.dds_rules.proofs.Refusing.{Taken}
 use Rattle.dds_rules.proofs.Numbers.{header-long}
@@ -130,7 +130,7 @@ module _ (dds out : List ℕ) {x : Head} (e : x ≡ importHead dds) (z : x .refu
 module _ (s : List ℕ) (c : ColourSpace) (out : List ℕ) {x : Head} (e : x ≡ exportHead s) (z : x .refusal ≡ 0) {u : Head} (eu : u ≡ under c x)
     {numbers header : List ℕ} (en : numbers ≡ table 37 (headerNumber u)) (eh : header ≡ table headerLength (bytesIn numbers))
     (l : length out ≡ fileLength x) where
-  abbrev known : x ≡ readHead s
+  abbrev known : x ≡ sheetHead s
   known = export-taken s e z .1
 
   is-header : header ≡ canonicalHeader (under c x)

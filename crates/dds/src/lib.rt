@@ -5,7 +5,7 @@ ghost use mathlib.Core.Path.{_≡_};
 ghost use mathlib.Core.List.{_++_};
 ghost use Prim.Native.Nat.{_+_, _≤_};
 ghost use lib.ListN.{drop, length, take};
-ghost use Rattle.head_rules.specs.Heads.{Sized, headOf};
+ghost use Rattle.head_rules.specs.Heads.{Sized};
 ghost use Rattle.laws.specs.Tables.{table};
 ghost use Rattle.dds_rules.specs.Header.{bytesIn, formatOf, formatSays, headerNumber, isTexture, numberAt};
 ghost use Rattle.dds_rules.specs.Files.{exportHead, fileLength, importHead};
@@ -13,13 +13,15 @@ ghost use Rattle.dds_rules.specs.Promises.{ExportNeeds, Exports, ExportsNumbere
 ghost use Rattle.dds.specs.Filling.{Fills, Widens};
 use dds_rules::Length;
 use head_rules::ColourSpace;
+use head_rules::Form;
 use head_rules::Head;
 use sheet_head::colours::colour_of;
 use sheet_head::colours::colour_refusal;
 use sheet_head::colours::under;
 use sheet_head::geometry::blocks_of;
 use sheet_head::geometry::whole_length;
-use sheet_head::read_head;
+use sheet_head::read_of_form;
+use sheet_head::reader::no_head;
 use sheet_head::write_head;
 
 // The bytes of a header, and the 37 numbers of four bytes that they are.
@@ -136,18 +138,6 @@ fn format_says(format: u32) -> ColourSpace
     ColourSpace::Linear
 }
 
-fn no_head(refusal: u8) -> Head
-    ensures { λ r. ⌜ r ≡ headOf refusal 0 0 0 ⌝ }
-{
-    Head {
-        refusal: refusal,
-        width: 0,
-        height: 0,
-        start: 0,
-        colour_space: ColourSpace::Unspecified,
-    }
-}
-
 // The bytes of a file with all blocks of a sheet.
 fn file_length(head: Head) -> usize
     requires { ⌜ Sized (head .width) (head .height) ⌝ }
@@ -172,6 +162,7 @@ fn read_file(dds: &[u8]) -> Head
     }
     let head = Head {
         refusal: 0,
+        form: Form::Rows,
         width: width,
         height: height,
         start: wide(written.count),
@@ -183,11 +174,11 @@ fn read_file(dds: &[u8]) -> Head
     head
 }
 
-// The head of a sheet that is there whole, or the first refusal that applies: 7, 8, 9, 10.
+// The head of a sheet of form 1 that is there whole, or the first refusal that applies: 7, 8, 9, 10.
 fn read_sheet(sheet: &[u8]) -> Head
     ensures { λ r. ⌜ r ≡ exportHead (now (sheet .entry)) ⌝ }
 {
-    let head = read_head(sheet);
+    let head = read_of_form(Form::Rows, sheet);
     if head.refusal != 0 {
         return head;
     }
@@ -310,7 +301,7 @@ pub fn export_numbered(sheet: &[u8], number: u32, out: &mut [u8]) -> u8
     if refusal == 0 {
         return export_dds(sheet, colour_of(number), out);
     }
-    let head = read_head(sheet);
+    let head = read_of_form(Form::Rows, sheet);
     if head.refusal == 0 {
         return refusal;
     }

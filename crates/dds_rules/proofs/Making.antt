@@ -11,13 +11,15 @@ use Rattle.head_rules.specs.declared.ColourSpace.{ColourSpace}
 use Rattle.head_rules.specs.declared.ColourSpace.the-variants.{Unspecified, Linear, Srgb}
 use Rattle.head_rules.specs.declared.Head.{Head}
 use Rattle.head_rules.specs.Geometry.{blocksOf, wholeLength}
-use Rattle.head_rules.specs.Heads.{Sized, headBytes, headOf, readHead, under}
+use Rattle.head_rules.specs.declared.Form.{Form}
+use Rattle.head_rules.specs.declared.Form.the-variants.{Rows}
+use Rattle.head_rules.specs.Heads.{Sized, headBytes, headIn, headOf, readHead, under}
 use Rattle.head_rules.specs.Numbers.{Bytes}
-use Rattle.head_rules.proofs.Theorems.{head-one-form, head-read-back}
+use Rattle.head_rules.proofs.Theorems.{head-read-back, of-form-is, rows-one-form, rows-read-back, rows-sized}
 use Rattle.head_rules.proofs.Writing.{few, one-byte}
 use Rattle.dds_rules.specs.Header.{Texture, canonicalHeader, entries, fieldIn, format, formatOf, formatSays, headerLength, headerNumber}
 use Rattle.dds_rules.specs.Header.{height, width}
-use Rattle.dds_rules.specs.Files.{fileLength, fileMade, fileMadeBy, headMade, said, sheetMade}
+use Rattle.dds_rules.specs.Files.{fileLength, fileMade, fileMadeBy, headMade, said, sheetHead, sheetMade}
 use Rattle.dds_rules.proofs.Refusing.{Taken, Whole}
 use Rattle.dds_rules.proofs.Numbers.{header-long, number-back}
 
@@ -49,9 +51,13 @@ module _ (dds : List ℕ) where
   abbrev high : ℕ
   high = fieldIn dds height
 
-  pub sheet-head : Sized wide high → readHead (sheetMade dds) ≡ under Unspecified (headMade dds)
+  pub sheet-head : Sized wide high → sheetHead (sheetMade dds) ≡ under Unspecified (headMade dds)
   unfolding sheetMade headMade
-  sheet-head z = head-read-back wide high z (drop headerLength dds)
+  sheet-head z = rows-read-back wide high z (drop headerLength dds)
+
+  pub sheet-read : Sized wide high → readHead (sheetMade dds) ≡ under Unspecified (headMade dds)
+  unfolding sheetMade headMade
+  sheet-read z = head-read-back wide high z (drop headerLength dds)
 
   pub sheet-blocks : drop (headMade dds .start) (sheetMade dds) ≡ drop headerLength dds
   unfolding sheetMade headMade
@@ -80,13 +86,16 @@ module _ (dds : List ℕ) where
 -- THE FILE OF A SHEET
 module _ (s : List ℕ) (y : Bytes s) (w : Whole s) (c : ColourSpace) where
   abbrev head : Head
-  head = readHead s
+  head = sheetHead s
 
   size : Sized (head .width) (head .height)
-  size = head-one-form s y (w .told) .0
+  size = rows-sized s (w .told)
+
+  form-is : head .form ≡ Rows
+  form-is = let q = of-form-is Rows s (w .told) in ap (λ (x : Head). x .form) (q .0) ∙ q .1
 
   spelt : s ≡ headBytes (head .width) (head .height) ++ drop (head .start) s
-  spelt = head-one-form s y (w .told) .1
+  spelt = rows-one-form s y (w .told)
 
   starts : head .start ≡ length (headBytes (head .width) (head .height))
   starts =
@@ -138,6 +147,7 @@ module _ (s : List ℕ) (y : Bytes s) (w : Whole s) (c : ColourSpace) where
       ∙ ap (λ (k : ColourSpace). under k (headOf 0 (head .width) (head .height) (length (headBytes (head .width) (head .height)))))
       (ap formatSays format-back ∙ format-said c)
       ∙ ap₂ (λ (r n : ℕ). under (said c) (headOf r (head .width) (head .height) n)) (sym (w .told)) (sym starts)
+      ∙ ap (λ (f : Form). headIn f (said c) (head .refusal) (head .width) (head .height) (head .start)) (sym form-is)
 
   pub file-taken : Taken (fileMade s c)
   unfolding blocksOf

@@ -11,15 +11,16 @@ use lib.ListN.{length}
 use Rattle.head_rules.specs.declared.ColourSpace.{ColourSpace}
 use Rattle.head_rules.specs.Colours.{colourOf, colourRefusal}
 use Rattle.head_rules.specs.Geometry.{wholeLength}
-use Rattle.head_rules.specs.Heads.{form, formIn, heightIn, limit, readHead, widthIn}
+use Rattle.head_rules.specs.declared.Form.the-variants.{Rows}
+use Rattle.head_rules.specs.Heads.{formIn, formNumber, heightIn, limit, widthIn}
 use Rattle.head_rules.specs.Numbers.{readNumber}
 use Rattle.head_rules.proofs.Colours.{colour-test}
 use Rattle.head_rules.proofs.Heading.{size-test}
-use Rattle.head_rules.proofs.Theorems.{head-refused-when, zero-or-seven}
+use Rattle.head_rules.proofs.Theorems.{rows-answers, zero-or-seven}
 use Rattle.laws.specs.Refusals.{Given, Rule, accepted, handed, here, then, unless}
 use Rattle.laws.specs.Tables.{pick}
 use Rattle.laws.proofs.Refusals.{Answers, answers, by-answer, by-not-eqb, decided-is, decided-not, decided-so, exactly, none, rule}
-use Rattle.dds_rules.specs.Files.{exportAfterBy, exportRefusal, fileLength, fileMade, numberedAfter, numberedRefusal, numberedRules}
+use Rattle.dds_rules.specs.Files.{exportAfterBy, exportRefusal, fileLength, fileMade, numberedAfter, numberedRefusal, numberedRules, sheetHead}
 use Rattle.dds_rules.specs.Promises.{Exports, ExportsNumbered}
 use Rattle.dds_rules.proofs.Refusing.{export-rules}
 
@@ -27,9 +28,9 @@ use Rattle.dds_rules.proofs.Refusing.{export-rules}
 pub numbered-rules : (s : List ℕ) (n room : ℕ) → Answers (numberedRefusal s n room) (numberedRules s n room)
 unfolding numberedRefusal
 numbered-rules s n room =
-    answers (rule by-answer λ a. rule (by-not-eqb tt (formIn s .value) form) λ b. rule by-answer λ c. rule by-answer λ d. rule
+    answers (rule by-answer λ a. rule (by-not-eqb tt (formIn s .value) (formNumber Rows)) λ b. rule by-answer λ c. rule by-answer λ d. rule
     (colour-test n) λ k. rule (size-test limit (widthIn s .value) (heightIn s .value)) λ z. rule
-    (by-not-eqb tt (length s) (wholeLength (readHead s))) λ l. rule (by-not-eqb tt room (fileLength (readHead s))) λ r. none)
+    (by-not-eqb tt (length s) (wholeLength (sheetHead s))) λ l. rule (by-not-eqb tt room (fileLength (sheetHead s))) λ r. none)
 
 -- a rule that holds may stand behind four others
 between : {a b c d n m : ℕ} {A B C D Q : Type 0} {rs : List Rule} → Q
@@ -68,14 +69,14 @@ module _ (s : List ℕ) (n : ℕ) where
   not-nine at e = ⊎-elim (λ z. let k : ⊥ = omega arith in k) (λ z. let k : ⊥ = omega arith in k) (zero-or-seven s at)
 
   module _ (room : ℕ) where
-    pub numbered-earlier : {m : ℕ} → readHead s .refusal ≡ m → m ≢ 0 → m ≢ 9 → numberedRefusal s n room ≡ m
-    numbered-earlier {m} e ne nn = exactly (numbered-rules s n room) m .1 (four (head-refused-when s m .0 e) ne nn)
+    pub numbered-earlier : {m : ℕ} → sheetHead s .refusal ≡ m → m ≢ 0 → m ≢ 9 → numberedRefusal s n room ≡ m
+    numbered-earlier {m} e ne nn = exactly (numbered-rules s n room) m .1 (four (exactly (rows-answers s) m .0 e) ne nn)
 
-    pub numbered-18 : 2 < n → (readHead s .refusal ≡ 0) ⊎ (readHead s .refusal ≡ 9) → numberedRefusal s n room ≡ 18
+    pub numbered-18 : 2 < n → (sheetHead s .refusal ≡ 0) ⊎ (sheetHead s .refusal ≡ 9) → numberedRefusal s n room ≡ 18
     unfolding formIn widthIn heightIn
     numbered-18 l o =
         exactly (numbered-rules s n room) 18 .1
-        (fifth (not-nine _) (not-nine _) (not-nine _) (λ k. omega (arith, k, l)) (head-refused-when s _ .0 refl) o)
+        (fifth (not-nine _) (not-nine _) (not-nine _) (λ k. omega (arith, k, l)) (exactly (rows-answers s) _ .0 refl) o)
 
     pub numbered-export : n ≤ 2 → numberedRefusal s n room ≡ exportRefusal s room
     numbered-export l = exactly (numbered-rules s n room) _ .1 (between l (exactly (export-rules s room) _ .0 refl))
@@ -93,10 +94,10 @@ module _ (s : List ℕ) (n : ℕ) where
     unfolding numberedAfter
     refused e ne = (sym e, sym (rw (ne-eqb (numberedRefusal s n (length out)) 0 (λ z. ne (sym e ∙ z)))))
 
-    pub numbered-refused : {m : ℕ} → m ≡ readHead s .refusal → m ≢ 0 → m ≢ 9 → ExportsNumbered s n out m out
+    pub numbered-refused : {m : ℕ} → m ≡ sheetHead s .refusal → m ≢ 0 → m ≢ 9 → ExportsNumbered s n out m out
     numbered-refused e ne nn = refused (numbered-earlier (length out) (sym e) ne nn) ne
 
-    pub numbered-no-colour : {m : ℕ} → m ≡ colourRefusal n → m ≢ 0 → (readHead s .refusal ≡ 0) ⊎ (readHead s .refusal ≡ 9)
+    pub numbered-no-colour : {m : ℕ} → m ≡ colourRefusal n → m ≢ 0 → (sheetHead s .refusal ≡ 0) ⊎ (sheetHead s .refusal ≡ 9)
         → ExportsNumbered s n out m out
     numbered-no-colour e ne o =
         let x : n ≤ 2 → ⊥ = λ l. ne (e ∙ decided-so (colour-test n) l) in

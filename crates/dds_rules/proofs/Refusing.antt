@@ -12,15 +12,15 @@ use lib.Dec.{eqb, lit<}
 use lib.ListN.{length}
 use Rattle.head_rules.specs.declared.Head.{Head}
 use Rattle.head_rules.specs.Geometry.{wholeLength}
-use Rattle.head_rules.specs.Heads.{Sized, headOf, limit, readHead}
+use Rattle.head_rules.specs.Heads.{Sized, headOf, limit}
 use Rattle.head_rules.proofs.Heading.{size-test}
-use Rattle.head_rules.proofs.Theorems.{head-answers}
+use Rattle.head_rules.proofs.Theorems.{rows-answers}
 use Rattle.laws.specs.Refusals.{Given, Rule, accepted, first, handed, here, refuse, then, unless}
 use Rattle.laws.proofs.Refusals.{Answers, accepted-when, answers, by-answer, by-not-eqb, exactly, none, rule, rules}
 use Rattle.dds_rules.specs.Header.{Another, Texture, fieldIn, height, width}
 use Rattle.dds_rules.specs.Files.{exportRefusal, exportRefusalBy, exportRules, fileLength, fileRefusal, fileRefusalUpTo, fileRules, headMade}
 use Rattle.dds_rules.specs.Files.{importRefusal, importRefusalUpTo, importRules}
-use Rattle.dds_rules.specs.Files.{headAs, wholeRefusal, wholeRefusalBy, wholeRules}
+use Rattle.dds_rules.specs.Files.{headAs, sheetHead, wholeRefusal, wholeRefusalBy, wholeRules}
 use Rattle.dds_rules.proofs.Textures.{not-both, texture-test, whether}
 
 -- what a head says that was answered: the number, and where it is 0 the head
@@ -48,16 +48,16 @@ import-rules dds room = answers (rules (file-rules dds) λ m. rule (by-not-eqb t
 
 pub whole-rules : (s : List ℕ) → Answers (wholeRefusal s) (wholeRules s)
 unfolding wholeRefusalBy
-whole-rules s = answers (rules (head-answers s) λ m. rule (by-not-eqb tt (length s) (wholeLength (readHead s))) λ l. none)
+whole-rules s = answers (rules (rows-answers s) λ m. rule (by-not-eqb tt (length s) (wholeLength (sheetHead s))) λ l. none)
 
 pub export-rules : (s : List ℕ) (room : ℕ) → Answers (exportRefusal s room) (exportRules s room)
 unfolding exportRefusalBy
-export-rules s room = answers (rules (whole-rules s) λ m. rule (by-not-eqb tt room (fileLength (readHead s))) λ r. none)
+export-rules s room = answers (rules (whole-rules s) λ m. rule (by-not-eqb tt room (fileLength (sheetHead s))) λ r. none)
 
 -- the same with the head's refusal as it was answered
-pub whole-handed : (s : List ℕ) → Answers (wholeRefusal s) (handed (readHead s .refusal) ∷ unless 10 (length s ≡ wholeLength (readHead s)) ∷ [])
+pub whole-handed : (s : List ℕ) → Answers (wholeRefusal s) (handed (sheetHead s .refusal) ∷ unless 10 (length s ≡ wholeLength (sheetHead s)) ∷ [])
 unfolding wholeRefusalBy
-whole-handed s = answers (rule by-answer λ h. rule (by-not-eqb tt (length s) (wholeLength (readHead s))) λ l. none)
+whole-handed s = answers (rule by-answer λ h. rule (by-not-eqb tt (length s) (wholeLength (sheetHead s))) λ l. none)
 
 -- 11 stands behind whatever was answered before
 pub room-rules : (r needed room : ℕ) → Answers (first (r ∷ refuse 11 (not (eqb room needed)) ∷ [])) (handed r ∷ unless 11 (room ≡ needed) ∷ [])
@@ -76,8 +76,8 @@ pub taken-so : (dds : List ℕ) → Taken dds → fileRefusal dds ≡ 0
 taken-so dds t = accepted-when (file-rules dds) .1 (t .texture, (t .size, (t .long, tt)))
 
 pub record Whole (s : List ℕ) : Type 0 where
-  pub told : readHead s .refusal ≡ 0
-  pub long : length s ≡ wholeLength (readHead s)
+  pub told : sheetHead s .refusal ≡ 0
+  pub long : length s ≡ wholeLength (sheetHead s)
 
 pub whole : (s : List ℕ) → wholeRefusal s ≡ 0 → Whole s
 whole s e = let (t, (l, u)) = whole-handed s .met e in record { told = t; long = l }
@@ -94,10 +94,10 @@ module _ (dds : List ℕ) (room : ℕ) where
       (λ e. (a .0 e .0, a .0 e .1 .0), λ m. a .1 (m .0, (m .1, tt)))
 
 module _ (s : List ℕ) (room : ℕ) where
-  pub exported-when : (exportRefusal s room ≡ 0) ↔ (wholeRefusal s ≡ 0) × (room ≡ fileLength (readHead s))
+  pub exported-when : (exportRefusal s room ≡ 0) ↔ (wholeRefusal s ≡ 0) × (room ≡ fileLength (sheetHead s))
   unfolding exportRefusalBy
   exported-when =
-      let a = accepted-when (room-rules (wholeRefusal s) (fileLength (readHead s)) room) in
+      let a = accepted-when (room-rules (wholeRefusal s) (fileLength (sheetHead s)) room) in
       (λ e. (a .0 e .0, a .0 e .1 .0), λ m. a .1 (m .0, (m .1, tt)))
 
 -- no rule behind the first gives 15

@@ -12,7 +12,7 @@ use Rattle.dds_rules.specs.declared.Length.{Length}
 use Rattle.head_rules.specs.declared.ColourSpace.{ColourSpace}
 use Rattle.head_rules.specs.declared.ColourSpace.the-variants.{Unspecified, Linear, Srgb}
 use Rattle.head_rules.specs.declared.Head.{Head}
-use Rattle.head_rules.specs.Geometry.{blocksOf, placeOf}
+use Rattle.head_rules.specs.Geometry.{blocksOf, placeOf, storedAt}
 use Rattle.head_rules.specs.Heads.{headOf, readHead, under}
 use Rattle.head_rules.specs.Numbers.{Bytes}
 use Rattle.laws.specs.Refusals.{Given}
@@ -21,13 +21,14 @@ use Rattle.dds_rules.specs.Header.{Another, canonicalHeader, headerLengt
 use Rattle.dds_rules.specs.Files.{exportAfter, exportAfterBy, exportLength, exportRefusal, exportRules, fileLength, fileMade, fileRules}
 use Rattle.dds_rules.specs.Files.{headMade}
 use Rattle.dds_rules.specs.Files.{importAfter, importAfterUpTo, importAnswer, importLength, importRefusal, importRules, numberedAfter}
-use Rattle.dds_rules.specs.Files.{numberedRefusal, numberedRules, said, sheetMade, wholeRules}
+use Rattle.dds_rules.specs.Files.{numberedRefusal, numberedRules, said, sheetHead, sheetMade, wholeRules}
 use Rattle.dds_rules.specs.Promises.{ExportNeeds, Exports, ExportsNumbered, ImportNeeds, Imports}
 use Rattle.dds_rules.proofs.Numbered.{numbered-rules}
 use Rattle.dds_rules.proofs.Refusing.{export-rules, exported-when, fifteen, file-rules, head-told, import-rules, imported-when, taken}
 use Rattle.dds_rules.proofs.Refusing.{taken-so, whole}
 use Rattle.dds_rules.proofs.Refusing.{whole-rules, whole-so}
-use Rattle.dds_rules.proofs.Making.{file-again, file-taken, head-again, sheet-again, sheet-blocks, sheet-head, sheet-whole}
+use Rattle.dds_rules.proofs.Making.{file-again, file-taken, head-again, sheet-again, sheet-blocks, sheet-head, sheet-read}
+use Rattle.dds_rules.proofs.Making.{sheet-whole}
 
 -- an accepted call leaves what the file or the sheet makes
 imported-is : (dds out : List ℕ) → importRefusal dds (length out) ≡ 0 → importAfter dds out ≡ sheetMade dds
@@ -68,7 +69,7 @@ module _ (s : List ℕ) (y : Bytes s) (c : ColourSpace) (out back : List ℕ) (e
       rw (exported-is s c out e) (again, imported-is (fileMade s c) back again ∙ sheet-again s y w c)
 
   -- and import answers its head, with the colour space that was given; but unspecified comes back as linear
-  pub head-exported : importAnswer (exportAfter s c out) (length back) ≡ under (said c) (readHead s)
+  pub head-exported : importAnswer (exportAfter s c out) (length back) ≡ under (said c) (sheetHead s)
   head-exported =
       let w = whole s (exported-when s (length out) .0 e .0) in
       rw (exported-is s c out e) (import-answers-head (fileMade s c) (length back) again ∙ head-again s y w c)
@@ -101,7 +102,7 @@ canonical-restored dds out back e l c =
 
 -- the head of the imported sheet is the one that import answers, but for the colour space, and its block b is the sixteen bytes at 148 + 16 b
 head-made : (dds out : List ℕ) → importRefusal dds (length out) ≡ 0 → readHead (importAfter dds out) ≡ under Unspecified (headMade dds)
-head-made dds out e = rw (imported-is dds out e) (sheet-head dds (taken dds (imported-when dds (length out) .0 e .0) .size))
+head-made dds out e = rw (imported-is dds out e) (sheet-read dds (taken dds (imported-when dds (length out) .0 e .0) .size))
 
 pub head-imported : (dds out : List ℕ) → importRefusal dds (length out) ≡ 0
     → readHead (importAfter dds out) ≡ under Unspecified (importAnswer dds (length out))
@@ -109,7 +110,7 @@ head-imported dds out e = head-made dds out e ∙ ap (under Unspecified) (sym (i
 
 pub block-imported : (dds out : List ℕ) (b : ℕ) → importRefusal dds (length out) ≡ 0
     → take 16 (drop (placeOf (readHead (importAfter dds out)) b) (importAfter dds out)) ≡ take 16 (drop (headerLength + 16 * b) dds)
-unfolding placeOf
+unfolding placeOf storedAt headMade
 block-imported dds out b e =
     rw (head-made dds out e, imported-is dds out e)
     (ap (take 16)

@@ -12,8 +12,9 @@ use Rattle.head_rules.specs.declared.ColourSpace.the-variants.{Unspecified, Lin
 use Rattle.head_rules.specs.declared.Head.{Head}
 use Rattle.head_rules.specs.Colours.{colourOf, colourRefusal}
 use Rattle.head_rules.specs.Geometry.{blocksOf, wholeLength}
-use Rattle.head_rules.specs.Heads.{Sized, form, formIn, headBytes, headOf, headRules, heightIn, limit, readHead, sizeRefusal, sizeRefusalUpTo, under}
-use Rattle.head_rules.specs.Heads.{widthIn}
+use Rattle.head_rules.specs.declared.Form.the-variants.{Rows}
+use Rattle.head_rules.specs.Heads.{Sized, formIn, formNumber, headBytes, headOf, heightIn, limit, readOfForm, rowsRules, sizeRefusal}
+use Rattle.head_rules.specs.Heads.{sizeRefusalUpTo, under, widthIn}
 use Rattle.laws.specs.Refusals.{Rule, first, handed, refuse, unless}
 use Rattle.laws.specs.Tables.{pick}
 use Rattle.dds_rules.specs.Header.{Texture, canonicalHeader, fieldIn, format, formatSays, headerLength, height, isTexture, width}
@@ -66,33 +67,37 @@ importAfterUpTo top dds out = pick (eqb (importRefusalUpTo top dds (length out))
 abbrev pub importAfter : List ℕ → List ℕ → List ℕ
 importAfter dds out = importAfterUpTo limit dds out
 
--- EXPORT under a colour space, of a sheet whose head was read as h, by whatever limit. 7, 8, 9 of the head, then 10, whatever the output;
+-- EXPORT takes form 1 only, and answers 8 for the other
+abbrev pub sheetHead : List ℕ → Head
+sheetHead s = readOfForm Rows s
+
+-- under a colour space, of a sheet whose head was read as h, by whatever limit. 7, 8, 9 of the head, then 10, whatever the output;
 -- then 11, by the output's length
 unfoldable pub wholeRefusalBy : Head → List ℕ → ℕ
 wholeRefusalBy h s = first (h .refusal ∷ refuse 10 (not (eqb (length s) (wholeLength h))) ∷ [])
 
 abbrev pub wholeRefusal : List ℕ → ℕ
-wholeRefusal s = wholeRefusalBy (readHead s) s
+wholeRefusal s = wholeRefusalBy (sheetHead s) s
 
 unfoldable pub exportRefusalBy : Head → List ℕ → ℕ → ℕ
 exportRefusalBy h s room = first (wholeRefusalBy h s ∷ refuse 11 (not (eqb room (fileLength h))) ∷ [])
 
 abbrev pub exportRefusal : List ℕ → ℕ → ℕ
-exportRefusal s room = exportRefusalBy (readHead s) s room
+exportRefusal s room = exportRefusalBy (sheetHead s) s room
 
 -- the file: the header, then the blocks as they stand in the sheet
 unfoldable pub fileMadeBy : Head → ColourSpace → List ℕ → List ℕ
 fileMadeBy h c s = canonicalHeader (under c h) ++ drop (h .start) s
 
 abbrev pub fileMade : List ℕ → ColourSpace → List ℕ
-fileMade s c = fileMadeBy (readHead s) c s
+fileMade s c = fileMadeBy (sheetHead s) c s
 
 -- the output afterwards
 unfoldable pub exportAfterBy : Head → ColourSpace → List ℕ → List ℕ → List ℕ
 exportAfterBy h c s out = pick (eqb (exportRefusalBy h s (length out)) 0) (fileMadeBy h c s) out
 
 abbrev pub exportAfter : List ℕ → ColourSpace → List ℕ → List ℕ
-exportAfter s c out = exportAfterBy (readHead s) c s out
+exportAfter s c out = exportAfterBy (sheetHead s) c s out
 
 -- what a file says that was exported under a colour space: unspecified comes back as linear
 abbrev pub said : ColourSpace → ColourSpace
@@ -105,13 +110,13 @@ unfoldable pub numberedRefusal : List ℕ → ℕ → ℕ → ℕ
 numberedRefusal s n room =
     first
     (formIn s .refusal
-    ∷ refuse 8 (not (eqb (formIn s .value) form))
+    ∷ refuse 8 (not (eqb (formIn s .value) (formNumber Rows)))
     ∷ widthIn s .refusal
     ∷ heightIn s .refusal
     ∷ colourRefusal n
     ∷ sizeRefusal (widthIn s .value) (heightIn s .value)
-    ∷ refuse 10 (not (eqb (length s) (wholeLength (readHead s))))
-    ∷ refuse 11 (not (eqb room (fileLength (readHead s))))
+    ∷ refuse 10 (not (eqb (length s) (wholeLength (sheetHead s))))
+    ∷ refuse 11 (not (eqb room (fileLength (sheetHead s))))
     ∷ [])
 
 unfoldable pub numberedAfter : List ℕ → ℕ → List ℕ → List ℕ
@@ -125,14 +130,14 @@ unfoldable pub importLength : List ℕ → Length
 importLength dds = lengthAs (fileRefusal dds) (wholeLength (headMade dds))
 
 unfoldable pub exportLength : List ℕ → Length
-exportLength s = lengthAs (wholeRefusal s) (fileLength (readHead s))
+exportLength s = lengthAs (wholeRefusal s) (fileLength (sheetHead s))
 
 -- what is known of a file and of a sheet before the output is looked at
 unfoldable pub importHead : List ℕ → Head
 importHead dds = headAs (fileRefusal dds) (headMade dds)
 
 unfoldable pub exportHead : List ℕ → Head
-exportHead s = headAs (wholeRefusal s) (readHead s)
+exportHead s = headAs (wholeRefusal s) (sheetHead s)
 
 -- THE RULES IN WORDS
 abbrev pub fileRules : List ℕ → List Rule
@@ -146,19 +151,19 @@ abbrev pub importRules : List ℕ → ℕ → List Rule
 importRules dds room = fileRules dds ++ (unless 11 (room ≡ wholeLength (headMade dds)) ∷ [])
 
 abbrev pub wholeRules : List ℕ → List Rule
-wholeRules s = headRules (formIn s) (widthIn s) (heightIn s) ++ (unless 10 (length s ≡ wholeLength (readHead s)) ∷ [])
+wholeRules s = rowsRules s ++ (unless 10 (length s ≡ wholeLength (sheetHead s)) ∷ [])
 
 abbrev pub exportRules : List ℕ → ℕ → List Rule
-exportRules s room = wholeRules s ++ (unless 11 (room ≡ fileLength (readHead s)) ∷ [])
+exportRules s room = wholeRules s ++ (unless 11 (room ≡ fileLength (sheetHead s)) ∷ [])
 
 abbrev pub numberedRules : List ℕ → ℕ → ℕ → List Rule
 numberedRules s n room =
     handed (formIn s .refusal) ∷
-    unless 8 (formIn s .value ≡ form) ∷
+    unless 8 (formIn s .value ≡ formNumber Rows) ∷
     handed (widthIn s .refusal) ∷
     handed (heightIn s .refusal) ∷
     unless 18 (n ≤ 2) ∷
     unless 9 (Sized (widthIn s .value) (heightIn s .value)) ∷
-    unless 10 (length s ≡ wholeLength (readHead s)) ∷
-    unless 11 (room ≡ fileLength (readHead s)) ∷
+    unless 10 (length s ≡ wholeLength (sheetHead s)) ∷
+    unless 11 (room ≡ fileLength (sheetHead s)) ∷
     []

@@ -7,15 +7,19 @@ use Rattle.head_rules.specs.declared.Number.{Number}
 use Rattle.head_rules.specs.declared.ColourSpace.{ColourSpace}
 use Rattle.head_rules.specs.declared.ColourSpace.the-variants.{Unspecified, Linear, Srgb}
 use Rattle.head_rules.specs.declared.Head.{Head}
+use Rattle.head_rules.specs.declared.Form.the-variants.{Rows, Tiles}
 use Rattle.head_rules.specs.declared.HeadBytes.{HeadBytes}
 use Rattle.laws.specs.Padding.{padded}
 use Rattle.laws.specs.Refusals.{first}
 use Rattle.head_rules.specs.Colours.{colourNumber, colourOf, colourRefusal}
-use Rattle.head_rules.specs.Heads.{bytesOfHead, formIn, headBytes, headRefusalUpTo, heightIn, oldLimit, readHead, readHeadUpTo}
-use Rattle.head_rules.specs.Heads.{sizeRefusalUpTo, under, widthIn, writeHead}
+use Rattle.head_rules.specs.Heads.{bytesOfHead, colourIn, formIn, formNumber, formOf, headBytes, headRefusalUpTo, heightIn, limit, oldHead}
+use Rattle.head_rules.specs.Heads.{ofFormRefusalUpTo, readHead, readHeadUpTo, readOfForm, readOfFormUpTo, sizeRefusalUpTo, tiledBytes}
+use Rattle.head_rules.specs.Heads.{under, widthIn, writeHead}
 use Rattle.head_rules.specs.declared.Stage.the-variants.{Width}
-use Rattle.head_rules.specs.Geometry.{across, blocksOf, outLength, placeOf, rowLength, sideShown, wholeLength}
-use Rattle.head_rules.specs.Reader.{Reading, atForm, byteTaken, formTaken, groupTaken, heightTaken, lastTaken, readBy}
+use Rattle.laws.specs.Counting.{count}
+use Rattle.tile_rules.specs.Tiles.{columnAt, columnOfSlot, inSheet, mostAcross, rowAt, rowOfSlot, slotIn, slotOf, storedInTiles, tiles}
+use Rattle.head_rules.specs.Geometry.{across, blocksOf, outLength, placeOf, rowLength, sideShown, storedAt, wholeLength}
+use Rattle.head_rules.specs.Reader.{Reading, atForm, byteTaken, colourTaken, formTaken, groupTaken, lastTaken, readBy, sizeTaken}
 use Rattle.head_rules.specs.Numbers.{groups, numberBytes, raised, readGroups, readNumber}
 
 -- what was read: the number and the place behind it; or nothing
@@ -27,14 +31,18 @@ none = record { refusal = 7; value = 0; next = 0 }
 
 -- a head that was read, and one that was not: form 1 says nothing of the colour space
 abbrev head : ℕ → ℕ → ℕ → Head
-head w h start = record { refusal = 0; width = w; height = h; start = start; «colour_space» = Unspecified }
+head w h start = record { refusal = 0; form = Rows; width = w; height = h; start = start; «colour_space» = Unspecified }
 
 abbrev noHead : ℕ → Head
-noHead r = record { refusal = r; width = 0; height = 0; start = 0; «colour_space» = Unspecified }
+noHead r = record { refusal = r; form = Rows; width = 0; height = 0; start = 0; «colour_space» = Unspecified }
 
 -- a head that says something of it
 abbrev headSrgb : Head
-headSrgb = record { refusal = 0; width = 5; height = 6; start = 3; «colour_space» = Srgb }
+headSrgb = record { refusal = 0; form = Rows; width = 5; height = 6; start = 3; «colour_space» = Srgb }
+
+-- a head of form 2
+abbrev tiled : ColourSpace → ℕ → ℕ → ℕ → Head
+tiled c w h start = record { refusal = 0; form = Tiles; width = w; height = h; start = start; «colour_space» = c }
 
 -- what was read byte by byte, and the bytes behind it
 abbrev reading : Head → List ℕ → Reading
@@ -53,13 +61,30 @@ pub record Heads : Type 0 where
       ≡ number 0 2 ∷ number 128 3 ∷ number 2097151 4 ∷ none ∷ none ∷ none ∷ none ∷ []
   pub heads-read : map readHead
       ((0x01 ∷ 0x05 ∷ 0x06 ∷ 0x60 ∷ []) ∷ (0x01 ∷ 0x01 ∷ 0x01 ∷ []) ∷ (0x01 ∷ 0x80 ∷ 0x80 ∷ 0x01 ∷ 0x80 ∷ 0x80 ∷ 0x01 ∷ []) ∷
-      (0x80 ∷ []) ∷ (0x02 ∷ 0x80 ∷ []) ∷ (0x01 ∷ 0x00 ∷ 0x80 ∷ []) ∷
+      (0x80 ∷ []) ∷ (0x03 ∷ 0x80 ∷ []) ∷ (0x01 ∷ 0x00 ∷ 0x80 ∷ []) ∷
       (0x01 ∷ 0x00 ∷ 0x01 ∷ []) ∷ (0x01 ∷ 0x81 ∷ 0x80 ∷ 0x01 ∷ 0x01 ∷ []) ∷ (0x01 ∷ 0x01 ∷ 0x81 ∷ 0x80 ∷ 0x01 ∷ []) ∷ [])
       ≡ head 5 6 3 ∷ head 1 1 3 ∷ head 16384 16384 7 ∷ noHead 7 ∷ noHead 8 ∷ noHead 7 ∷ noHead 9 ∷ noHead 9 ∷ noHead 9 ∷ []
-  -- 4,096 by 4,096, 4,097 by 1 and 1 by 4,097, by a console of before
-  pub heads-read-before : map (readHeadUpTo oldLimit)
-      ((0x01 ∷ 0x80 ∷ 0x20 ∷ 0x80 ∷ 0x20 ∷ []) ∷ (0x01 ∷ 0x81 ∷ 0x20 ∷ 0x01 ∷ []) ∷ (0x01 ∷ 0x01 ∷ 0x81 ∷ 0x20 ∷ []) ∷ [])
-      ≡ head 4096 4096 5 ∷ noHead 9 ∷ noHead 9 ∷ []
+  -- form 2 with each colour space, and the largest; cut off, not the shortest, over three groups; then 18, before 9; and 9
+  pub tiled-read : map readHead
+      ((0x02 ∷ 0x05 ∷ 0x06 ∷ 0x00 ∷ 0x60 ∷ []) ∷ (0x02 ∷ 0x05 ∷ 0x06 ∷ 0x01 ∷ []) ∷
+      (0x02 ∷ 0x80 ∷ 0x80 ∷ 0x01 ∷ 0x80 ∷ 0x80 ∷ 0x01 ∷ 0x02 ∷ []) ∷ (0x02 ∷ 0x00 ∷ 0x04 ∷ []) ∷ (0x02 ∷ 0x05 ∷ 0x06 ∷ 0x80 ∷ 0x00 ∷ []) ∷
+      (0x02 ∷ 0x05 ∷ 0x06 ∷ 0x80 ∷ 0x80 ∷ 0x80 ∷ 0x01 ∷ []) ∷ (0x02 ∷ 0x00 ∷ 0x04 ∷ 0x03 ∷ []) ∷ (0x02 ∷ 0x05 ∷ 0x06 ∷ 0x80 ∷ 0x01 ∷ []) ∷
+      (0x02 ∷ 0x00 ∷ 0x04 ∷ 0x00 ∷ []) ∷ [])
+      ≡ tiled Unspecified 5 6 4 ∷ tiled Linear 5 6 4 ∷ tiled Srgb 16384 16384 8 ∷ noHead 7 ∷ noHead 7 ∷ noHead 7 ∷ noHead 18 ∷ noHead 18 ∷
+      noHead 9 ∷ []
+  pub forms-numbered : map formNumber (Rows ∷ Tiles ∷ []) ≡ 1 ∷ 2 ∷ []
+  pub tiled-spelt : map bytesOfHead (tiled Unspecified 5 6 4 ∷ tiled Srgb 5 300 5 ∷ [])
+      ≡ (0x02 ∷ 0x05 ∷ 0x06 ∷ 0x00 ∷ []) ∷ (0x02 ∷ 0x05 ∷ 0xAC ∷ 0x02 ∷ 0x02 ∷ []) ∷ []
+  -- one form only: 8 at the form, whatever stands behind it
+  pub only-rows : map (readOfForm Rows) ((0x01 ∷ 0x05 ∷ 0x06 ∷ []) ∷ (0x02 ∷ 0x80 ∷ 0x00 ∷ []) ∷ (0x80 ∷ []) ∷ (0x01 ∷ 0x05 ∷ []) ∷ [])
+      ≡ head 5 6 3 ∷ noHead 8 ∷ noHead 7 ∷ noHead 7 ∷ []
+  pub only-tiles : map (readOfForm Tiles) ((0x02 ∷ 0x05 ∷ 0x06 ∷ 0x02 ∷ []) ∷ (0x01 ∷ []) ∷ (0x02 ∷ 0x05 ∷ 0x06 ∷ 0x03 ∷ []) ∷ [])
+      ≡ tiled Srgb 5 6 4 ∷ noHead 8 ∷ noHead 18 ∷ []
+  -- by a console of before: 4,096 by 4,096, 4,097 by 1 and 1 by 4,097; and form 2, small, larger than its limit, and cut off
+  pub heads-read-before : map oldHead
+      ((0x01 ∷ 0x80 ∷ 0x20 ∷ 0x80 ∷ 0x20 ∷ []) ∷ (0x01 ∷ 0x81 ∷ 0x20 ∷ 0x01 ∷ []) ∷ (0x01 ∷ 0x01 ∷ 0x81 ∷ 0x20 ∷ []) ∷
+      (0x02 ∷ 0x05 ∷ 0x06 ∷ 0x00 ∷ []) ∷ (0x02 ∷ 0x81 ∷ 0x20 ∷ 0x01 ∷ 0x00 ∷ []) ∷ (0x02 ∷ []) ∷ [])
+      ≡ head 4096 4096 5 ∷ noHead 9 ∷ noHead 9 ∷ noHead 8 ∷ noHead 8 ∷ noHead 8 ∷ []
   pub heads-written : writeHead 5 6 ∷ writeHead 16384 16384 ∷ writeHead 0 1 ∷ writeHead 16385 1 ∷ writeHead 1 16385 ∷ []
       ≡ written 0 (0x01 ∷ 0x05 ∷ 0x06 ∷ 0 ∷ 0 ∷ 0 ∷ 0 ∷ []) 3 ∷ written 0 (0x01 ∷ 0x80 ∷ 0x80 ∷ 0x01 ∷ 0x80 ∷ 0x80 ∷ 0x01 ∷ []) 7 ∷
       written 9 (0 ∷ 0 ∷ 0 ∷ 0 ∷ 0 ∷ 0 ∷ 0 ∷ []) 0 ∷ written 9 (0 ∷ 0 ∷ 0 ∷ 0 ∷ 0 ∷ 0 ∷ 0 ∷ []) 0 ∷ written 9 (0 ∷ 0 ∷ 0 ∷ 0 ∷ 0 ∷ 0 ∷ 0 ∷ []) 0 ∷
@@ -73,23 +98,35 @@ pub record Heads : Type 0 where
   -- behind 01 and 85: the width is to come, 5 is its low group, and the form ended at 1
   pub a-state : byteTaken (byteTaken atForm 0x01) 0x85 ≡ record { stage = Width; low = 5; groups = 1; head = head 0 0 1 }
   pub heads-by-bytes : map (readBy atForm)
-      ((0x01 ∷ 0x05 ∷ 0x06 ∷ 0x60 ∷ []) ∷ (0x01 ∷ 0x80 ∷ 0x20 ∷ 0x81 ∷ 0x02 ∷ []) ∷ (0x02 ∷ 0x05 ∷ []) ∷ (0x01 ∷ 0x81 ∷ 0x00 ∷ 0x60 ∷ []) ∷
-      (0x01 ∷ 0x80 ∷ 0x80 ∷ 0x80 ∷ 0x60 ∷ []) ∷ (0x01 ∷ 0x05 ∷ []) ∷ (0x01 ∷ 0x05 ∷ 0x00 ∷ []) ∷ [])
+      ((0x01 ∷ 0x05 ∷ 0x06 ∷ 0x60 ∷ []) ∷ (0x01 ∷ 0x80 ∷ 0x20 ∷ 0x81 ∷ 0x02 ∷ []) ∷ (0x03 ∷ 0x05 ∷ []) ∷ (0x01 ∷ 0x81 ∷ 0x00 ∷ 0x60 ∷ []) ∷
+      (0x01 ∷ 0x80 ∷ 0x80 ∷ 0x80 ∷ 0x60 ∷ []) ∷ (0x01 ∷ 0x05 ∷ []) ∷ (0x01 ∷ 0x05 ∷ 0x00 ∷ []) ∷
+      (0x02 ∷ 0x05 ∷ 0x06 ∷ 0x01 ∷ 0x60 ∷ []) ∷ (0x02 ∷ 0x00 ∷ 0x06 ∷ 0x03 ∷ 0x60 ∷ []) ∷ (0x02 ∷ 0x05 ∷ 0x06 ∷ []) ∷ [])
       ≡ reading (head 5 6 3) (0x60 ∷ []) ∷ reading (head 4096 257 5) [] ∷ reading (noHead 8) (0x05 ∷ []) ∷ reading (noHead 7) (0x60 ∷ []) ∷
-      reading (noHead 7) (0x60 ∷ []) ∷ reading (noHead 7) [] ∷ reading (noHead 9) [] ∷ []
+      reading (noHead 7) (0x60 ∷ []) ∷ reading (noHead 7) [] ∷ reading (noHead 9) [] ∷
+      reading (tiled Linear 5 6 4) (0x60 ∷ []) ∷ reading (noHead 18) (0x60 ∷ []) ∷ reading (noHead 7) [] ∷ []
   -- columns and rows of blocks, shown scanlines, and of a sheet of 5 by 9 pixels the blocks, the place of block 3, and its length
   pub rounded-up : map across (1 ∷ 4 ∷ 5 ∷ 16383 ∷ 16384 ∷ []) ≡ 1 ∷ 1 ∷ 2 ∷ 4096 ∷ 4096 ∷ []
+  pub most-across : across limit ≡ mostAcross
   pub scanlines-shown : map (sideShown 9) (0 ∷ 1 ∷ 2 ∷ []) ≡ 4 ∷ 4 ∷ 1 ∷ []
   pub blocks-placed : blocksOf (head 5 9 3) ∷ placeOf (head 5 9 3) 3 ∷ wholeLength (head 5 9 3) ∷ rowLength 5 ∷ outLength 5 3 ∷ []
       ≡ 6 ∷ 51 ∷ 99 ∷ 32 ∷ 60 ∷ []
+  -- 3 by 2 blocks, in rows and in tiles: 0 1 3 4 2 5 is the stored order
+  pub blocks-in-rows : map (placeOf (head 12 8 3)) (0 ∷ 1 ∷ 2 ∷ 3 ∷ 4 ∷ 5 ∷ []) ≡ 3 ∷ 19 ∷ 35 ∷ 51 ∷ 67 ∷ 83 ∷ []
+  pub blocks-in-tiles : map (placeOf (tiled Unspecified 12 8 4)) (0 ∷ 1 ∷ 3 ∷ 4 ∷ 2 ∷ 5 ∷ []) ≡ 4 ∷ 20 ∷ 36 ∷ 52 ∷ 68 ∷ 84 ∷ []
 
 pub heads-hold : Heads
-unfolding groups readGroups readNumber raised readHeadUpTo headRefusalUpTo formIn widthIn heightIn first sizeRefusalUpTo writeHead
-    headBytes padded formTaken heightTaken lastTaken groupTaken readBy blocksOf placeOf colourOf colourRefusal
+unfolding groups readGroups readNumber raised readHeadUpTo headRefusalUpTo formIn widthIn heightIn colourIn first sizeRefusalUpTo writeHead
+    headBytes tiledBytes padded formTaken sizeTaken colourTaken lastTaken groupTaken readBy blocksOf placeOf colourOf colourRefusal formOf
+    readOfFormUpTo ofFormRefusalUpTo storedAt storedInTiles count slotOf slotIn inSheet columnAt columnOfSlot rowAt rowOfSlot tiles
 heads-hold = record {
   numbers-written = refl;
   numbers-read = refl;
   heads-read = refl;
+  tiled-read = refl;
+  forms-numbered = refl;
+  tiled-spelt = refl;
+  only-rows = refl;
+  only-tiles = refl;
   heads-read-before = refl;
   heads-written = refl;
   colours-numbered = refl;
@@ -100,6 +137,9 @@ heads-hold = record {
   a-state = refl;
   heads-by-bytes = refl;
   rounded-up = refl;
+  most-across = refl;
   scanlines-shown = refl;
   blocks-placed = refl;
+  blocks-in-rows = refl;
+  blocks-in-tiles = refl;
 }

@@ -17,17 +17,23 @@ use Rattle.head_rules.specs.declared.Head.{Head}
 use Rattle.head_rules.specs.declared.Number.{Number}
 use Rattle.head_rules.specs.declared.HeadReader.{HeadReader}
 use Rattle.head_rules.specs.declared.Stage.{Stage}
-use Rattle.head_rules.specs.declared.Stage.the-variants.{Form, Width, Height, Ended}
+use Rattle.head_rules.specs.declared.ColourSpace.the-variants.{Unspecified}
+use Rattle.head_rules.specs.declared.Form as order
+use Rattle.head_rules.specs.declared.Form.the-variants.{Rows, Tiles}
+use Rattle.head_rules.specs.declared.Stage.the-variants.{Form, Width, Height, Colour, Ended}
 use Rattle.laws.specs.Refusals.{Given, here, then}
 use Rattle.laws.specs.Tables.{pick}
 use Rattle.laws.proofs.Cases.{lt-or, pick-either}
-use Rattle.laws.proofs.Refusals.{accepted-when, exactly}
+use Rattle.laws.proofs.Refusals.{accepted-when, decided-not, decided-so, exactly}
 use Rattle.laws.proofs.Tests.{no-both}
-use Rattle.head_rules.specs.Heads.{Sized, form, formIn, headOf, headRules, heightIn, limit, readHead, sizeRefusal, widthIn}
+use Rattle.head_rules.specs.Colours.{colourOf, colourRefusal}
+use Rattle.head_rules.specs.Heads.{IsForm, Sized, colourBehind, colourIn, formIn, formNumber, formOf, headIn, headOf, headRules, headTold}
+use Rattle.head_rules.specs.Heads.{heightIn, limit, readHead, sizeRefusal, widthIn}
 use Rattle.head_rules.specs.Numbers.{found, noNumber, raised, readGroups, readNumber}
 use Rattle.head_rules.specs.Reader.{Going, Reading, atForm, awaiting, before, byteTaken, emptyAbove, endedIn, formTaken, groupTaken, hasEnded}
-use Rattle.head_rules.specs.Reader.{heightTaken, lastTaken, nextNumber, numberIn, readBy, refusedWith}
-use Rattle.head_rules.proofs.Heading.{accepted, head-rules, refusal-is, refused, size-0, size-refused, sized}
+use Rattle.head_rules.specs.Reader.{colourTaken, heightTaken, lastTaken, nextNumber, numberIn, readBy, refusedWith, sizeTaken}
+use Rattle.head_rules.proofs.Colours.{colour-test}
+use Rattle.head_rules.proofs.Heading.{accepted, form-kept, head-rules, is-form, refusal-is, refused, size-0, size-refused, sized}
 use Rattle.head_rules.proofs.Reading.{cut-off, last-group, more-groups, near, no-group, raised-none, raised-some}
 
 -- a reader that has ended, and one that has not
@@ -234,11 +240,22 @@ module _ (s : List ℕ) (r : HeadReader) where
   unfolding nextNumber
   next-stays e = rw e
 
+  size-near : (h : Head) (most : ℕ) → h .start ≤ most → sizeTaken h .head .start ≤ most
+  unfolding sizeTaken
+  size-near h most l = pick-either (λ (x : HeadReader). x .head .start ≤ most) (eqb (sizeRefusal (h .width) (h .height)) 0) l (omega arith)
+
+  height-near : (f : order.Form) (w n next most : ℕ) → next ≤ most → heightTaken f w n next .head .start ≤ most
+  height-near Rows w n next most l = size-near (headOf 0 w n next) most l
+  height-near Tiles w n next most l = l
+
   number-near : (p : Stage) (h : Head) (v next most : ℕ) → next ≤ most → h .start ≤ most → numberIn p h v next .head .start ≤ most
-  unfolding formTaken heightTaken
-  number-near Form h v next most l m = pick-either (λ (x : HeadReader). x .head .start ≤ most) (eqb v form) l (omega arith)
+  unfolding formTaken colourTaken
+  number-near Form h v next most l m = pick-either (λ (x : HeadReader). x .head .start ≤ most) (eqb (formNumber (formOf v)) v) l (omega arith)
   number-near Width h v next most l m = l
-  number-near Height h v next most l m = pick-either (λ (x : HeadReader). x .head .start ≤ most) (eqb (sizeRefusal (h .width) v) 0) l (omega arith)
+  number-near Height h v next most l m = height-near (h .form) (h .width) v next most l
+  number-near Colour h v next most l m =
+      pick-either (λ (x : HeadReader). x .head .start ≤ most) (eqb (colourRefusal v) 0)
+      (size-near (headIn (h .form) (colourOf v) 0 (h .width) (h .height) next) most l) (omega arith)
   number-near Ended h v next most l m = m
 
   pub next-near : nextNumber s r .head .start ≤ r .head .start + 3
@@ -261,16 +278,72 @@ module _ (s : List ℕ) (r : HeadReader) where
     unfolding nextNumber
     next-takes y = sym (rw (sym e ∙ z, ← en, eq-eqb (n .refusal) 0 y))
 
--- all three numbers of a head, one after the other, and the whole head byte by byte
+-- behind the height: form 1 has come whole, form 2 goes on with the number of its colour space
+module _ (s : List ℕ) (w h at : ℕ) where
+  abbrev number : order.Form → Number
+  number f = colourBehind f s at
+
+  abbrev sized-next : order.Form → Head
+  sized-next f = headIn f (colourOf (number f .value)) 0 w h (number f .next)
+
+  size-ended : (x : Head) → hasEnded (sizeTaken x) ≡ true
+  unfolding sizeTaken
+  size-ended x = pick-either (λ (r : HeadReader). hasEnded r ≡ true) (eqb (sizeRefusal (x .width) (x .height)) 0) refl refl
+
+  past-space : (f : order.Form) → number f .refusal ≡ 0 → number f .value ≤ 2
+      → (nextNumber s (heightTaken f w h at) ≡ sizeTaken (sized-next f))
+      × (readBy (heightTaken f w h at) (drop at s) ≡ readBy (sizeTaken (sized-next f)) (drop (number f .next) s))
+  unfolding colourOf colourTaken
+  past-space Rows z l = (next-stays s (sizeTaken (headOf 0 w h at)) (size-ended (headOf 0 w h at)), refl)
+  past-space Tiles z l =
+      let x = headIn Tiles Unspecified 0 w h at in
+      let t : colourTaken x (number Tiles .value) (number Tiles .next) ≡ sizeTaken (sized-next Tiles)
+      = rw (decided-so (colour-test (number Tiles .value)) l) in (
+        next-taken s Colour x refl z ∙ t,
+        number-read s Colour x refl z
+            ∙ ap (λ (r : HeadReader). readBy r (drop (number Tiles .next) s)) t,
+      )
+
+  -- what both ways say of a head that breaks there
+  abbrev Says : order.Form → ℕ → Type 0
+  Says f n = (nextNumber s (heightTaken f w h at) .head ≡ headOf n 0 0 0) × (readBy (heightTaken f w h at) (drop at s) .head ≡ headOf n 0 0 0)
+
+  no-number-there : (f : order.Form) → number f .refusal ≢ 0 → Says f (number f .refusal)
+  no-number-there Rows ne = absurd (ne refl)
+  no-number-there Tiles ne =
+      let x = headIn Tiles Unspecified 0 w h at in
+      (ap (λ (r : HeadReader). r .head) (next-refused s Colour x refl ne), number-broken s Colour x refl ne)
+
+  no-space-there : (f : order.Form) → number f .refusal ≡ 0 → (number f .value ≤ 2 → ⊥) → Says f 18
+  unfolding colourTaken
+  no-space-there Rows z ne = absurd (ne (omega arith))
+  no-space-there Tiles z ne =
+      let x = headIn Tiles Unspecified 0 w h at in
+      let t : colourTaken x (number Tiles .value) (number Tiles .next) ≡ refusedWith 18
+      = rw (decided-not (colour-test (number Tiles .value)) ne) in (
+        ap (λ (r : HeadReader). r .head)
+            (next-taken s Colour x refl z ∙ t),
+        ap (λ (r : Reading). r .head)
+            (number-read s Colour x refl z ∙ ap (λ (r : HeadReader). readBy r (drop (number Tiles .next) s)) t
+            ∙ read-ended (refusedWith 18) refl _),
+      )
+
+-- all numbers of a head, one after the other, and the whole head byte by byte
 module _ (s : List ℕ) where
   abbrev all : HeadReader → HeadReader
-  all r = nextNumber s (nextNumber s (nextNumber s r))
+  all r = nextNumber s (nextNumber s (nextNumber s (nextNumber s r)))
+
+  abbrev form : order.Form
+  form = formOf (formIn s .value)
 
   abbrev behind-form : HeadReader
-  behind-form = awaiting Width (headOf 0 0 0 (formIn s .next))
+  behind-form = awaiting Width (headIn form Unspecified 0 0 0 (formIn s .next))
 
   abbrev behind-width : HeadReader
-  behind-width = awaiting Height (headOf 0 (widthIn s .value) 0 (widthIn s .next))
+  behind-width = awaiting Height (headIn form Unspecified 0 (widthIn s .value) 0 (widthIn s .next))
+
+  abbrev behind-height : HeadReader
+  behind-height = heightTaken form (widthIn s .value) (heightIn s .value) (heightIn s .next)
 
   -- both ways read this head
   record Reads (h : Head) : Type 0 where
@@ -279,21 +352,23 @@ module _ (s : List ℕ) where
 
   -- past each number that is accepted
   module _ (z : formIn s .refusal ≡ 0) where
-    past-form : formIn s .value ≡ form → (nextNumber s atForm ≡ behind-form) × (readBy atForm s ≡ readBy behind-form (drop (formIn s .next) s))
+    past-form : IsForm (formIn s .value) → (nextNumber s atForm ≡ behind-form) × (readBy atForm s ≡ readBy behind-form (drop (formIn s .next) s))
     unfolding formIn formTaken
     past-form e =
-        let t : formTaken (formIn s .value) (formIn s .next) ≡ behind-form = rw (eq-eqb (formIn s .value) form e) in (
+        let t : formTaken (formIn s .value) (formIn s .next) ≡ behind-form = rw (eq-eqb (formNumber form) (formIn s .value) (form-kept e)) in (
           next-taken s Form (headOf 0 0 0 0) refl z ∙ t,
           number-read s Form (headOf 0 0 0 0) refl z
               ∙ ap (λ (r : HeadReader). readBy r (drop (formIn s .next) s)) t,
         )
 
-    other-form : formIn s .value ≢ form → Reads (headOf 8 0 0 0)
+    other-form : (IsForm (formIn s .value) → ⊥) → Reads (headOf 8 0 0 0)
     unfolding formIn formTaken nextNumber
     other-form e =
-        let t : formTaken (formIn s .value) (formIn s .next) ≡ refusedWith 8 = rw (ne-eqb (formIn s .value) form e) in
+        let ne : formNumber form ≢ formIn s .value = λ q. e (is-form q) in
+        let t : formTaken (formIn s .value) (formIn s .next) ≡ refusedWith 8 = rw (ne-eqb (formNumber form) (formIn s .value) ne) in
         record {
-          by-numbers = ap (λ (r : HeadReader). nextNumber s (nextNumber s r) .head) (next-taken s Form (headOf 0 0 0 0) refl z ∙ t);
+          by-numbers = ap (λ (r : HeadReader). nextNumber s (nextNumber s (nextNumber s r)) .head)
+              (next-taken s Form (headOf 0 0 0 0) refl z ∙ t);
           by-bytes = ap (λ (x : Reading). x .head) (number-read s Form (headOf 0 0 0 0) refl z
               ∙ ap (λ (r : HeadReader). readBy r (drop (formIn s .next) s)) t ∙ read-ended (refusedWith 8) refl _);
         }
@@ -301,17 +376,19 @@ module _ (s : List ℕ) where
   no-form : formIn s .refusal ≢ 0 → Reads (headOf (formIn s .refusal) 0 0 0)
   unfolding formIn nextNumber
   no-form z = record {
-    by-numbers = ap (λ (r : HeadReader). nextNumber s (nextNumber s r) .head) (next-refused s Form (headOf 0 0 0 0) refl z);
+    by-numbers = ap (λ (r : HeadReader). nextNumber s (nextNumber s (nextNumber s r)) .head) (next-refused s Form (headOf 0 0 0 0) refl z);
     by-bytes = number-broken s Form (headOf 0 0 0 0) refl z;
   }
 
-  module _ (z : formIn s .refusal ≡ 0) (e : formIn s .value ≡ form) where
+  module _ (z : formIn s .refusal ≡ 0) (e : IsForm (formIn s .value)) where
     no-width : widthIn s .refusal ≢ 0 → Reads (headOf (widthIn s .refusal) 0 0 0)
     unfolding widthIn nextNumber
     no-width y = record {
-      by-numbers = ap (λ (r : HeadReader). nextNumber s (nextNumber s r) .head) (past-form z e .0) ∙ ap (λ (r : HeadReader). nextNumber s r .head)
-          (next-refused s Width (headOf 0 0 0 (formIn s .next)) refl y);
-      by-bytes = ap (λ (x : Reading). x .head) (past-form z e .1) ∙ number-broken s Width (headOf 0 0 0 (formIn s .next)) refl y;
+      by-numbers = ap (λ (r : HeadReader). nextNumber s (nextNumber s (nextNumber s r)) .head) (past-form z e .0)
+          ∙ ap (λ (r : HeadReader). nextNumber s (nextNumber s r) .head)
+          (next-refused s Width (headIn form Unspecified 0 0 0 (formIn s .next)) refl y);
+      by-bytes = ap (λ (x : Reading). x .head) (past-form z e .1)
+          ∙ number-broken s Width (headIn form Unspecified 0 0 0 (formIn s .next)) refl y;
     }
 
     module _ (y : widthIn s .refusal ≡ 0) where
@@ -320,87 +397,118 @@ module _ (s : List ℕ) where
       past-width = (ap (nextNumber s) (past-form z e .0) ∙ next-taken s Width _ refl y, past-form z e .1 ∙ number-read s Width _ refl y)
 
       no-height : heightIn s .refusal ≢ 0 → Reads (headOf (heightIn s .refusal) 0 0 0)
-      unfolding heightIn
+      unfolding heightIn nextNumber
       no-height x = record {
-        by-numbers = ap (λ (r : HeadReader). nextNumber s r .head) (past-width .0) ∙ ap (λ (r : HeadReader). r .head)
-            (next-refused s Height _ refl x);
+        by-numbers = ap (λ (r : HeadReader). nextNumber s (nextNumber s r) .head) (past-width .0) ∙ ap (λ (r : HeadReader). nextNumber s r .head)
+            (next-refused s Height (behind-width .head) refl x);
         by-bytes = ap (λ (t : Reading). t .head) (past-width .1) ∙ number-broken s Height _ refl x;
       }
 
       module _ (x : heightIn s .refusal ≡ 0) where
-        past-height : (all atForm ≡ heightTaken (widthIn s .value) (heightIn s .value) (heightIn s .next))
-            × (readBy atForm s ≡ readBy (heightTaken (widthIn s .value) (heightIn s .value) (heightIn s .next)) (drop (heightIn s .next) s))
+        past-height : (nextNumber s (nextNumber s (nextNumber s atForm)) ≡ behind-height)
+            × (readBy atForm s ≡ readBy behind-height (drop (heightIn s .next) s))
         unfolding heightIn
         past-height = (ap (nextNumber s) (past-width .0) ∙ next-taken s Height _ refl x, past-width .1 ∙ number-read s Height _ refl x)
 
-        no-size : sizeRefusal (widthIn s .value) (heightIn s .value) ≢ 0 → Reads (headOf (sizeRefusal (widthIn s .value) (heightIn s .value)) 0 0 0)
-        unfolding heightTaken
-        no-size ne =
-            let t : heightTaken (widthIn s .value) (heightIn s .value) (heightIn s .next)
-            ≡ refusedWith (sizeRefusal (widthIn s .value) (heightIn s .value)) = rw (ne-eqb _ 0 ne) in
-            record {
-              by-numbers = ap (λ (r : HeadReader). r .head) (past-height .0 ∙ t);
-              by-bytes = ap (λ (w : Reading). w .head) (past-height .1 ∙ ap (λ (r : HeadReader). readBy r (drop (heightIn s .next) s)) t
-                  ∙ read-ended (refusedWith _) refl _);
-            }
+        breaks : (n : ℕ) → Says s (widthIn s .value) (heightIn s .value) (heightIn s .next) form n → Reads (headOf n 0 0 0)
+        breaks n q = record {
+          by-numbers = ap (λ (r : HeadReader). nextNumber s r .head) (past-height .0) ∙ q .0;
+          by-bytes = ap (λ (t : Reading). t .head) (past-height .1) ∙ q .1;
+        }
 
-        -- and past the head
-        pub read-whole : sizeRefusal (widthIn s .value) (heightIn s .value) ≡ 0
-            → (all atForm ≡ awaiting Ended (headOf 0 (widthIn s .value) (heightIn s .value) (heightIn s .next)))
-            × (readBy atForm s ≡ record {
-              head = headOf 0 (widthIn s .value) (heightIn s .value)
-                  (heightIn s .next);
-              rest = drop (heightIn s .next) s;
-            })
-        unfolding heightTaken
-        read-whole q =
-            let h = headOf 0 (widthIn s .value) (heightIn s .value) (heightIn s .next) in
-            let t : heightTaken (widthIn s .value) (heightIn s .value) (heightIn s .next) ≡ awaiting Ended h = rw (eq-eqb _ 0 q) in (
-              past-height .0 ∙ t,
-              past-height .1 ∙ ap (λ (r : HeadReader). readBy r (drop (heightIn s .next) s)) t
-                  ∙ read-ended (awaiting Ended h) refl _,
-            )
+        no-colour : colourIn s .refusal ≢ 0 → Reads (headOf (colourIn s .refusal) 0 0 0)
+        unfolding colourIn
+        no-colour ne = breaks _ (no-number-there s (widthIn s .value) (heightIn s .value) (heightIn s .next) form ne)
 
-  told : {n : ℕ} → Given (headRules (formIn s) (widthIn s) (heightIn s)) n → n ≢ 0 → headOf n 0 0 0 ≡ readHead s
+        module _ (c : colourIn s .refusal ≡ 0) where
+          no-space : (colourIn s .value ≤ 2 → ⊥) → Reads (headOf 18 0 0 0)
+          unfolding colourIn
+          no-space ne = breaks 18 (no-space-there s (widthIn s .value) (heightIn s .value) (heightIn s .next) form c ne)
+
+          module _ (l : colourIn s .value ≤ 2) where
+            past-colour : (all atForm ≡ sizeTaken (headTold s)) × (readBy atForm s ≡ readBy (sizeTaken (headTold s)) (drop (colourIn s .next) s))
+            unfolding colourIn
+            past-colour =
+                let q = past-space s (widthIn s .value) (heightIn s .value) (heightIn s .next) form c l in
+                (ap (nextNumber s) (past-height .0) ∙ q .0, past-height .1 ∙ q .1)
+
+            no-size : sizeRefusal (widthIn s .value) (heightIn s .value) ≢ 0
+                → Reads (headOf (sizeRefusal (widthIn s .value) (heightIn s .value)) 0 0 0)
+            unfolding sizeTaken
+            no-size ne =
+                let t : sizeTaken (headTold s) ≡ refusedWith (sizeRefusal (widthIn s .value) (heightIn s .value)) = rw (ne-eqb _ 0 ne) in
+                record {
+                  by-numbers = ap (λ (r : HeadReader). r .head) (past-colour .0 ∙ t);
+                  by-bytes = ap (λ (w : Reading). w .head) (past-colour .1 ∙ ap (λ (r : HeadReader). readBy r (drop (colourIn s .next) s)) t
+                      ∙ read-ended (refusedWith _) refl _);
+                }
+
+            -- and past the head
+            pub read-whole : sizeRefusal (widthIn s .value) (heightIn s .value) ≡ 0
+                → (all atForm ≡ awaiting Ended (headTold s)) × (readBy atForm s ≡ record { head = headTold s; rest = drop (colourIn s .next) s })
+            unfolding sizeTaken
+            read-whole q =
+                let t : sizeTaken (headTold s) ≡ awaiting Ended (headTold s) = rw (eq-eqb _ 0 q) in (
+                  past-colour .0 ∙ t,
+                  past-colour .1 ∙ ap (λ (r : HeadReader). readBy r (drop (colourIn s .next) s)) t
+                      ∙ read-ended (awaiting Ended (headTold s)) refl _,
+                )
+
+  told : {n : ℕ} → Given (headRules s) n → n ≢ 0 → headOf n 0 0 0 ≡ readHead s
   told {n} g ne = refused limit s n (exactly (head-rules limit s) n .1 g) ne
+
+  -- number by number
+  module _ (z : formIn s .refusal ≡ 0) (e : IsForm (formIn s .value)) where
+    module _ (y : widthIn s .refusal ≡ 0) (x : heightIn s .refusal ≡ 0) where
+      size-told : (c : colourIn s .refusal ≡ 0) (l : colourIn s .value ≤ 2)
+          → (sizeRefusal (widthIn s .value) (heightIn s .value) ≡ 0) ⊎ (0 < sizeRefusal (widthIn s .value) (heightIn s .value))
+          → Reads (readHead s)
+      size-told c l (inl q) =
+          let t = accepted limit s (accepted-when (head-rules limit s) .1 (z, (e, (y, (x, (c, (l, (sized _ _ _ q, tt)))))))) in
+          let w = read-whole z e y x c l q in
+          record { by-numbers = ap (λ (r : HeadReader). r .head) (w .0) ∙ t; by-bytes = ap (λ (r : Reading). r .head) (w .1) ∙ t }
+      size-told c l (inr p) =
+          let ne : sizeRefusal (widthIn s .value) (heightIn s .value) ≢ 0 = λ q. omega arith in
+          let n = size-refused _ _ _ refl ne in
+          subst Reads (ap (λ (m : ℕ). headOf m 0 0 0) (n .0)
+          ∙ told (then z (then e (then y (then x (then c (then l (here (n .1)))))))) (λ q. omega arith)) (no-size z e y x c l ne)
+
+      space-told : (c : colourIn s .refusal ≡ 0) → (colourIn s .value < 3) ⊎ (3 ≤ colourIn s .value) → Reads (readHead s)
+      space-told c (inl l) = size-told c (omega arith) (eq-zero-or-pos _)
+      space-told c (inr l) =
+          let ne : colourIn s .value ≤ 2 → ⊥ = λ q. omega arith in
+          subst Reads (told (then z (then e (then y (then x (then c (here ne)))))) (λ q. omega arith)) (no-space z e y x c ne)
+
+      colour-told : (colourIn s .refusal ≡ 0) ⊎ (0 < colourIn s .refusal) → Reads (readHead s)
+      colour-told (inl c) = space-told c (lt-or (colourIn s .value) 3)
+      colour-told (inr l) =
+          let ne : colourIn s .refusal ≢ 0 = λ q. omega arith in
+          subst Reads (told (then z (then e (then y (then x (here ne))))) ne) (no-colour z e y x ne)
+
+    height-told : (y : widthIn s .refusal ≡ 0) → (heightIn s .refusal ≡ 0) ⊎ (0 < heightIn s .refusal) → Reads (readHead s)
+    height-told y (inl x) = colour-told y x (eq-zero-or-pos _)
+    height-told y (inr l) = let ne : heightIn s .refusal ≢ 0 = λ q. omega arith in subst Reads (told (then z (then e (then y (here ne)))) ne)
+        (no-height z e y ne)
+
+    width-told : (widthIn s .refusal ≡ 0) ⊎ (0 < widthIn s .refusal) → Reads (readHead s)
+    width-told (inl y) = height-told y (eq-zero-or-pos _)
+    width-told (inr l) = let ne : widthIn s .refusal ≢ 0 = λ q. omega arith in subst Reads (told (then z (then e (here ne))) ne)
+        (no-width z e ne)
 
   reads : Reads (readHead s)
   reads = ⊎-elim form-told (λ l. let ne : formIn s .refusal ≢ 0 = λ q. omega arith in subst Reads (told (here ne) ne) (no-form ne))
       (eq-zero-or-pos (formIn s .refusal))
     where
-      size-told : (z : formIn s .refusal ≡ 0) (e : formIn s .value ≡ form) (y : widthIn s .refusal ≡ 0) (x : heightIn s .refusal ≡ 0)
-          → (sizeRefusal (widthIn s .value) (heightIn s .value) ≡ 0) ⊎ (0 < sizeRefusal (widthIn s .value) (heightIn s .value)) → Reads (readHead s)
-      size-told z e y x (inl q) =
-          let t = accepted limit s (accepted-when (head-rules limit s) .1 (z, (e, (y, (x, (sized _ _ _ q, tt)))))) in
-          let w = read-whole z e y x q in
-          record { by-numbers = ap (λ (r : HeadReader). r .head) (w .0) ∙ t; by-bytes = ap (λ (r : Reading). r .head) (w .1) ∙ t }
-      size-told z e y x (inr l) =
-          let ne : sizeRefusal (widthIn s .value) (heightIn s .value) ≢ 0 = λ q. omega arith in
-          let n = size-refused _ _ _ refl ne in
-          subst Reads (ap (λ (m : ℕ). headOf m 0 0 0) (n .0) ∙ told (then z (then e (then y (then x (here (n .1)))))) (λ q. omega arith))
-          (no-size z e y x ne)
-
-      height-told : (z : formIn s .refusal ≡ 0) (e : formIn s .value ≡ form) (y : widthIn s .refusal ≡ 0)
-          → (heightIn s .refusal ≡ 0) ⊎ (0 < heightIn s .refusal) → Reads (readHead s)
-      height-told z e y (inl x) = size-told z e y x (eq-zero-or-pos _)
-      height-told z e y (inr l) = let ne : heightIn s .refusal ≢ 0 = λ q. omega arith in subst Reads (told (then z (then e (then y (here ne)))) ne)
-          (no-height z e y ne)
-
-      width-told : (z : formIn s .refusal ≡ 0) (e : formIn s .value ≡ form) → (widthIn s .refusal ≡ 0) ⊎ (0 < widthIn s .refusal)
-          → Reads (readHead s)
-      width-told z e (inl y) = height-told z e y (eq-zero-or-pos _)
-      width-told z e (inr l) = let ne : widthIn s .refusal ≢ 0 = λ q. omega arith in subst Reads (told (then z (then e (here ne))) ne)
-          (no-width z e ne)
-
       form-told : formIn s .refusal ≡ 0 → Reads (readHead s)
-      form-told z = go (ℕ-discrete (formIn s .value) form)
+      form-told z = go (ℕ-discrete (formNumber form) (formIn s .value))
         where
-          go : Dec (formIn s .value ≡ form) → Reads (readHead s)
-          go (yes e) = width-told z e (eq-zero-or-pos _)
-          go (no e) = subst Reads (told (then z (here e)) (λ q. omega arith)) (other-form z e)
+          go : Dec (formNumber form ≡ formIn s .value) → Reads (readHead s)
+          go (yes e) = width-told z (is-form e) (eq-zero-or-pos _)
+          go (no e) = let ne : IsForm (formIn s .value) → ⊥ = λ f. e (form-kept f) in subst Reads (told (then z (here ne)) (λ q. omega arith))
+              (other-form z ne)
 
-  pub three-numbers : nextNumber s (nextNumber s (nextNumber s atForm)) .head ≡ readHead s
-  three-numbers = reads .by-numbers
+  pub all-numbers : nextNumber s (nextNumber s (nextNumber s (nextNumber s atForm))) .head ≡ readHead s
+  all-numbers = reads .by-numbers
 
   pub bytes-read-head : readBy atForm s .head ≡ readHead s
   bytes-read-head = reads .by-bytes
@@ -408,21 +516,22 @@ module _ (s : List ℕ) where
   pub bytes-behind-head : readHead s .refusal ≡ 0 → readBy atForm s .rest ≡ drop (readHead s .start) s
   bytes-behind-head z =
       let o = sym (refusal-is limit s) ∙ z in
-      let (a, (b, (c, (d, (y, u))))) = head-rules limit s .met o in
-      ap (λ (x : Reading). x .rest) (read-whole a b c d (size-0 _ _ _ y) .1) ∙ ap (λ (h : Head). drop (h .start) s) (accepted limit s o)
+      let (a, (b, (c, (d, (f, (k, (y, u))))))) = head-rules limit s .met o in
+      ap (λ (x : Reading). x .rest) (read-whole a b c d f k (size-0 _ _ _ y) .1) ∙ ap (λ (h : Head). drop (h .start) s) (accepted limit s o)
 
 -- a reader between two bytes holds a small number, and has not come far
 module _ {r : HeadReader} (g : Going r) where
   pub low-small : r .low < 16384
   low-small = lt-of-lt-of-le (g .small) (pow-le-pow-right {n = 128} (omega arith) {i = r .groups} {j = 2} (g .few))
 
-  pub not-far : r .head .start ≤ 6
+  pub not-far : r .head .start ≤ 9
   not-far = go (r .stage) (g .unended) (g .near)
     where
-      go : (p : Stage) → endedIn p ≡ false → r .head .start ≤ before p → r .head .start ≤ 6
+      go : (p : Stage) → endedIn p ≡ false → r .head .start ≤ before p → r .head .start ≤ 9
       go Form e h = omega arith
       go Width e h = omega arith
-      go Height e h = h
+      go Height e h = omega arith
+      go Colour e h = h
       go Ended e h = absurd (no-both refl e)
 
 -- what a byte leaves: a reader that goes on with it, one place on; or a head, which has a size where it is accepted
@@ -434,9 +543,18 @@ pub record Stepped (r x : HeadReader) : Type 0 where
 pub stepped-refused : (r : HeadReader) (n : ℕ) → n ≢ 0 → Stepped r (refusedWith n)
 stepped-refused r n ne = record { going = λ e. absurd (no-both refl e); on = λ e. absurd (no-both refl e); sized-head = λ e z. absurd (ne z) }
 
+stepped-size : (r : HeadReader) (h : Head) → Stepped r (sizeTaken h)
+unfolding sizeTaken
+stepped-size r h = go (eqb (sizeRefusal (h .width) (h .height)) 0) refl
+  where
+    go : (t : Bool) → eqb (sizeRefusal (h .width) (h .height)) 0 ≡ t
+        → Stepped r (pick t (awaiting Ended h) (refusedWith (sizeRefusal (h .width) (h .height))))
+    go true e = record { going = λ u. absurd (no-both refl u); on = λ u. absurd (no-both refl u); sized-head = λ u z. sized _ _ _ (eqb-true _ 0 e) }
+    go false e = stepped-refused r _ (eqb-false _ 0 e)
+
 module _ {r : HeadReader} (g : Going r) where
   stepped-number : (n : ℕ) → Stepped r (numberIn (r .stage) (r .head) n (r .head .start + r .groups + 1))
-  unfolding formTaken heightTaken
+  unfolding formTaken colourTaken
   stepped-number n = go (r .stage) (g .unended) (omega (arith, g .few, g .near))
     where
       next : ℕ
@@ -449,20 +567,23 @@ module _ {r : HeadReader} (g : Going r) where
         sized-head = λ t. absurd (no-both t un);
       }
 
-      form-in : (t : Bool) → next ≤ 3 → Stepped r (pick t (awaiting Width (headOf 0 0 0 next)) (refusedWith 8))
+      form-in : (t : Bool) → next ≤ 3 → Stepped r (pick t (awaiting Width (headIn (formOf n) Unspecified 0 0 0 next)) (refusedWith 8))
       form-in true l = awaited Width _ refl refl l
       form-in false l = stepped-refused r 8 (λ q. omega arith)
 
-      height-in : (t : Bool) → eqb (sizeRefusal (r .head .width) n) 0 ≡ t
-          → Stepped r (pick t (awaiting Ended (headOf 0 (r .head .width) n next)) (refusedWith (sizeRefusal (r .head .width) n)))
-      height-in true e =
-          record { going = λ u. absurd (no-both refl u); on = λ u. absurd (no-both refl u); sized-head = λ u z. sized _ _ _ (eqb-true _ 0 e) }
-      height-in false e = stepped-refused r _ (eqb-false _ 0 e)
+      height-in : (f : order.Form) (w : ℕ) → next ≤ 9 → Stepped r (heightTaken f w n next)
+      height-in Rows w l = stepped-size r (headOf 0 w n next)
+      height-in Tiles w l = awaited Colour _ refl refl l
+
+      colour-in : (t : Bool) → eqb (colourRefusal n) 0 ≡ t → (h : Head) → Stepped r (pick t (sizeTaken h) (refusedWith (colourRefusal n)))
+      colour-in true e h = stepped-size r h
+      colour-in false e h = stepped-refused r _ (eqb-false _ 0 e)
 
       go : (p : Stage) → endedIn p ≡ false → next ≤ before p + 3 → Stepped r (numberIn p (r .head) n next)
-      go Form un l = form-in (eqb n form) l
+      go Form un l = form-in (eqb (formNumber (formOf n)) n) l
       go Width un l = awaited Height _ refl refl l
-      go Height un l = height-in (eqb (sizeRefusal (r .head .width) n) 0) refl
+      go Height un l = height-in (r .head .form) (r .head .width) l
+      go Colour un l = colour-in (eqb (colourRefusal n) 0) refl _
       go Ended un l = absurd (no-both refl un)
 
   pub stepped : (b : ℕ) → Stepped r (byteTaken r b)
@@ -488,3 +609,17 @@ module _ {r : HeadReader} (g : Going r) where
 
 pub going-start : Going atForm
 going-start = record { unended = refl; few = omega arith; small = omega arith; near = omega arith }
+
+-- the ways of `take_form`
+module _ (n next : ℕ) where
+  pub rows-taken : n ≡ 1 → awaiting Width (headIn Rows Unspecified 0 0 0 next) ≡ formTaken n next
+  unfolding formTaken formOf
+  rows-taken e = rw e
+
+  pub tiles-taken : n ≡ 2 → awaiting Width (headIn Tiles Unspecified 0 0 0 next) ≡ formTaken n next
+  unfolding formTaken formOf
+  tiles-taken e = rw e
+
+  pub none-taken : n ≢ 1 → n ≢ 2 → refusedWith 8 ≡ formTaken n next
+  unfolding formTaken formOf
+  none-taken a b = sym (rw (ne-eqb n 2 b, ne-eqb 1 n (λ e. a (sym e))))

@@ -2,6 +2,7 @@ pub mod Attested
 pub mod Reading
 pub mod Writing
 pub mod Blocks
+pub mod Orders
 pub mod Colours
 pub mod Heading
 pub mod Limits

@@ -20,14 +20,14 @@ module _ (small large : ℕ) (s : List ℕ) where
   pub head-kept : small ≤ large → readHeadUpTo small s .refusal ≡ 0 → readHeadUpTo large s ≡ readHeadUpTo small s
   head-kept l e =
       let z = sym (refusal-is small s) ∙ e in
-      let (a, (b, (c, (d, (q, u))))) = head-rules small s .met z in
-      let y = accepted-when (head-rules large s) .1 (a, (b, (c, (d, (wider l q, tt))))) in
+      let (a, (b, (c, (d, (f, (k, (q, u))))))) = head-rules small s .met z in
+      let y = accepted-when (head-rules large s) .1 (a, (b, (c, (d, (f, (k, (wider l q, tt))))))) in
       sym (accepted large s y) ∙ accepted small s z
 
   pub head-refused-before : readHeadUpTo large s .refusal ≡ 0
       → (SizedUpTo small (readHeadUpTo large s .width) (readHeadUpTo large s .height) → ⊥) → readHeadUpTo small s ≡ headOf 9 0 0 0
   head-refused-before e ne =
       let z = sym (refusal-is large s) ∙ e in
-      let (a, (b, (c, (d, (q, u))))) = head-rules large s .met z in
+      let (a, (b, (c, (d, (f, (k, (q, u))))))) = head-rules large s .met z in
       let n = subst (λ (r : Head). SizedUpTo small (r .width) (r .height) → ⊥) (sym (accepted large s z)) ne in
-      sym (refused small s 9 (exactly (head-rules small s) 9 .1 (then a (then b (then c (then d (here n)))))) (λ q. omega arith))
+      sym (refused small s 9 (exactly (head-rules small s) 9 .1 (then a (then b (then c (then d (then f (then k (here n)))))))) (λ q. omega arith))

@@ -1,7 +1,8 @@
--- The head of a sheet: form, width, height.
+-- The head of a sheet: form, width, height; and in form 2 the number of its colour space.
 -- Assumes nothing.
 use Prim.Native.Nat.{ℕ, _≤_}
 use mathlib.Core.Path.{_≡_}
+use mathlib.Core.Logic.{_⊎_}
 use mathlib.Core.Bool.{Bool, not}
 use mathlib.Core.List.{List, [], _∷_, _++_}
 use lib.Dec.{eqb, leb}
@@ -9,17 +10,29 @@ use lib.ListN.{length, replicate}
 use Rattle.head_rules.specs.declared.Number.{Number}
 use Rattle.head_rules.specs.declared.ColourSpace.{ColourSpace}
 use Rattle.head_rules.specs.declared.ColourSpace.the-variants.{Unspecified}
+use Rattle.head_rules.specs.declared.Form.{Form}
+use Rattle.head_rules.specs.declared.Form.the-variants.{Rows, Tiles}
 use Rattle.head_rules.specs.declared.Head.{Head}
+use Rattle.head_rules.specs.declared.FormBytes.{FormBytes}
 use Rattle.head_rules.specs.declared.HeadBytes.{HeadBytes}
 use Rattle.laws.specs.Padding.{padded, stored}
 use Rattle.laws.specs.Refusals.{Rule, first, handed, refuse, unless}
 use Rattle.laws.specs.Tables.{both, pick}
-use Rattle.head_rules.specs.Numbers.{numberBytes, readNumber}
+use Rattle.head_rules.specs.Colours.{colourNumber, colourOf, colourRefusal}
+use Rattle.head_rules.specs.Numbers.{found, numberBytes, readNumber}
 
--- the form of a sheet, and the largest width and height; the largest that consoles took before
-abbrev pub form : ℕ
-form = 1
+-- THE FORMS by number: 1 row by row, 2 in tiles; and the form of a number, where it is one's
+abbrev pub formNumber : Form → ℕ
+formNumber Rows = 1
+formNumber Tiles = 2
 
+unfoldable pub formOf : ℕ → Form
+formOf n = pick (eqb n 2) Tiles Rows
+
+abbrev pub IsForm : ℕ → Type 0
+IsForm n = (n ≡ formNumber Rows) ⊎ (n ≡ formNumber Tiles)
+
+-- the largest width and height; the largest that consoles of before took
 abbrev pub limit : ℕ
 limit = 16384
 
@@ -45,24 +58,23 @@ pub record SizedUpTo (top w h : ℕ) : Type 0 where
 abbrev pub Sized : ℕ → ℕ → Type 0
 Sized w h = SizedUpTo limit w h
 
--- the rules of a head whose three numbers were read as f, w, h: 7 and 8 on the form, 7 on width and height, then 9
-abbrev pub headRulesUpTo : ℕ → Number → Number → Number → List Rule
-headRulesUpTo top f w h =
+-- the rules of a head whose numbers were read as f, w, h, c: 7 and 8 on the form, 7 on width, height and colour space, 18, then 9
+abbrev pub rulesUpTo : ℕ → Number → Number → Number → Number → List Rule
+rulesUpTo top f w h c =
     handed (f .refusal) ∷
-    unless 8 (f .value ≡ form) ∷
+    unless 8 (IsForm (f .value)) ∷
     handed (w .refusal) ∷
     handed (h .refusal) ∷
+    handed (c .refusal) ∷
+    unless 18 (c .value ≤ 2) ∷
     unless 9 (SizedUpTo top (w .value) (h .value)) ∷
     []
-
-abbrev pub headRules : Number → Number → Number → List Rule
-headRules f w h = headRulesUpTo limit f w h
 
 -- the one rule of writing a head
 abbrev pub sizeRules : ℕ → ℕ → List Rule
 sizeRules w h = unless 9 (Sized w h) ∷ []
 
--- the three numbers of a head
+-- the numbers of a head
 unfoldable pub formIn : List ℕ → Number
 formIn s = readNumber s 0
 
@@ -72,43 +84,103 @@ widthIn s = readNumber s (formIn s .next)
 unfoldable pub heightIn : List ℕ → Number
 heightIn s = readNumber s (widthIn s .next)
 
--- 7 and 8 on the form, 7 on width and height, then 9
+-- the number of the colour space, which form 2 stores: of form 1 it is 0, and no byte
+abbrev pub colourBehind : Form → List ℕ → ℕ → Number
+colourBehind Rows s at = found 0 at
+colourBehind Tiles s at = readNumber s at
+
+unfoldable pub colourIn : List ℕ → Number
+colourIn s = colourBehind (formOf (formIn s .value)) s (heightIn s .next)
+
+abbrev pub headRulesUpTo : ℕ → List ℕ → List Rule
+headRulesUpTo top s = rulesUpTo top (formIn s) (widthIn s) (heightIn s) (colourIn s)
+
+abbrev pub headRules : List ℕ → List Rule
+headRules s = headRulesUpTo limit s
+
+-- 7 and 8 on the form, 7 on width, height and colour space, 18, then 9
 unfoldable pub headRefusalUpTo : ℕ → List ℕ → ℕ
 headRefusalUpTo top s =
     first
     (formIn s .refusal
-    ∷ refuse 8 (not (eqb (formIn s .value) form))
+    ∷ refuse 8 (not (eqb (formNumber (formOf (formIn s .value))) (formIn s .value)))
     ∷ widthIn s .refusal
     ∷ heightIn s .refusal
+    ∷ colourIn s .refusal
+    ∷ colourRefusal (colourIn s .value)
     ∷ sizeRefusalUpTo top (widthIn s .value) (heightIn s .value) ∷ [])
 
 abbrev pub headRefusal : List ℕ → ℕ
 headRefusal s = headRefusalUpTo limit s
 
--- a head as form 1 says it, which has no room for a colour space; and a head under one
+-- a head; one as form 1 says it, which has no room for a colour space; and a head under one
+abbrev pub headIn : Form → ColourSpace → ℕ → ℕ → ℕ → ℕ → Head
+headIn f c r w h start = record { refusal = r; form = f; width = w; height = h; start = start; «colour_space» = c }
+
 abbrev pub headOf : ℕ → ℕ → ℕ → ℕ → Head
-headOf r w h start = record { refusal = r; width = w; height = h; start = start; «colour_space» = Unspecified }
+headOf r w h start = headIn Rows Unspecified r w h start
 
 abbrev pub under : ColourSpace → Head → Head
-under c h = record { refusal = h .refusal; width = h .width; height = h .height; start = h .start; «colour_space» = c }
+under c h = headIn (h .form) c (h .refusal) (h .width) (h .height) (h .start)
 
--- reading a head, where the largest side is `top`: a console of before reads with `oldLimit`
+-- what the numbers of a head say, where they are accepted
+abbrev pub headTold : List ℕ → Head
+headTold s = headIn (formOf (formIn s .value)) (colourOf (colourIn s .value)) 0 (widthIn s .value) (heightIn s .value) (colourIn s .next)
+
+-- reading a head of either form, where the largest side is `top`
 unfoldable pub readHeadUpTo : ℕ → List ℕ → Head
-readHeadUpTo top s =
-    pick (eqb (headRefusalUpTo top s) 0)
-    (headOf 0 (widthIn s .value) (heightIn s .value) (heightIn s .next))
-    (headOf (headRefusalUpTo top s) 0 0 0)
+readHeadUpTo top s = pick (eqb (headRefusalUpTo top s) 0) (headTold s) (headOf (headRefusalUpTo top s) 0 0 0)
 
 abbrev pub readHead : List ℕ → Head
 readHead s = readHeadUpTo limit s
 
--- the bytes of a head
+-- ONE FORM ONLY, for a call that takes no other: 8 for the other form, before anything behind it; else as `readHeadUpTo`
+unfoldable pub ofFormRefusalUpTo : ℕ → Form → List ℕ → ℕ
+ofFormRefusalUpTo top f s = first (formIn s .refusal ∷ refuse 8 (not (eqb (formIn s .value) (formNumber f))) ∷ headRefusalUpTo top s ∷ [])
+
+abbrev pub ofFormRefusal : Form → List ℕ → ℕ
+ofFormRefusal f s = ofFormRefusalUpTo limit f s
+
+unfoldable pub readOfFormUpTo : ℕ → Form → List ℕ → Head
+readOfFormUpTo top f s = pick (eqb (ofFormRefusalUpTo top f s) 0) (headTold s) (headOf (ofFormRefusalUpTo top f s) 0 0 0)
+
+abbrev pub readOfForm : Form → List ℕ → Head
+readOfForm f s = readOfFormUpTo limit f s
+
+-- A CONSOLE OF BEFORE maps up to 16,384 and tiles: it has the old limit, and knows form 1 alone
+abbrev pub oldHead : List ℕ → Head
+oldHead s = readOfFormUpTo oldLimit Rows s
+
+-- for form 1 alone: 7 and 8 on the form, 7 on width and height, then 9
+abbrev pub rowsRules : List ℕ → List Rule
+rowsRules s =
+    handed (formIn s .refusal) ∷
+    unless 8 (formIn s .value ≡ formNumber Rows) ∷
+    handed (widthIn s .refusal) ∷
+    handed (heightIn s .refusal) ∷
+    unless 9 (Sized (widthIn s .value) (heightIn s .value)) ∷
+    []
+
+abbrev pub ofFormRulesUpTo : ℕ → Form → List ℕ → List Rule
+ofFormRulesUpTo top f s = handed (formIn s .refusal) ∷ unless 8 (formIn s .value ≡ formNumber f) ∷ headRulesUpTo top s
+
+abbrev pub ofFormRules : Form → List ℕ → List Rule
+ofFormRules f s = ofFormRulesUpTo limit f s
+
+-- the bytes of a head of form 1, and of form 2 with the number of a colour space
 unfoldable pub headBytes : ℕ → ℕ → List ℕ
-headBytes w h = numberBytes form ++ (numberBytes w ++ numberBytes h)
+headBytes w h = numberBytes (formNumber Rows) ++ (numberBytes w ++ numberBytes h)
+
+unfoldable pub tiledBytes : ColourSpace → ℕ → ℕ → List ℕ
+tiledBytes c w h = numberBytes (formNumber Tiles) ++ (numberBytes w ++ (numberBytes h ++ numberBytes (colourNumber c)))
 
 -- and of a head in memory, whose colour space form 1 forgets
+abbrev pub headSpelt : Form → ColourSpace → ℕ → ℕ → List ℕ
+headSpelt Rows c w h = headBytes w h
+headSpelt Tiles c w h = tiledBytes c w h
+
 abbrev pub bytesOfHead : Head → List ℕ
-bytesOfHead h = headBytes (h .width) (h .height)
+bytesOfHead h = headSpelt (h .form) (h .«colour_space») (h .width) (h .height)
 
 -- bytes with zeros behind, seven in all
 abbrev pub sevenOf : List ℕ → HeadBytes
@@ -120,6 +192,10 @@ noBytes r = record { refusal = r; bytes = replicate 7 0; count = 0 }
 -- writing a head
 unfoldable pub writeHead : ℕ → ℕ → HeadBytes
 writeHead w h = pick (eqb (sizeRefusal w h) 0) (sevenOf (headBytes w h)) (noBytes (sizeRefusal w h))
+
+-- the head in form f that says no colour space, with zeros behind, eight bytes in all
+unfoldable pub writeForm : Form → ℕ → ℕ → FormBytes
+writeForm f w h = let bs = headSpelt f Unspecified w h in record { bytes = padded 8 bs; count = length bs }
 
 -- what the two public calls promise: their answers, whole
 abbrev pub ReadsHead : List ℕ → Head → Type 0

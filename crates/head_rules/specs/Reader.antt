@@ -9,9 +9,13 @@ use lib.Dec.{eqb, ltb}
 use Rattle.head_rules.specs.declared.Head.{Head}
 use Rattle.head_rules.specs.declared.HeadReader.{HeadReader}
 use Rattle.head_rules.specs.declared.Stage.{Stage}
-use Rattle.head_rules.specs.declared.Stage.the-variants.{Form, Width, Height, Ended}
+use Rattle.head_rules.specs.declared.Form.the-variants.{Rows, Tiles}
+use Rattle.head_rules.specs.declared.Form as order
+use Rattle.head_rules.specs.declared.ColourSpace.the-variants.{Unspecified}
+use Rattle.head_rules.specs.declared.Stage.the-variants.{Form, Width, Height, Colour, Ended}
 use Rattle.laws.specs.Tables.{both, pick}
-use Rattle.head_rules.specs.Heads.{form, headOf, sizeRefusal}
+use Rattle.head_rules.specs.Colours.{colourOf, colourRefusal}
+use Rattle.head_rules.specs.Heads.{formNumber, formOf, headIn, headOf, sizeRefusal}
 use Rattle.head_rules.specs.Numbers.{readNumber}
 
 -- the number of a stage is to come, and no group of it has
@@ -30,22 +34,34 @@ abbrev pub endedIn : Stage → Bool
 endedIn Form = false
 endedIn Width = false
 endedIn Height = false
+endedIn Colour = false
 endedIn Ended = true
 
 abbrev pub hasEnded : HeadReader → Bool
 hasEnded r = endedIn (r .stage)
 
--- the number n has come whole, and this is the place behind it: 8 for another form; behind the height 9, or the head
+-- the number n has come whole, and this is the place behind it: 8 for another form
 unfoldable pub formTaken : ℕ → ℕ → HeadReader
-formTaken n next = pick (eqb n form) (awaiting Width (headOf 0 0 0 next)) (refusedWith 8)
+formTaken n next = pick (eqb (formNumber (formOf n)) n) (awaiting Width (headIn (formOf n) Unspecified 0 0 0 next)) (refusedWith 8)
 
-unfoldable pub heightTaken : ℕ → ℕ → ℕ → HeadReader
-heightTaken w n next = pick (eqb (sizeRefusal w n) 0) (awaiting Ended (headOf 0 w n next)) (refusedWith (sizeRefusal w n))
+-- behind the last number 9, or the head
+unfoldable pub sizeTaken : Head → HeadReader
+sizeTaken h = pick (eqb (sizeRefusal (h .width) (h .height)) 0) (awaiting Ended h) (refusedWith (sizeRefusal (h .width) (h .height)))
+
+-- the last is the height in form 1; in form 2 it is the colour space's, 18 above 2
+abbrev pub heightTaken : order.Form → ℕ → ℕ → ℕ → HeadReader
+heightTaken Rows w n next = sizeTaken (headOf 0 w n next)
+heightTaken Tiles w n next = awaiting Colour (headIn Tiles Unspecified 0 w n next)
+
+unfoldable pub colourTaken : Head → ℕ → ℕ → HeadReader
+colourTaken h n next =
+    pick (eqb (colourRefusal n) 0) (sizeTaken (headIn (h .form) (colourOf n) 0 (h .width) (h .height) next)) (refusedWith (colourRefusal n))
 
 abbrev pub numberIn : Stage → Head → ℕ → ℕ → HeadReader
 numberIn Form h n next = formTaken n next
-numberIn Width h n next = awaiting Height (headOf 0 n 0 next)
-numberIn Height h n next = heightTaken (h .width) n next
+numberIn Width h n next = awaiting Height (headIn (h .form) Unspecified 0 n 0 next)
+numberIn Height h n next = heightTaken (h .form) (h .width) n next
+numberIn Colour h n next = colourTaken h n next
 numberIn Ended h n next = awaiting Ended h
 
 -- an empty group above others, which a shorter form leaves out
@@ -88,7 +104,8 @@ abbrev pub before : Stage → ℕ
 before Form = 0
 before Width = 3
 before Height = 6
-before Ended = 9
+before Colour = 9
+before Ended = 12
 
 -- what holds between two bytes of a head
 pub record Going (r : HeadReader) : Type 0 where

@@ -8,6 +8,12 @@ pub struct Number {
     pub next: usize,
 }
 
+// The form of a sheet: 1 stores its blocks row by row; 2 stores them in tiles, and behind the height the number of its colour space.
+pub enum Form {
+    Rows,
+    Tiles,
+}
+
 // What is known of a sheet's colours. Bytes of form 1 have no room for it.
 pub enum ColourSpace {
     Unspecified,
@@ -15,9 +21,11 @@ pub enum ColourSpace {
     Srgb,
 }
 
-// Width and height in pixels, the place of the first block, and the colour space; zeros and unspecified where the head is refused.
+// The form, width and height in pixels, the place of the first block, and the colour space; form 1, zeros and unspecified where the head is
+// refused.
 pub struct Head {
     pub refusal: u8,
+    pub form: Form,
     pub width: u32,
     pub height: u32,
     pub start: u32,
@@ -31,11 +39,18 @@ pub struct HeadBytes {
     pub count: u8,
 }
 
+// The same of either form, whose head is of a size that there is.
+pub struct FormBytes {
+    pub bytes: [u8; 8],
+    pub count: u8,
+}
+
 // Which number of the head is to come; or the head has ended, accepted or refused.
 pub enum Stage {
     Form,
     Width,
     Height,
+    Colour,
     Ended,
 }
 

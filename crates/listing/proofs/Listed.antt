@@ -7,6 +7,7 @@ use native.Mathlib.Numerals.{add-one}
 use Rattle.laws.specs.Padding.{Written}
 use Rattle.laws.proofs.Padding.{written-none, written-then}
 use Rattle.head_rules.specs.declared.Head.{Head}
+use Rattle.head_rules.specs.Geometry.{numberAt}
 use Rattle.sheet_rules.specs.Rows.{blockAt}
 use Rattle.listing_rules.specs.Listing.{blockListed, blocksText}
 
@@ -20,7 +21,7 @@ module _ (head : Head) (out₀ : List ℕ) (at₀ from : ℕ) (bs : List ℕ) wh
   texts-none = written-none
 
   pub texts-more : (n : ℕ) {out out' : List ℕ} {at at' : ℕ} → Texts n out at
-      → Written out at (blockListed head (from + n) (blockAt bs (16 * n))) out' at' → Texts (n + 1) out' at'
+      → Written out at (blockListed head (numberAt head (from + n)) (blockAt bs (16 * n))) out' at' → Texts (n + 1) out' at'
   unfolding blocksText
   texts-more n {out' = out'} {at' = at'} e f =
       subst (λ (m : ℕ). Written out₀ at₀ (blocksText head from m bs) out' at') (sym (add-one n)) (written-then e f)

@@ -6,6 +6,7 @@ ghost use Prim.Native.Nat.{_+_, _*_, _/_, _≤_};
 ghost use lib.Dec.{eqb};
 ghost use lib.ListN.{length};
 ghost use Rattle.laws.specs.Tables.{pick};
+ghost use Rattle.head_rules.specs.Geometry.{numberAt};
 ghost use Rattle.head_rules.specs.Heads.{Sized};
 ghost use Rattle.head_rules.specs.Reader.{Going};
 ghost use Rattle.laws.specs.Padding.{Written};
@@ -28,6 +29,7 @@ use opacity::is_opaque_in;
 use sheet::blocks::load;
 use sheet_head::geometry::blocks_across;
 use sheet_head::geometry::blocks_of;
+use sheet_head::geometry::number_at;
 use sheet_head::reader::has_ended;
 use sheet_head::reader::refused_with;
 use sheet_head::reader::take_byte;
@@ -60,7 +62,15 @@ fn list_block(head: Head, number: u32, block: [u8; 16], at: usize, out: &mut [u8
     block_text(number, mode_of(block), first, opaque, at, out)
 }
 
-// The texts of the whole blocks among these bytes, numbered from `from` on, to a place of the output; the place behind them.
+// The text of a stored block, with its number, which counts row by row.
+fn list_stored(head: Head, place: u32, block: [u8; 16], at: usize, out: &mut [u8]) -> usize
+    requires { ⌜ BlockAsked head place at (length (now out)) ⌝ }
+    ensures { λ r. ⌜ Puts 40 (now (out .entry)) at (blockListed head (numberAt head place) block) (now (out .exit)) r ⌝ }
+{
+    list_block(head, number_at(head, place) as u32, block, at, out)
+}
+
+// The texts of the whole blocks among these bytes, the first stored at place `from`, to a place of the output; the place behind them.
 // No text has more than 40 bytes.
 fn list_blocks(head: Head, from: u32, blocks: &[u8], at: usize, out: &mut [u8]) -> usize
     requires { ⌜ BlocksAsked head from (length (now blocks)) at (length (now out)) ⌝ }
@@ -71,7 +81,7 @@ fn list_blocks(head: Head, from: u32, blocks: &[u8], at: usize, out: &mut [u8]) 
     let count = blocks.len() / 16;
     let mut next = at;
     for k in 0..count {
-        next = list_block(head, from + k as u32, load(blocks, 16 * k), next, out);
+        next = list_stored(head, from + k as u32, load(blocks, 16 * k), next, out);
     }
     next
 }

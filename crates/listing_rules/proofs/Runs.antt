@@ -13,6 +13,7 @@ use borrow.Author.Tests.{eq-eqb, eqb-false, eqb-true, ne-eqb}
 use Rattle.laws.specs.Tables.{pick}
 use Rattle.head_rules.specs.declared.Head.{Head}
 use Rattle.head_rules.specs.Geometry.{across, blocksOf}
+use Rattle.head_rules.specs.Geometry.{numberAt}
 use Rattle.head_rules.specs.Heads.{readHead}
 use Rattle.laws.specs.Text.{refusedText}
 use Rattle.listing_rules.specs.Text.{sheetText}
@@ -34,7 +35,7 @@ module _ (h : Head) (xs ys : List ℕ) where
   unfolding blocksText
   text-first from zero l = refl
   text-first from (suc n) l =
-      ap₂ (λ (a b : List ℕ). a ++ b) (text-first from n (omega arith)) (ap (blockListed h (from + n)) (in-first (16 * n) (omega arith)))
+      ap₂ (λ (a b : List ℕ). a ++ b) (text-first from n (omega arith)) (ap (blockListed h (numberAt h (from + n))) (in-first (16 * n) (omega arith)))
 
   text-both : (from c n : ℕ) → length xs ≡ 16 * c → blocksText h from (c + n) (xs ++ ys) ≡ blocksText h from c xs ++ blocksText h (from + c) n ys
   unfolding blocksText
@@ -43,7 +44,7 @@ module _ (h : Head) (xs ys : List ℕ) where
       let at : 16 * (c + n) ≡ length xs + 16 * n = omega arith in
       ap (λ (m : ℕ). blocksText h from m (xs ++ ys)) (add-suc c n)
       ∙ ap₂ (λ (a b : List ℕ). a ++ b) (text-both from c n e)
-      (ap₂ (blockListed h) (sym (add-assoc from c n)) (ap (blockAt (xs ++ ys)) at ∙ in-second (16 * n)))
+      (ap₂ (blockListed h) (ap (numberAt h) (sym (add-assoc from c n))) (ap (blockAt (xs ++ ys)) at ∙ in-second (16 * n)))
       ∙ append-assoc (blocksText h from c xs) (blocksText h (from + c) n ys) _
 
   -- the texts of both, where the first has whole blocks

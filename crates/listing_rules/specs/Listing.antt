@@ -9,7 +9,7 @@ use Rattle.laws.specs.Tables.{pick}
 use Rattle.bc7_format.specs.Modes.{modeOf}
 use Rattle.bc7_format.specs.Lines.{pixels}
 use Rattle.head_rules.specs.declared.Head.{Head}
-use Rattle.head_rules.specs.Geometry.{blocksOf}
+use Rattle.head_rules.specs.Geometry.{blocksOf, numberAt}
 use Rattle.head_rules.specs.Heads.{readHead}
 use Rattle.laws.specs.Text.{refusedText}
 use Rattle.listing_rules.specs.Text.{blockText, sheetText}
@@ -20,10 +20,10 @@ use Rattle.sheet_rules.specs.Rows.{blockAt}
 unfoldable pub blockListed : Head → ℕ → List ℕ → List ℕ
 blockListed h number block = blockText number (modeOf block) (getD (pixels block) 0 []) (opaqueIn (h .width) (h .height) number block)
 
--- the texts of n blocks that stand one after the other, numbered from `from` on
+-- the texts of n blocks that stand one after the other, with `from` stored before the first
 unfoldable pub blocksText : Head → ℕ → ℕ → List ℕ → List ℕ
 blocksText h from zero bs = []
-blocksText h from (suc n) bs = blocksText h from n bs ++ blockListed h (from + n) (blockAt bs (16 * n))
+blocksText h from (suc n) bs = blocksText h from n bs ++ blockListed h (numberAt h (from + n)) (blockAt bs (16 * n))
 
 -- the texts of the whole blocks among these bytes
 unfoldable pub listed : Head → ℕ → List ℕ → List ℕ
@@ -33,7 +33,7 @@ listed h from bs = blocksText h from (length bs / 16) bs
 abbrev pub unlessExact : Bool → List ℕ
 unlessExact exact = pick exact [] (refusedText 10)
 
--- n blocks are to come, numbered from `from` on: the texts of those that are there, and a refusal unless the bytes are exactly as many as
+-- n blocks are to come, with `from` stored before them: the texts of those that are there, and a refusal unless the bytes are exactly as many as
 -- needed
 unfoldable pub blocksListing : Head → ℕ → ℕ → List ℕ → List ℕ
 blocksListing h from n bs = listed h from (take (16 * n) bs) ++ unlessExact (eqb (length bs) (16 * n))

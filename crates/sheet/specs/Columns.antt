@@ -3,10 +3,12 @@
 use mathlib.Core.Path.{_≡_}
 use Prim.Native.Nat.{ℕ, _+_, _*_, _/_, _%_, _≤_, _<_}
 use mathlib.Core.List.{List}
+use Rattle.head_rules.specs.declared.Head.{Head}
 use lib.Dec.{eqb}
 use lib.ListN.{length, getD}
 use Rattle.laws.specs.Tables.{pick, table}
-use Rattle.head_rules.specs.Geometry.{outLength, rowLength, sideShown}
+use Rattle.head_rules.specs.Geometry.{across, outLength, rowLength, sideShown, wholeLength}
+use Rattle.head_rules.specs.Heads.{readHead}
 use Rattle.sheet_rules.specs.Rows.{channel}
 
 -- byte j of scanline y of a block
@@ -44,3 +46,12 @@ pub record WholeRow (w s given room : ℕ) : Type 0 where
   pub width : w ≤ 65536
   pub blocks : given ≡ rowLength w
   pub whole : room ≡ outLength w s
+
+-- s scanlines of a row of a whole sheet whose head is h
+pub record SheetRow (h : Head) (row s : ℕ) (sheet : List ℕ) (room : ℕ) : Type 0 where
+  pub head : h ≡ readHead sheet
+  pub told : h .refusal ≡ 0
+  pub long : length sheet ≡ wholeLength h
+  pub inside : row < across (h .height)
+  pub scanlines : s ≤ 4
+  pub whole : room ≡ outLength (h .width) s

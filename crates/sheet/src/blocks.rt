@@ -4,8 +4,9 @@ ghost use mathlib.Core.Path.{_≡_};
 ghost use Prim.Native.Nat.{_+_, _≤_};
 ghost use lib.ListN.{length};
 ghost use Rattle.sheet_rules.specs.Rows.{blockAt};
-ghost use Rattle.sheet_rules.specs.Sheets.{putBlock};
-ghost use Rattle.sheet.specs.Found.{findBlock, foundAt};
+ghost use Rattle.sheet_rules.specs.Sheets.{blockBy, putBlock};
+ghost use Rattle.sheet.specs.Found.{BlockThere, findBlock, foundAt};
+use head_rules::Head;
 use sheet_head::geometry::blocks_of;
 use sheet_head::geometry::place_of;
 use sheet_head::geometry::whole_length;
@@ -62,4 +63,12 @@ pub fn find_block(sheet: &[u8], block: u32) -> Found
         refusal: 0,
         at: place_of(head, block),
     }
+}
+
+// Block `number` of a whole sheet whose head was read.
+pub fn block_of(head: Head, sheet: &[u8], number: u32) -> [u8; 16]
+    requires { ⌜ BlockThere head number (length (now sheet)) ⌝ }
+    ensures { λ r. ⌜ r ≡ blockBy head (now (sheet .entry)) number ⌝ }
+{
+    load(sheet, place_of(head, number))
 }

@@ -1,13 +1,20 @@
 // A sheet of blocks: one row of blocks drawn as scanlines, and a line replaced in a block of a sheet. Both calls take
 // every input and say why they refuse one.
+ghost use Rattle.sheet_rules.specs.Blocks.{ReadsBlock};
 ghost use Rattle.sheet_rules.specs.Rows.{DecodesRow};
+ghost use Rattle.sheet_rules.specs.SheetRows.{DecodesSheetRow};
 ghost use Rattle.sheet_rules.specs.Sheets.{ReplacesInSheet};
 use crate::blocks::find_block;
 use crate::blocks::load;
 use crate::blocks::store;
 use crate::rows::put_row;
+use crate::rows::put_sheet_row;
 use crate::rows::row_refusal;
+use sheet_head::geometry::blocks_across;
+use sheet_head::geometry::out_length;
 use sheet_head::geometry::shown_in;
+use sheet_head::geometry::whole_length;
+use sheet_rules::BlockRead;
 
 pub mod blocks;
 pub mod output;
@@ -28,6 +35,45 @@ pub fn decode_row(width: u32, height: u32, row: u32, blocks: &[u8], out: &mut [u
         out,
     );
     0
+}
+
+// One row of blocks of a whole sheet, of either form, as scanlines. A refused call leaves the output as it was.
+pub fn decode_sheet_row(sheet: &[u8], row: u32, out: &mut [u8]) -> u8
+    ensures { λ r. ⌜ DecodesSheetRow (now (sheet .entry)) row (now (out .entry)) r (now (out .exit)) ⌝ }
+{
+    let head = sheet_head::read_head(sheet);
+    if head.refusal != 0 {
+        return head.refusal;
+    }
+    if sheet.len() != whole_length(head) {
+        return 10;
+    }
+    if row >= blocks_across(head.height) {
+        return 12;
+    }
+    let scanlines = shown_in(head.height as usize, row as usize);
+    if out.len() != out_length(head.width as usize, scanlines) {
+        return 11;
+    }
+    put_sheet_row(head, row, scanlines, sheet, out);
+    0
+}
+
+// A block of a sheet of either form, by its number.
+pub fn block_in_sheet(sheet: &[u8], block: u32) -> BlockRead
+    ensures { λ r. ⌜ ReadsBlock (now (sheet .entry)) block r ⌝ }
+{
+    let found = find_block(sheet, block);
+    if found.refusal != 0 {
+        return BlockRead {
+            refusal: found.refusal,
+            block: [0u8; 16],
+        };
+    }
+    BlockRead {
+        refusal: 0,
+        block: load(sheet, found.at),
+    }
 }
 
 // A line of a block of a sheet, replaced. A refused call leaves the sheet as it was.

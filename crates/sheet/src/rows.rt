@@ -3,11 +3,14 @@
 ghost use mathlib.Core.Path.{_≡_};
 ghost use lib.ListN.{length};
 ghost use Rattle.sheet_rules.specs.Rows.{rowBytes, rowRefusal};
-ghost use Rattle.sheet.specs.Columns.{WholeRow};
+ghost use Rattle.sheet_rules.specs.SheetRows.{rowBlocks};
+ghost use Rattle.sheet.specs.Columns.{SheetRow, WholeRow};
 use crate::blocks::load;
 use crate::output::put_block;
+use head_rules::Head;
 use sheet_head::geometry::blocks_across;
 use sheet_head::geometry::out_length;
+use sheet_head::geometry::place_of;
 use sheet_head::geometry::row_length;
 use sheet_head::geometry::shown_in;
 
@@ -40,5 +43,19 @@ pub fn put_row(w: usize, scanlines: usize, blocks: &[u8], out: &mut [u8])
     for c in 0..columns {
         let px = bc7::decode_bc7_block(load(blocks, 16 * c));
         put_block(px, c, w, scanlines, out);
+    }
+}
+
+// All blocks of a row of a whole sheet, each loaded from where it stands.
+pub fn put_sheet_row(head: Head, row: u32, scanlines: usize, sheet: &[u8], out: &mut [u8])
+    requires { ⌜ SheetRow head row scanlines (now sheet) (length (now out)) ⌝ }
+    ensures { λ _. ⌜ now (out .exit) ≡ rowBytes (head .width) scanlines (rowBlocks (now (sheet .entry)) row) ⌝ }
+{
+    let columns = blocks_across(head.width);
+    let w = head.width as usize;
+    for c in 0..columns {
+        let at = place_of(head, row * columns + c);
+        let px = bc7::decode_bc7_block(load(sheet, at));
+        put_block(px, c as usize, w, scanlines, out);
     }
 }

@@ -6,7 +6,7 @@ use Prim.Native.Nat.{ℕ, _+_, _*_, _^_, _<_, _≤_}
 use Rattle.head_rules.specs.declared.Head.{Head}
 use Rattle.head_rules.specs.declared.HeadBytes.{HeadBytes}
 use Rattle.head_rules.specs.declared.HeadReader.{HeadReader}
-use Rattle.head_rules.specs.Geometry.{blocksOf, mostBlocks}
+use Rattle.head_rules.specs.Geometry.{blocksOf, mostBlocks, numberAt, storedAt}
 use Rattle.head_rules.specs.Heads.{withBytes}
 use Rattle.head_rules.specs.Numbers.{numbersEnd}
 use Rattle.head_rules.specs.Reader.{nextNumber}
@@ -15,6 +15,15 @@ use Rattle.head_rules.specs.Reader.{nextNumber}
 pub record CountsBlocks (head : Head) (r : ℕ) : Type 0 where
   pub same : r ≡ blocksOf head
   pub few : r ≤ mostBlocks
+
+-- how many blocks are stored before a block; and the number of the block that has so many stored before it
+pub record StoresAt (head : Head) (block r : ℕ) : Type 0 where
+  pub same : r ≡ storedAt head block
+  pub few : r < mostBlocks
+
+pub record NumbersAt (head : Head) (stored r : ℕ) : Type 0 where
+  pub same : r ≡ numberAt head stored
+  pub few : r < mostBlocks
 
 -- what seven bits count behind so many groups
 pub record CountsGroup (bits groups r : ℕ) : Type 0 where

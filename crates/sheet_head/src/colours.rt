@@ -47,8 +47,10 @@ pub fn colour_refusal(number: u32) -> u8
 pub fn under(colour_space: ColourSpace, head: Head) -> Head
     ensures { λ r. ⌜ r ≡ under «colour_space» head ⌝ }
 {
+    let form = head.form;
     Head {
         refusal: head.refusal,
+        form: form,
         width: head.width,
         height: head.height,
         start: head.start,

@@ -4,8 +4,9 @@ ghost use mathlib.Core.Path.{_≡_};
 ghost use Prim.Native.Nat.{_*_, _≤_, _<_};
 ghost use Rattle.head_rules.specs.Geometry.{across, outLength, placeOf, rowLength, sideShown, wholeLength};
 ghost use Rattle.head_rules.specs.Heads.{Sized, limit};
-ghost use Rattle.sheet_head.specs.Asked.{ScanlinesAsked};
-ghost use Rattle.sheet_head.specs.Promised.{CountsBlocks};
+ghost use Rattle.sheet_head.specs.Asked.{BlockAsked, ScanlinesAsked};
+ghost use Rattle.sheet_head.specs.Promised.{CountsBlocks, NumbersAt, StoresAt};
+use head_rules::Form;
 use head_rules::Head;
 
 // Columns of blocks in a width, rows of blocks in a height.
@@ -49,11 +50,43 @@ pub fn blocks_of(head: Head) -> u32
     blocks_across(head.height) * blocks_across(head.width)
 }
 
-// Where a block stands.
+// How many blocks are stored before a block; and the number of the block that has so many stored before it.
+pub fn stored_at(head: Head, block: u32) -> usize
+    requires { ⌜ BlockAsked head block ⌝ }
+    ensures { λ r. ⌜ StoresAt head block r ⌝ }
+{
+    let form = head.form;
+    match form {
+        Form::Rows => block as usize,
+        Form::Tiles => tiles::stored_in_tiles(
+            blocks_across(head.width) as usize,
+            blocks_across(head.height) as usize,
+            block as usize,
+        ),
+    }
+}
+
+pub fn number_at(head: Head, stored: u32) -> usize
+    requires { ⌜ BlockAsked head stored ⌝ }
+    ensures { λ r. ⌜ NumbersAt head stored r ⌝ }
+{
+    let form = head.form;
+    match form {
+        Form::Rows => stored as usize,
+        Form::Tiles => tiles::number_in_tiles(
+            blocks_across(head.width) as usize,
+            blocks_across(head.height) as usize,
+            stored as usize,
+        ),
+    }
+}
+
+// The place of a block: its first byte in the sheet.
 pub fn place_of(head: Head, block: u32) -> usize
+    requires { ⌜ BlockAsked head block ⌝ }
     ensures { λ r. ⌜ r ≡ placeOf head block ⌝ }
 {
-    head.start as usize + 16 * block as usize
+    head.start as usize + 16 * stored_at(head, block)
 }
 
 // The bytes of a whole sheet, which end behind its last block.
@@ -61,5 +94,5 @@ pub fn whole_length(head: Head) -> usize
     requires { ⌜ Sized (head .width) (head .height) ⌝ }
     ensures { λ r. ⌜ r ≡ wholeLength head ⌝ }
 {
-    place_of(head, blocks_of(head))
+    head.start as usize + 16 * blocks_of(head) as usize
 }

@@ -1,15 +1,18 @@
-// The head of a sheet: numbers in groups of seven bits, and the form, width and height that they spell. The form and the
+// The head of a sheet: numbers in groups of seven bits, and the form, width, height and colour space that they spell. The forms and the
 // largest side of a sheet are named here, and nowhere else in the code.
 ghost use mathlib.Core.Path.{_≡_};
 ghost use Prim.Native.Nat.{_≤_, _<_};
 ghost use lib.ListN.{drop};
 ghost use Rattle.head_rules.specs.Numbers.{found, noNumber, numberBytes, numbersEnd, raised, readGroups, readNumber};
-ghost use Rattle.head_rules.specs.Heads.{ReadsHead, WritesHead, noBytes, sizeRefusal, withBytes};
+ghost use Rattle.head_rules.specs.Heads.{ReadsHead, Sized, WritesHead, formNumber, noBytes, readOfForm, sizeRefusal, withBytes, writeForm};
 ghost use Rattle.sheet_head.specs.Promised.{Pushes, TakesNumber};
 use crate::reader::has_ended;
+use crate::reader::no_head;
 use crate::reader::refused_with;
 use crate::reader::start;
 use crate::reader::take_number;
+use head_rules::Form;
+use head_rules::FormBytes;
 use head_rules::Head;
 use head_rules::HeadBytes;
 use head_rules::HeadReader;
@@ -19,8 +22,10 @@ pub mod colours;
 pub mod geometry;
 pub mod reader;
 
-// The form of a sheet whose blocks stand row by row.
-const FORM: u32 = 1;
+// The form of a sheet whose blocks stand row by row, and of one whose blocks stand in tiles.
+const ROWS: u32 = 1;
+
+const TILES: u32 = 2;
 
 // The largest width and height.
 const LIMIT: u32 = 16384;
@@ -125,7 +130,7 @@ pub fn size_refusal(width: u32, height: u32) -> u8
 
 // The next number of a sheet, taken by the reader of its head.
 fn next_number(sheet: &[u8], reader: HeadReader) -> HeadReader
-    requires { ⌜ reader .head .start ≤ 6 ⌝ }
+    requires { ⌜ reader .head .start ≤ 9 ⌝ }
     ensures { λ r. ⌜ TakesNumber (now (sheet .entry)) reader r ⌝ }
 {
     if has_ended(reader) {
@@ -139,14 +144,39 @@ fn next_number(sheet: &[u8], reader: HeadReader) -> HeadReader
     take_number(reader, number.value, number.next as u32)
 }
 
-// The head that the bytes of a sheet start with: three numbers.
+// The head that the bytes of a sheet start with: three numbers, and one more in form 2. They are read in a loop, for then the compiler lays
+// its rounds out, each for its stage: a head is read in a third of what four calls take.
 pub fn read_head(sheet: &[u8]) -> Head
     ensures { λ r. ⌜ ReadsHead (now (sheet .entry)) r ⌝ }
 {
-    let form = next_number(sheet, start());
-    let width = next_number(sheet, form);
-    let height = next_number(sheet, width);
-    height.head
+    let mut reader = start();
+    for i in 0..4usize {
+        reader = next_number(sheet, reader);
+    }
+    reader.head
+}
+
+pub fn number_of_form(form: Form) -> u32
+    ensures { λ r. ⌜ r ≡ formNumber form ⌝ }
+{
+    match form {
+        Form::Rows => ROWS,
+        Form::Tiles => TILES,
+    }
+}
+
+// The same for a call that takes one form only: 8 for the other, before anything behind it.
+pub fn read_of_form(form: Form, sheet: &[u8]) -> Head
+    ensures { λ r. ⌜ r ≡ readOfForm form (now (sheet .entry)) ⌝ }
+{
+    let number = read_number(sheet, 0);
+    if number.refusal != 0 {
+        return no_head(number.refusal);
+    }
+    if number.value != number_of_form(form) {
+        return no_head(8);
+    }
+    read_head(sheet)
 }
 
 fn no_bytes(refusal: u8) -> HeadBytes
@@ -199,5 +229,24 @@ pub fn write_head(width: u32, height: u32) -> HeadBytes
     if refusal != 0 {
         return no_bytes(refusal);
     }
-    write_number(write_number(write_number(no_bytes(0), FORM), width), height)
+    write_number(write_number(write_number(no_bytes(0), ROWS), width), height)
+}
+
+// The head in a form that says no colour space: in form 2 its number is 0, the zero behind.
+pub fn write_form(form: Form, width: u32, height: u32) -> FormBytes
+    requires { ⌜ Sized width height ⌝ }
+    ensures { λ r. ⌜ r ≡ writeForm form width height ⌝ }
+{
+    let written = write_head(width, height);
+    let b = written.bytes;
+    match form {
+        Form::Rows => FormBytes {
+            bytes: [b[0], b[1], b[2], b[3], b[4], b[5], b[6], 0],
+            count: written.count,
+        },
+        Form::Tiles => FormBytes {
+            bytes: [TILES as u8, b[1], b[2], b[3], b[4], b[5], b[6], 0],
+            count: written.count + 1,
+        },
+    }
 }

@@ -2,15 +2,19 @@
 // what is there whole are read by the same states; another number in a head is another stage.
 ghost use mathlib.Core.Path.{_≡_};
 ghost use Prim.Native.Nat.{_<_, _≤_};
-ghost use Rattle.head_rules.specs.Heads.{headOf};
-ghost use Rattle.head_rules.specs.Reader.{Going, atForm, awaiting, byteTaken, emptyAbove, formTaken, groupTaken, hasEnded, heightTaken, lastTaken};
-ghost use Rattle.head_rules.specs.Reader.{numberIn, refusedWith};
+ghost use Rattle.head_rules.specs.Heads.{headIn, headOf};
+ghost use Rattle.head_rules.specs.Reader.{Going, atForm, awaiting, byteTaken, colourTaken, emptyAbove, formTaken, groupTaken, hasEnded};
+ghost use Rattle.head_rules.specs.Reader.{heightTaken, lastTaken, numberIn, refusedWith, sizeTaken};
 ghost use Rattle.sheet_head.specs.Asked.{LastAsked};
 ghost use Rattle.sheet_head.specs.Promised.{CountsGroup};
-use crate::FORM;
+use crate::ROWS;
+use crate::TILES;
+use crate::colours::colour_of;
+use crate::colours::colour_refusal;
 use crate::size_refusal;
 use crate::wide;
 use head_rules::ColourSpace;
+use head_rules::Form;
 use head_rules::Head;
 use head_rules::HeadReader;
 use head_rules::Stage;
@@ -27,14 +31,29 @@ fn at_stage(stage: Stage, head: Head) -> HeadReader
     }
 }
 
-fn known(width: u32, height: u32, start: u32) -> Head
-    ensures { λ r. ⌜ r ≡ headOf 0 width height start ⌝ }
+// What is known of a head; and of one that is refused.
+fn known(form: Form, colour_space: ColourSpace, width: u32, height: u32, start: u32) -> Head
+    ensures { λ r. ⌜ r ≡ headIn form «colour_space» 0 width height start ⌝ }
 {
     Head {
         refusal: 0,
+        form: form,
         width: width,
         height: height,
         start: start,
+        colour_space: colour_space,
+    }
+}
+
+pub fn no_head(refusal: u8) -> Head
+    ensures { λ r. ⌜ r ≡ headOf refusal 0 0 0 ⌝ }
+{
+    Head {
+        refusal: refusal,
+        form: Form::Rows,
+        width: 0,
+        height: 0,
+        start: 0,
         colour_space: ColourSpace::Unspecified,
     }
 }
@@ -43,23 +62,14 @@ fn known(width: u32, height: u32, start: u32) -> Head
 pub fn start() -> HeadReader
     ensures { λ r. ⌜ r ≡ atForm ⌝ }
 {
-    at_stage(Stage::Form, known(0, 0, 0))
+    at_stage(Stage::Form, no_head(0))
 }
 
 // The head is refused. 7 is also for an input that ends within it.
 pub fn refused_with(refusal: u8) -> HeadReader
     ensures { λ r. ⌜ r ≡ refusedWith refusal ⌝ }
 {
-    at_stage(
-        Stage::Ended,
-        Head {
-            refusal: refusal,
-            width: 0,
-            height: 0,
-            start: 0,
-            colour_space: ColourSpace::Unspecified,
-        },
-    )
+    at_stage(Stage::Ended, no_head(refusal))
 }
 
 // Whether no byte more is wanted.
@@ -71,6 +81,7 @@ pub fn has_ended(reader: HeadReader) -> bool
         Stage::Form => false,
         Stage::Width => false,
         Stage::Height => false,
+        Stage::Colour => false,
         Stage::Ended => true,
     }
 }
@@ -78,20 +89,54 @@ pub fn has_ended(reader: HeadReader) -> bool
 fn take_form(n: u32, next: u32) -> HeadReader
     ensures { λ r. ⌜ r ≡ formTaken n next ⌝ }
 {
-    if n != FORM {
-        return refused_with(8);
+    if n == ROWS {
+        return at_stage(
+            Stage::Width,
+            known(Form::Rows, ColourSpace::Unspecified, 0, 0, next),
+        );
     }
-    at_stage(Stage::Width, known(0, 0, next))
+    if n == TILES {
+        return at_stage(
+            Stage::Width,
+            known(Form::Tiles, ColourSpace::Unspecified, 0, 0, next),
+        );
+    }
+    refused_with(8)
 }
 
-fn take_height(width: u32, n: u32, next: u32) -> HeadReader
-    ensures { λ r. ⌜ r ≡ heightTaken width n next ⌝ }
+// All numbers of a head have come.
+fn take_size(head: Head) -> HeadReader
+    ensures { λ r. ⌜ r ≡ sizeTaken head ⌝ }
 {
-    let refusal = size_refusal(width, n);
+    let refusal = size_refusal(head.width, head.height);
     if refusal != 0 {
         return refused_with(refusal);
     }
-    at_stage(Stage::Ended, known(width, n, next))
+    at_stage(Stage::Ended, head)
+}
+
+// The height is the last in form 1, and not in form 2.
+fn take_height(form: Form, width: u32, n: u32, next: u32) -> HeadReader
+    ensures { λ r. ⌜ r ≡ heightTaken form width n next ⌝ }
+{
+    match form {
+        Form::Rows => take_size(known(Form::Rows, ColourSpace::Unspecified, width, n, next)),
+        Form::Tiles => at_stage(
+            Stage::Colour,
+            known(Form::Tiles, ColourSpace::Unspecified, width, n, next),
+        ),
+    }
+}
+
+fn take_colour(head: Head, n: u32, next: u32) -> HeadReader
+    ensures { λ r. ⌜ r ≡ colourTaken head n next ⌝ }
+{
+    let refusal = colour_refusal(n);
+    if refusal != 0 {
+        return refused_with(refusal);
+    }
+    let form = head.form;
+    take_size(known(form, colour_of(n), head.width, head.height, next))
 }
 
 // A number has come whole, and this is the place behind it.
@@ -100,10 +145,15 @@ pub fn take_number(reader: HeadReader, n: u32, next: u32) -> HeadReader
 {
     let stage = reader.stage;
     let head = reader.head;
+    let form = head.form;
     match stage {
         Stage::Form => take_form(n, next),
-        Stage::Width => at_stage(Stage::Height, known(n, 0, next)),
-        Stage::Height => take_height(head.width, n, next),
+        Stage::Width => at_stage(
+            Stage::Height,
+            known(form, ColourSpace::Unspecified, n, 0, next),
+        ),
+        Stage::Height => take_height(form, head.width, n, next),
+        Stage::Colour => take_colour(head, n, next),
         Stage::Ended => at_stage(Stage::Ended, head),
     }
 }

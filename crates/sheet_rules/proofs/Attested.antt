@@ -5,6 +5,7 @@ use mathlib.Core.List.{List, [], _∷_, _++_, map}
 use Prim.Native.Nat.{ℕ}
 use lib.ListN.{drop, length, replicate}
 use Rattle.line_rules.specs.declared.Replacement.{Replacement}
+use Rattle.sheet_rules.specs.declared.BlockRead.{BlockRead}
 use Rattle.laws.specs.Refusals.{first}
 use Rattle.laws.specs.Tables.{over, table, tableFrom}
 use Rattle.bcn_format.specs.Block.{bytesOf, number, trailing}
@@ -14,11 +15,18 @@ use Rattle.bc7_format.specs.Lines.{eight, anchorOf, indexSetOf, has, indexPlace
 use Rattle.bc7_format.specs.Lines.{pixels, rotated, shown, turned, valuePlace, withLine}
 use Rattle.bc7_format.specs.Places.{atPlace, blockOf, listOf, opened, placeAt, pos, width, widths}
 use Rattle.bc7_format.specs.Splits.{splitAt, splitOf}
-use Rattle.head_rules.specs.Geometry.{across, blocksOf, placeOf, sideShown}
-use Rattle.head_rules.specs.Heads.{formIn, headOf, headRefusalUpTo, heightIn, readHeadUpTo, sizeRefusalUpTo, widthIn}
+use Rattle.laws.specs.Counting.{count}
+use Rattle.tile_rules.specs.Tiles.{columnAt, columnOfSlot, inSheet, slotIn, storedInTiles, rowAt, rowOfSlot, slotOf, tiles}
+use Rattle.head_rules.specs.Colours.{colourOf, colourRefusal}
+use Rattle.head_rules.specs.Geometry.{across, blocksOf, placeOf, sideShown, storedAt}
+use Rattle.head_rules.specs.Heads.{colourIn, formIn, formOf, headOf, headRefusalUpTo, heightIn, ofFormRefusalUpTo, oldHead, readHeadUpTo}
+use Rattle.head_rules.specs.Heads.{readOfFormUpTo, sizeRefusalUpTo, widthIn}
 use Rattle.head_rules.specs.Numbers.{raised, readGroups, readNumber}
 use Rattle.line_rules.specs.Replace.{after, indexFits, lineFits, lineGiven, oriented, ownWidth, pFits, put, refusal, refusalIn, replaced, valueFits}
-use Rattle.sheet_rules.specs.Pictures.{picture, pictureByte}
+use Rattle.sheet_rules.specs.Blocks.{blockRead}
+use Rattle.sheet_rules.specs.Pictures.{blocksAs, byteAs, picture, pictureByte, rowOf}
+use Rattle.sheet_rules.specs.SheetRows as whole
+use Rattle.sheet_rules.specs.SheetRows.{sheetRowOut, sheetRowRefusal}
 use Rattle.sheet_rules.specs.Rows.{blockAt, channel, rowByte, rowBytes, rowOut, rowOutUpTo, rowRefusal, rowRefusalUpTo}
 use Rattle.sheet_rules.specs.Sheets.{blockIn, blockBy, findRefusalBy, putBlock, replacedBy, sheetAfter, sheetAfterBy, sheetRefusal}
 use Rattle.sheet_rules.specs.Sheets.{sheetRefusalBy}
@@ -113,6 +121,10 @@ replace s b l r t = record { before = s; block = b; of-block = l; answer = r; le
 abbrev refuse : List ℕ → ℕ → ℕ → ℕ → Replaced
 refuse s b l r = replace s b l r s
 
+-- a sheet of form 2 with three columns and two rows of blocks, of which block 2 is given: 0 1 3 4 2 5 is the order
+abbrev tiles3 : List ℕ → List ℕ
+tiles3 block2 = (0x02 ∷ 0x0C ∷ 0x08 ∷ 0x01 ∷ []) ++ shade10 ++ shade20 ++ shade40 ++ shade10 ++ block2 ++ shade20
+
 -- a byte too many
 abbrev longer : List ℕ
 longer = small ++ (0 ∷ [])
@@ -122,11 +134,70 @@ abbrev pub sheetClaims : List Replaced
 sheetClaims =
     replace small 2 0 0 smallReplaced ∷
     refuse [] 4 1 7 ∷
-    refuse (0x02 ∷ 0x00 ∷ drop 2 longer) 4 1 8 ∷
+    refuse (0x03 ∷ 0x00 ∷ drop 2 longer) 4 1 8 ∷
     refuse (0x01 ∷ 0x00 ∷ drop 2 longer) 4 1 9 ∷
     refuse longer 4 1 10 ∷
     refuse small 4 1 12 ∷
     refuse small 2 1 2 ∷
+    replace (tiles3 shade30) 2 0 0 (tiles3 replaced2) ∷
+    refuse (0x02 ∷ 0x00 ∷ 0x08 ∷ 0x03 ∷ drop 3 longer) 9 1 18 ∷
+    []
+
+-- a block by its number: what is given, and what is answered
+pub record Read : Type 0 where
+  pub sheet : List ℕ
+  pub block : ℕ
+  pub answer : BlockRead
+
+abbrev read : List ℕ → ℕ → List ℕ → Read
+read s b bytes = record { sheet = s; block = b; answer = record { refusal = 0; block = bytes } }
+
+abbrev read-not : List ℕ → ℕ → ℕ → Read
+read-not s b r = record { sheet = s; block = b; answer = record { refusal = r; block = replicate 16 0 } }
+
+-- each call is refused for what the next ones are refused for too
+abbrev pub blockClaims : List Read
+blockClaims =
+    read small 2 shade30 ∷
+    read (tiles3 shade30) 2 shade30 ∷
+    read-not [] 6 7 ∷
+    read-not (0x03 ∷ 0x00 ∷ 0x08 ∷ 0x03 ∷ drop 3 longer) 6 8 ∷
+    read-not (0x02 ∷ 0x00 ∷ 0x08 ∷ 0x03 ∷ drop 3 longer) 6 18 ∷
+    read-not (0x02 ∷ 0x00 ∷ 0x08 ∷ 0x02 ∷ drop 3 longer) 6 9 ∷
+    read-not longer 4 10 ∷
+    read-not small 4 12 ∷
+    read-not (tiles3 shade30) 6 12 ∷
+    []
+
+-- a row of a whole sheet: what is given, the number that is answered, and the output afterwards
+pub record SheetRow : Type 0 where
+  pub sheet : List ℕ
+  pub row : ℕ
+  pub out : List ℕ
+  pub answer : ℕ
+  pub left : List ℕ
+
+abbrev draw : List ℕ → ℕ → ℕ → ℕ → List ℕ → SheetRow
+draw s n room r left = record { sheet = s; row = n; out = nines room; answer = r; left = left }
+
+abbrev draw-not : List ℕ → ℕ → ℕ → ℕ → SheetRow
+draw-not s n room r = draw s n room r (nines room)
+
+-- the blocks 3, 4, 5 of the sheet of form 2, which it stores third, fourth and sixth
+abbrev wideScanline : ℕ → ℕ → ℕ → ℕ → List ℕ
+wideScanline a b c d =
+    (px a 80 ++ px b 80 ++ px c 80 ++ px d 80) ++ (px a 20 ++ px b 20 ++ px c 20 ++ px d 20) ++ (px a 40 ++ px b 40 ++ px c 40 ++ px d 40)
+
+abbrev pub sheetRowClaims : List SheetRow
+sheetRowClaims =
+    draw small 1 40 0 lowerScanlines ∷
+    draw (tiles3 shade30) 1 192 0
+    (wideScanline 0 15 34 49 ++ wideScanline 64 79 98 113 ++ wideScanline 128 143 161 176 ++ wideScanline 191 206 225 240) ∷
+    draw-not [] 9 41 7 ∷
+    draw-not (0x02 ∷ 0x00 ∷ 0x08 ∷ 0x03 ∷ drop 3 longer) 9 41 18 ∷
+    draw-not longer 2 41 10 ∷
+    draw-not small 2 41 12 ∷
+    draw-not small 1 41 11 ∷
     []
 
 pub record Sheets : Type 0 where
@@ -135,9 +206,14 @@ pub record Sheets : Type 0 where
   pub scanlines : map (sideShown 6) (0 ∷ 1 ∷ 2 ∷ []) ≡ 4 ∷ 2 ∷ 0 ∷ []
   pub picture-shown : picture 5 6 (drop 3 small) ≡ upperScanlines ++ lowerScanlines
   pub blocks : map (blockIn small) (0 ∷ 1 ∷ 2 ∷ 3 ∷ []) ≡ shade10 ∷ shade20 ∷ shade30 ∷ shade40 ∷ []
+  pub tiled-blocks : map (blockIn (tiles3 shade30)) (0 ∷ 1 ∷ 2 ∷ 3 ∷ 4 ∷ 5 ∷ [])
+      ≡ shade10 ∷ shade20 ∷ shade30 ∷ shade40 ∷ shade10 ∷ shade20 ∷ []
+  pub blocks-read : map (λ c. blockRead (c .sheet) (c .block)) blockClaims ≡ map (λ c. c .answer) blockClaims
   pub row-answers : map (λ c. rowRefusal (c .wide) (c .high) (c .row) (length (c .blocks)) (length (c .out))) rowClaims
       ≡ map (λ c. c .answer) rowClaims
   pub rows : map (λ c. rowOut (c .wide) (c .high) (c .row) (c .blocks) (c .out)) rowClaims ≡ map (λ c. c .left) rowClaims
+  pub sheet-row-answers : map (λ c. sheetRowRefusal (c .sheet) (c .row) (length (c .out))) sheetRowClaims ≡ map (λ c. c .answer) sheetRowClaims
+  pub sheet-rows : map (λ c. sheetRowOut (c .sheet) (c .row) (c .out)) sheetRowClaims ≡ map (λ c. c .left) sheetRowClaims
   pub answers : map (λ c. sheetRefusal (c .before) (c .block) (c .of-block) given) sheetClaims ≡ map (λ c. c .answer) sheetClaims
   pub sheets : map (λ c. sheetAfter (c .before) (c .block) (c .of-block) given) sheetClaims ≡ map (λ c. c .left) sheetClaims
 
@@ -147,15 +223,37 @@ unfolding over table tableFrom weights weightOf drawn promoted eight modeRow kin
     picture pictureByte blockAt channel rowByte rowBytes rowOutUpTo rowRefusalUpTo blockBy blocksOf findRefusalBy placeOf putBlock
     replacedBy sheetAfterBy sheetRefusalBy first sizeRefusalUpTo readHeadUpTo headRefusalUpTo formIn widthIn heightIn readNumber
     readGroups raised replaced after refusal refusalIn lineFits valueFits pFits indexFits ownWidth lineGiven put oriented withLine laid
-    turned anchorOf blockOf listOf bytesOf
+    turned anchorOf blockOf listOf bytesOf colourIn formOf colourOf colourRefusal storedAt storedInTiles count slotOf slotIn inSheet columnAt
+    columnOfSlot rowAt rowOfSlot tiles blockRead blocksAs byteAs rowOf sheetRowOut sheetRowRefusal whole.rowBlocks
 sheets-hold = record {
   columns = refl;
   in-all = refl;
   scanlines = refl;
   picture-shown = refl;
   blocks = refl;
+  tiled-blocks = refl;
+  blocks-read = refl;
   row-answers = refl;
   rows = refl;
+  sheet-row-answers = refl;
+  sheet-rows = refl;
   answers = refl;
   sheets = refl;
 }
+
+-- BY A CONSOLE OF BEFORE: the small sheet is corrected; one of 4,097 by 1 is not, nor is one of form 2, and their bytes stay
+abbrev larger : List ℕ
+larger = 0x01 ∷ 0x81 ∷ 0x20 ∷ 0x01 ∷ replicate 16400 0
+
+pub record Before : Type 0 where
+  pub answers : map (λ (s : List ℕ). sheetRefusalBy (oldHead s) s 2 0 given) (small ∷ larger ∷ tiles3 shade30 ∷ []) ≡ 0 ∷ 9 ∷ 8 ∷ []
+  pub sheets : map (λ (s : List ℕ). sheetAfterBy (oldHead s) s 2 0 given) (small ∷ larger ∷ tiles3 shade30 ∷ [])
+      ≡ smallReplaced ∷ larger ∷ tiles3 shade30 ∷ []
+
+pub before-holds : Before
+unfolding over table tableFrom modeRow kindOfMode endpointCount placeAt pos width widths trailing number modeOf splitAt splitOf atPlace opened has
+    valuePlace pPlace indexSetOf indexPlace own lineOf lineBits lineAt blockAt blockBy blocksOf findRefusalBy placeOf putBlock replacedBy
+    sheetAfterBy sheetRefusalBy first sizeRefusalUpTo readHeadUpTo headRefusalUpTo readOfFormUpTo ofFormRefusalUpTo formIn widthIn heightIn
+    readNumber readGroups raised replaced after refusal refusalIn lineFits valueFits pFits indexFits ownWidth lineGiven put oriented withLine laid
+    turned anchorOf blockOf listOf bytesOf colourIn formOf colourOf colourRefusal storedAt meansStored
+before-holds = record { answers = refl; sheets = refl }

@@ -21,9 +21,10 @@ use Rattle.laws.proofs.calls.Parts.{Parts, part-run}
 use Rattle.laws.proofs.calls.Trading.{run-good}
 use Rattle.bcn_format.specs.Block.{eights}
 use Rattle.bc7_format.proofs.Subsets.{sixteen-bytes}
-use Rattle.head_rules.specs.Geometry.{blocksOf, placeOf}
+use Rattle.head_rules.specs.Geometry.{blocksOf, numberAt, placeOf}
 use Rattle.head_rules.specs.Heads.{readHead}
 use Rattle.head_rules.specs.Numbers.{Bytes}
+use Rattle.head_rules.proofs.Orders.{blocks-apart, blocks-behind-head, each-place, numbered-in}
 use Rattle.head_rules.proofs.Theorems.{head-answers}
 use Rattle.line_rules.specs.Calls.{afterAll}
 use Rattle.line_rules.specs.Replace.{after, callOf, refusal, replaced}
@@ -35,7 +36,7 @@ use Rattle.sheet_rules.specs.Rows.{blockAt}
 use Rattle.sheet_rules.specs.Sheets.{blockIn, blockBy, putBlock, replacedIn, replacedBy, sheetRefusal, sheetRefusalBy, sheetRules}
 use Rattle.sheet_rules.proofs.Finding.{finding-in-words, room}
 use Rattle.sheet_rules.proofs.Replacing.{accepted-is, refused-is, replacing}
-use Rattle.sheet_rules.proofs.Storing.{block-get, block-long, head-kept, other-block, places-apart, put-inside, put-long, put-outside}
+use Rattle.sheet_rules.proofs.Storing.{block-get, block-long, head-kept, other-block, put-inside, put-long, put-outside}
 use Rattle.sheet_rules.proofs.Storing.{put-same, same-block}
 
 -- the bytes of a block
@@ -86,11 +87,10 @@ module _ (s : List ℕ) (z : WholeSheet s) where
         (λ q. away (λ w. omega (arith, w .1))) (lt-or k (at + 16))) (lt-or k at)
 
     put-kept : Same s (putBlock s (placeOf (readHead s) b) block)
-    unfolding placeOf
     put-kept = record {
       whole = record { bytes = bytes-in; told = rw head-is (z .told); long = rw head-is (long ∙ z .long) };
       head = head-is;
-      front = λ k lk. put-outside s (placeOf (readHead s) b) block k (λ w. omega (arith, w .0));
+      front = λ k lk. put-outside s (placeOf (readHead s) b) block k (λ w. omega (arith, w .0, blocks-behind-head (readHead s) b));
     }
 
     put-named : blockIn (putBlock s (placeOf (readHead s) b) block) b ≡ block
@@ -101,7 +101,7 @@ module _ (s : List ℕ) (z : WholeSheet s) where
     unfolding blockBy
     put-other a la ne =
         rw head-is (other-block s (placeOf (readHead s) b) (placeOf (readHead s) a) block (room-of b l) (room-of a la)
-        (places-apart (readHead s) b a (λ e. ne (sym e))))
+        (blocks-apart (readHead s) b a l la (λ e. ne (sym e))))
 
 -- a call on a block of a whole sheet is answered as on the block, and its sheet has what the block's call leaves at the block's place
 pub unchanged : (s : List ℕ) (c : SheetCall) → refusalOn s c ≢ 0 → sheetWith s c ≡ s
@@ -157,9 +157,9 @@ module _ (s : List ℕ) (z : WholeSheet s) (c : SheetCall) where
       (λ lc. ap (λ (t : List ℕ). blockIn t b) (unchanged s c (λ e. omega (arith, e, beyond lc)))) (lt-or (c .block) (blocksOf (readHead s)))
 
 -- a byte of a block is a byte of the sheet
-seen-in : {s x : List ℕ} → Same s x → (b j : ℕ) → j < 16 → getD x (readHead s .start + 16 * b + j) 0 ≡ getD (blockIn x b) j 0
-unfolding blockBy placeOf
-seen-in {s} {x} k b j l = sym (rw (k .head) (block-get x (readHead s .start + 16 * b) j l))
+seen-in : {s x : List ℕ} → Same s x → (b j : ℕ) → j < 16 → getD x (placeOf (readHead s) b + j) 0 ≡ getD (blockIn x b) j 0
+unfolding blockBy
+seen-in {s} {x} k b j l = sym (rw (k .head) (block-get x (placeOf (readHead s) b) j l))
 
 -- two sheets that are told apart by no block are one
 pub same-sheet : {s t u : List ℕ} → Same s t → Same s u → ((b : ℕ) → b < blocksOf (readHead s) → blockIn t b ≡ blockIn u b) → t ≡ u
@@ -173,9 +173,12 @@ same-sheet {s} {t} {u} a b e =
     in-block : (k : ℕ) → readHead s .start ≤ k → k < readHead s .start + 16 * blocksOf (readHead s) → getD t k 0 ≡ getD u k 0
     in-block k f l =
         let m = k - readHead s .start in
-        let at : k ≡ readHead s .start + 16 * (m / 16) + m % 16 = omega arith in
-        ap (λ (i : ℕ). getD t i 0) at ∙ seen-in a (m / 16) (m % 16) (omega arith) ∙ ap (λ (x : List ℕ). getD x (m % 16) 0) (e (m / 16) (omega arith))
-        ∙ sym (seen-in b (m / 16) (m % 16) (omega arith)) ∙ sym (ap (λ (i : ℕ). getD u i 0) at)
+        let p : m / 16 < blocksOf (readHead s) = omega arith in
+        let n = numberAt (readHead s) (m / 16) in
+        let at : k ≡ placeOf (readHead s) n + m % 16 = omega (arith, each-place (readHead s) (m / 16) p) in
+        ap (λ (i : ℕ). getD t i 0) at ∙ seen-in a n (m % 16) (omega arith)
+        ∙ ap (λ (x : List ℕ). getD x (m % 16) 0) (e n (numbered-in (readHead s) (m / 16) p))
+        ∙ sym (seen-in b n (m % 16) (omega arith)) ∙ sym (ap (λ (i : ℕ). getD u i 0) at)
 
 -- a whole sheet is a state whose parts are its blocks
 pub parts : (s : List ℕ) → WholeSheet s → Parts sheetWith after (λ c. c .block) onBlock (Same s) blockIn (λ b. b < blocksOf (readHead s))
@@ -213,8 +216,8 @@ none-changes s never (c ∷ cs) = ap (λ (t : List ℕ). sheetWithAll t cs) (unc
 pub in-words : (s : List ℕ) → Bytes s → (b l : ℕ) (new : Replacement) → Answers (sheetRefusal s b l new) (sheetRules s b l new)
 unfolding sheetRefusalBy replacedBy replaced
 in-words s y b l new = answers (
-    rules (finding-in-words s b) λ (f, (o, (w, (h, (z, (long, (n, u))))))).
+    rules (finding-in-words s b) λ (f, (o, (w, (h, (k, (v, (z, (long, (n, u))))))))).
     rules (on-block (blockIn s b)
-    (sixteen s (record { bytes = y; told = accepted-when (head-answers s) .1 (f, (o, (w, (h, (z, tt))))); long = long }) b n)
+    (sixteen s (record { bytes = y; told = accepted-when (head-answers s) .1 (f, (o, (w, (h, (k, (v, (z, tt))))))); long = long }) b n)
     (callOf l new)) λ m.
     none)

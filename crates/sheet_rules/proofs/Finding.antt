@@ -1,15 +1,18 @@
 -- When a block is found, and where.
 -- Assumes nothing.
-use mathlib.Core.Path.{_≡_}
+use mathlib.Core.Path.{_≡_, _∙_, ap, sym}
 use mathlib.Core.List.{List, _++_}
 use Prim.Native.Nat.{ℕ, _+_, _*_, _<_, _≤_}
 use native.Mathlib.Omega.{arith}
-use lib.ListN.{length}
+use lib.ListN.{length, take, drop}
+use lib.Seq.{drop-drop}
 use Rattle.laws.proofs.Refusals.{Answers, answers, by-answer, by-leb, by-not-eqb, none, rule, rules}
-use Rattle.head_rules.specs.Geometry.{blocksOf, placeOf}
-use Rattle.head_rules.specs.Heads.{formIn, headRules, heightIn, readHead, widthIn}
+use Rattle.head_rules.specs.Geometry.{blocksOf, numberAt, placeOf}
+use Rattle.head_rules.specs.Heads.{headRules, readHead}
+use Rattle.head_rules.proofs.Orders.{blocks-within, each-place}
 use Rattle.head_rules.proofs.Theorems.{head-answers}
-use Rattle.sheet_rules.specs.Sheets.{behindHead, findRefusal, findRefusalBy, findRules}
+use Rattle.sheet_rules.specs.Rows.{blockAt}
+use Rattle.sheet_rules.specs.Sheets.{behindHead, blockBy, blockIn, findRefusal, findRefusalBy, findRules}
 
 pub finding : (s : List ℕ) (b : ℕ) → Answers (findRefusal s b) (findRules (readHead s) s b)
 unfolding findRefusalBy
@@ -18,7 +21,7 @@ finding s b = answers (rule by-answer λ h. rule (by-not-eqb tt (length s)
 
 -- the same down to the numbers of the head
 pub finding-in-words : (s : List ℕ) (b : ℕ)
-    → Answers (findRefusal s b) (headRules (formIn s) (widthIn s) (heightIn s) ++ behindHead (readHead s) s b)
+    → Answers (findRefusal s b) (headRules s ++ behindHead (readHead s) s b)
 unfolding findRefusalBy
 finding-in-words s b = answers (rules (head-answers s) λ h. rule (by-not-eqb tt (length s)
     (readHead s .start + 16 * blocksOf (readHead s))) λ l. rule (by-leb tt (blocksOf (readHead s)) b) λ n. none)
@@ -34,5 +37,11 @@ inside s b e = let (h, (l, (n, u))) = finding s b .met e in record { head-told =
 
 -- sixteen bytes are there
 pub room : (s : List ℕ) (b : ℕ) → Inside s b → placeOf (readHead s) b + 16 ≤ length s
-unfolding placeOf
-room s b i = omega (arith, i .whole, i .number)
+room s b i = omega (arith, i .whole, blocks-within (readHead s) b (i .number))
+
+-- the block that is stored p-th, which the listing prints p-th, is the one with the number that it prints
+pub stored-block : (s : List ℕ) (p : ℕ) → p < blocksOf (readHead s)
+    → blockAt (drop (readHead s .start) s) (16 * p) ≡ blockIn s (numberAt (readHead s) p)
+unfolding blockAt blockBy
+stored-block s p l =
+    ap (take 16) (drop-drop (16 * p) (readHead s .start) s) ∙ ap (λ (k : ℕ). take 16 (drop k s)) (sym (each-place (readHead s) p l))

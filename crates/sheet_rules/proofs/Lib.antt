@@ -2,8 +2,10 @@ pub mod Attested
 pub mod Refusing
 pub mod Limits
 pub mod Finding
+pub mod Blocks
 pub mod Replacing
 pub mod Pictures
+pub mod SheetRows
 pub mod Storing
 pub mod Calling
 pub mod Theorems

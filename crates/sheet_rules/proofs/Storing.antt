@@ -8,12 +8,12 @@ use native.Mathlib.Omega.{arith}
 use lib.ListN.{length, getD, take, drop, length-take, length-drop, take-append-drop}
 use lib.Seq.{getD-take, getD-drop, ext-getD, take-at}
 use Rattle.head_rules.specs.Geometry.{placeOf}
-use Rattle.head_rules.specs.declared.Head.{Head}
 use Rattle.laws.proofs.Cases.{lt-or}
 use Rattle.laws.proofs.Over.{length-over, over-in, over-out, take-over}
-use Rattle.head_rules.specs.Heads.{Sized, headBytes, headOf, readHead}
+use Rattle.head_rules.specs.Heads.{bytesOfHead, readHead}
 use Rattle.head_rules.specs.Numbers.{Bytes}
-use Rattle.head_rules.proofs.Theorems.{head-one-form, head-read-back}
+use Rattle.head_rules.proofs.Orders.{blocks-behind-head}
+use Rattle.head_rules.proofs.Theorems.{head-again, head-long, head-one-form}
 use Rattle.sheet_rules.specs.Rows.{blockAt}
 use Rattle.sheet_rules.specs.Sheets.{putBlock}
 
@@ -68,41 +68,19 @@ put-same s at h =
         ap (λ (m : ℕ). getD (putBlock s at (blockAt s at)) m 0) (sym e) ∙ put-inside s at (blockAt s at) (k - at) h (omega arith)
         ∙ block-get s at (k - at) (omega arith) ∙ ap (λ (m : ℕ). getD s m 0) e
 
--- different blocks stand apart
-pub places-apart : (h : Head) (a b : ℕ) → (a ≡ b → ⊥) → (placeOf h a + 16 ≤ placeOf h b) ⊎ (placeOf h b + 16 ≤ placeOf h a)
-unfolding placeOf
-places-apart h a b ne = ⊎-elim (λ l. inl (omega arith)) (λ l. inr (omega arith)) (lt-or a b)
-
 -- the head stays: no byte of it is a block's
 module _ (s : List ℕ) (bytes : Bytes s) (told : readHead s .refusal ≡ 0) where
-  w : ℕ
-  w = readHead s .width
-
-  h : ℕ
-  h = readHead s .height
-
-  size : Sized w h
-  unfolding w h
-  size = head-one-form s bytes told .0
-
-  spelt : s ≡ headBytes w h ++ drop (readHead s .start) s
-  unfolding w h
-  spelt = head-one-form s bytes told .1
-
-  head-is : readHead s ≡ headOf 0 w h (length (headBytes w h))
-  head-is = ap readHead spelt ∙ head-read-back w h size (drop (readHead s .start) s)
-
-  start-is : readHead s .start ≡ length (headBytes w h)
-  start-is = ap (λ (x : Head). x .start) head-is
-
-  front : take (readHead s .start) s ≡ headBytes w h
-  front = ap (take (readHead s .start)) spelt ∙ take-at (headBytes w h) (drop (readHead s .start) s) (readHead s .start) (sym start-is)
+  front : take (readHead s .start) s ≡ bytesOfHead (readHead s)
+  front =
+      let h = bytesOfHead (readHead s) in
+      ap (take (readHead s .start)) (head-one-form s bytes told .1)
+      ∙ take-at h (drop (readHead s .start) s) (readHead s .start) (sym (head-long s bytes told))
 
   pub head-kept : (b : ℕ) (block : List ℕ) → readHead (putBlock s (placeOf (readHead s) b) block) ≡ readHead s
-  unfolding putBlock placeOf
+  unfolding putBlock
   head-kept b block =
       let t = putBlock s (placeOf (readHead s) b) block in
       let n = readHead s .start in
       ap readHead (sym (take-append-drop n t) ∙ ap (λ (x : List ℕ). x ++ drop n t)
-      (take-over s (n + 16 * b) 16 (λ j. getD block j 0) n (omega arith) ∙ front))
-      ∙ head-read-back w h size (drop n t) ∙ sym head-is
+      (take-over s (placeOf (readHead s) b) 16 (λ j. getD block j 0) n (blocks-behind-head (readHead s) b) ∙ front))
+      ∙ head-again s bytes told (drop n t)

@@ -12,7 +12,7 @@ use Rattle.head_rules.specs.Geometry.{blocksOf, placeOf, wholeLength}
 use Rattle.head_rules.specs.declared.Head.{Head}
 use Rattle.laws.specs.Refusals.{Rule, first, handed, refuse, unless}
 use Rattle.laws.specs.Tables.{over, pick}
-use Rattle.head_rules.specs.Heads.{formIn, headRules, heightIn, readHead, widthIn}
+use Rattle.head_rules.specs.Heads.{headRules, readHead}
 use Rattle.line_rules.specs.Acceptable.{callRules}
 use Rattle.line_rules.specs.Replace.{callOf, replaced}
 use Rattle.sheet_rules.specs.Rows.{blockAt}
@@ -60,7 +60,7 @@ sheetRefusal s b l new = sheetRefusalBy (readHead s) s b l new
 
 -- in words, down to the numbers of the head and the values of the line
 abbrev pub sheetRules : List ℕ → ℕ → ℕ → Replacement → List Rule
-sheetRules s b l new = headRules (formIn s) (widthIn s) (heightIn s) ++ behindHead (readHead s) s b ++ callRules (blockIn s b) (callOf l new)
+sheetRules s b l new = headRules s ++ behindHead (readHead s) s b ++ callRules (blockIn s b) (callOf l new)
 
 -- the sheet afterwards
 unfoldable pub sheetAfterBy : Head → List ℕ → ℕ → ℕ → Replacement → List ℕ

@@ -27,25 +27,25 @@ returns c =
     numbered-as-export _ _ _ (sym (k .before .before .colour-refusal .ensures) ∙ k .before .if1 .taken) (k .colour-of .ensures)
     (x .export-dds .ensures)
 
-read-head-requires : tie.Need-read-head-requires
-read-head-requires c κs = search needs
+read-of-form-requires : tie.Need-read-of-form-requires
+read-of-form-requires c κs = search needs
 
 returns-2 : tie.Need-returns-2
 returns-2 c =
     let h = c .before .before in
     numbered-no-colour _ _ _ (h .before .before .colour-refusal .ensures) (h .before .if1 .left)
-    (inl (sym (ap (λ (x : Head). x .refusal) (h .read-head .ensures)) ∙ c .if2 .taken))
+    (inl (sym (ap (λ (x : Head). x .refusal) (h .read-of-form .ensures)) ∙ c .if2 .taken))
 
 returns-3 : tie.Need-returns-3
 returns-3 c =
     let h = c .before .before .before .before in
     numbered-no-colour _ _ _ (h .before .before .colour-refusal .ensures) (h .before .if1 .left)
-    (inr (sym (ap (λ (x : Head). x .refusal) (h .read-head .ensures)) ∙ c .if3 .taken))
+    (inr (sym (ap (λ (x : Head). x .refusal) (h .read-of-form .ensures)) ∙ c .if3 .taken))
 
 returns-4 : tie.Need-returns-4
 returns-4 c =
     let h = c .before .before .before .before in
-    numbered-refused _ _ _ (ap (λ (x : Head). x .refusal) (h .read-head .ensures)) (c .before .before .if2 .left) (c .if3 .left)
+    numbered-refused _ _ _ (ap (λ (x : Head). x .refusal) (h .read-of-form .ensures)) (c .before .before .if2 .left) (c .if3 .left)
 
 pub export-numbered-spec : {M : Type 1} → statement M
 export-numbered-spec =
@@ -56,7 +56,7 @@ export-numbered-spec =
     export-dds-requires
     same-length
     returns
-    read-head-requires
+    read-of-form-requires
     returns-2
     returns-3
     returns-4)

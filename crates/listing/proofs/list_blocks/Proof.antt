@@ -24,11 +24,11 @@ loop-holds c = (omega arith, omega arith, texts-none _ _ _ _ _)
 abbrev asked : tie.At-loop Inv-loop μ-loop → tie.Start Inv-loop μ-loop
 asked l = l .before .before .before
 
-cast-list-block : tie.Need-cast-list-block Inv-loop μ-loop
-cast-list-block c = let s = asked (c .before) in omega (arith, few-in-all (s .args .head) (s .pre .sized))
+cast-list-stored : tie.Need-cast-list-stored Inv-loop μ-loop
+cast-list-stored c = let s = asked (c .before) in omega (arith, few-in-all (s .args .head) (s .pre .sized))
 
-add-list-block : tie.Need-add-list-block Inv-loop μ-loop
-add-list-block c = let s = asked (c .before) in omega (arith, few-in-all (s .args .head) (s .pre .sized))
+add-list-stored : tie.Need-add-list-stored Inv-loop μ-loop
+add-list-stored c = let s = asked (c .before) in omega (arith, few-in-all (s .args .head) (s .pre .sized))
 
 mul-load : tie.Need-mul-load Inv-loop μ-loop
 mul-load c = omega arith
@@ -36,8 +36,8 @@ mul-load c = omega arith
 load-requires : tie.Need-load-requires Inv-loop μ-loop
 load-requires c κs = omega arith
 
-list-block-requires : tie.Need-list-block-requires Inv-loop μ-loop
-list-block-requires c κs =
+list-stored-requires : tie.Need-list-stored-requires Inv-loop μ-loop
+list-stored-requires c κs =
     let l = c .before .before .before in
     record { sized = asked l .pre .sized; there = omega arith; fits = omega (arith, written-long (l .loop .inv .2)) }
 
@@ -54,7 +54,7 @@ loop-again c =
       omega arith,
       omega arith,
       texts-more _ _ _ _ _ (l .loop .k) (l .loop .inv .2)
-          (rw (b .before .before .load .ensures) at (b .list-block .ensures .text)),
+          (rw (b .before .before .load .ensures) at (b .list-stored .ensures .text)),
     )
 
 same-length : tie.Need-same-length Inv-loop μ-loop
@@ -75,11 +75,11 @@ list-blocks-spec =
     Inv-loop
     μ-loop
     loop-holds
-    cast-list-block
-    add-list-block
+    cast-list-stored
+    add-list-stored
     mul-load
     load-requires
-    list-block-requires
+    list-stored-requires
     add-k
     loop-less
     loop-again

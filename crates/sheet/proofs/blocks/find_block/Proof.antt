@@ -46,7 +46,12 @@ returns-3 c =
     (here (λ n. omega (arith, c .before .if3 .taken, c .before .before .blocks-of .ensures .same, n))))) (λ z. omega arith)
 
 place-of-requires : tie.Need-place-of-requires
-place-of-requires c κs = search needs
+place-of-requires c κs =
+    let e = c .before .before .before .before in
+    record {
+      size = size-is _ 0 (e .before .before .read-head .ensures) (e .if1 .left);
+      number = omega (arith, c .if3 .left, c .before .blocks-of .ensures .same);
+    }
 
 returns-4 : tie.Need-returns-4
 returns-4 c =

@@ -32,6 +32,12 @@ take-height-requires c κs = search needs
 enum-told-4 : tie.Need-enum-told-4
 enum-told-4 c = search needs
 
+take-colour-requires : tie.Need-take-colour-requires
+take-colour-requires c κs = search needs
+
+enum-told-5 : tie.Need-enum-told-5
+enum-told-5 c = search needs
+
 at-stage-requires-2 : tie.Need-at-stage-requires-2
 at-stage-requires-2 c κs = search needs
 
@@ -48,8 +54,12 @@ returns-3 c = let a = c .before .before .before .before in c .take-height .ensur
     ∙ sym (ap (λ (p : Stage). numberIn p (a .args .reader .head) (a .args .n) (a .args .next)) (c .before .enum-told3 .given .1))
 
 returns-4 : tie.Need-returns-4
-returns-4 c = let a = c .before .before .before .before in c .at-stage2 .ensures
+returns-4 c = let a = c .before .before .before .before in c .take-colour .ensures
     ∙ sym (ap (λ (p : Stage). numberIn p (a .args .reader .head) (a .args .n) (a .args .next)) (c .before .enum-told4 .given .1))
+
+returns-5 : tie.Need-returns-5
+returns-5 c = let a = c .before .before .before .before in c .at-stage2 .ensures
+    ∙ sym (ap (λ (p : Stage). numberIn p (a .args .reader .head) (a .args .n) (a .args .next)) (c .before .enum-told5 .given .1))
 
 pub take-number-spec : {M : Type 1} → statement M
 take-number-spec =
@@ -63,8 +73,11 @@ take-number-spec =
     enum-told-3
     take-height-requires
     enum-told-4
+    take-colour-requires
+    enum-told-5
     at-stage-requires-2
     returns
     returns-2
     returns-3
-    returns-4)
+    returns-4
+    returns-5)

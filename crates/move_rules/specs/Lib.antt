@@ -1,0 +1,2 @@
+-- What a move means.
+pub mod Moving

@@ -1,0 +1,2 @@
+-- What the parts of a move ask.
+pub mod Rooms

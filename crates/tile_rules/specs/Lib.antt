@@ -1,0 +1,3 @@
+-- What tile order means.
+pub mod Tiles
+pub mod Computed
