@@ -12,8 +12,8 @@ use Rattle.head_rules.specs.declared.Form.the-variants.{Rows}
 use Rattle.head_rules.specs.declared.Head.{Head}
 use Rattle.head_rules.specs.Colours.{colourOf, colourRefusal}
 use Rattle.head_rules.specs.Geometry.{blocksOf}
-use Rattle.head_rules.specs.Heads.{colourIn, formIn, formOf, headBytes, headRefusalUpTo, heightIn, ofFormRefusal, readHeadUpTo, readOfForm}
-use Rattle.head_rules.specs.Heads.{sizeRefusalUpTo, widthIn}
+use Rattle.head_rules.specs.Heads.{colourIn, formIn, formOf, headBytes, headRefusalUpTo, heightIn, ofFormRefusalUpTo, oldHead, readHeadUpTo}
+use Rattle.head_rules.specs.Heads.{readOfFormUpTo, sizeRefusalUpTo, widthIn}
 use Rattle.head_rules.specs.Numbers.{groups, raised, readGroups, readNumber}
 use Rattle.laws.specs.Digits.{evenly}
 use Rattle.laws.specs.Refusals.{first}
@@ -64,6 +64,13 @@ blocks =
 
 abbrev pub sheet53 : List ℕ
 sheet53 = 0x01 ∷ 0x05 ∷ 0x03 ∷ blocks
+
+-- a sheet of 4,097 by 1, which a console of before doesn't take, and the first one in form 2
+abbrev larger : List ℕ
+larger = 0x01 ∷ 0x81 ∷ 0x20 ∷ 0x01 ∷ replicate 16400 0
+
+abbrev tiled53 : List ℕ
+tiled53 = 0x02 ∷ 0x05 ∷ 0x03 ∷ 0x00 ∷ blocks
 
 abbrev pub file53 : List ℕ
 file53 = header53 ++ blocks
@@ -214,6 +221,10 @@ pub record Files : Type 0 where
       ≡ head Linear 5 3 3 ∷ head Srgb 5 3 3 ∷ head Unspecified 5 3 3 ∷ noHead 15 ∷ noHead 7 ∷ []
   pub import-answers : map (λ c. importRefusal (c .given) (c .room)) imports ≡ map (λ c. c .answer) imports
   pub export-answers : map (λ c. exportRefusal (c .given) (c .room)) exports ≡ map (λ c. c .answer) exports
+  -- by a console of before: 4,097 by 1, and form 2
+  pub not-exported-before : map (λ (s : List ℕ). exportRefusalBy (oldHead s) s 180) (sheet53 ∷ larger ∷ tiled53 ∷ []) ≡ 0 ∷ 9 ∷ 8 ∷ []
+  pub left-before : map (λ (s : List ℕ). exportAfterBy (oldHead s) Unspecified s (nines 180)) (sheet53 ∷ larger ∷ tiled53 ∷ [])
+      ≡ file53 ∷ nines 180 ∷ nines 180 ∷ []
   pub numbered-answers : map (λ c. numberedRefusal (c .given) (c .colour) (c .room)) numbered ≡ map (λ c. c .answer) numbered
   pub lengths : importLength file53 ∷ importLength header53 ∷ exportLength sheet53 ∷ exportLength [] ∷ []
       ≡ record { refusal = 0; length = 35 } ∷ record { refusal = 10; length = 0 } ∷
@@ -222,8 +233,8 @@ pub record Files : Type 0 where
 pub files-hold : Files
 unfolding evenly table tableFrom first numberAt entries headerNumber canonicalHeader isTexture headMade sheetMade fileRefusalUpTo importRefusalUpTo
     importAfterUpTo wholeRefusalBy exportRefusalBy fileMadeBy exportAfterBy importLength exportLength importHead exportHead blocksOf
-    sizeRefusalUpTo headBytes groups readOfForm ofFormRefusal colourIn formOf readHeadUpTo headRefusalUpTo formIn widthIn heightIn readNumber readGroups raised formatSays
-    importAnswer numberedRefusal numberedAfter colourOf colourRefusal
+    sizeRefusalUpTo headBytes groups readOfFormUpTo ofFormRefusalUpTo colourIn formOf readHeadUpTo headRefusalUpTo formIn widthIn heightIn
+    readNumber readGroups raised formatSays importAnswer numberedRefusal numberedAfter colourOf colourRefusal
 files-hold = record {
   in-order = refl;
   headers = refl;
@@ -241,6 +252,8 @@ files-hold = record {
   heads = refl;
   import-answers = refl;
   export-answers = refl;
+  not-exported-before = refl;
+  left-before = refl;
   numbered-answers = refl;
   lengths = refl;
 }

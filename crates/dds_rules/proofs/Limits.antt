@@ -1,7 +1,7 @@
--- MAPS UP TO 16,384, IN DDS FILES: what the old limit accepted is imported and exported as it was; of what it didn't, a console with the old
--- limit answers 9 and leaves the output.
+-- MAPS UP TO 16,384, AND TILES, IN DDS FILES: what a console of before accepted is imported and exported as it was; for a larger map such a
+-- console answers 9, for a sheet of form 2 it answers 8, and it leaves the output.
 -- Assumes nothing.
-use mathlib.Core.Path.{_≡_, refl, _∙_, ap}
+use mathlib.Core.Path.{_≡_, refl, ap}
 use mathlib.Core.Logic.{_⊎_}
 use mathlib.Core.Bool.{true}
 use mathlib.Core.List.{List}
@@ -10,12 +10,12 @@ use native.Mathlib.Omega.{arith}
 use lib.ListN.{length}
 use Rattle.laws.specs.Refusals.{first}
 use Rattle.head_rules.specs.declared.ColourSpace.{ColourSpace}
-use Rattle.head_rules.specs.declared.Form.the-variants.{Rows}
+use Rattle.head_rules.specs.declared.Form.the-variants.{Rows, Tiles}
 use Rattle.head_rules.specs.declared.Head.{Head}
-use Rattle.head_rules.specs.Heads.{SizedUpTo, limit, oldLimit, readHead, readHeadUpTo}
+use Rattle.head_rules.specs.Heads.{SizedUpTo, formIn, formNumber, limit, oldHead, oldLimit, readHead}
 use Rattle.head_rules.proofs.Heading.{size-0, size-9}
 use Rattle.head_rules.proofs.Limits.{wider}
-use Rattle.head_rules.proofs.Theorems.{old-console-refuses, of-form-when, stored-heads-keep}
+use Rattle.head_rules.proofs.Theorems.{old-console-knows-no-tiles, old-console-refuses, stored-rows-keep}
 use Rattle.dds_rules.specs.Header.{fieldIn, height, isTexture, width}
 use Rattle.dds_rules.specs.Files.{exportAfter, exportAfterBy, exportRefusal, exportRefusalBy, fileRefusalUpTo, importAfter, importAfterUpTo}
 use Rattle.dds_rules.specs.Files.{importRefusal, importRefusalUpTo, wholeRefusalBy}
@@ -32,15 +32,19 @@ module _ (dds out : List ℕ) where
   old-console-imports-nothing t n = rw (t, size-9 oldLimit _ _ n) (refl, refl)
 
 module _ (s : List ℕ) (c : ColourSpace) (out : List ℕ) where
-  pub stored-sheets-export : readHeadUpTo oldLimit s .refusal ≡ 0 → readHeadUpTo oldLimit s .form ≡ Rows
-      → (exportRefusal s (length out) ≡ exportRefusalBy (readHeadUpTo oldLimit s) s (length out))
-      × (exportAfter s c out ≡ exportAfterBy (readHeadUpTo oldLimit s) c s out)
-  stored-sheets-export e f =
-      let q = stored-heads-keep s e in
-      let k = of-form-when Rows s (ap (λ (h : Head). h .refusal) q ∙ e) (ap (λ (h : Head). h .form) q ∙ f) ∙ q in
+  pub stored-sheets-export : oldHead s .refusal ≡ 0
+      → (exportRefusal s (length out) ≡ exportRefusalBy (oldHead s) s (length out)) × (exportAfter s c out ≡ exportAfterBy (oldHead s) c s out)
+  stored-sheets-export e =
+      let k = stored-rows-keep s e in
       (ap (λ (h : Head). exportRefusalBy h s (length out)) k, ap (λ (h : Head). exportAfterBy h c s out) k)
 
-  pub old-console-exports-nothing : readHead s .refusal ≡ 0 → (oldLimit < readHead s .width) ⊎ (oldLimit < readHead s .height)
-      → (exportRefusalBy (readHeadUpTo oldLimit s) s (length out) ≡ 9) × (exportAfterBy (readHeadUpTo oldLimit s) c s out ≡ out)
+  pub old-console-exports-nothing : readHead s .refusal ≡ 0 → readHead s .form ≡ Rows
+      → (oldLimit < readHead s .width) ⊎ (oldLimit < readHead s .height)
+      → (exportRefusalBy (oldHead s) s (length out) ≡ 9) × (exportAfterBy (oldHead s) c s out ≡ out)
   unfolding exportAfterBy exportRefusalBy wholeRefusalBy first
-  old-console-exports-nothing e above = rw (old-console-refuses s e above) (refl, refl)
+  old-console-exports-nothing e f above = rw (old-console-refuses s e f above) (refl, refl)
+
+  pub old-console-exports-no-tiles : formIn s .value ≡ formNumber Tiles
+      → (exportRefusalBy (oldHead s) s (length out) ≡ 8) × (exportAfterBy (oldHead s) c s out ≡ out)
+  unfolding exportAfterBy exportRefusalBy wholeRefusalBy first
+  old-console-exports-no-tiles e = rw (old-console-knows-no-tiles s e) (refl, refl)

@@ -13,10 +13,11 @@ use Rattle.head_rules.specs.declared.HeadBytes.{HeadBytes}
 use Rattle.laws.specs.Padding.{padded}
 use Rattle.laws.specs.Refusals.{first}
 use Rattle.head_rules.specs.Colours.{colourNumber, colourOf, colourRefusal}
-use Rattle.head_rules.specs.Heads.{bytesOfHead, colourIn, formIn, formNumber, formOf, headBytes, headRefusalUpTo, heightIn, oldLimit}
-use Rattle.head_rules.specs.Heads.{ofFormRefusal, readHead, readHeadUpTo, readOfForm, sizeRefusalUpTo, tiledBytes, under, widthIn, writeHead}
+use Rattle.head_rules.specs.Heads.{bytesOfHead, colourIn, formIn, formNumber, formOf, headBytes, headRefusalUpTo, heightIn, oldHead}
+use Rattle.head_rules.specs.Heads.{ofFormRefusalUpTo, readHead, readHeadUpTo, readOfForm, readOfFormUpTo, sizeRefusalUpTo, tiledBytes}
+use Rattle.head_rules.specs.Heads.{under, widthIn, writeHead}
 use Rattle.head_rules.specs.declared.Stage.the-variants.{Width}
-use Rattle.tile_rules.specs.Counting.{count}
+use Rattle.laws.specs.Counting.{count}
 use Rattle.tile_rules.specs.Tiles.{columnAt, columnOfSlot, inSheet, slotIn, storedInTiles, rowAt, rowOfSlot, slotOf, tiles}
 use Rattle.head_rules.specs.Geometry.{across, blocksOf, outLength, placeOf, rowLength, sideShown, storedAt, wholeLength}
 use Rattle.head_rules.specs.Reader.{Reading, atForm, byteTaken, colourTaken, formTaken, groupTaken, lastTaken, readBy, sizeTaken}
@@ -80,10 +81,11 @@ pub record Heads : Type 0 where
       ≡ head 5 6 3 ∷ noHead 8 ∷ noHead 7 ∷ noHead 7 ∷ []
   pub only-tiles : map (readOfForm Tiles) ((0x02 ∷ 0x05 ∷ 0x06 ∷ 0x02 ∷ []) ∷ (0x01 ∷ []) ∷ (0x02 ∷ 0x05 ∷ 0x06 ∷ 0x03 ∷ []) ∷ [])
       ≡ tiled Srgb 5 6 4 ∷ noHead 8 ∷ noHead 18 ∷ []
-  -- 4,096 by 4,096, 4,097 by 1 and 1 by 4,097, by a console of before
-  pub heads-read-before : map (readHeadUpTo oldLimit)
-      ((0x01 ∷ 0x80 ∷ 0x20 ∷ 0x80 ∷ 0x20 ∷ []) ∷ (0x01 ∷ 0x81 ∷ 0x20 ∷ 0x01 ∷ []) ∷ (0x01 ∷ 0x01 ∷ 0x81 ∷ 0x20 ∷ []) ∷ [])
-      ≡ head 4096 4096 5 ∷ noHead 9 ∷ noHead 9 ∷ []
+  -- by a console of before: 4,096 by 4,096, 4,097 by 1 and 1 by 4,097; and form 2, small, larger than its limit, and cut off
+  pub heads-read-before : map oldHead
+      ((0x01 ∷ 0x80 ∷ 0x20 ∷ 0x80 ∷ 0x20 ∷ []) ∷ (0x01 ∷ 0x81 ∷ 0x20 ∷ 0x01 ∷ []) ∷ (0x01 ∷ 0x01 ∷ 0x81 ∷ 0x20 ∷ []) ∷
+      (0x02 ∷ 0x05 ∷ 0x06 ∷ 0x00 ∷ []) ∷ (0x02 ∷ 0x81 ∷ 0x20 ∷ 0x01 ∷ 0x00 ∷ []) ∷ (0x02 ∷ []) ∷ [])
+      ≡ head 4096 4096 5 ∷ noHead 9 ∷ noHead 9 ∷ noHead 8 ∷ noHead 8 ∷ noHead 8 ∷ []
   pub heads-written : writeHead 5 6 ∷ writeHead 16384 16384 ∷ writeHead 0 1 ∷ writeHead 16385 1 ∷ writeHead 1 16385 ∷ []
       ≡ written 0 (0x01 ∷ 0x05 ∷ 0x06 ∷ 0 ∷ 0 ∷ 0 ∷ 0 ∷ []) 3 ∷ written 0 (0x01 ∷ 0x80 ∷ 0x80 ∷ 0x01 ∷ 0x80 ∷ 0x80 ∷ 0x01 ∷ []) 7 ∷
       written 9 (0 ∷ 0 ∷ 0 ∷ 0 ∷ 0 ∷ 0 ∷ 0 ∷ []) 0 ∷ written 9 (0 ∷ 0 ∷ 0 ∷ 0 ∷ 0 ∷ 0 ∷ 0 ∷ []) 0 ∷ written 9 (0 ∷ 0 ∷ 0 ∷ 0 ∷ 0 ∷ 0 ∷ 0 ∷ []) 0 ∷
@@ -114,8 +116,8 @@ pub record Heads : Type 0 where
 
 pub heads-hold : Heads
 unfolding groups readGroups readNumber raised readHeadUpTo headRefusalUpTo formIn widthIn heightIn colourIn first sizeRefusalUpTo writeHead
-    headBytes tiledBytes padded formTaken sizeTaken colourTaken lastTaken groupTaken readBy blocksOf placeOf colourOf colourRefusal formOf readOfForm
-    ofFormRefusal storedAt storedInTiles count slotOf slotIn inSheet columnAt columnOfSlot rowAt rowOfSlot tiles
+    headBytes tiledBytes padded formTaken sizeTaken colourTaken lastTaken groupTaken readBy blocksOf placeOf colourOf colourRefusal formOf
+    readOfFormUpTo ofFormRefusalUpTo storedAt storedInTiles count slotOf slotIn inSheet columnAt columnOfSlot rowAt rowOfSlot tiles
 heads-hold = record {
   numbers-written = refl;
   numbers-read = refl;

@@ -33,7 +33,7 @@ use Rattle.head_rules.specs.Numbers.{found, noNumber, raised, readGroups
 use Rattle.head_rules.specs.Reader.{Going, Reading, atForm, awaiting, before, byteTaken, emptyAbove, endedIn, formTaken, groupTaken, hasEnded}
 use Rattle.head_rules.specs.Reader.{colourTaken, heightTaken, lastTaken, nextNumber, numberIn, readBy, refusedWith, sizeTaken}
 use Rattle.head_rules.proofs.Colours.{colour-test}
-use Rattle.head_rules.proofs.Heading.{accepted, head-rules, refusal-is, refused, size-0, size-refused, sized}
+use Rattle.head_rules.proofs.Heading.{accepted, form-kept, head-rules, is-form, refusal-is, refused, size-0, size-refused, sized}
 use Rattle.head_rules.proofs.Reading.{cut-off, last-group, more-groups, near, no-group, raised-none, raised-some}
 
 -- a reader that has ended, and one that has not
@@ -354,7 +354,7 @@ module _ (s : List ℕ) where
     past-form : IsForm (formIn s .value) → (nextNumber s atForm ≡ behind-form) × (readBy atForm s ≡ readBy behind-form (drop (formIn s .next) s))
     unfolding formIn formTaken
     past-form e =
-        let t : formTaken (formIn s .value) (formIn s .next) ≡ behind-form = rw (eq-eqb (formNumber form) (formIn s .value) e) in (
+        let t : formTaken (formIn s .value) (formIn s .next) ≡ behind-form = rw (eq-eqb (formNumber form) (formIn s .value) (form-kept e)) in (
           next-taken s Form (headOf 0 0 0 0) refl z ∙ t,
           number-read s Form (headOf 0 0 0 0) refl z
               ∙ ap (λ (r : HeadReader). readBy r (drop (formIn s .next) s)) t,
@@ -363,7 +363,7 @@ module _ (s : List ℕ) where
     other-form : (IsForm (formIn s .value) → ⊥) → Reads (headOf 8 0 0 0)
     unfolding formIn formTaken nextNumber
     other-form e =
-        let t : formTaken (formIn s .value) (formIn s .next) ≡ refusedWith 8 = rw (ne-eqb (formNumber form) (formIn s .value) e) in
+        let t : formTaken (formIn s .value) (formIn s .next) ≡ refusedWith 8 = rw (ne-eqb (formNumber form) (formIn s .value) (λ q. e (is-form q))) in
         record {
           by-numbers = ap (λ (r : HeadReader). nextNumber s (nextNumber s (nextNumber s r)) .head)
               (next-taken s Form (headOf 0 0 0 0) refl z ∙ t);
@@ -499,9 +499,10 @@ module _ (s : List ℕ) where
       form-told : formIn s .refusal ≡ 0 → Reads (readHead s)
       form-told z = go (ℕ-discrete (formNumber form) (formIn s .value))
         where
-          go : Dec (IsForm (formIn s .value)) → Reads (readHead s)
-          go (yes e) = width-told z e (eq-zero-or-pos _)
-          go (no e) = subst Reads (told (then z (here e)) (λ q. omega arith)) (other-form z e)
+          go : Dec (formNumber form ≡ formIn s .value) → Reads (readHead s)
+          go (yes e) = width-told z (is-form e) (eq-zero-or-pos _)
+          go (no e) = let ne : IsForm (formIn s .value) → ⊥ = λ f. e (form-kept f) in subst Reads (told (then z (here ne)) (λ q. omega arith))
+              (other-form z ne)
 
   pub all-numbers : nextNumber s (nextNumber s (nextNumber s (nextNumber s atForm))) .head ≡ readHead s
   all-numbers = reads .by-numbers

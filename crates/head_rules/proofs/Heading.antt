@@ -1,20 +1,25 @@
 -- What a head's refusal is, and what is read of its bytes.
 -- Assumes nothing.
-use mathlib.Core.Path.{_≡_, refl, _∙_, ap, sym}
-use mathlib.Core.Logic.{_≢_, ⊎-elim}
-use mathlib.Core.Bool.{true}
-use mathlib.Core.List.{List}
+use mathlib.Core.Path.{_≡_, refl, _∙_, ap, sym, subst}
+use mathlib.Core.Logic.{_≢_, inl, inr, ⊎-elim}
+use mathlib.Core.Bool.{true, not}
+use mathlib.Core.List.{List, [], _∷_}
 use Prim.Native.Nat.{ℕ}
 use native.Mathlib.Nat.{eq-zero-or-pos}
 use native.Mathlib.Omega.{arith}
-use borrow.Author.Tests.{eq-eqb, le-leb, leb-true, ne-eqb}
-use lib.Dec.{leb}
+use borrow.Author.Tests.{eq-eqb, eqb-true, le-leb, leb-true, ne-eqb}
+use lib.Dec.{eqb, leb}
 use Rattle.head_rules.specs.declared.Head.{Head}
+use Rattle.head_rules.specs.declared.Form.{Form}
+use Rattle.head_rules.specs.declared.Form.the-variants.{Rows, Tiles}
+use Rattle.laws.specs.Refusals.{Given, refuse}
 use Rattle.laws.specs.Tables.{both}
-use Rattle.laws.proofs.Refusals.{Answers, Decided, answers, by-answer, by-not, by-not-eqb, decided-is, decided-not, decided-so, none, rule}
+use Rattle.laws.proofs.First.{first-last, first-skip}
+use Rattle.laws.proofs.Refusals.{Answers, Decided, answers, by-answer, by-not, by-not-eqb, decided-is, decided-not, decided-so, exactly, none, rule}
+use Rattle.laws.proofs.Refusals.{rules}
 use Rattle.laws.proofs.Tests.{both-true}
-use Rattle.head_rules.specs.Heads.{SizedUpTo, formIn, formNumber, formOf, headOf, headRefusalUpTo, headRulesUpTo, headTold, readHeadUpTo}
-use Rattle.head_rules.specs.Heads.{sideUpTo, sizeRefusalUpTo}
+use Rattle.head_rules.specs.Heads.{IsForm, SizedUpTo, formIn, formNumber, formOf, headOf, headRefusalUpTo, headRulesUpTo, headTold}
+use Rattle.head_rules.specs.Heads.{ofFormRefusalUpTo, ofFormRulesUpTo, readHeadUpTo, readOfFormUpTo, sideUpTo, sizeRefusalUpTo}
 use Rattle.head_rules.proofs.Colours.{colour-test}
 
 -- refusal 9
@@ -44,12 +49,36 @@ module _ (top w h : ℕ) where
   pub sized : sizeRefusalUpTo top w h ≡ 0 → SizedUpTo top w h
   sized = decided-is size-test
 
+-- refusal 8
+pub form-back : (f : Form) → formOf (formNumber f) ≡ f
+unfolding formOf
+form-back Rows = refl
+form-back Tiles = refl
+
+pub of-a-form : (f : Form) → IsForm (formNumber f)
+of-a-form Rows = inl refl
+of-a-form Tiles = inr refl
+
+-- n is the number of its form, which is what is tested, exactly where it is one's
+module _ {n : ℕ} where
+  pub form-kept : IsForm n → formNumber (formOf n) ≡ n
+  form-kept = ⊎-elim (known Rows) (known Tiles)
+    where
+      known : (f : Form) → n ≡ formNumber f → formNumber (formOf n) ≡ n
+      known f e = ap (λ (m : ℕ). formNumber (formOf m)) e ∙ ap formNumber (form-back f) ∙ sym e
+
+  pub is-form : formNumber (formOf n) ≡ n → IsForm n
+  is-form e = subst IsForm e (of-a-form (formOf n))
+
+form-test : (n : ℕ) → Decided (refuse 8 (not (eqb (formNumber (formOf n)) n))) 8 (IsForm n)
+form-test n = by-not tt (eqb (formNumber (formOf n)) n) (λ e. is-form (eqb-true _ _ e)) (λ f. eq-eqb _ _ (form-kept f))
+
 module _ (top : ℕ) (s : List ℕ) where
   pub head-rules : Answers (headRefusalUpTo top s) (headRulesUpTo top s)
   unfolding headRefusalUpTo
   head-rules =
-      answers (rule by-answer λ a. rule (by-not-eqb tt (formNumber (formOf (formIn s .value))) (formIn s .value)) λ b. rule by-answer λ c. rule
-      by-answer λ d. rule by-answer λ e. rule (colour-test _) λ k. rule (size-test _ _ _) λ z. none)
+      answers (rule by-answer λ a. rule (form-test _) λ b. rule by-answer λ c. rule by-answer λ d. rule by-answer λ e. rule (colour-test _) λ k. rule
+      (size-test _ _ _) λ z. none)
 
   pub refused : (r : ℕ) → headRefusalUpTo top s ≡ r → r ≢ 0 → headOf r 0 0 0 ≡ readHeadUpTo top s
   unfolding readHeadUpTo
@@ -64,3 +93,35 @@ module _ (top : ℕ) (s : List ℕ) where
       ⊎-elim (λ z. sym (ap (λ (h : Head). h .refusal) (accepted z)) ∙ sym z)
       (λ p. sym (ap (λ (h : Head). h .refusal) (refused (headRefusalUpTo top s) refl (λ q. omega arith))))
       (eq-zero-or-pos (headRefusalUpTo top s))
+
+-- one form only: the form is looked at first, and where it is f's the rest is as for any head
+module _ (top : ℕ) (f : Form) (s : List ℕ) where
+  pub of-form-rules : Answers (ofFormRefusalUpTo top f s) (ofFormRulesUpTo top f s)
+  unfolding ofFormRefusalUpTo
+  of-form-rules = answers (rule by-answer λ a. rule (by-not-eqb tt (formIn s .value) (formNumber f)) λ b. rules (head-rules top s) λ m. none)
+
+  pub of-form-told : ofFormRefusalUpTo top f s ≡ 0 → headTold s ≡ readOfFormUpTo top f s
+  unfolding readOfFormUpTo
+  of-form-told e = rw e
+
+  pub of-form-not : (n : ℕ) → Given (ofFormRulesUpTo top f s) n → n ≢ 0 → headOf n 0 0 0 ≡ readOfFormUpTo top f s
+  unfolding readOfFormUpTo
+  of-form-not n g ne = rw (exactly of-form-rules n .1 g, ne-eqb n 0 ne)
+
+  pub of-form-same : formIn s .refusal ≡ 0 → formIn s .value ≡ formNumber f → readOfFormUpTo top f s ≡ readHeadUpTo top s
+  unfolding readOfFormUpTo ofFormRefusalUpTo readHeadUpTo
+  of-form-same a b =
+      let behind = headRefusalUpTo top s ∷ [] in
+      rw (
+        first-skip (formIn s .refusal) (refuse 8 (not (eqb (formIn s .value) (formNumber f))) ∷ behind) a,
+        eq-eqb _ _ b,
+        first-skip 0 behind refl,
+        first-last (headRefusalUpTo top s),
+      )
+
+  pub of-form-number : readOfFormUpTo top f s .refusal ≡ ofFormRefusalUpTo top f s
+  of-form-number =
+      ⊎-elim (λ z. sym (ap (λ (h : Head). h .refusal) (of-form-told z)) ∙ sym z)
+      (λ p. let ne : ofFormRefusalUpTo top f s ≢ 0 = λ q. omega arith in
+      sym (ap (λ (h : Head). h .refusal) (of-form-not (ofFormRefusalUpTo top f s) (of-form-rules .given) ne)))
+      (eq-zero-or-pos (ofFormRefusalUpTo top f s))

@@ -1,4 +1,4 @@
--- The stored blocks of a sheet of either form: each block has exactly one place, and each place one block.
+-- The stored blocks of a sheet of either form: each block has exactly one stored number, and each of them is one block's.
 -- Assumes nothing.
 use mathlib.Core.Path.{_≡_, refl, _∙_, ap, sym}
 use mathlib.Core.Logic.{_⊎_, inl, inr, ⊎-elim, _≢_}
@@ -6,11 +6,12 @@ use Prim.Native.Nat.{ℕ, _+_, _*_, _<_, _≤_}
 use native.Mathlib.Nat.{eq-or-lt-of-le}
 use native.Mathlib.Omega.{arith}
 use Rattle.laws.proofs.Cases.{lt-or}
-use Rattle.tile_rules.specs.Moves.{Inverse}
+use Rattle.laws.specs.Inverse.{Inverse}
 use Rattle.tile_rules.specs.Tiles.{numberInTiles, storedInTiles}
-use Rattle.tile_rules.proofs.Theorems.{has-columns, inverse-turn, tile-order}
-use Rattle.tile_rules.proofs.Sums.{count-moved}
-use Rattle.tile_rules.specs.Counting.{count}
+use Rattle.tile_rules.proofs.Theorems.{has-columns, tile-order}
+use Rattle.laws.proofs.Inverse.{inverse-apart, inverse-turn}
+use Rattle.laws.proofs.Sums.{count-moved}
+use Rattle.laws.specs.Counting.{count}
 use mathlib.Core.Bool.{Bool}
 use Rattle.head_rules.specs.declared.Form.{Form}
 use Rattle.head_rules.specs.declared.Form.the-variants.{Rows, Tiles}
@@ -25,12 +26,12 @@ form-order Rows c r h = record { to = λ k l. l; from = λ k l. l; from-to = λ 
 form-order Tiles c r h = tile-order c r h
 
 module _ (h : Head) where
-  -- ONE PLACE: storedAt and numberAt are inverse to each other on the blocks of a sheet
+  -- storedAt and numberAt are inverse to each other on the blocks of a sheet
   pub one-order : 0 < blocksOf h → Inverse (blocksOf h) (storedAt h) (numberAt h)
   unfolding blocksOf storedAt numberAt
   one-order l = form-order (h .form) (across (h .width)) (across (h .height)) (has-columns (across (h .width)) (across (h .height)) 0 l)
 
-  -- counts: a test of the blocks passes as often place by place as number by number
+  -- counts: a test of the blocks passes as often in stored order as row by row
   pub counted-stored : 0 < blocksOf h → (t : ℕ → Bool) → count (blocksOf h) (λ p. t (numberAt h p)) ≡ count (blocksOf h) t
   counted-stored l t = count-moved (inverse-turn (one-order l)) t
 
@@ -50,9 +51,9 @@ module _ (h : Head) where
   number-again b l = one-order (some-block l) .from-to b l
 
   pub stored-apart : (a b : ℕ) → a < blocksOf h → b < blocksOf h → storedAt h a ≡ storedAt h b → a ≡ b
-  stored-apart a b la lb e = sym (number-again a la) ∙ ap (numberAt h) e ∙ number-again b lb
+  stored-apart a b la lb = inverse-apart (one-order (some-block la)) a b la lb
 
-  -- blocks stand behind the head, apart from each other, within the sheet; and at each place of sixteen bytes stands one
+  -- blocks stand behind the head, apart from each other, within the sheet; and each sixteen bytes behind the head are one block's
   pub blocks-behind-head : (b : ℕ) → h .start ≤ placeOf h b
   unfolding placeOf
   blocks-behind-head b = omega arith

@@ -1,15 +1,12 @@
 -- A number that was written is read back, with its end; an accepted number has exactly one form; the same for heads. A number is
--- refused exactly when none stands there.
+-- refused exactly when none stands there. Each block of a sheet has exactly one place.
 -- Assumes nothing.
 use mathlib.Core.Path.{_≡_, refl, _∙_, ap, ap₂, sym, subst}
-use mathlib.Core.Bool.{not}
-use mathlib.Core.Logic.{_↔_, _⊎_, inl, inr, ⊎-elim}
+use mathlib.Core.Logic.{_↔_, _⊎_, inl, inr, ⊎-elim, _≢_}
 use mathlib.Core.List.{List, [], _∷_, _++_, append-assoc}
 use Prim.Native.Nat.{ℕ, zero, suc, _+_, _-_, _*_, _/_, _%_, _^_, _<_, _≤_}
 use native.Mathlib.Nat.{div-lt-iff-lt-mul, eq-zero-or-pos, pow-suc, zero-add}
 use native.Mathlib.Omega.{arith}
-use borrow.Author.Tests.{eq-eqb, ne-eqb}
-use lib.Dec.{eqb}
 use lib.ListN.{length, drop, length-append}
 use lib.Seq.{drop-drop, drop-append-seam, getD-drop}
 use Rattle.head_rules.specs.declared.Number.{Number}
@@ -19,22 +16,25 @@ use Rattle.head_rules.specs.declared.Head.{Head}
 use Rattle.head_rules.specs.declared.Form.{Form}
 use Rattle.head_rules.specs.declared.Form.the-variants.{Rows, Tiles}
 use Rattle.head_rules.specs.declared.HeadBytes.{HeadBytes}
-use Rattle.laws.specs.Refusals.{Given, here, refuse, then}
+use Rattle.laws.specs.Refusals.{Given, here, then}
 use Rattle.laws.proofs.Cases.{lt-or}
-use Rattle.laws.proofs.First.{first-last, first-skip}
-use Rattle.laws.proofs.Refusals.{Answers, accepted-when, alone, answers, by-answer, by-not-eqb, exactly, none, rule, rules}
+use Rattle.laws.specs.Inverse.{Inverse}
+use Rattle.laws.proofs.Refusals.{Answers, accepted-when, alone, exactly}
 use Rattle.head_rules.specs.Colours.{colourNumber, colourOf}
 use Rattle.head_rules.specs.Heads.{IsForm, ReadsHead, Sized, WritesHead, bytesOfHead, colourIn, formIn, formNumber, formOf, headBytes}
-use Rattle.head_rules.specs.Heads.{headIn, headOf, headRefusal, headRules, headSpelt, headTold, heightIn, limit, oldLimit, ofFormRefusal}
-use Rattle.head_rules.specs.Heads.{ofFormRules, readHead, readHeadUpTo, readOfForm, rowsRules}
+use Rattle.head_rules.specs.Heads.{headIn, headOf, headRefusal, headRules, headSpelt, heightIn, limit, oldHead, oldLimit}
+use Rattle.head_rules.specs.Heads.{ofFormRules, readHead, readOfForm, rowsRules}
 use Rattle.head_rules.specs.Heads.{sizeRefusal, sizeRules, tiledBytes, under, widthIn, writeHead}
 use Rattle.head_rules.specs.Numbers.{Bytes, found, groups, noNumber, numberBytes, numbersEnd, raised, readGroups, readNumber}
-use Rattle.head_rules.specs.Geometry.{across}
+use Rattle.head_rules.specs.Geometry.{across, blocksOf, numberAt, placeOf, storedAt, wholeLength}
 use Rattle.head_rules.specs.Reader.{atForm, readBy}
+use Rattle.head_rules.proofs.Blocks.{some-blocks}
 use Rattle.head_rules.proofs.Bytewise.{bytes-behind-head, bytes-read-head}
 use Rattle.head_rules.proofs.Colours.{colour-back, number-back}
-use Rattle.head_rules.proofs.Heading.{accepted, head-rules, refusal-is, refused, size-test}
+use Rattle.head_rules.proofs.Heading.{accepted, form-back, form-kept, head-rules, of-a-form, of-form-not, of-form-number, of-form-rules}
+use Rattle.head_rules.proofs.Heading.{of-form-same, of-form-told, refusal-is, refused, size-test}
 use Rattle.head_rules.proofs.Limits.{head-kept, head-refused-before}
+use Rattle.head_rules.proofs.Orders.{blocks-apart, blocks-behind-head, blocks-within, each-place, numbered-in, one-order}
 use Rattle.head_rules.proofs.Reading.{every-number, raised-some, read-last, read-more, value-small}
 use Rattle.head_rules.proofs.Writing.{groups-last, groups-more, nothing, written}
 
@@ -140,22 +140,6 @@ module _ (s : List ℕ) (at : ℕ) where
     λ n. ⊎-elim (λ z. absurd (n (number-read-when y .0 z))) (λ e. e) zero-or-seven,
   )
 
--- FORMS: 1 and 2, and no other number
-pub form-back : (f : Form) → formOf (formNumber f) ≡ f
-unfolding formOf
-form-back Rows = refl
-form-back Tiles = refl
-
-pub two-forms : (n : ℕ) → IsForm n ↔ ((n ≡ 1) ⊎ (n ≡ 2))
-two-forms n = (
-  λ e. ⊎-elim (λ (l : formNumber (formOf n) ≡ 1). inl (sym e ∙ l)) (λ (l : formNumber (formOf n) ≡ 2). inr (sym e ∙ l)) (number (formOf n)),
-  λ o. ⊎-elim (λ e. rw e (ap formNumber (form-back Rows))) (λ e. rw e (ap formNumber (form-back Tiles))) o,
-)
-  where
-    number : (f : Form) → (formNumber f ≡ 1) ⊎ (formNumber f ≡ 2)
-    number Rows = inl refl
-    number Tiles = inr refl
-
 -- the number of the colour space, by the form
 module _ (s : List ℕ) where
   colour-rows : formOf (formIn s .value) ≡ Rows → colourIn s ≡ found 0 (heightIn s .next)
@@ -191,7 +175,7 @@ read-as : (s : List ℕ) (f : Form) (c : ColourSpace) (w h : ℕ) {i j k n : ℕ
     → heightIn s ≡ found h k → colourIn s ≡ found (colourNumber c) n → Sized w h → readHead s ≡ headIn f c 0 w h n
 read-as s f c w h ef ew eh ec z =
     sym (accepted limit s (accepted-when (head-rules limit s) .1 (rw (ef, ew, eh, ec)
-    (refl, (ap formNumber (form-back f), (refl, (refl, (refl, (colour-small c, (z, tt)))))))))) ∙ rw (ef, ew, eh, ec, form-back f, colour-back c .0)
+    (refl, (of-a-form f, (refl, (refl, (refl, (colour-small c, (z, tt)))))))))) ∙ rw (ef, ew, eh, ec, form-back f, colour-back c .0)
 
 -- a head that was written is read back, with where the blocks start: its numbers stand one behind the other
 module _ (f w h : ℕ) (z : Sized w h) (l : f < numbersEnd) (rest : List ℕ) where
@@ -294,14 +278,14 @@ module _ (s : List ℕ) (p : Parts s) (y : Bytes s) where
 
   spelt-in : (f : Form) → formOf (formIn s .value) ≡ f → s ≡ headSpelt f (colourOf (colourIn s .value)) w h ++ drop (colourIn s .next) s
   spelt-in Rows e =
-      three-spelt ∙ ap (λ (n : ℕ). numberBytes n ++ (numberBytes w ++ (numberBytes h ++ drop (heightIn s .next) s))) (sym (p .form-one) ∙ ap formNumber e)
+      three-spelt ∙ ap (λ (n : ℕ). numberBytes n ++ (numberBytes w ++ (numberBytes h ++ drop (heightIn s .next) s))) (sym (form-kept (p .form-one)) ∙ ap formNumber e)
       ∙ sym (in-one w h (drop (heightIn s .next) s)) ∙ ap (λ (r : Number). headBytes w h ++ drop (r .next) s) (sym (colour-rows s e))
   spelt-in Tiles e =
       let c = colourOf (colourIn s .value) in
       let last : drop (heightIn s .next) s ≡ numberBytes (colourNumber c) ++ drop (colourIn s .next) s
       = number-one-form s (heightIn s .next) y (ap (λ (r : Number). r .refusal) (sym (colour-tiles s e)) ∙ p .colour-told)
       ∙ ap (λ (r : Number). numberBytes (r .value) ++ drop (r .next) s) (sym (colour-tiles s e)) ∙ ap (λ (n : ℕ). numberBytes n ++ drop (colourIn s .next) s) (sym (number-back (colourIn s .value) (p .space))) in
-      three-spelt ∙ ap (λ (n : ℕ). numberBytes n ++ (numberBytes w ++ (numberBytes h ++ drop (heightIn s .next) s))) (sym (p .form-one) ∙ ap formNumber e)
+      three-spelt ∙ ap (λ (n : ℕ). numberBytes n ++ (numberBytes w ++ (numberBytes h ++ drop (heightIn s .next) s))) (sym (form-kept (p .form-one)) ∙ ap formNumber e)
       ∙ ap (λ (t : List ℕ). numberBytes 2 ++ (numberBytes w ++ (numberBytes h ++ t))) last ∙ sym (in-two w h (drop (colourIn s .next) s) c)
 
   spelt : s ≡ headSpelt (formOf (formIn s .value)) (colourOf (colourIn s .value)) w h ++ drop (colourIn s .next) s
@@ -319,6 +303,11 @@ module _ (s : List ℕ) where
   parts e =
       let (a, (b, (c, (d, (f, (k, (z, u))))))) = head-rules limit s .met e in
       record { form-told = a; form-one = b; width-told = c; height-told = d; colour-told = f; space = k; size = z }
+
+  pub form-stated : readHead s .refusal ≡ 0 → (formIn s .refusal ≡ 0) × (formIn s .value ≡ formNumber (readHead s .form))
+  form-stated e =
+      let z = sym (refusal-is limit s) ∙ e in
+      let p = parts z in (p .form-told, sym (form-kept (p .form-one)) ∙ ap (λ (h : Head). formNumber (h .form)) (accepted limit s z))
 
   pub head-sized : (readHead s) .refusal ≡ 0 → Sized ((readHead s) .width) ((readHead s) .height)
   head-sized e = let z = sym (refusal-is limit s) ∙ e in subst (λ (r : Head). Sized (r .width) (r .height)) (accepted limit s z) ((parts z) .size)
@@ -375,48 +364,28 @@ module _ (s : List ℕ) (y : Bytes s) (e : readHead s .refusal ≡ 0) where
 
 -- ONE FORM ONLY: 8 is given for the other form, before anything behind it; what is accepted is what `readHead` accepts, of that form
 module _ (f : Form) (s : List ℕ) where
-  of-form-tests : Answers (ofFormRefusal f s) (ofFormRules f s)
-  unfolding ofFormRefusal
-  of-form-tests = answers (rule by-answer λ a. rule (by-not-eqb tt (formIn s .value) (formNumber f)) λ b. rules (head-rules limit s) λ m. none)
-
-  of-form-accepted : ofFormRefusal f s ≡ 0 → headTold s ≡ readOfForm f s
-  unfolding readOfForm
-  of-form-accepted e = rw e
-
   pub of-form-refused : (n : ℕ) → Given (ofFormRules f s) n → (n ≡ 0 → ⊥) → headOf n 0 0 0 ≡ readOfForm f s
-  unfolding readOfForm
-  of-form-refused n g ne = rw (exactly of-form-tests n .1 g, ne-eqb n 0 ne)
-
-  pub of-form-refusal-is : readOfForm f s .refusal ≡ ofFormRefusal f s
-  of-form-refusal-is =
-      ⊎-elim (λ z. sym (ap (λ (h : Head). h .refusal) (of-form-accepted z)) ∙ sym z)
-      (λ p. let ne : ofFormRefusal f s ≡ 0 → ⊥ = λ q. omega arith in
-      sym (ap (λ (h : Head). h .refusal) (of-form-refused (ofFormRefusal f s) (of-form-tests .given) ne))) (eq-zero-or-pos (ofFormRefusal f s))
+  of-form-refused = of-form-not limit f s
 
   pub of-form-answers : Answers (readOfForm f s .refusal) (ofFormRules f s)
-  of-form-answers = rw of-form-refusal-is of-form-tests
+  of-form-answers = rw (of-form-number limit f s) (of-form-rules limit f s)
 
   pub of-form-refused-when : (n : ℕ) → (readOfForm f s .refusal ≡ n) ↔ Given (ofFormRules f s) n
   of-form-refused-when = exactly of-form-answers
 
-  -- the form is f's: the rest is as for any head
   pub of-form-this : formIn s .refusal ≡ 0 → formIn s .value ≡ formNumber f → readOfForm f s ≡ readHead s
-  unfolding readOfForm ofFormRefusal readHeadUpTo
-  of-form-this a b = rw (first-skip (formIn s .refusal) (refuse 8 (not (eqb (formIn s .value) (formNumber f))) ∷ headRefusal s ∷ []) a, eq-eqb _ _ b, first-skip 0 (headRefusal s ∷ []) refl, first-last (headRefusal s))
+  of-form-this = of-form-same limit f s
 
   pub of-form-is : readOfForm f s .refusal ≡ 0 → (readOfForm f s ≡ readHead s) × (readHead s .form ≡ f)
   of-form-is e =
       let (a, (b, m)) = of-form-answers .met e in
       let q = of-form-this a b in (
         q,
-        ap (λ (h : Head). h .form) (sym q ∙ sym (of-form-accepted (sym of-form-refusal-is ∙ e))) ∙ ap formOf b ∙ form-back f,
+        ap (λ (h : Head). h .form) (sym q ∙ sym (of-form-told limit f s (sym (of-form-number limit f s) ∙ e))) ∙ ap formOf b ∙ form-back f,
       )
 
   pub of-form-when : readHead s .refusal ≡ 0 → readHead s .form ≡ f → readOfForm f s ≡ readHead s
-  of-form-when e q =
-      let z = sym (refusal-is limit s) ∙ e in
-      let p = parts s z in
-      of-form-this (p .form-told) (sym (p .form-one) ∙ ap formNumber (ap (λ (h : Head). h .form) (accepted limit s z) ∙ q))
+  of-form-when e q = let (a, b) = form-stated s e in of-form-this a (b ∙ ap formNumber q)
 
   -- the ways of `read_of_form`
   module _ {n : Number} (en : n ≡ readNumber s 0) where
@@ -448,7 +417,7 @@ module _ (s : List ℕ) where
   rows-given (here x) = here x
   rows-given (then a (here x)) = then a (here x)
   rows-given (then a (then b (here x))) = absurd (x a)
-  rows-given (then a (then b (then c (here x)))) = absurd (x (two-forms _ .1 (inl b)))
+  rows-given (then a (then b (then c (here x)))) = absurd (x (inl b))
   rows-given (then a (then b (then c (then d (here x))))) = then a (then b (here x))
   rows-given (then a (then b (then c (then d (then w (here x)))))) = then a (then b (then w (here x)))
   rows-given (then a (then b (then c (then d (then w (then h (here x))))))) = absurd (x (ap (λ (r : Number). r .refusal) (no-colour b)))
@@ -481,18 +450,49 @@ rows-read-back w h z rest =
     let e = head-read-back w h z rest in
     of-form-when Rows (headBytes w h ++ rest) (ap (λ (x : Head). x .refusal) e) (ap (λ (x : Head). x .form) e) ∙ e
 
--- MAPS UP TO 16,384: a head that the old limit accepted is read as it was; of any other that is accepted now, a console with the old
--- limit answers 9; and the largest side has three groups
-pub stored-heads-keep : (s : List ℕ) → readHeadUpTo oldLimit s .refusal ≡ 0 → readHead s ≡ readHeadUpTo oldLimit s
-stored-heads-keep s = head-kept oldLimit limit s (omega arith)
+-- MAPS UP TO 16,384, AND TILES: a head that a console of before accepted is read as it was; of any other of form 1 that is accepted now such
+-- a console answers 9, and of any sheet of form 2 it answers 8, whatever stands behind the form
+module _ (s : List ℕ) (e : oldHead s .refusal ≡ 0) where
+  in-rows : (formIn s .refusal ≡ 0) × (formIn s .value ≡ formNumber Rows)
+  in-rows = let (a, (b, m)) = of-form-rules oldLimit Rows s .met (sym (of-form-number oldLimit Rows s) ∙ e) in (a, b)
 
-pub old-console-refuses : (s : List ℕ) → readHead s .refusal ≡ 0 → (oldLimit < readHead s .width) ⊎ (oldLimit < readHead s .height)
-    → readHeadUpTo oldLimit s ≡ headOf 9 0 0 0
-old-console-refuses s e above = head-refused-before oldLimit limit s e (λ z. larger (z .within-wide) (z .within-high) above)
+  pub stored-heads-keep : readHead s ≡ oldHead s
+  stored-heads-keep =
+      let q = of-form-same oldLimit Rows s (in-rows .0) (in-rows .1) in
+      head-kept oldLimit limit s (omega arith) (ap (λ (h : Head). h .refusal) (sym q) ∙ e) ∙ sym q
+
+  pub stored-rows-keep : readOfForm Rows s ≡ oldHead s
+  stored-rows-keep = of-form-this Rows s (in-rows .0) (in-rows .1) ∙ stored-heads-keep
+
+pub old-console-refuses : (s : List ℕ) → readHead s .refusal ≡ 0 → readHead s .form ≡ Rows
+    → (oldLimit < readHead s .width) ⊎ (oldLimit < readHead s .height) → oldHead s ≡ headOf 9 0 0 0
+old-console-refuses s e f above =
+    let (a, b) = form-stated s e in
+    of-form-same oldLimit Rows s a (b ∙ ap formNumber f)
+    ∙ head-refused-before oldLimit limit s e (λ z. larger (z .within-wide) (z .within-high) above)
   where
     larger : {w h : ℕ} → w ≤ oldLimit → h ≤ oldLimit → (oldLimit < w) ⊎ (oldLimit < h) → ⊥
     larger a b = ⊎-elim (λ l. omega (arith, a, l)) (λ l. omega (arith, b, l))
 
+pub old-console-knows-no-tiles : (s : List ℕ) → formIn s .value ≡ formNumber Tiles → oldHead s ≡ headOf 8 0 0 0
+unfolding formIn readNumber Told
+old-console-knows-no-tiles s e = sym (of-form-not oldLimit Rows s 8 (then stands (here (apart e))) (λ q. omega arith))
+  where
+    stands : formIn s .refusal ≡ 0
+    stands = ⊎-elim (λ n. absurd (there (ap (λ (r : Number). r .value) n) e)) (λ o. o .0) (told 3 0 (drop 0 s))
+      where
+        there : {n : ℕ} → n ≡ 0 → n ≡ formNumber Tiles → ⊥
+        there a b = omega (arith, a, b)
+
+    apart : {n : ℕ} → n ≡ formNumber Tiles → n ≡ formNumber Rows → ⊥
+    apart a b = omega (arith, a, b)
+
+pub old-head-empty : (s : List ℕ) → oldHead s .refusal ≢ 0 → oldHead s ≡ headOf (oldHead s .refusal) 0 0 0
+old-head-empty s ne =
+    let e = of-form-number oldLimit Rows s in
+    sym (of-form-not oldLimit Rows s (oldHead s .refusal) (rw e (of-form-rules oldLimit Rows s .given)) ne)
+
+-- the largest side has three groups
 pub largest-side : numberBytes limit ≡ 0x80 ∷ 0x80 ∷ 0x01 ∷ []
 unfolding groups
 largest-side = refl
@@ -526,3 +526,23 @@ across-shows-all n = omega arith
 
 pub across-as-few : (n : ℕ) → 1 ≤ n → 4 * (across n - 1) < n
 across-as-few n l = omega (arith, l)
+
+-- EACH BLOCK HAS EXACTLY ONE PLACE, in either form
+pub record ExactlyOnePlace (h : Head) : Type 0 where
+  -- from a block's number to its stored number and back, both ways, on all numbers below the count
+  pub both-ways : Inverse (blocksOf h) (storedAt h) (numberAt h)
+  -- no two blocks share a byte
+  pub apart : (a b : ℕ) → a < blocksOf h → b < blocksOf h → a ≢ b → (placeOf h a + 16 ≤ placeOf h b) ⊎ (placeOf h b + 16 ≤ placeOf h a)
+  -- each stands behind the head and ends within the sheet
+  pub within : (b : ℕ) → b < blocksOf h → (h .start ≤ placeOf h b) × (placeOf h b + 16 ≤ wholeLength h)
+  -- each sixteen bytes behind the head belong to one block
+  pub filled : (p : ℕ) → p < blocksOf h → (numberAt h p < blocksOf h) × (placeOf h (numberAt h p) ≡ h .start + 16 * p)
+
+pub exactly-one-place : (s : List ℕ) → readHead s .refusal ≡ 0 → ExactlyOnePlace (readHead s)
+unfolding blocksOf
+exactly-one-place s e = record {
+  both-ways = one-order (readHead s) (some-blocks (head-sized s e));
+  apart = blocks-apart (readHead s);
+  within = λ b l. (blocks-behind-head (readHead s) b, blocks-within (readHead s) b l);
+  filled = λ p l. (numbered-in (readHead s) p l, each-place (readHead s) p l);
+}

@@ -2,6 +2,7 @@
 -- Assumes nothing.
 use Prim.Native.Nat.{ℕ, _≤_}
 use mathlib.Core.Path.{_≡_}
+use mathlib.Core.Logic.{_⊎_}
 use mathlib.Core.Bool.{Bool, not}
 use mathlib.Core.List.{List, [], _∷_, _++_}
 use lib.Dec.{eqb, leb}
@@ -29,9 +30,9 @@ unfoldable pub formOf : ℕ → Form
 formOf n = pick (eqb n 2) Tiles Rows
 
 abbrev pub IsForm : ℕ → Type 0
-IsForm n = formNumber (formOf n) ≡ n
+IsForm n = (n ≡ formNumber Rows) ⊎ (n ≡ formNumber Tiles)
 
--- the largest width and height; the largest that consoles took before
+-- the largest width and height; the largest that consoles of before took
 abbrev pub limit : ℕ
 limit = 16384
 
@@ -126,19 +127,29 @@ under c h = headIn (h .form) c (h .refusal) (h .width) (h .height) (h .start)
 abbrev pub headTold : List ℕ → Head
 headTold s = headIn (formOf (formIn s .value)) (colourOf (colourIn s .value)) 0 (widthIn s .value) (heightIn s .value) (colourIn s .next)
 
--- reading a head, where the largest side is `top`: a console of before reads with `oldLimit`
+-- reading a head of either form, where the largest side is `top`
 unfoldable pub readHeadUpTo : ℕ → List ℕ → Head
 readHeadUpTo top s = pick (eqb (headRefusalUpTo top s) 0) (headTold s) (headOf (headRefusalUpTo top s) 0 0 0)
 
 abbrev pub readHead : List ℕ → Head
 readHead s = readHeadUpTo limit s
 
--- ONE FORM ONLY, for a call that takes no other: 8 for the other form, before anything behind it; else as `readHead`
-unfoldable pub ofFormRefusal : Form → List ℕ → ℕ
-ofFormRefusal f s = first (formIn s .refusal ∷ refuse 8 (not (eqb (formIn s .value) (formNumber f))) ∷ headRefusal s ∷ [])
+-- ONE FORM ONLY, for a call that takes no other: 8 for the other form, before anything behind it; else as `readHeadUpTo`
+unfoldable pub ofFormRefusalUpTo : ℕ → Form → List ℕ → ℕ
+ofFormRefusalUpTo top f s = first (formIn s .refusal ∷ refuse 8 (not (eqb (formIn s .value) (formNumber f))) ∷ headRefusalUpTo top s ∷ [])
 
-unfoldable pub readOfForm : Form → List ℕ → Head
-readOfForm f s = pick (eqb (ofFormRefusal f s) 0) (headTold s) (headOf (ofFormRefusal f s) 0 0 0)
+abbrev pub ofFormRefusal : Form → List ℕ → ℕ
+ofFormRefusal f s = ofFormRefusalUpTo limit f s
+
+unfoldable pub readOfFormUpTo : ℕ → Form → List ℕ → Head
+readOfFormUpTo top f s = pick (eqb (ofFormRefusalUpTo top f s) 0) (headTold s) (headOf (ofFormRefusalUpTo top f s) 0 0 0)
+
+abbrev pub readOfForm : Form → List ℕ → Head
+readOfForm f s = readOfFormUpTo limit f s
+
+-- A CONSOLE OF BEFORE maps up to 16,384 and tiles: it has the old limit, and knows form 1 alone
+abbrev pub oldHead : List ℕ → Head
+oldHead s = readOfFormUpTo oldLimit Rows s
 
 -- for form 1 alone: 7 and 8 on the form, 7 on width and height, then 9
 abbrev pub rowsRules : List ℕ → List Rule
@@ -150,8 +161,11 @@ rowsRules s =
     unless 9 (Sized (widthIn s .value) (heightIn s .value)) ∷
     []
 
+abbrev pub ofFormRulesUpTo : ℕ → Form → List ℕ → List Rule
+ofFormRulesUpTo top f s = handed (formIn s .refusal) ∷ unless 8 (formIn s .value ≡ formNumber f) ∷ headRulesUpTo top s
+
 abbrev pub ofFormRules : Form → List ℕ → List Rule
-ofFormRules f s = handed (formIn s .refusal) ∷ unless 8 (formIn s .value ≡ formNumber f) ∷ headRules s
+ofFormRules f s = ofFormRulesUpTo limit f s
 
 -- the bytes of a head of form 1, and of form 2 with the number of a colour space
 unfoldable pub headBytes : ℕ → ℕ → List ℕ

@@ -23,4 +23,7 @@ pub mod Replacing
 pub mod Masks
 pub mod Barred
 pub mod Lanes
+pub mod Counting
+pub mod Inverse
+pub mod Sums
 pub mod calls

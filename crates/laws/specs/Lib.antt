@@ -5,3 +5,5 @@ pub mod Digits
 pub mod Refusals
 pub mod Padding
 pub mod Text
+pub mod Counting
+pub mod Inverse

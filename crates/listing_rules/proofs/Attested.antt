@@ -19,12 +19,13 @@ use Rattle.bc7_format.specs.Places.{atPlace, opened, placeAt, pos, width, width
 use Rattle.bc7_format.specs.Splits.{splitAt, splitOf}
 use Rattle.bc7_format.proofs.Examples.{block3, block4}
 use Rattle.head_rules.specs.Geometry.{blocksOf}
-use Rattle.tile_rules.specs.Counting.{kept}
+use Rattle.laws.specs.Counting.{kept}
 use Rattle.tile_rules.specs.Tiles.{numberInTiles, columnAt, columnOfSlot, inSheet, rowAt, rowOfSlot, slots, storedOrder, tiles}
 use Rattle.tile_rules.specs.Tiles as tiling
 use Rattle.head_rules.specs.Colours.{colourOf, colourRefusal}
 use Rattle.head_rules.specs.Geometry.{numberAt}
-use Rattle.head_rules.specs.Heads.{colourIn, formIn, formOf, headRefusalUpTo, heightIn, readHead, readHeadUpTo, sizeRefusalUpTo, widthIn}
+use Rattle.head_rules.specs.Heads.{colourIn, formIn, formOf, headRefusalUpTo, heightIn, ofFormRefusalUpTo, oldHead, readHead, readHeadUpTo}
+use Rattle.head_rules.specs.Heads.{readOfFormUpTo, sizeRefusalUpTo, widthIn}
 use Rattle.head_rules.specs.Numbers.{raised, readGroups, readNumber}
 use Rattle.laws.specs.Text.{ascii, decimal, digitsIn, refusedText}
 use Rattle.listing_rules.specs.Text.{blockText, channels, opacityMark, sheetText}
@@ -77,3 +78,11 @@ unfolding text listingBy blocksListing listed blocksText blockListed readHeadUpT
     indexPlace own lineOf lineBits meansStored rotated lineAt shown pixel pixels implies isVisible passes opaque opaqueIn colourIn formOf numberAt
     colourRefusal numberInTiles storedOrder kept inSheet columnAt columnOfSlot rowAt rowOfSlot slots tiles tiling.numberInSlot
 tiled-holds = refl
+
+-- by a console of before, of a sheet of 4,097 by 1, and of one of form 2 with all of its blocks
+pub before-holds : map (λ (s : List ℕ). listingBy (oldHead s) s)
+    ((0x01 ∷ 0x81 ∷ 0x20 ∷ 0x01 ∷ replicate 16400 0) ∷ (0x02 ∷ 0x04 ∷ 0x04 ∷ 0x00 ∷ block3) ∷ [])
+    ≡ map text (("refused 9" ∷ []) ∷ ("refused 8" ∷ []) ∷ [])
+unfolding text listingBy readOfFormUpTo ofFormRefusalUpTo headRefusalUpTo formIn widthIn heightIn colourIn formOf colourRefusal readNumber readGroups
+    raised first sizeRefusalUpTo refusedText decimal digitsIn ascii
+before-holds = refl

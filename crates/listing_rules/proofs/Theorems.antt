@@ -16,12 +16,14 @@ use Rattle.bc7_format.specs.Lines.{shown, valuePlace}
 use Rattle.bcn_format.specs.Partitions.{anchors2, anchors3, digits, marks, strings2, strings3, subset2, subset3}
 use Rattle.bc7_format.specs.Places.{atPlace, opened, placeAt, pos, width, widths}
 use Rattle.bc7_format.specs.Splits.{splitAt, splitOf}
+use Rattle.head_rules.specs.declared.Form.the-variants.{Rows, Tiles}
 use Rattle.head_rules.specs.declared.Head.{Head}
 use Rattle.head_rules.specs.Geometry.{blocksOf}
 use Rattle.head_rules.specs.Colours.{colourRefusal}
 use Rattle.head_rules.specs.Geometry.{numberAt}
-use Rattle.head_rules.specs.Heads.{colourIn, formIn, formOf, headRefusalUpTo, heightIn, oldLimit, readHead, readHeadUpTo, sizeRefusalUpTo, widthIn}
-use Rattle.head_rules.proofs.Theorems.{old-console-refuses, stored-heads-keep}
+use Rattle.head_rules.specs.Heads.{colourIn, formIn, formNumber, formOf, headRefusalUpTo, heightIn, oldHead, oldLimit, readHead, readHeadUpTo}
+use Rattle.head_rules.specs.Heads.{sizeRefusalUpTo, widthIn}
+use Rattle.head_rules.proofs.Theorems.{old-console-knows-no-tiles, old-console-refuses, stored-heads-keep}
 use Rattle.head_rules.specs.Numbers.{raised, readGroups, readNumber}
 use Rattle.laws.specs.Text.{ascii, decimal, digitsIn, newline, refusedText}
 use Rattle.listing_rules.specs.Text.{blockText, channels, opacityMark, sheetText}
@@ -44,15 +46,19 @@ one-run (over e) (round n r) = absurd (n e)
 one-run (round n r) (over e) = absurd (n e)
 one-run {m} {s} (round n r) (round o q) = ap (λ (t : List ℕ). textOf m (take (wantedOf m) s) ++ t) (one-run r q)
 
--- MAPS UP TO 16,384: what the old limit accepted is listed as it was, and of anything else that is accepted now a console with the old
--- limit prints `refused 9` and nothing more
-pub stored-sheets-list : (s : List ℕ) → readHeadUpTo oldLimit s .refusal ≡ 0 → listing s ≡ listingBy (readHeadUpTo oldLimit s) s
+-- MAPS UP TO 16,384, AND TILES: what a console of before accepted is listed as it was; of any other sheet of form 1 that is accepted now such
+-- a console prints `refused 9` and nothing more, and of any sheet of form 2 `refused 8`
+pub stored-sheets-list : (s : List ℕ) → oldHead s .refusal ≡ 0 → listing s ≡ listingBy (oldHead s) s
 stored-sheets-list s e = ap (λ (h : Head). listingBy h s) (stored-heads-keep s e)
 
-pub old-console-lists-nothing : (s : List ℕ) → readHead s .refusal ≡ 0 → (oldLimit < readHead s .width) ⊎ (oldLimit < readHead s .height)
-    → listingBy (readHeadUpTo oldLimit s) s ≡ refusedText 9
+pub old-console-lists-nothing : (s : List ℕ) → readHead s .refusal ≡ 0 → readHead s .form ≡ Rows
+    → (oldLimit < readHead s .width) ⊎ (oldLimit < readHead s .height) → listingBy (oldHead s) s ≡ refusedText 9
 unfolding listingBy
-old-console-lists-nothing s e above = rw (old-console-refuses s e above)
+old-console-lists-nothing s e f above = rw (old-console-refuses s e f above)
+
+pub old-console-lists-no-tiles : (s : List ℕ) → formIn s .value ≡ formNumber Tiles → listingBy (oldHead s) s ≡ refusedText 8
+unfolding listingBy
+old-console-lists-no-tiles s e = rw (old-console-knows-no-tiles s e)
 
 -- any two results that a promise admits coincide: the output whole, and the place behind the text
 module _ {before after after' : List ℕ} {at next next' : ℕ} where

@@ -6,14 +6,14 @@ use Prim.Native.Nat.{ℕ}
 use lib.ListN.{replicate}
 use Rattle.laws.specs.Refusals.{first}
 use Rattle.laws.specs.Tables.{table, tableFrom}
-use Rattle.tile_rules.specs.Counting.{count, kept}
+use Rattle.laws.specs.Counting.{count, kept}
 use Rattle.tile_rules.specs.Moves.{moved, movedByte}
 use Rattle.tile_rules.specs.Tiles.{numberInTiles, columnAt, columnOfSlot, inSheet, numberInSlot, slotIn, storedInTiles, rowAt, rowOfSlot, slotOf, slots, storedOrder}
 use Rattle.tile_rules.specs.Tiles.{tiles}
 use Rattle.head_rules.specs.declared.Form.the-variants.{Rows, Tiles}
 use Rattle.head_rules.specs.Colours.{colourOf, colourRefusal}
 use Rattle.head_rules.specs.Geometry.{blocksOf}
-use Rattle.head_rules.specs.Heads.{colourIn, formIn, formOf, headBytes, headRefusalUpTo, heightIn, ofFormRefusal, readHeadUpTo, readOfForm}
+use Rattle.head_rules.specs.Heads.{colourIn, formIn, formOf, headBytes, headRefusalUpTo, heightIn, ofFormRefusalUpTo, readHeadUpTo, readOfFormUpTo}
 use Rattle.head_rules.specs.Heads.{sizeRefusalUpTo, tiledBytes, widthIn}
 use Rattle.head_rules.specs.Numbers.{groups, raised, readGroups, readNumber}
 use Rattle.move_rules.specs.Moving.{moveAfter, moveRefusal, movedTo}
@@ -42,7 +42,7 @@ pub record Moves : Type 0 where
   pub refused-leaves : moveAfter Rows (inTiles 2) (replicate 99 9) ≡ replicate 99 9
 
 pub moves-hold : Moves
-unfolding moveAfter moveRefusal movedTo readOfForm ofFormRefusal first groups readGroups readNumber raised readHeadUpTo headRefusalUpTo formIn widthIn
+unfolding moveAfter moveRefusal movedTo readOfFormUpTo ofFormRefusalUpTo first groups readGroups readNumber raised readHeadUpTo headRefusalUpTo formIn widthIn
     heightIn colourIn sizeRefusalUpTo headBytes tiledBytes blocksOf colourOf colourRefusal formOf storedInTiles count slotOf slotIn inSheet columnAt
     columnOfSlot rowAt rowOfSlot tiles moved movedByte table tableFrom numberInTiles storedOrder kept numberInSlot slots
 moves-hold = record { to-tiles = refl; to-rows = refl; tiles-answers = refl; rows-answers = refl; stated = refl; refused-leaves = refl }

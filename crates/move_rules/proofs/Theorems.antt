@@ -16,7 +16,7 @@ use Rattle.laws.proofs.Refusals.{Answers, Decided, accepted-when, answers, by-a
 use Rattle.tile_rules.specs.Moves.{toRows, toTiles}
 use Rattle.tile_rules.specs.Tiles.{numberInTiles, storedInTiles}
 use Rattle.tile_rules.proofs.Moving.{moved-long, moved-piece}
-use Rattle.tile_rules.proofs.Theorems.{back-and-there, block-in-tiles, place-lt, there-and-back}
+use Rattle.tile_rules.proofs.Theorems.{back-and-there, block-in-tiles, stored-within as place-lt, there-and-back}
 use Rattle.head_rules.specs.declared.ColourSpace.{ColourSpace}
 use Rattle.head_rules.specs.declared.ColourSpace.the-variants.{Unspecified, Linear, Srgb}
 use Rattle.head_rules.specs.declared.Form.{Form}

@@ -13,7 +13,8 @@ use Rattle.laws.specs.Tables.{over}
 use Rattle.tile_rules.specs.Moves.{toRows, toTiles}
 use Rattle.tile_rules.specs.Tiles.{numberInTiles, storedInTiles}
 use Rattle.tile_rules.proofs.Moving.{Moving, moving-all, moving-next, moving-none, piece-room}
-use Rattle.tile_rules.proofs.Theorems.{block-lt, block-of-place, has-columns, place-lt, place-of-block}
+use Rattle.tile_rules.proofs.Theorems.{has-columns, number-of-stored as block-of-place, number-within as block-lt, stored-of-number as place-of-block}
+use Rattle.tile_rules.proofs.Theorems.{stored-within as place-lt}
 use Rattle.tiles.proofs.Sizes.{few}
 
 sixteen : 0 < 16

@@ -14,11 +14,12 @@ use Rattle.bc7_format.specs.Lines.{eight, anchorOf, indexSetOf, has, indexPlace
 use Rattle.bc7_format.specs.Lines.{pixels, rotated, shown, turned, valuePlace, withLine}
 use Rattle.bc7_format.specs.Places.{atPlace, blockOf, listOf, opened, placeAt, pos, width, widths}
 use Rattle.bc7_format.specs.Splits.{splitAt, splitOf}
-use Rattle.tile_rules.specs.Counting.{count}
+use Rattle.laws.specs.Counting.{count}
 use Rattle.tile_rules.specs.Tiles.{columnAt, columnOfSlot, inSheet, slotIn, storedInTiles, rowAt, rowOfSlot, slotOf, tiles}
 use Rattle.head_rules.specs.Colours.{colourOf, colourRefusal}
 use Rattle.head_rules.specs.Geometry.{across, blocksOf, placeOf, sideShown, storedAt}
-use Rattle.head_rules.specs.Heads.{colourIn, formIn, formOf, headOf, headRefusalUpTo, heightIn, readHeadUpTo, sizeRefusalUpTo, widthIn}
+use Rattle.head_rules.specs.Heads.{colourIn, formIn, formOf, headOf, headRefusalUpTo, heightIn, ofFormRefusalUpTo, oldHead, readHeadUpTo}
+use Rattle.head_rules.specs.Heads.{readOfFormUpTo, sizeRefusalUpTo, widthIn}
 use Rattle.head_rules.specs.Numbers.{raised, readGroups, readNumber}
 use Rattle.line_rules.specs.Replace.{after, indexFits, lineFits, lineGiven, oriented, ownWidth, pFits, put, refusal, refusalIn, replaced, valueFits}
 use Rattle.sheet_rules.specs.Pictures.{allBlocks, picture, pictureByte, rowOf}
@@ -209,3 +210,20 @@ sheets-hold = record {
   answers = refl;
   sheets = refl;
 }
+
+-- BY A CONSOLE OF BEFORE: the small sheet is corrected; one of 4,097 by 1 is not, nor is one of form 2, and their bytes stay
+abbrev larger : List ℕ
+larger = 0x01 ∷ 0x81 ∷ 0x20 ∷ 0x01 ∷ replicate 16400 0
+
+pub record Before : Type 0 where
+  pub answers : map (λ (s : List ℕ). sheetRefusalBy (oldHead s) s 2 0 given) (small ∷ larger ∷ tiles3 shade30 ∷ []) ≡ 0 ∷ 9 ∷ 8 ∷ []
+  pub sheets : map (λ (s : List ℕ). sheetAfterBy (oldHead s) s 2 0 given) (small ∷ larger ∷ tiles3 shade30 ∷ [])
+      ≡ smallReplaced ∷ larger ∷ tiles3 shade30 ∷ []
+
+pub before-holds : Before
+unfolding over table tableFrom modeRow kindOfMode endpointCount placeAt pos width widths trailing number modeOf splitAt splitOf atPlace opened has
+    valuePlace pPlace indexSetOf indexPlace own lineOf lineBits lineAt blockAt blockBy blocksOf findRefusalBy placeOf putBlock replacedBy
+    sheetAfterBy sheetRefusalBy first sizeRefusalUpTo readHeadUpTo headRefusalUpTo readOfFormUpTo ofFormRefusalUpTo formIn widthIn heightIn
+    readNumber readGroups raised replaced after refusal refusalIn lineFits valueFits pFits indexFits ownWidth lineGiven put oriented withLine laid
+    turned anchorOf blockOf listOf bytesOf colourIn formOf colourOf colourRefusal storedAt meansStored
+before-holds = record { answers = refl; sheets = refl }

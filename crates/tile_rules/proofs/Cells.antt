@@ -1,11 +1,12 @@
--- Cells of side s, row by row, in w columns and h rows of blocks: the cell that holds a place is found again, and the number of the
--- block at a place is the one computed.
+-- Cells of side s, row by row, in w columns and h rows of blocks: the cell that holds a block is found again by how many are stored before
+-- it, and so is the block's number.
 -- Assumes nothing.
 use mathlib.Core.Path.{_≡_, _∙_, ap, ap₂, sym}
 use mathlib.Core.Logic.{⊎-elim}
 use mathlib.Core.Bool.{Bool}
 use Prim.Native.Nat.{ℕ, _+_, _-_, _*_, _/_, _%_, _<_, _≤_}
-use native.Mathlib.Nat.{add-assoc, add-mul, add-zero, div-add-mod', div-lt-iff-lt-mul, lt-of-mul-lt-mul-right, mod-lt, mul-assoc, mul-comm, mul-le-mul-left, mul-le-mul-right, mul-pos}
+use native.Mathlib.Nat.{add-assoc, add-mul, add-zero, div-add-mod', div-lt-iff-lt-mul, lt-of-mul-lt-mul-right, mod-lt, mul-assoc, mul-comm}
+use native.Mathlib.Nat.{mul-le-mul-left, mul-le-mul-right, mul-pos}
 use native.Mathlib.Omega.{arith}
 use lib.Arith.{digits-div, digits-mod}
 use lib.Dec.{T, eqb, eqb→eq, lit<}
@@ -14,9 +15,9 @@ use Rattle.laws.proofs.Cases.{lt-or}
 use Rattle.laws.proofs.Tests.{at, both-left, both-right}
 use Rattle.tile_rules.specs.Computed.{ahead, cellAt, columnInTile, left, numberFrom, orderAt, orderInTile, rowInTile}
 use Rattle.tile_rules.specs.Tiles.{numberInTiles, columnOfSlot, slotIn, rowOfSlot}
-use Rattle.tile_rules.proofs.InTile.{columnIn-place, place-lt, rowIn-place}
-use Rattle.tile_rules.proofs.Theorems.{block-lt, place-of-block}
-use Rattle.tile_rules.proofs.Tiling.{place-is}
+use Rattle.tile_rules.proofs.InTile.{column-of-slot, row-of-slot, slot-small}
+use Rattle.tile_rules.proofs.Theorems.{number-within, stored-of-number}
+use Rattle.tile_rules.proofs.Tiling.{stored-is}
 
 -- what is cut off at whole cells
 module _ (s n a m : ℕ) (hs : 0 < s) (ha : 0 < a) (h : m < n * a) where
@@ -38,7 +39,7 @@ module _ (s n a m : ℕ) (hs : 0 < s) (ha : 0 < a) (h : m < n * a) where
       omega (arith, parts))
       (λ l. let e : left s n q ≡ s = omega arith in rw e (mod-lt m (mul-pos hs ha))) (lt-or (n - s * q) s)
 
--- a place within a cell
+-- a block within a cell, z of whose blocks are stored before it
 module _ (s w h x y z : ℕ) (hs : 0 < s) (hx : s * x < w) (hy : s * y < h) (hz : z < left s h y * left s w x) where
   row-room : s * x * left s h y + z < left s h y * w
   row-room =
@@ -94,7 +95,7 @@ eighth t h = eqb→eq (4 * (t / 4 % 2) + 2 * (t / 2 % 2) + t % 2) t (at 8 bits-o
 halves : (x : ℕ) → 8 * (x / 8) + (4 * (x % 8 / 4 % 2) + 2 * (x % 8 / 2 % 2) + x % 8 % 2) ≡ x
 halves x = omega (arith, eighth (x % 8) (omega arith))
 
--- from column and row to the place, and back
+-- from column and row to the stored number, and back
 module _ (c r x y : ℕ) (hx : x < c) (hy : y < r) where
   pub number-again : numberFrom c r (orderAt c r x y) ≡ y * c + x
   unfolding numberFrom rowInTile columnInTile orderAt orderInTile
@@ -140,40 +141,45 @@ module _ (c r x y : ℕ) (hx : x < c) (hy : y < r) where
       )
       (ap₂ (λ (i j : ℕ). i * c + j) (halves y) (halves x))
 
--- in a tile that is whole within the sheet both are the interleaved place
+-- in a tile that is whole within the sheet both go by the slot
+by-slot : ℕ → Bool
+by-slot p = both (eqb (columnInTile 8 8 p) (columnOfSlot p)) (eqb (rowInTile 8 8 p) (rowOfSlot p))
+
 whole : ℕ → Bool
-whole p = both (eqb (orderInTile 8 8 (columnOfSlot p) (rowOfSlot p)) p) (both (eqb (columnInTile 8 8 p) (columnOfSlot p)) (eqb (rowInTile 8 8 p) (rowOfSlot p)))
+whole p = both (eqb (orderInTile 8 8 (columnOfSlot p) (rowOfSlot p)) p) (by-slot p)
 
 each-whole : T (below 64 whole)
-unfolding whole orderInTile columnInTile rowInTile cellAt columnOfSlot rowOfSlot
+unfolding whole by-slot orderInTile columnInTile rowInTile cellAt columnOfSlot rowOfSlot
 each-whole = tt
 
 module _ (p : ℕ) (h : p < 64) where
   at-whole : T (whole p)
   at-whole = at 64 whole each-whole p h
 
-  pub whole-place : orderInTile 8 8 (columnOfSlot p) (rowOfSlot p) ≡ p
+  pub whole-slot : orderInTile 8 8 (columnOfSlot p) (rowOfSlot p) ≡ p
   unfolding whole
-  whole-place = eqb→eq _ p (both-left (eqb (orderInTile 8 8 (columnOfSlot p) (rowOfSlot p)) p) (both (eqb (columnInTile 8 8 p) (columnOfSlot p)) (eqb (rowInTile 8 8 p) (rowOfSlot p))) at-whole)
+  whole-slot = eqb→eq _ p (both-left (eqb (orderInTile 8 8 (columnOfSlot p) (rowOfSlot p)) p) (by-slot p) at-whole)
 
-  halfway : T (both (eqb (columnInTile 8 8 p) (columnOfSlot p)) (eqb (rowInTile 8 8 p) (rowOfSlot p)))
+  halfway : T (by-slot p)
   unfolding whole
-  halfway = both-right (eqb (orderInTile 8 8 (columnOfSlot p) (rowOfSlot p)) p) (both (eqb (columnInTile 8 8 p) (columnOfSlot p)) (eqb (rowInTile 8 8 p) (rowOfSlot p))) at-whole
+  halfway = both-right (eqb (orderInTile 8 8 (columnOfSlot p) (rowOfSlot p)) p) (by-slot p) at-whole
 
   pub whole-column : columnInTile 8 8 p ≡ columnOfSlot p
+  unfolding by-slot
   whole-column = eqb→eq _ (columnOfSlot p) (both-left (eqb (columnInTile 8 8 p) (columnOfSlot p)) (eqb (rowInTile 8 8 p) (rowOfSlot p)) halfway)
 
   pub whole-row : rowInTile 8 8 p ≡ rowOfSlot p
+  unfolding by-slot
   whole-row = eqb→eq _ (rowOfSlot p) (both-right (eqb (columnInTile 8 8 p) (columnOfSlot p)) (eqb (rowInTile 8 8 p) (rowOfSlot p)) halfway)
 
 pub whole-interleaved : (x y : ℕ) → x < 8 → y < 8 → orderInTile 8 8 x y ≡ slotIn x y
 whole-interleaved x y hx hy =
-    ap₂ (orderInTile 8 8) (sym (columnIn-place x y hx hy)) (sym (rowIn-place x y hx hy)) ∙ whole-place (slotIn x y) (place-lt x y)
+    ap₂ (orderInTile 8 8) (sym (column-of-slot x y hx hy)) (sym (row-of-slot x y hx hy)) ∙ whole-slot (slotIn x y) (slot-small x y)
 
 -- THE CLOSED FORM of the inverse
-pub block-is : (c r p : ℕ) → 0 < c → p < r * c → numberInTiles c r p ≡ numberFrom c r p
-block-is c r p hc h =
+pub number-is : (c r p : ℕ) → 0 < c → p < r * c → numberInTiles c r p ≡ numberFrom c r p
+number-is c r p hc h =
     let b = numberInTiles c r p in
-    let l : b < r * c = block-lt c r hc p h in
-    sym (ap (numberFrom c r) (sym (place-of-block c r hc p h) ∙ place-is c r b hc l)
+    let l : b < r * c = number-within c r hc p h in
+    sym (ap (numberFrom c r) (sym (stored-of-number c r hc p h) ∙ stored-is c r b hc l)
     ∙ number-again c r (b % c) (b / c) (mod-lt b hc) (div-lt-iff-lt-mul {k = c} {x = b} {y = r} hc .1 l) ∙ div-add-mod' b c)

@@ -1,4 +1,4 @@
--- A tile of 8 by 8: column and row interleaved to a place, and parted again.
+-- A tile of 8 by 8: column and row interleaved to a slot, and parted again.
 -- Assumes nothing.
 use mathlib.Core.Path.{_≡_}
 use mathlib.Core.Bool.{Bool}
@@ -17,9 +17,9 @@ pub row-lt : (p : ℕ) → rowOfSlot p < 8
 unfolding rowOfSlot
 row-lt p = omega arith
 
-pub place-lt : (x y : ℕ) → slotIn x y < 64
+pub slot-small : (x y : ℕ) → slotIn x y < 64
 unfolding slotIn
-place-lt x y = omega arith
+slot-small x y = omega arith
 
 -- all 64, computed
 woven : ℕ → ℕ → Bool
@@ -33,17 +33,17 @@ each-parted : T (below 64 (λ p. eqb (slotIn (columnOfSlot p) (rowOfSlot p)) p))
 unfolding columnOfSlot rowOfSlot slotIn
 each-parted = tt
 
-pub placeIn-parted : (p : ℕ) → p < 64 → slotIn (columnOfSlot p) (rowOfSlot p) ≡ p
-placeIn-parted p h = eqb→eq _ _ (at 64 (λ p. eqb (slotIn (columnOfSlot p) (rowOfSlot p)) p) each-parted p h)
+pub slot-parted : (p : ℕ) → p < 64 → slotIn (columnOfSlot p) (rowOfSlot p) ≡ p
+slot-parted p h = eqb→eq _ _ (at 64 (λ p. eqb (slotIn (columnOfSlot p) (rowOfSlot p)) p) each-parted p h)
 
 module _ (x y : ℕ) (hx : x < 8) (hy : y < 8) where
   here : T (woven x y)
   here = at 8 (woven x) (at 8 (λ x. below 8 (woven x)) each-woven x hx) y hy
 
-  pub columnIn-place : columnOfSlot (slotIn x y) ≡ x
+  pub column-of-slot : columnOfSlot (slotIn x y) ≡ x
   unfolding woven
-  columnIn-place = eqb→eq _ _ (both-left (eqb (columnOfSlot (slotIn x y)) x) (eqb (rowOfSlot (slotIn x y)) y) here)
+  column-of-slot = eqb→eq _ _ (both-left (eqb (columnOfSlot (slotIn x y)) x) (eqb (rowOfSlot (slotIn x y)) y) here)
 
-  pub rowIn-place : rowOfSlot (slotIn x y) ≡ y
+  pub row-of-slot : rowOfSlot (slotIn x y) ≡ y
   unfolding woven
-  rowIn-place = eqb→eq _ _ (both-right (eqb (columnOfSlot (slotIn x y)) x) (eqb (rowOfSlot (slotIn x y)) y) here)
+  row-of-slot = eqb→eq _ _ (both-right (eqb (columnOfSlot (slotIn x y)) x) (eqb (rowOfSlot (slotIn x y)) y) here)

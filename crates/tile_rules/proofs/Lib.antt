@@ -1,9 +1,7 @@
-pub mod Counting
+pub mod Attested
 pub mod InTile
 pub mod Slots
 pub mod Tiling
 pub mod Moving
-pub mod Sums
 pub mod Theorems
 pub mod Cells
-pub mod Examples

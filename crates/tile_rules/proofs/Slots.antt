@@ -10,7 +10,7 @@ use lib.Dec.{ltb}
 use borrow.Author.Tests.{lt-ltb, ltb-true}
 use Rattle.laws.proofs.Tests.{both-true}
 use Rattle.tile_rules.specs.Tiles.{columnAt, columnOfSlot, inSheet, numberInSlot, slotIn, rowAt, rowOfSlot, slotOf, slots, tiles}
-use Rattle.tile_rules.proofs.InTile.{column-lt, columnIn-place, place-lt, placeIn-parted, row-lt, rowIn-place}
+use Rattle.tile_rules.proofs.InTile.{column-lt, column-of-slot, slot-small, slot-parted, row-lt, row-of-slot}
 
 pub tiles-pos : (c : ℕ) → 0 < c → 0 < tiles c
 unfolding tiles
@@ -20,7 +20,7 @@ pub tiles-reach : (c x : ℕ) → x < c → x / 8 < tiles c
 unfolding tiles
 tiles-reach c x h = omega arith
 
--- place p of the tile in column tc and row tr of tiles
+-- slot p of the tile in column tc and row tr of tiles
 module _ (c tr tc p : ℕ) (ht : tc < tiles c) (hp : p < 64) where
   tile-is : ((tr * tiles c + tc) * 64 + p) / 64 ≡ tr * tiles c + tc
   tile-is = digits-div (tr * tiles c + tc) hp
@@ -51,14 +51,14 @@ module _ (c b : ℕ) (hc : 0 < c) where
   slot-column : columnAt c (slotOf c b) ≡ b % c
   unfolding slotOf
   slot-column =
-      column-at c (b / c / 8) (b % c / 8) (slotIn (b % c % 8) (b / c % 8)) (tiles-reach c (b % c) (mod-lt b hc)) (place-lt (b % c % 8) (b / c % 8))
-      ∙ omega (arith, columnIn-place (b % c % 8) (b / c % 8) (omega arith) (omega arith))
+      column-at c (b / c / 8) (b % c / 8) (slotIn (b % c % 8) (b / c % 8)) (tiles-reach c (b % c) (mod-lt b hc)) (slot-small (b % c % 8) (b / c % 8))
+      ∙ omega (arith, column-of-slot (b % c % 8) (b / c % 8) (omega arith) (omega arith))
 
   slot-row : rowAt c (slotOf c b) ≡ b / c
   unfolding slotOf
   slot-row =
-      row-at c (b / c / 8) (b % c / 8) (slotIn (b % c % 8) (b / c % 8)) (tiles-reach c (b % c) (mod-lt b hc)) (place-lt (b % c % 8) (b / c % 8))
-      ∙ omega (arith, rowIn-place (b % c % 8) (b / c % 8) (omega arith) (omega arith))
+      row-at c (b / c / 8) (b % c / 8) (slotIn (b % c % 8) (b / c % 8)) (tiles-reach c (b % c) (mod-lt b hc)) (slot-small (b % c % 8) (b / c % 8))
+      ∙ omega (arith, row-of-slot (b % c % 8) (b / c % 8) (omega arith) (omega arith))
 
   pub number-of-slot : numberInSlot c (slotOf c b) ≡ b
   unfolding numberInSlot
@@ -72,7 +72,7 @@ module _ (c b : ℕ) (hc : 0 < c) where
   unfolding slotOf slots
   slot-lt r h =
       digits-lt (digits-lt (tiles-reach r (b / c) (div-lt-iff-lt-mul {k = c} {x = b} {y = r} hc .1 h)) (tiles-reach c (b % c) (mod-lt b hc)))
-      (place-lt (b % c % 8) (b / c % 8))
+      (slot-small (b % c % 8) (b / c % 8))
 
 -- a slot's block
 module _ (c r s : ℕ) (h : inSheet c r s ≡ true) where
@@ -90,7 +90,7 @@ module _ (c r s : ℕ) (h : inSheet c r s ≡ true) where
       let b : (8 * (s / 64 / tiles c) + rowOfSlot (s % 64)) / 8 ≡ s / 64 / tiles c = omega (arith, row-lt (s % 64)) in
       let d : (8 * (s / 64 % tiles c) + columnOfSlot (s % 64)) % 8 ≡ columnOfSlot (s % 64) = omega (arith, column-lt (s % 64)) in
       let e : (8 * (s / 64 / tiles c) + rowOfSlot (s % 64)) % 8 ≡ rowOfSlot (s % 64) = omega (arith, row-lt (s % 64)) in
-      let q : slotIn (columnOfSlot (s % 64)) (rowOfSlot (s % 64)) ≡ s % 64 = placeIn-parted (s % 64) (omega arith) in
+      let q : slotIn (columnOfSlot (s % 64)) (rowOfSlot (s % 64)) ≡ s % 64 = slot-parted (s % 64) (omega arith) in
       rw (a, b, d, e, q, div-add-mod' (s / 64) (tiles c)) (div-add-mod' s 64)
 
   pub slot-of-number : slotOf c (numberInSlot c s) ≡ s

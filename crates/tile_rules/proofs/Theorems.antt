@@ -1,25 +1,29 @@
--- EACH BLOCK OF A SHEET HAS EXACTLY ONE PLACE IN TILE ORDER, and each place one block; what follows for moves, listing and counts.
+-- In tile order each block has exactly one stored number, and each number below the count is one block's; what follows for moves; and
+-- column and row of a tile interleaved to a slot and parted again.
 -- Assumes nothing.
-use mathlib.Core.Path.{_≡_, refl, _∙_, ap, sym, subst}
+use mathlib.Core.Path.{_≡_, refl, _∙_, ap, ap₂, sym, subst}
 use mathlib.Core.Bool.{Bool}
 use mathlib.Core.Logic.{⊎-elim}
 use mathlib.Core.List.{List, [], _∷_, map}
-use Prim.Native.Nat.{ℕ, zero, suc, _*_, _<_}
+use Prim.Native.Nat.{ℕ, zero, suc, _*_, _/_, _%_, _<_}
 use native.Mathlib.Nat.{eq-zero-or-pos, le-of-suc-le-suc, mul-zero, not-suc-le-zero}
 use native.Mathlib.Omega.{arith}
-use lib.Dec.{eqb}
+use lib.Dec.{T, eqb, eqb→eq}
 use lib.ListN.{length, getD, take, drop, length-map}
-use lib.Seq.{ext-getD}
-use Rattle.laws.specs.Tables.{table}
-use Rattle.laws.proofs.Part.{getD-table, length-table}
-use Rattle.tile_rules.specs.Counting.{count, kept}
-use Rattle.tile_rules.specs.Moves.{Inverse, toRows, toTiles}
-use Rattle.tile_rules.specs.Tiles.{numberInTiles, inSheet, numberInSlot, storedInTiles, slotOf, slots, storedOrder}
-use Rattle.tile_rules.proofs.Counting.{Kept, at-kept, count-lt, kept-at, kept-long}
+use Rattle.laws.specs.Counting.{count, kept}
+use Rattle.laws.specs.Inverse.{Inverse}
+use Rattle.laws.specs.Tables.{below}
+use Rattle.laws.proofs.Counting.{Kept, at-kept, count-lt, kept-at, kept-long}
+use Rattle.laws.proofs.Inverse.{inverse-turn}
+use Rattle.laws.proofs.Tests.{at}
+use Rattle.tile_rules.specs.Computed.{orderAt, orderInTile}
+use Rattle.tile_rules.specs.Moves.{toRows, toTiles}
+use Rattle.tile_rules.specs.Tiles.{columnOfSlot, inSheet, numberInSlot, numberInTiles, rowOfSlot, slotIn, slotOf, slots, storedInTiles}
+use Rattle.tile_rules.specs.Tiles.{storedOrder}
+use Rattle.tile_rules.proofs.InTile.{column-lt, column-of-slot, row-lt, row-of-slot, slot-parted, slot-small}
 use Rattle.tile_rules.proofs.Moving.{moved-back, moved-piece}
 use Rattle.tile_rules.proofs.Slots.{number-lt, number-of-slot, slot-in, slot-lt, slot-of-number}
-use Rattle.tile_rules.proofs.Sums.{count-moved, count-one}
-use Rattle.tile_rules.proofs.Tiling.{count-all}
+use Rattle.tile_rules.proofs.Tiling.{count-all, stored-is}
 
 getD-map-in : (f : ℕ → ℕ) (l : List ℕ) (k : ℕ) → k < length l → getD (map f l) k 0 ≡ f (getD l k 0)
 getD-map-in f [] k h = absurd (not-suc-le-zero h)
@@ -31,11 +35,8 @@ pub has-columns : (c r b : ℕ) → b < r * c → 0 < c
 has-columns c r b h =
     ⊎-elim (λ e. absurd (not-suc-le-zero (subst (λ (n : ℕ). b < n) (ap (λ (n : ℕ). r * n) e ∙ mul-zero r) h))) (λ l. l) (eq-zero-or-pos c)
 
-pub inverse-turn : {n : ℕ} {f g : ℕ → ℕ} → Inverse n f g → Inverse n g f
-inverse-turn z = record { to = z .from; from = z .to; from-to = z .to-from; to-from = z .from-to }
-
 module _ (c r : ℕ) (hc : 0 < c) where
-  -- the order has as many places as the sheet has blocks
+  -- as many are stored as the sheet has blocks: nothing for the slots beyond it
   pub order-long : length (storedOrder c r) ≡ r * c
   unfolding storedOrder
   order-long = length-map (kept (slots c r) (inSheet c r)) (numberInSlot c) ∙ kept-long (slots c r) (inSheet c r) ∙ count-all c r
@@ -51,36 +52,28 @@ module _ (c r : ℕ) (hc : 0 < c) where
   unfolding numberInTiles storedOrder slot-at
   number-at p h = getD-map-in (numberInSlot c) (kept (slots c r) (inSheet c r)) p (rw (kept-long (slots c r) (inSheet c r), count-all c r) h)
 
-  pub block-lt : (p : ℕ) → p < r * c → numberInTiles c r p < r * c
-  block-lt p h = rw (number-at p h) (number-lt c r (slot-at p) (slot-kept p h .passes))
+  pub number-within : (p : ℕ) → p < r * c → numberInTiles c r p < r * c
+  number-within p h = rw (number-at p h) (number-lt c r (slot-at p) (slot-kept p h .passes))
 
-  pub place-lt : (b : ℕ) → b < r * c → storedInTiles c r b < r * c
+  pub stored-within : (b : ℕ) → b < r * c → storedInTiles c r b < r * c
   unfolding storedInTiles
-  place-lt b h = rw count-all at (count-lt (inSheet c r) (slotOf c b) (slots c r) (slot-lt c b hc r h) (slot-in c b hc r h))
+  stored-within b h = rw count-all at (count-lt (inSheet c r) (slotOf c b) (slots c r) (slot-lt c b hc r h) (slot-in c b hc r h))
 
-  pub block-of-place : (b : ℕ) → b < r * c → numberInTiles c r (storedInTiles c r b) ≡ b
+  pub number-of-stored : (b : ℕ) → b < r * c → numberInTiles c r (storedInTiles c r b) ≡ b
   unfolding storedInTiles slot-at
-  block-of-place b h =
-      number-at (storedInTiles c r b) (place-lt b h)
+  number-of-stored b h =
+      number-at (storedInTiles c r b) (stored-within b h)
       ∙ ap (numberInSlot c) (kept-at (slots c r) (inSheet c r) (slotOf c b) (slot-lt c b hc r h) (slot-in c b hc r h)) ∙ number-of-slot c b hc
 
-  pub place-of-block : (p : ℕ) → p < r * c → storedInTiles c r (numberInTiles c r p) ≡ p
+  pub stored-of-number : (p : ℕ) → p < r * c → storedInTiles c r (numberInTiles c r p) ≡ p
   unfolding storedInTiles
-  place-of-block p h =
+  stored-of-number p h =
       ap (λ (b : ℕ). count (slotOf c b) (inSheet c r)) (number-at p h)
       ∙ ap (λ (s : ℕ). count s (inSheet c r)) (slot-of-number c r (slot-at p) (slot-kept p h .passes)) ∙ slot-kept p h .before
 
-  -- each block has exactly one place and each place one block
+  -- each block has exactly one stored number, and each of them is one block's
   pub tile-order : Inverse (r * c) (storedInTiles c r) (numberInTiles c r)
-  tile-order = record { to = place-lt; from = block-lt; from-to = block-of-place; to-from = place-of-block }
-
-  pub places-apart : (a b : ℕ) → a < r * c → b < r * c → storedInTiles c r a ≡ storedInTiles c r b → a ≡ b
-  places-apart a b ha hb e = sym (block-of-place a ha) ∙ ap (numberInTiles c r) e ∙ block-of-place b hb
-
-  -- and they stand in the order of their slots: tile row, tile column, interleaved place
-  pub in-order : (a b : ℕ) → a < r * c → slotOf c a < slotOf c b → storedInTiles c r a < storedInTiles c r b
-  unfolding storedInTiles
-  in-order a b h l = count-lt (inSheet c r) (slotOf c a) (slotOf c b) l (slot-in c a hc r h)
+  tile-order = record { to = stored-within; from = number-within; from-to = number-of-stored; to-from = stored-of-number }
 
   -- moving all blocks there and back restores their bytes, both ways
   pub there-and-back : (l : List ℕ) → length l ≡ r * c * 16 → toRows c r (toTiles c r l) ≡ l
@@ -89,22 +82,46 @@ module _ (c r : ℕ) (hc : 0 < c) where
   pub back-and-there : (l : List ℕ) → length l ≡ r * c * 16 → toTiles c r (toRows c r l) ≡ l
   back-and-there l e = moved-back 16 (omega arith) tile-order l e
 
-  -- block b stands at its place
-  pub block-in-tiles : (l : List ℕ) → length l ≡ r * c * 16 → (b : ℕ) → b < r * c → take 16 (drop (16 * storedInTiles c r b) (toTiles c r l)) ≡ take 16 (drop (16 * b) l)
+  -- block b stands where its stored number says
+  pub block-in-tiles : (l : List ℕ) → length l ≡ r * c * 16 → (b : ℕ) → b < r * c
+      → take 16 (drop (16 * storedInTiles c r b) (toTiles c r l)) ≡ take 16 (drop (16 * b) l)
   block-in-tiles l e b h =
-      moved-piece 16 (omega arith) (r * c) (numberInTiles c r) l (storedInTiles c r b) e (place-lt b h) (block-lt (storedInTiles c r b) (place-lt b h))
-      ∙ ap (λ (k : ℕ). take 16 (drop (16 * k) l)) (block-of-place b h)
+      moved-piece 16 (omega arith) (r * c) (numberInTiles c r) l (storedInTiles c r b) e (stored-within b h)
+      (number-within (storedInTiles c r b) (stored-within b h))
+      ∙ ap (λ (k : ℕ). take 16 (drop (16 * k) l)) (number-of-stored b h)
 
-  -- the listing: walking the places in order gives the stored order, and each block number once
-  pub walked : table (r * c) (numberInTiles c r) ≡ storedOrder c r
-  unfolding numberInTiles
-  walked =
-      ext-getD 0 (table (r * c) (numberInTiles c r)) (storedOrder c r) (length-table (r * c) (numberInTiles c r) ∙ sym order-long)
-      (λ k l. getD-table (r * c) (numberInTiles c r) 0 k (subst (λ (n : ℕ). k < n) (length-table (r * c) (numberInTiles c r)) l))
+-- one row of 4,096 blocks, the widest that there is, is stored as it stands
+widest : ℕ → Bool
+widest b = eqb (orderAt 4096 1 b 0) b
 
-  pub once : (b : ℕ) → b < r * c → count (r * c) (λ p. eqb (numberInTiles c r p) b) ≡ 1
-  once b h = count-moved (inverse-turn tile-order) (λ k. eqb k b) ∙ count-one (r * c) b h
+each-widest : T (below 4096 widest)
+unfolding widest orderAt orderInTile
+each-widest = tt
 
-  -- counts: a test of the blocks passes as often place by place as number by number
-  pub counted-by-place : (t : ℕ → Bool) → count (r * c) (λ p. t (numberInTiles c r p)) ≡ count (r * c) t
-  counted-by-place t = count-moved (inverse-turn tile-order) t
+module _ (b : ℕ) (h : b < 4096) where
+  pub one-row : storedInTiles 4096 1 b ≡ b
+  unfolding widest
+  one-row =
+      let x : b % 4096 ≡ b = omega arith in
+      let y : b / 4096 ≡ 0 = omega arith in
+      stored-is 4096 1 b (omega arith) (omega arith) ∙ ap₂ (orderAt 4096 1) x y ∙ eqb→eq (orderAt 4096 1 b 0) b (at 4096 widest each-widest b h)
+
+  pub one-row-back : numberInTiles 4096 1 b ≡ b
+  one-row-back = ap (numberInTiles 4096 1) (sym one-row) ∙ number-of-stored 4096 1 (omega arith) b (omega arith)
+
+-- THE NAMED FORM of document 01: column and row of a tile interleaved to a slot, and parted again, inverse to each other
+pub record Interleaved : Type 0 where
+  pub slots-64 : (x y : ℕ) → slotIn x y < 64
+  pub columns-8 : (p : ℕ) → columnOfSlot p < 8
+  pub rows-8 : (p : ℕ) → rowOfSlot p < 8
+  pub parted : (x y : ℕ) → x < 8 → y < 8 → (columnOfSlot (slotIn x y) ≡ x) × (rowOfSlot (slotIn x y) ≡ y)
+  pub interleaved-again : (p : ℕ) → p < 64 → slotIn (columnOfSlot p) (rowOfSlot p) ≡ p
+
+pub interleaved : Interleaved
+interleaved = record {
+  slots-64 = slot-small;
+  columns-8 = column-lt;
+  rows-8 = row-lt;
+  parted = λ x y hx hy. (column-of-slot x y hx hy, row-of-slot x y hx hy);
+  interleaved-again = slot-parted;
+}

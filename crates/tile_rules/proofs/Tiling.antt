@@ -1,4 +1,4 @@
--- How many blocks of a sheet stand before a tile, and before a block in it.
+-- How many blocks of a sheet are stored before a tile, and before a block in it.
 -- Assumes nothing.
 use mathlib.Core.Path.{_≡_, _∙_, ap, ap₂, sym}
 use mathlib.Core.Logic.{⊎-elim}
@@ -11,18 +11,18 @@ use borrow.Author.Tests.{le-ltb, lt-ltb}
 use Rattle.laws.specs.Tables.{below, both, implies, pick}
 use Rattle.laws.proofs.Cases.{lt-or}
 use Rattle.laws.proofs.Tests.{at, implied, true-T}
-use Rattle.tile_rules.specs.Counting.{count}
+use Rattle.laws.specs.Counting.{count}
 use Rattle.tile_rules.specs.Computed.{left, orderAt, orderInTile}
 use Rattle.tile_rules.specs.Tiles.{columnOfSlot, inSheet, slotIn, storedInTiles, rowOfSlot, slotOf, slots, tiles}
-use Rattle.tile_rules.proofs.Counting.{count-add, count-more, count-none, count-same}
-use Rattle.tile_rules.proofs.InTile.{column-lt, columnIn-place, place-lt, row-lt, rowIn-place}
+use Rattle.laws.proofs.Counting.{count-add, count-more, count-none, count-same}
+use Rattle.tile_rules.proofs.InTile.{column-lt, column-of-slot, slot-small, row-lt, row-of-slot}
 use Rattle.tile_rules.proofs.Slots.{column-at, row-at, slot-in, tiles-reach}
 
--- places of a tile of which w columns and h rows are within the sheet
+-- is slot p of a tile within the sheet, where w columns and h rows of the tile are
 inTile : ℕ → ℕ → ℕ → Bool
 inTile w h p = both (ltb (columnOfSlot p) w) (ltb (rowOfSlot p) h)
 
--- those before place p, where p itself may be beyond
+-- how many such slots come before slot p, where p itself may be beyond
 aheadOf : ℕ → ℕ → ℕ → ℕ → ℕ → ℕ
 aheadOf s w h x y = min (s * y) h * w + min (s * x) w * left s h y
 
@@ -36,7 +36,7 @@ within w h p =
     let e = p / 8 % 2 in
     aheadOf 4 w h a b + aheadOf 2 w4 h4 d e + aheadOf 1 (left 2 w4 d) (left 2 h4 e) (p % 2) (p / 2 % 2)
 
--- for each of 9 by 9 sizes and 64 places, computed
+-- for each of 9 by 9 sizes and 64 slots, computed
 sizes : (ℕ → ℕ → Bool) → Bool
 sizes f = below 9 (λ w. below 9 (f w))
 
@@ -87,11 +87,13 @@ module _ (w h : ℕ) (lw : w ≤ 8) (lh : h ≤ 8) where
       count-more 63 (inTile w h) ∙ ap (λ (n : ℕ). n + pick (inTile w h 63) 1 0) (count-within 63 (omega arith))
       ∙ eqb→eq _ (h * w) (at-size ends each-end w h lw lh)
 
-  count-place : (p : ℕ) → p < 64 → inTile w h p ≡ true → count p (inTile w h) ≡ orderInTile w h (columnOfSlot p) (rowOfSlot p)
+  count-slot : (p : ℕ) → p < 64 → inTile w h p ≡ true → count p (inTile w h) ≡ orderInTile w h (columnOfSlot p) (rowOfSlot p)
   unfolding shown-at
-  count-place p l e =
+  count-slot p l e =
       count-within p l
-      ∙ eqb→eq (within w h p) _ (implied (inTile w h p) _ (at 64 (shown-at w h) (at-size (λ w h. below 64 (shown-at w h)) each-shown w h lw lh) p l) (true-T (inTile w h p) e))
+      ∙ eqb→eq (within w h p) _
+      (implied (inTile w h p) _ (at 64 (shown-at w h) (at-size (λ w h. below 64 (shown-at w h)) each-shown w h lw lh) p l)
+      (true-T (inTile w h p) e))
 
 ltb-same : (a b x y : ℕ) → (a < b → x < y) → (x < y → a < b) → ltb a b ≡ ltb x y
 ltb-same a b x y f g =
@@ -117,7 +119,12 @@ module _ (c r tr tc : ℕ) (ht : tc < tiles c) where
   next-tile : count ((tr * tiles c + suc tc) * 64) (inSheet c r) ≡ count ((tr * tiles c + tc) * 64) (inSheet c r) + left 8 r tr * left 8 c tc
   next-tile =
       let e : (tr * tiles c + suc tc) * 64 ≡ (tr * tiles c + tc) * 64 + 64 = omega arith in
-      rw (e, count-add ((tr * tiles c + tc) * 64) 64 (inSheet c r), part-count 64 (omega arith), count-tile (left 8 c tc) (left 8 r tr) (omega arith) (omega arith))
+      rw (
+        e,
+        count-add ((tr * tiles c + tc) * 64) 64 (inSheet c r),
+        part-count 64 (omega arith),
+        count-tile (left 8 c tc) (left 8 r tr) (omega arith) (omega arith),
+      )
 
 module _ (c r : ℕ) where
   -- a row of tiles
@@ -139,12 +146,12 @@ module _ (c r : ℕ) where
       let y : min (8 * tiles c) c ≡ c = omega arith in
       rw (e, along tr (tiles c) (omega arith) (down tr), y, z, add-mul (min (8 * tr) r) (left 8 r tr) c) (omega arith)
 
-  -- as many places as blocks
+  -- as many slots within the sheet as blocks
   pub count-all : count (slots c r) (inSheet c r) ≡ r * c
   unfolding slots tiles
   count-all = let y : min (8 * tiles r) r ≡ r = omega arith in down (tiles r) ∙ ap (λ (n : ℕ). n * c) y
 
--- THE CLOSED FORM: the place of a block, counted, is the one computed
+-- THE CLOSED FORM: the stored number of a block, counted, is the one computed
 module _ (c r b : ℕ) (hc : 0 < c) (h : b < r * c) where
   wide : b % c < c
   wide = mod-lt b hc
@@ -152,14 +159,14 @@ module _ (c r b : ℕ) (hc : 0 < c) (h : b < r * c) where
   high : b / c < r
   high = div-lt-iff-lt-mul {k = c} {x = b} {y = r} hc .1 h
 
-  pub place-is : storedInTiles c r b ≡ orderAt c r (b % c) (b / c)
+  pub stored-is : storedInTiles c r b ≡ orderAt c r (b % c) (b / c)
   unfolding storedInTiles orderAt slotOf
-  place-is =
+  stored-is =
       let x = b % c in
       let y = b / c in
       let p = slotIn (x % 8) (y % 8) in
       let ht : x / 8 < tiles c = tiles-reach c x wide in
-      let hp : p < 64 = place-lt (x % 8) (y % 8) in
+      let hp : p < 64 = slot-small (x % 8) (y % 8) in
       let w = left 8 c (x / 8) in
       let g = left 8 r (y / 8) in
       let t : inTile w g p ≡ true = sym (tile-same c r (y / 8) (x / 8) ht p hp) ∙ slot-in c b hc r h in
@@ -168,5 +175,6 @@ module _ (c r b : ℕ) (hc : 0 < c) (h : b < r * c) where
       count-add ((y / 8 * tiles c + x / 8) * 64) p (inSheet c r)
       ∙ ap₂ (λ (i j : ℕ). i + j)
       (along c r (y / 8) (x / 8) (omega arith) (down c r (y / 8)) ∙ ap₂ (λ (i j : ℕ). i * c + j * left 8 r (y / 8)) m n)
-      (part-count c r (y / 8) (x / 8) ht p (omega arith) ∙ count-place w g (omega arith) (omega arith) p hp t
-      ∙ ap₂ (λ (i j : ℕ). orderInTile w g i j) (columnIn-place (x % 8) (y % 8) (omega arith) (omega arith)) (rowIn-place (x % 8) (y % 8) (omega arith) (omega arith)))
+      (part-count c r (y / 8) (x / 8) ht p (omega arith) ∙ count-slot w g (omega arith) (omega arith) p hp t
+      ∙ ap₂ (λ (i j : ℕ). orderInTile w g i j) (column-of-slot (x % 8) (y % 8) (omega arith) (omega arith))
+      (row-of-slot (x % 8) (y % 8) (omega arith) (omega arith)))

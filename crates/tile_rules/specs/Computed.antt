@@ -1,4 +1,4 @@
--- The place of a block by a few products, with no counting: cells of side 8 in the sheet, of side 4, 2 and 1 in the tile.
+-- The stored number of a block by a few products, with no counting, and the number back: cells of side 8 in the sheet, of side 4, 2 and 1 in the tile.
 -- Assumes nothing.
 use Prim.Native.Nat.{ℕ, _+_, _-_, _*_, _/_, _%_, min}
 use Rattle.tile_rules.specs.declared.Cell.{Cell}
@@ -11,7 +11,7 @@ left s n q = min s (n - s * q)
 abbrev pub ahead : ℕ → ℕ → ℕ → ℕ → ℕ → ℕ
 ahead s w h x y = s * y * w + s * x * left s h y
 
--- the place of the block in column x and row y among the w by h of a tile
+-- how many of the w by h blocks of a tile are stored before the one in column x and row y
 unfoldable pub orderInTile : ℕ → ℕ → ℕ → ℕ → ℕ
 orderInTile w h x y =
     let a = x / 4 % 2 in
@@ -24,11 +24,12 @@ orderInTile w h x y =
     let h2 = left 2 h4 e in
     ahead 4 w h a b + ahead 2 w4 h4 d e + ahead 1 w2 h2 (x % 2) (y % 2)
 
--- the place of the block in column x and row y of a sheet of c by r
+-- the stored number of the block in column x and row y of a sheet of c by r
 unfoldable pub orderAt : ℕ → ℕ → ℕ → ℕ → ℕ
 orderAt c r x y = ahead 8 c r (x / 8) (y / 8) + orderInTile (left 8 c (x / 8)) (left 8 r (y / 8)) (x % 8) (y % 8)
 
--- the cell of side s that holds place m of w columns and h rows of blocks: its row and its column of cells, and the place in it
+-- the cell of side s that holds the block with m stored before it, of w columns and h rows: its row and its column of cells, and how many of
+-- the cell's own blocks are stored before that one
 abbrev pub cellRow : ℕ → ℕ → ℕ → ℕ
 cellRow s w m = m / (s * w)
 
@@ -47,7 +48,7 @@ cellAt s w h m = record {
   rest = cellRest s w h m;
 }
 
--- the row and the column in a tile of which w columns and h rows are within the sheet, of the block at place m of them
+-- the row and the column in a tile, of which w columns and h rows are within the sheet, of the block with m of them stored before it
 unfoldable pub rowInTile : ℕ → ℕ → ℕ → ℕ
 rowInTile w h m =
     let b = cellAt 4 w h m in
@@ -62,7 +63,7 @@ columnInTile w h m =
     let e = cellAt 1 (d .w) (d .h) (d .rest) in
     4 * b .x + 2 * d .x + e .x
 
--- the number of the block at place p of a sheet of c by r
+-- the number of the block with p stored before it, of a sheet of c by r
 unfoldable pub numberFrom : ℕ → ℕ → ℕ → ℕ
 numberFrom c r p =
     let a = cellAt 8 c r p in

@@ -1,5 +1,4 @@
 -- What tile order means.
-pub mod Counting
 pub mod Tiles
 pub mod Computed
 pub mod Moves

@@ -1,18 +1,10 @@
--- Two ways to number the same n things, and pieces of m bytes moved from one order to the other.
+-- Pieces of m bytes moved from one order to another.
 -- Assumes nothing.
-use Prim.Native.Nat.{ℕ, _+_, _*_, _/_, _%_, _<_}
-use mathlib.Core.Path.{_≡_}
+use Prim.Native.Nat.{ℕ, _+_, _*_, _/_, _%_}
 use mathlib.Core.List.{List}
 use lib.ListN.{getD}
 use Rattle.laws.specs.Tables.{table}
 use Rattle.tile_rules.specs.Tiles.{numberInTiles, storedInTiles}
-
--- f and g are inverse to each other on 0 .. n - 1
-pub record Inverse (n : ℕ) (f g : ℕ → ℕ) : Type 0 where
-  pub to : (k : ℕ) → k < n → f k < n
-  pub from : (k : ℕ) → k < n → g k < n
-  pub from-to : (k : ℕ) → k < n → g (f k) ≡ k
-  pub to-from : (k : ℕ) → k < n → f (g k) ≡ k
 
 -- byte k of pieces of m bytes, where the piece that stands at q is the one that stood at f q
 unfoldable pub movedByte : ℕ → (ℕ → ℕ) → List ℕ → ℕ → ℕ

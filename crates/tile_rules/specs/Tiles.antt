@@ -1,5 +1,5 @@
--- Tile order: the blocks of a sheet of c columns and r rows of blocks in tiles of 8 by 8, tiles row by row; inside a tile the
--- column's bits take the even places and the row's the odd ones; places beyond the sheet are skipped.
+-- Tile order: the blocks of a sheet of c columns and r rows of blocks in tiles of 8 by 8, tiles row by row; of a slot in its tile the
+-- even bits are the column's and the odd ones the row's; slots beyond the sheet are skipped, and nothing is stored for them.
 -- Assumes nothing.
 use Prim.Native.Nat.{ℕ, _+_, _*_, _/_, _%_}
 use mathlib.Core.Bool.{Bool}
@@ -7,9 +7,9 @@ use mathlib.Core.List.{List, map}
 use lib.Dec.{ltb}
 use lib.ListN.{getD}
 use Rattle.laws.specs.Tables.{both}
-use Rattle.tile_rules.specs.Counting.{count, kept}
+use Rattle.laws.specs.Counting.{count, kept}
 
--- place p of the 64 of a tile: its column's bits are the even ones of p, its row's the odd ones
+-- slot p of the 64 of a tile: its column's bits are the even ones of p, its row's the odd ones
 unfoldable pub columnOfSlot : ℕ → ℕ
 columnOfSlot p = p % 2 + 2 * (p / 4 % 2) + 4 * (p / 16 % 2)
 
@@ -23,7 +23,7 @@ slotIn x y = x % 2 + 2 * (y % 2) + 4 * (x / 2 % 2) + 8 * (y / 2 % 2) + 16 * (x /
 unfoldable pub tiles : ℕ → ℕ
 tiles n = (n + 7) / 8
 
--- slot s of a sheet, beyond it or not: place s % 64 of tile s / 64, tiles row by row
+-- slot s of a sheet, beyond it or not: slot s % 64 of tile s / 64, tiles row by row
 unfoldable pub columnAt : ℕ → ℕ → ℕ
 columnAt c s = 8 * (s / 64 % tiles c) + columnOfSlot (s % 64)
 
@@ -40,14 +40,14 @@ numberInSlot c s = rowAt c s * c + columnAt c s
 unfoldable pub slots : ℕ → ℕ → ℕ
 slots c r = tiles r * tiles c * 64
 
--- THE ORDER: the numbers of the blocks as they are stored
+-- THE ORDER: the numbers of the blocks as they are stored; and the number of the block that has p stored before it
 unfoldable pub storedOrder : ℕ → ℕ → List ℕ
 storedOrder c r = map (numberInSlot c) (kept (slots c r) (inSheet c r))
 
 unfoldable pub numberInTiles : ℕ → ℕ → ℕ → ℕ
 numberInTiles c r p = getD (storedOrder c r) p 0
 
--- the slot of block b, and its place: how many blocks of the sheet come before it
+-- the slot of block b; and its stored number: how many blocks are stored before it
 unfoldable pub slotOf : ℕ → ℕ → ℕ
 slotOf c b = (b / c / 8 * tiles c + b % c / 8) * 64 + slotIn (b % c % 8) (b / c % 8)
 

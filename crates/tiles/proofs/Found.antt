@@ -6,7 +6,7 @@ use native.Mathlib.Nat.{mul-comm, mul-le-mul, mul-pos}
 use native.Mathlib.Omega.{arith}
 use Rattle.tile_rules.specs.Computed.{cellAt, columnInTile, left, numberFrom, rowInTile}
 use Rattle.tile_rules.specs.Tiles.{numberInTiles, columnOfSlot, rowOfSlot}
-use Rattle.tile_rules.proofs.Cells.{block-is, cut-in, cut-rest, whole-column, whole-row}
+use Rattle.tile_rules.proofs.Cells.{cut-in, cut-rest, number-is, whole-column, whole-row}
 use Rattle.tile_rules.proofs.InTile.{column-lt, row-lt}
 use Rattle.tiles.specs.Parts.{CellFound, Numbered, SpotFound}
 use Rattle.tile_rules.specs.declared.Cell.{Cell}
@@ -66,7 +66,7 @@ module _ {c r p : ℕ} {a : Cell} (i : Numbered c r p) (f : CellFound 8 c r p a)
   pub block-sum : (x y : ℕ) → x ≡ columnInTile (a .w) (a .h) (a .rest) → y ≡ rowInTile (a .w) (a .h) (a .rest)
       → (8 * a .y + y) * c + (8 * a .x + x) ≡ numberInTiles c r p
   unfolding numberFrom
-  block-sum x y ex ey = rw (ex, ey, f .is) (sym (block-is c r p (columns-pos i) (i .number)))
+  block-sum x y ex ey = rw (ex, ey, f .is) (sym (number-is c r p (columns-pos i) (i .number)))
 
   pub lines-fit : (y : ℕ) → y ≤ 16 → (8 * a .y + y) * c ≤ 16842752
   lines-fit y l = mul-le-mul {n₁ = 8 * a .y + y} {m₁ = c} {n₂ = 4112} {m₂ = 4096} (omega arith) (i .wide)

@@ -8,7 +8,7 @@ use Rattle.tile_rules.specs.Computed.{ahead, left, orderAt, orderInTile}
 use Rattle.tile_rules.specs.Tiles.{slotIn, storedInTiles}
 use Rattle.tile_rules.proofs.Cells.{whole-interleaved}
 use Rattle.tile_rules.proofs.Theorems.{has-columns}
-use Rattle.tile_rules.proofs.Tiling.{place-is}
+use Rattle.tile_rules.proofs.Tiling.{stored-is}
 use Rattle.tiles.specs.Parts.{Inside, Numbered, Small}
 
 pub few : (a b : ℕ) → a ≤ 4096 → b ≤ 4096 → a * b ≤ 16777216
@@ -57,7 +57,7 @@ module _ {c r b : ℕ} (i : Numbered c r b) where
   module _ {k n : ℕ} (e : Small k n (ahead 8 c r (b % c / 8) (b / c / 8))) (u v : ℕ) (eu : u ≡ left 8 c (b % c / 8)) (ev : v ≡ left 8 r (b / c / 8)) (z : ℕ) where
     pub place-sum : z ≡ orderInTile u v (b % c % 8) (b / c % 8) → n + z ≡ storedInTiles c r b
     unfolding orderAt
-    place-sum ez = rw (e .is, ez, eu, ev) (sym (place-is c r b columns-pos (i .number)))
+    place-sum ez = rw (e .is, ez, eu, ev) (sym (stored-is c r b columns-pos (i .number)))
 
     pub place-whole : u ≡ 8 → v ≡ 8 → z ≡ slotIn (b % c % 8) (b / c % 8) → n + z ≡ storedInTiles c r b
     place-whole eu8 ev8 ez =
