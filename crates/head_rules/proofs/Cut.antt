@@ -18,10 +18,10 @@ use Rattle.head_rules.specs.declared.Form.{Form}
 use Rattle.head_rules.specs.declared.Form.the-variants.{Rows, Tiles}
 use Rattle.head_rules.specs.declared.Head.{Head}
 use Rattle.head_rules.specs.declared.Number.{Number}
-use Rattle.head_rules.specs.Heads.{colourBehind, colourIn, formIn, formNumber, formOf, headOf, headRefusalUpTo, headTold, heightIn, readHeadUpTo}
-use Rattle.head_rules.specs.Heads.{widthIn}
+use Rattle.head_rules.specs.Heads.{IsForm, colourBehind, colourIn, formIn, formNumber, formOf, headRefusalUpTo, headTold, heightIn, ofFormRefusalUpTo}
+use Rattle.head_rules.specs.Heads.{readHeadUpTo, readOfFormUpTo, widthIn}
 use Rattle.head_rules.specs.Numbers.{found, raised, readGroups, readNumber}
-use Rattle.head_rules.proofs.Heading.{head-rules}
+use Rattle.head_rules.proofs.Heading.{form-back, head-rules, of-form-rules}
 use Rattle.head_rules.proofs.Reading.{every-number, near}
 
 -- k groups look at k bytes
@@ -72,6 +72,9 @@ two-forms-small Tiles = omega arith
 
 form-small : {n : ℕ} → formNumber (formOf n) ≡ n → n ≤ 2
 form-small {n} e = omega (arith, e, two-forms-small (formOf n))
+
+is-form-small : {n : ℕ} → IsForm n → n ≤ 2
+is-form-small o = ⊎-elim (λ e. omega (arith, e)) (λ e. omega (arith, e)) o
 
 module _ (s : List ℕ) where
   -- a form that there is has one byte
@@ -138,6 +141,42 @@ module _ (top : ℕ) (s : List ℕ) where
   ten-bytes-are-enough =
       ⊎-elim
       (λ e. let m = head-rules top s .met e in
-      rw (refusal-cut, e) (told-cut s 10 ten (form-short s (m .0) (form-small (m .1 .0))) (inr (omega arith))))
+      rw (refusal-cut, e) (told-cut s 10 ten (form-short s (m .0) (is-form-small (m .1 .0))) (inr (omega arith))))
       (λ l. let ne : headRefusalUpTo top s ≡ 0 → ⊥ = λ q. omega arith in rw (refusal-cut, ne-eqb (headRefusalUpTo top s) 0 ne))
       (eq-zero-or-pos (headRefusalUpTo top s))
+
+-- SEVEN BYTES, for who takes form 1 alone
+module _ (top : ℕ) (s : List ℕ) where
+  seven : 7 ≤ 7
+  seven = omega arith
+
+  rows-number : refuse 8 (not (eqb (formIn s .value) (formNumber Rows))) ≡ 0 → formIn s .value ≡ 1
+  rows-number e = eqb-true (formIn s .value) 1 (not-not (eqb (formIn s .value) 1) (refuse-no 7 _ e))
+
+  -- where the form is 1
+  module _ (a : formIn s .refusal ≡ 0) (v : formIn s .value ≡ 1) where
+    short : formIn s .next ≤ 1
+    short = form-short s a (omega (arith, v))
+
+    in-rows : formOf (formIn s .value) ≡ Rows
+    in-rows = ap formOf v ∙ form-back Rows
+
+    rest-cut : headRefusalUpTo top (take 7 s) ≡ headRefusalUpTo top s
+    unfolding headRefusalUpTo
+    rest-cut =
+        rw (form-cut s 7 seven, width-cut s 7 seven short, height-cut s 7 seven short, colour-cut s 7 seven short (inl in-rows))
+
+  of-form-cut : ofFormRefusalUpTo top Rows (take 7 s) ≡ ofFormRefusalUpTo top Rows s
+  unfolding ofFormRefusalUpTo
+  of-form-cut =
+      rw (form-cut s 7 seven) (first-cut (formIn s .refusal) (refuse 8 (not (eqb (formIn s .value) (formNumber Rows)))) _ _
+      (λ ea eb. ap (λ (n : ℕ). n ∷ []) (rest-cut ea (rows-number eb))))
+
+  pub seven-bytes-are-enough : readOfFormUpTo top Rows (take 7 s) ≡ readOfFormUpTo top Rows s
+  unfolding readOfFormUpTo
+  seven-bytes-are-enough =
+      ⊎-elim
+      (λ e. let m = of-form-rules top Rows s .met e in
+      rw (of-form-cut, e) (told-cut s 7 seven (short (m .0) (m .1 .0)) (inl (in-rows (m .0) (m .1 .0)))))
+      (λ l. let ne : ofFormRefusalUpTo top Rows s ≡ 0 → ⊥ = λ q. omega arith in rw (of-form-cut, ne-eqb (ofFormRefusalUpTo top Rows s) 0 ne))
+      (eq-zero-or-pos (ofFormRefusalUpTo top Rows s))

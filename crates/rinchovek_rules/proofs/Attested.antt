@@ -29,7 +29,7 @@ use Rattle.head_rules.specs.Colours.{colourOf, colourRefusal}
 use Rattle.pixel_rules.specs.Pixels.{pixelRead, pixelRefusal}
 use Rattle.head_rules.specs.Geometry.{blocksOf, placeOf, storedAt}
 use Rattle.head_rules.specs.Heads.{colourIn, formIn, formOf, headBytes, headRefusalUpTo, heightIn, ofFormRefusalUpTo, readHeadUpTo, readOfFormUpTo}
-use Rattle.head_rules.specs.Heads.{sizeRefusalUpTo, widthIn, writeHead}
+use Rattle.head_rules.specs.Heads.{sizeRefusalUpTo, widthIn, writeHead, writeHeadUpTo}
 use Rattle.head_rules.specs.Numbers.{groups, raised, readGroups, readNumber}
 use Rattle.sheet_rules.specs.Rows.{blockAt, channel, rowByte, rowBytes, rowOutUpTo, rowRefusalUpTo}
 use Rattle.sheet_rules.specs.Sheets.{blockBy, findRefusalBy, putBlock, replacedBy, sheetAfterBy, sheetRefusalBy}
@@ -136,7 +136,7 @@ unfolding padded first over table tableFrom weights weightOf drawn promoted eigh
     recordOf made packed packRefusal fits says blockOf listOf bytesOf replaced after refusal refusalIn lineFits valueFits pFits
     indexFits ownWidth lineGiven put oriented withLine laid turned anchorOf lineRead readRefusal givenAs widthsOf valueAt
     recordByte recordBytes recordOfBytes replacementOf replacementBytes packedBytes bytesRefusal spelt readHeadUpTo headRefusalUpTo colourIn formOf readOfFormUpTo ofFormRefusalUpTo storedAt formIn
-    widthIn heightIn readNumber readGroups raised sizeRefusalUpTo writeHead headBytes groups blockAt channel rowByte rowBytes rowOutUpTo
+    widthIn heightIn readNumber readGroups raised sizeRefusalUpTo writeHeadUpTo headBytes groups blockAt channel rowByte rowBytes rowOutUpTo
     rowRefusalUpTo blockBy blocksOf findRefusalBy placeOf putBlock replacedBy sheetAfterBy sheetRefusalBy draws meansShown channelDistance
     distance drawnWith exactIndex exactRefusal inLine indexCount leastAt nearestIndex nearestRefusal squared withIndex zeroAt
     implies isVisible passes opaque pixelRefusal pixelRead
