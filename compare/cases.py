@@ -212,6 +212,7 @@ def some_reads(dice):
 # Heads, rows and sheets.
 SIDES = (*range(1, 10), 127, 128, 129, 4095, 4096, 4097, 8192, 16380, 16381, 16382, 16383, 16384)
 WRONG_SIDES = (0, 16385, 16386, 32768, 65535, (1 << 21) - 1)
+WRONG_COLOURS = (3, 4, 5, 127, 128, 129, 130, 256, 258, 16384, 16385, (1 << 21) - 1)
 
 
 def some_number_bytes(dice, value):
@@ -242,11 +243,32 @@ def some_head(dice):
     return (head + dice.bytes(dice.below(20)))[:255]
 
 
+def some_tile_head(dice):
+    """A head of form 2, right or wrong: its colour space too."""
+    sides = [dice.one_of(SIDES) if dice.chance(85) else dice.one_of(WRONG_SIDES) for _ in range(2)]
+    if dice.chance(30):
+        sides = [dice.within(0, 16500) for _ in range(2)]
+    colour_space = dice.below(3) if dice.chance(80) else dice.one_of(WRONG_COLOURS)
+    head = b"".join(some_number_bytes(dice, value) for value in (model.TILES, *sides, colour_space))
+    if dice.chance(8):
+        head = head[: dice.below(len(head) + 1)]
+    return (head + dice.bytes(dice.below(20)))[:255]
+
+
 def near(dice, right, wrong_percent=8):
     """A length: the right one, or one beside it."""
     if dice.chance(wrong_percent):
         return max(0, right + dice.one_of((-17, -16, -15, -4, -1, 1, 4, 15, 16, 17, -right)))
     return right
+
+
+def some_output(dice, needed, wrong_percent=10):
+    return dice.bytes(min(near(dice, needed, wrong_percent), protocol.LARGEST_LENGTH))
+
+
+def shown_length(width, height, row):
+    """How long the output of a row is."""
+    return 4 * width * max(0, min(4, height - 4 * row))
 
 
 def some_row(dice, largest=40):
@@ -274,33 +296,79 @@ def some_sheet(dice, largest=20):
     return head, b"".join(some_block(dice) for _ in range(count))
 
 
-def some_listed(dice, largest=20):
-    """A sheet to list: whole, cut off, with bytes too many, or with some other head."""
+def some_tile_sheet(dice, largest=20):
+    """The same in form 2, under any colour space."""
     head, blocks = some_sheet(dice, largest)
+    width, height, *_ = model.read_head(head)[1]
+    return model.write_tile_head(width, height, dice.one_of((0, 0, 1, 2))), blocks
+
+
+def sheet_of(form, width, height, blocks, colour=model.UNSPECIFIED):
+    """That head before the blocks as they stand; `blocks` makes so many of them."""
+    count = model.in_blocks(width) * model.in_blocks(height)
+    head = model.write_tile_head(width, height, colour) if form == model.TILES else model.write_head(width, height)[1]
+    return head + blocks(count)
+
+
+def of_form(form):
+    """What makes heads and sheets of that form."""
+    return (some_tile_head, some_tile_sheet) if form == model.TILES else (some_head, some_sheet)
+
+
+def some_listed(dice, largest=20, form=model.ROWS):
+    """A sheet to list: whole, cut off, with bytes too many, or with some other head."""
+    head_of, sheet_of = of_form(form)
+    head, blocks = sheet_of(dice, largest)
     sort = dice.below(8)
     if sort == 0:
-        return some_head(dice) + blocks
+        return head_of(dice) + blocks
     sheet = head + blocks
     if sort < 3:
         return sheet[: dice.below(len(sheet) + 1)]
     return sheet + dice.bytes(dice.below(20)) if sort == 3 else sheet
 
 
-def some_sheet_call(dice, largest=20):
+def some_block_number(dice, sheet):
+    """The number of a block of the sheet, now and then beyond it."""
+    count = model.count_of(model.read_head(sheet)[1])
+    return dice.below(count) if count and dice.chance(90) else dice.one_of((count, count + 1, *LARGE))
+
+
+def some_sheet_call(dice, largest=20, form=model.ROWS):
     """The arguments of replacement in a sheet."""
-    head, blocks = some_sheet(dice, largest)
+    head_of, sheet_of = of_form(form)
+    head, blocks = sheet_of(dice, largest)
     count = len(blocks) // 16
     block = dice.below(count)
-    line, new = some_replacement(dice, blocks[16 * block : 16 * block + 16])
+    line, new = some_replacement(dice, model.block_in_sheet(head + blocks, block)[1])
     wrong = dice.below(100)
     if wrong < 6:
         block = dice.one_of((count, count + 1, *LARGE))
     if wrong % 20 == 3:
-        head = some_head(dice)
+        head = head_of(dice)
     if wrong % 20 == 4:
         length = near(dice, len(blocks), 100)
         blocks = blocks[:length] + dice.bytes(max(0, length - len(blocks)))
     return head + blocks, block, line, new
+
+
+def either_form(dice, percent=50):
+    return model.TILES if dice.chance(percent) else model.ROWS
+
+
+def some_move(dice, form, largest=20):
+    """The arguments of moving a sheet to that form: mostly of the other one, with an output that is as long as needed."""
+    sheet = some_listed(dice, largest, either_form(dice, 5 if form == model.TILES else 95))
+    return sheet, some_output(dice, max(0, len(sheet) + (1 if form == model.TILES else -1)))
+
+
+def some_shown_row(dice, largest=20):
+    """The arguments of showing a row of a whole sheet."""
+    sheet = some_listed(dice, largest, either_form(dice))
+    width, height, *_ = model.read_head(sheet)[1]
+    rows = model.in_blocks(height)
+    row = dice.below(rows) if rows and dice.chance(90) else dice.one_of((rows, rows + 1, *LARGE))
+    return row, sheet, some_output(dice, shown_length(width, height, row))
 
 
 # ---------------------------------------------------------------------------------------------------------------------
@@ -319,7 +387,7 @@ def some_dds(dice, largest=20):
     """A file: one that is accepted, with anything in the numbers that aren't looked at; or one that is wrong in one or two
     places, or that is cut off or too long."""
     head, blocks = some_sheet(dice, largest)
-    _, width, height, _ = model.read_head(head)
+    width, height, *_ = model.read_head(head)[1]
     data = model.dds_header(width, height) + blocks
     for _ in range(dice.below(4)):
         data = with_number(data, dice.one_of(DDS_IGNORED), dice.number(32))
@@ -349,17 +417,13 @@ def some_dds(dice, largest=20):
     return data
 
 
-def some_output(dice, needed, wrong_percent=10):
-    return dice.bytes(min(near(dice, needed, wrong_percent), protocol.LARGEST_LENGTH))
-
-
 def some_import(dice, largest=20):
     """The arguments of importing a DDS file."""
     data = some_dds(dice, largest)
     return data, some_output(dice, model.import_length(data)[1] or dice.below(60))
 
 
-def some_export(dice, largest=20):
+def some_export(dice, largest=20, form=model.ROWS):
     """The arguments of exporting a sheet."""
-    sheet = some_listed(dice, largest)
+    sheet = some_listed(dice, largest, form)
     return sheet, some_output(dice, model.export_length(sheet)[1] or dice.below(200))

@@ -1,6 +1,6 @@
 """Holds the model itself against document 01's list, against document 002's tables, and against what must be true of
 any right reading: round trips, lines that keep to themselves, the last call of a line deciding, a pixel that shows the
-colour whose distance was measured, and marks that go by what a picture shows."""
+colour whose distance was measured, marks that go by what a picture shows, and sheets that show the same in both forms."""
 from collections import Counter
 
 import chart
@@ -8,7 +8,7 @@ import document_01
 import model
 import partitions
 import protocol
-from cases import block_of, bits_of_style, some_block, some_opacity, some_record, some_replacement, some_split, some_wanted
+from cases import block_of, bits_of_style, some_block, some_opacity, some_record, some_replacement, some_sheet, some_split, some_wanted
 from dice import Dice
 
 
@@ -149,3 +149,58 @@ def check_charts():
         assert behind == [(bit, width) for _, bit, width in model.layout(mode, split)], block.hex()
         charts += 1
     return charts
+
+
+# Heads of form 2 and what they are refused with, on paper.
+ON_PAPER = {"02000403": 18, "02000400": 9, "020004": 7, "0205048000": 7, "0205048001": 18, "0205048101": 18, "02050403": 18, "02050402": 0}
+
+
+def check_order():
+    """Numbers on paper. Then the order by another way: sorted by tile, row by row, and by the bits of column and row in turn; each number once."""
+    assert list(model.stored_order(3, 2, model.TILES)) == [0, 1, 3, 4, 2, 5]
+    for head, refusal in ON_PAPER.items():
+        assert model.read_head(bytes.fromhex(head))[0] == refusal, head
+        assert model.read_head(bytes.fromhex(head), [model.ROWS])[0] == 8, head
+    assert model.read_head(bytes.fromhex("01"), [model.TILES])[0] == 8
+    assert model.open_sheet(bytes.fromhex("02090502")) == (0, (9, 5, 4, 2, 2, 3, 2, 6))
+    checked = 0
+    for columns in range(1, 41):
+        for rows in range(1, 41):
+            def place(number):
+                row, column = divmod(number, columns)
+                inside = sum((column >> bit & 1) << 2 * bit | (row >> bit & 1) << 2 * bit + 1 for bit in range(3))
+                return row // 8, column // 8, inside
+
+            order = list(model.stored_order(columns, rows, model.TILES))
+            assert order == sorted(range(columns * rows), key=place), (columns, rows)
+            checked += 1
+    return checked
+
+
+def check_moves(seed, count):
+    """Sheets moved and moved back: the bytes as they were, every row and the listing's lines the same in both forms, every block under its number,
+    and a line replaced before or after the move."""
+    dice = Dice(seed)
+    for _ in range(count):
+        head, blocks = some_sheet(dice, 80)
+        rows = head + blocks
+        refusal, tiles = model.to_tiles(rows, bytes(len(rows) + 1))
+        assert refusal == 0 and model.to_rows(tiles, bytes(len(rows))) == (0, rows), rows.hex()
+        width, height, start, *_ = model.read_head(rows)[1]
+        columns = 16 * model.in_blocks(width)
+        for row in range(model.in_blocks(height)):
+            out = bytes(4 * width * min(4, height - 4 * row))
+            shown = model.decode_row(width, height, row, blocks[columns * row : columns * (row + 1)], out)
+            assert shown == model.decode_sheet_row(rows, row, out) == model.decode_sheet_row(tiles, row, out), rows.hex()
+        number = dice.below(len(blocks) // 16)
+        block = blocks[16 * number : 16 * number + 16]
+        assert model.block_in_sheet(rows, number) == model.block_in_sheet(tiles, number) == (0, block)
+        lines = [model.listing(sheet).splitlines() for sheet in (rows, tiles)]
+        assert lines[0] == [lines[1][0]] + sorted(lines[1][1:], key=lambda line: int(line.split()[0]))
+        line, new = some_replacement(dice, block)
+        refusals, sheets = zip(*(model.replace_in_sheet(sheet, number, line, new) for sheet in (rows, tiles)))
+        assert refusals[0] == refusals[1] and model.to_tiles(sheets[0], bytes(len(tiles))) == (0, sheets[1])
+        for colour_space in (model.LINEAR, model.SRGB):
+            stated = model.write_tile_head(width, height, colour_space) + tiles[start + 1 :]
+            assert model.to_rows(stated, bytes(len(rows)))[0] == 16 and model.to_rows(stated, b"")[0] == 11
+    return count

@@ -6,7 +6,7 @@ import time
 
 import document_01
 import model
-from cases import some_block, some_head, some_opacity, some_sheet
+from cases import sheet_of, some_block, some_head, some_listed, some_opacity, some_sheet, some_tile_head, some_tile_sheet
 from dice import Dice
 
 TIMEOUT = 300
@@ -83,6 +83,33 @@ def inputs(seed):
             count = model.in_blocks(width) * model.in_blocks(height)
             edges.append(model.write_head(width, height)[1] + b"".join(some_opacity(dice)[0] for _ in range(count)))
     yield "opacity marks at every edge", edges
+    yield from tiles(dice)
+
+
+def tiles(dice):
+    """Sheets of form 2: (what it is about, the inputs)"""
+
+    def whole(width, height, block=some_block):
+        return sheet_of(model.TILES, width, height, lambda count: b"".join(block(dice) for _ in range(count)), dice.below(3))
+
+    yield "form 2, sides 1 to 40", [whole(width, height, marked) for width in range(1, 41) for height in range(1, 41)]
+    yield "form 2, refused heads", [some_tile_head(dice) for _ in range(150)]
+    sheet = whole(38, 7)
+    cut = [sheet[:length] for length in range(len(sheet))]
+    yield "form 2, bytes missing at each place, and surplus", cut + [sheet + dice.bytes(more) for more in (*range(34), 16384, 16385)]
+    # A run takes 1,024 blocks at the most: ends within, at and after each; one row of tiles with cut ones, and several.
+    for what, *sides in (("four runs of tiles", 16384, 1), ("rows of tiles longer than a run", 600, 80), ("cut tiles on both sides", 1021, 250)):
+        wide = whole(*sides)
+        start = model.read_head(wide)[1].start
+        ends = [start + 16384 * run + more for run in range(1, 4) for more in (-17, -16, -1, 0, 1, 16)]
+        yield "form 2, %s, cut and surplus" % what, [(wide + bytes(16))[:end] for end in (*ends, len(wide), len(wide) + 1)]
+    yield "form 2, the largest sides", [whole(*sides) for sides in ((16384, 40), (40, 16384), (1, 16384), (16383, 6))]
+    yield "form 2, by chance", [some_listed(dice, 80, model.TILES) for _ in range(60)]
+
+
+def marked(dice):
+    """Blocks of which half are opaque, so that marks show what an edge hides."""
+    return some_opacity(dice)[0] if dice.chance(50) else some_block(dice)
 
 
 def in_pieces(seed):
@@ -91,8 +118,8 @@ def in_pieces(seed):
     yield document_01.SHEET + b"\0"
     yield document_01.SHEET[:-1]
     yield bytes.fromhex("0181")
-    for _ in range(40):
-        head, blocks = some_sheet(dice, 24)
+    for turn in range(40):
+        head, blocks = (some_tile_sheet if turn % 2 else some_sheet)(dice, 44 if turn % 2 else 24)
         data = head + blocks
         yield data[: dice.below(len(data) + 1)] if dice.chance(30) else data + dice.bytes(dice.below(3))
     count = 1024 * 2
@@ -100,11 +127,12 @@ def in_pieces(seed):
 
 
 def largest(seed):
-    """4,096 by 4,096, of some thousand different blocks, so that the model's listing doesn't take minutes."""
+    """4,096 by 4,096 in both forms, of some thousand different blocks, so that the model's listing doesn't take minutes."""
     dice = Dice(seed)
     kinds = [some_block(dice) for _ in range(2000)]
     blocks = b"".join(dice.one_of(kinds) for _ in range(1024 * 1024))
-    return model.write_head(4096, 4096)[1] + blocks
+    yield "4,096 by 4,096", model.write_head(4096, 4096)[1] + blocks
+    yield "form 2, 4,096 by 4,096", model.write_tile_head(4096, 4096) + blocks
 
 
 def difference(data, want, got):
@@ -124,11 +152,11 @@ def compare(command, seed, with_largest=True):
     dice = Dice(seed + 1)
     yield row("input in small pieces", [(data, printed(command, data, dice)) for data in in_pieces(seed)])
     if with_largest:
-        data = largest(seed)
-        began = time.time()
-        got = printed(command, data)
-        took = time.time() - began
-        yield row("4,096 by 4,096", [(data, got)], "listed in %.1f s" % took)
+        for what, data in largest(seed):
+            began = time.time()
+            got = printed(command, data)
+            took = time.time() - began
+            yield row(what, [(data, got)], "listed in %.1f s" % took)
 
 
 def row(what, pairs, note=""):

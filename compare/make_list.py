@@ -29,12 +29,17 @@ from cases import (
     READS,
     bits_of_style,
     block_of,
+    either_form,
     fitting_replacement,
     nearly_opaque,
+    sheet_of,
+    shown_length,
     some_block,
     some_dds,
     some_head,
+    some_block_number,
     some_listed,
+    some_move,
     some_opacity,
     some_reads,
     some_record,
@@ -42,6 +47,9 @@ from cases import (
     some_row,
     some_sheet,
     some_sheet_call,
+    some_shown_row,
+    some_tile_head,
+    some_tile_sheet,
     some_wanted,
     with_number,
 )
@@ -693,35 +701,297 @@ def reading_pixels(dice, shared):
     return calls
 
 
-MAKERS = {
-    "D": decoding,
-    "U": taking_apart,
-    "P": packing,
-    "R": replacing,
-    "H": reading_heads,
-    "W": writing_heads,
-    "O": decoding_rows,
-    "S": replacing_in_sheets,
-    "l": listing_sheets,
-    "r": reading_lines,
-    "N": finding_nearest,
-    "E": finding_exact,
-    "A": telling_opaque,
-    "I": importing,
-    "X": exporting,
-    "d": needing_for_import,
-    "s": needing_for_export,
-    "Q": reading_pixels,
-    "B": reading_bits,
-    "h": reading_colour_heads,
-    "i": importing_colours,
-    "x": exporting_colours,
-}
+# ---------------------------------------------------------------------------------------------------------------------
+# M-108: two forms.
+COLOUR_NUMBERS = (0, 1, 2, 3, 4, 127, 128, 129, 130, 256, 258, 16384, 16385, (1 << 21) - 1)
+# Heads, in this order: form 2 with a number that is cut off, missing or not shortest (7); a colour space that there isn't (18), alone and beside
+# sides that there aren't; such sides (9), alone and beside a broken colour space (7); other forms (8), with every fault behind them; form 1.
+TILE_HEADS = """02 8000 8200 0205 0280 028000 020580 02058000 020504 02050480 0205048000 0205048080 020504808000 02050480808001
+    020504ffffff7f 0205048001 0205048101 0205048201 02050403 020504ff7f 02050404 02000403 02040003 0200048001 02000400 02000401 02000402
+    02040000 02000000 02818001040002 02048180010002 0281800104 028180010403 0204818001 020481800103 02000480 0200048000 020004808080 0200
+    020080 02008000 02ffff7f0400 0204ffff7f00 02808001808001 0280800180800100 0280800180800103 0203 020503 0300 030504 03050400 03050403
+    0305048000 8101050400 8201050400 000504 00050400 82000504 82800005 01 0105 0100 018000 010504 01050400 01050403 0105048000 01000403""".split()
+TILE_SIDES = (1, 3, 4, 5, 8, 9, 16, 17, 28, 29, 31, 32, 33, 36, 37, 40)  # a tile is 32 pixels wide: below, at and above its blocks
 
 
-def made(letter, shared):
-    """The fixed calls of a letter. Each letter has its own dice, so that adding one leaves the others as they are."""
-    return MAKERS[letter](Dice(SEED * 256 + ord(letter)), shared)
+def marked(count):
+    """Blocks of which no two are alike, so that each shows where it went; cheap to keep."""
+    return b"".join(b"\x40" + number.to_bytes(3, "little") + bytes(12) for number in range(count))
+
+
+def tile_heads(dice):
+    """Every head of TILE_HEADS. Sides with each colour space; colour spaces with right and wrong sides. Every beginning of heads of one, two
+    and three groups. What isn't a number at each of the four places, alone and beside sides and a colour space that are refused (7 before
+    18 before 9). Form 1 with what form 2 has behind the height: its blocks start there. And heads by chance."""
+    heads = [bytes.fromhex(head) for head in TILE_HEADS]
+    for turn, width in enumerate(WIDE_SIDES):
+        heads += [model.write_tile_head(width, height, (turn + height) % 4) for height in (1, 4, 128, 16384, 16385, 0)]
+    for colour in COLOUR_NUMBERS:
+        heads += [model.write_tile_head(width, height, colour) + dice.bytes(3) for width, height in ((5, 4), (0, 4), (5, 16385), (16384, 16384))]
+    for head in ("02050402", "028001800101", "02808001808001ff7f", "02ff7fff7f03"):
+        head = bytes.fromhex(head)
+        heads += [head[:count] for count in range(len(head) + 1)]
+    for wrong in map(bytes.fromhex, NOT_NUMBERS):
+        heads += [wrong + b"\x05\x04\x00", b"\x02" + wrong, b"\x02" + wrong + b"\x04\x03", b"\x02\x05" + wrong + b"\x00", b"\x02\x05\x04" + wrong]
+        for side in (0, 16385):
+            heads += [b"\x02" + model.write_number(side) + b"\x04" + wrong, b"\x02\x04" + model.write_number(side) + wrong]
+            heads += [b"\x02" + model.write_number(side) + wrong + b"\x03", b"\x02" + wrong + model.write_number(side) + b"\x03"]
+    heads += [b"\x01\x05\x04" + bytes([more]) for more in (0, 1, 2, 3, 128, 255)]
+    return heads + [some_tile_head(dice) for _ in range(60)]
+
+
+def reading_tile_heads(letter):
+    return lambda dice, shared: [(letter, head) for head in tile_heads(dice)]
+
+
+def opening(dice, shared):
+    """The heads of `H`, and those of both forms; and whole sheets, of which only the head is looked at."""
+    calls = [("o", *given) for _, *given in reading_heads(dice, shared)] + [("o", head) for head in tile_heads(dice)]
+    for form in model.FORMS:
+        calls += [("o", sheet_of(form, width, height, dice_blocks(dice), dice.below(3))) for width in TILE_SIDES for height in (1, 5, 33)]
+    calls.append(("o", sheet_of(model.TILES, 252, 256, marked)))
+    return calls
+
+
+def dice_blocks(dice):
+    return lambda count: dice.bytes(16 * count)
+
+
+def drawn_blocks(dice):
+    return lambda count: blocks_for(dice, 16 * count)
+
+
+def edge_blocks(dice):
+    """Opaque but at one pixel of the last column or row: the mark goes by how many of them are shown."""
+    hidden = (3, 7, 11, 12, 13, 14, 15)
+    return lambda count: b"".join(nearly_opaque(dice, 6, ("whole",), [dice.one_of(hidden)]) for _ in range(count))
+
+
+def refused_sheets(dice):
+    """Sheets that no call takes, or that only some take: every head of TILE_HEADS with nothing behind it, a block and two; whole sheets of
+    both forms under each colour space with bytes missing and too many."""
+    rests = b"", document_01.C, document_01.C + document_01.D
+    sheets = [bytes.fromhex(head) + rest for head in TILE_HEADS for rest in rests]
+    for form in model.FORMS:
+        for colour in range(3 if form == model.TILES else 1):
+            sheet = sheet_of(form, 6, 7, dice_blocks(dice), colour)
+            sheets += [sheet[: len(sheet) + more] if more < 0 else sheet + dice.bytes(more) for more in (-64, -17, -16, -1, 1, 16, 17)]
+    return sheets
+
+
+def moving(letter, form):
+    """Moves to that form. Every pair of sides below, at and above a tile's blocks. One block high and one wide, to many tiles. What is refused,
+    with outputs that are as long as needed and that aren't (11 before 16), and under each colour space. Sheets as large as a call takes, one
+    tile high and with tiles cut on both sides. And by chance."""
+    other, more = (model.ROWS, 1) if form == model.TILES else (model.TILES, -1)
+
+    def calls(dice, shared):
+        del shared
+        made = []
+        for width in TILE_SIDES:
+            made += [sheet_of(other, width, height, dice_blocks(dice)) for height in TILE_SIDES]
+        for long in (64, 127, 128, 129, 255, 256, 260, 1024):
+            made += [sheet_of(other, *sides, dice_blocks(dice)) for sides in ((long, 1), (2, long))]
+        found = [(letter, sheet, dice.bytes(len(sheet) + more)) for sheet in made]
+        # Each colour space, in each form; outputs beside the right length, none, and as long as the sheet.
+        for each in model.FORMS:
+            for colour in range(3 if each == model.TILES else 1):
+                for width, height in ((1, 1), (5, 4), (33, 5), (9, 36)):
+                    sheet = sheet_of(each, width, height, dice_blocks(dice), colour)
+                    lengths = {0, *(max(0, len(sheet) + beside) for beside in (-17, -16, -2, -1, 0, 1, 2, 16))}
+                    found += [(letter, sheet, dice.bytes(length)) for length in sorted(lengths)]
+        for sheet in refused_sheets(dice):
+            for length in {max(0, len(sheet) + more), len(sheet)} if len(sheet) % 3 else {max(0, len(sheet) + more)}:
+                found.append((letter, sheet, dice.bytes(length)))
+        for width, height in ((16380, 1), (252, 256)):
+            sheet = sheet_of(other, width, height, marked)
+            found.append((letter, sheet, b"\xa5" * (len(sheet) + more)))
+        return found + [(letter, *some_move(dice, form, 44)) for _ in range(60)]
+
+    return calls
+
+
+def showing_rows(dice, shared):
+    """Every pair of sides, in each form by turns, at some row, the last ones too. Each pair of refusals: bytes missing or too many (10), rows
+    beyond (12), outputs beside the right length (11), in both forms; heads that are refused, with a row beyond. The widest output that a call
+    takes, and the largest sheets. And by chance."""
+    del shared
+    calls = []
+    for turn, (width, height) in enumerate((width, height) for width in TILE_SIDES for height in TILE_SIDES):
+        form, rows = model.FORMS[turn % 2], model.in_blocks(height)
+        for each in (form, 3 - form) if turn % 5 == 0 else (form,):
+            sheet = sheet_of(each, width, height, drawn_blocks(dice), dice.below(3))
+            row = dice.one_of((0, rows - 1, dice.below(rows)))
+            calls.append(("V", row, sheet, dice.bytes(shown_length(width, height, row))))
+    for form in model.FORMS:
+        for width, height in ((6, 7), (37, 33)):
+            sheet = sheet_of(form, width, height, drawn_blocks(dice), 2 if width == 37 else 0)
+            rows = model.in_blocks(height)
+            for row in (0, rows - 1, rows, rows + 1, 256, 1 << 30, (1 << 32) - 1):
+                right = shown_length(width, height, min(row, rows - 1))
+                for length in (right, right - 1, right + 1, 0):
+                    for more in (0, -16, -1, 1) if width == 6 or length == right else (0,):
+                        given = sheet[: len(sheet) + more] if more < 0 else sheet + dice.bytes(more)
+                        calls.append(("V", row, given, dice.bytes(length)))
+    for sheet in refused_sheets(dice):
+        calls += [("V", row, sheet, dice.bytes(length)) for row, length in ((0, 64), (9, 3))[: 1 + len(sheet) % 2]]
+    tall = sheet_of(model.TILES, 4, 16380, marked)
+    calls.append(("V", 4094, tall, dice.bytes(64)))
+    wide = sheet_of(model.TILES, 4096, 4, lambda count: document_01.D * (count - 1) + document_01.C)
+    calls.append(("V", 0, wide, b"\xa5" * protocol.LARGEST_LENGTH))
+    return calls + [("V", *some_shown_row(dice, 44)) for _ in range(60)]
+
+
+def taking_blocks(dice, shared):
+    """Every block of a sheet of four cut tiles, and one of every pair of sides, in both forms; the first numbers beyond, and ones that wrap when
+    multiplied by sixteen; bytes missing and too many with a number beyond (10 before 12); heads that are refused; the largest sheets."""
+    del shared
+    calls = []
+    sheet = sheet_of(model.TILES, 36, 38, dice_blocks(dice), 1)
+    calls += [("b", sheet, number) for number in range(92)]
+    for form in model.FORMS:
+        for width in TILE_SIDES:
+            for height in (1, 5, 32, 37):
+                sheet = sheet_of(form, width, height, dice_blocks(dice), dice.below(3))
+                count = model.in_blocks(width) * model.in_blocks(height)
+                calls += [("b", sheet, number) for number in (dice.below(count), dice.one_of((count - 1, count)))]
+        sheet = sheet_of(form, 6, 7, dice_blocks(dice), 2)
+        for more in (0, -64, -17, -16, -1, 1, 16, 17):
+            given = sheet[: len(sheet) + more] if more < 0 else sheet + dice.bytes(more)
+            calls += [("b", given, number) for number in (0, 3, 4, 5, *(LARGE if more == 0 else LARGE[-1:]))]
+    for sheet in refused_sheets(dice):
+        calls += [("b", sheet, number) for number in (0, 9)[: 1 + len(sheet) % 2]]
+    wide, high = sheet_of(model.TILES, 16380, 1, marked), sheet_of(model.TILES, 252, 256, marked)
+    calls += [("b", wide, 4094), ("b", high, 1000)]
+    for _ in range(60):
+        sheet = some_listed(dice, 44, either_form(dice))
+        calls.append(("b", sheet, some_block_number(dice, sheet)))
+    return calls
+
+
+def replacing_in_tiles(dice, shared):
+    """Replacement in form 2: each block of a sheet of cut tiles, and the first beyond; every refusal of a block and of the sheet, and of heads;
+    a sheet of as many blocks as a call takes. A sequence on one sheet, and by chance."""
+    del shared
+    calls = []
+    for sides, step in (((37, 9), 1), ((39, 35), 7)):
+        sheet = sheet_of(model.TILES, *sides, drawn_blocks(dice), 2)
+        count = model.in_blocks(sides[0]) * model.in_blocks(sides[1])
+        for number in range(0, count, step):
+            calls.append(("S", sheet, number, *some_replacement(dice, model.block_in_sheet(sheet, number)[1], wrong_percent=0)))
+        calls += [("S", sheet, number, 0, bytes(26)) for number in (count, count + 1, *(LARGE if step == 1 else ()))]
+    wrong_value, wrong_p = bytes([255] + [0] * 25), bytes([0] * 8 + [0, 1] + [0] * 16)
+    two = block_of(1, ("two", 13), bits_of_style(dice, "random"))
+    sheet = model.write_tile_head(7, 6, 1) + document_01.C + bytes(16) + two + document_01.D
+    for block in (0, 1, 2, 3, 4):
+        calls += [("S", sheet, block, line, new) for line in (0, 1, 2) for new in (bytes(26), wrong_value, wrong_p)]
+    for more in (-64, -17, -16, -1, 1, 16, 17):
+        given = sheet[: len(sheet) + more] if more < 0 else sheet + dice.bytes(more)
+        calls += [("S", given, block, line, new) for block, line, new in ((0, 0, bytes(26)), (4, 0, bytes(26)), (1, 0, wrong_value))]
+    for sheet in refused_sheets(dice):
+        calls.append(("S", sheet, len(sheet) % 5, 0, document_01.C_NEW))
+    large = sheet_of(model.TILES, 252, 256, lambda count: document_01.C * count)
+    calls.append(("S", large, 4030, 0, document_01.C_NEW))
+    head, blocks = some_tile_sheet(dice, 44)
+    sheet = head + blocks
+    for _ in range(30):
+        block = dice.below(len(blocks) // 16)
+        call = ("S", sheet, block, *some_replacement(dice, model.block_in_sheet(sheet, block)[1], wrong_percent=0))
+        calls.append(call)
+        sheet = model.replace_in_sheet(*call[1:])[1]
+    return calls + [("S", *some_sheet_call(dice, 44, model.TILES)) for _ in range(60)]
+
+
+def listing_tiles(dice, shared):
+    """Form 2 listed: pairs of sides; a sheet of cut tiles with every length up to the end of its third block and around each later one, and with
+    bytes too many; marks at the edges, by column and row; 1,024 blocks and one more, cut there; refused heads, and by chance."""
+    del shared
+    sheets = []
+    for turn, (width, height) in enumerate((width, height) for width in TILE_SIDES for height in (1, 7, 29, 33, 38)):
+        sheets.append(sheet_of(model.TILES, width, height, (drawn_blocks, edge_blocks)[turn % 2](dice), dice.below(3)))
+    sheet = sheet_of(model.TILES, 9, 10, drawn_blocks(dice), 1)
+    sheets += [sheet[:length] for length in range(len(sheet)) if length < 56 or length % 16 in (3, 4, 5)]
+    sheets += [sheet + dice.bytes(more) for more in (1, 15, 16, 17, 1000)]
+    sheets += [sheet_of(model.TILES, *sides, edge_blocks(dice)) for sides in ((5, 6), (34, 3), (3, 35), (33, 33), (35, 34))]
+    wide = sheet_of(model.TILES, 132, 128, drawn_blocks(dice))
+    sheets += [wide] + [wide[: len(wide) - 32 * 16 + end] for end in (-17, -16, -1, 0, 1, 16)]
+    sheets += refused_sheets(dice)
+    return [("l", sheet) for sheet in sheets] + [("l", some_listed(dice, 44, model.TILES)) for _ in range(40)]
+
+
+def tiles_to_export(dice):
+    """Sheets of form 2 for calls that take form 1 alone: 8 at the form, whatever stands behind it."""
+    sheets = [sheet_of(model.TILES, width, height, dice_blocks(dice), colour) for width, height in ((1, 1), (5, 4), (33, 5)) for colour in range(3)]
+    return sheets + refused_sheets(dice)
+
+
+def exporting_tiles(letter):
+    """With an output as long as the file of form 1 would be, and with none."""
+
+    def calls(dice, shared):
+        del shared
+        found = []
+        for turn, sheet in enumerate(tiles_to_export(dice)):
+            colour = [turn % 3] if letter == "x" else []
+            needed = model.DDS_HEADER + max(0, len(sheet) - 4)
+            found += [(letter, *colour, sheet, dice.bytes(length)) for length in (needed, 0)[: 1 + turn % 2]]
+        return found
+
+    return calls
+
+
+def needing_for_tiles(dice, shared):
+    del shared
+    return [("s", sheet) for sheet in tiles_to_export(dice)]
+
+
+# Who makes the calls of a letter, in the order of the list. What a request adds for letters that are there stands behind, so that the
+# older calls keep their places and their bytes.
+MAKERS = (
+    ("D", decoding),
+    ("U", taking_apart),
+    ("P", packing),
+    ("R", replacing),
+    ("H", reading_heads),
+    ("W", writing_heads),
+    ("O", decoding_rows),
+    ("S", replacing_in_sheets),
+    ("l", listing_sheets),
+    ("r", reading_lines),
+    ("N", finding_nearest),
+    ("E", finding_exact),
+    ("A", telling_opaque),
+    ("I", importing),
+    ("X", exporting),
+    ("d", needing_for_import),
+    ("s", needing_for_export),
+    ("Q", reading_pixels),
+    ("B", reading_bits),
+    ("h", reading_colour_heads),
+    ("i", importing_colours),
+    ("x", exporting_colours),
+    ("T", moving("T", model.TILES)),
+    ("Z", moving("Z", model.ROWS)),
+    ("V", showing_rows),
+    ("o", opening),
+    ("b", taking_blocks),
+    ("H", reading_tile_heads("H")),
+    ("h", reading_tile_heads("h")),
+    ("S", replacing_in_tiles),
+    ("l", listing_tiles),
+    ("X", exporting_tiles("X")),
+    ("x", exporting_tiles("x")),
+    ("s", needing_for_tiles),
+)
+
+
+def made(asked, shared):
+    """(letter, its fixed calls), for the letters that are asked for. Each has its own dice, so that adding one leaves the others as they are."""
+    seen = Counter()
+    for letter, maker in MAKERS:
+        if letter in asked:
+            yield letter, maker(Dice(SEED * 256 + ord(letter) + (seen[letter] << 32)), shared)
+        seen[letter] += 1
 
 
 def answers(letter, calls, oracle):
@@ -746,15 +1016,13 @@ def main():
     shared = tools.shared_folder(given.shared)
     oracle = tools.build_oracle(shared / "docs/src") if "D" in asked else None
     stdin, stdout = [], []
-    for letter in protocol.LETTERS:
-        if letter in asked:
-            calls = made(letter, shared)
-            replies = answers(letter, calls, oracle)
-            stdin += map(protocol.call_bytes, calls)
-            stdout += replies
-            counts = Counter(protocol.refusal_in(letter, reply) for reply in replies)
-            tally = ["%s %d" % ("refusal %d:" % n if n else "accepted:", counts[n]) for n in sorted(counts)]
-            print("%s: %d calls; %s" % (letter, len(calls), "; ".join(tally)))
+    for letter, calls in made(asked, shared):
+        replies = answers(letter, calls, oracle)
+        stdin += map(protocol.call_bytes, calls)
+        stdout += replies
+        counts = Counter(protocol.refusal_in(letter, reply) for reply in replies)
+        tally = ["%s %d" % ("refusal %d:" % n if n else "accepted:", counts[n]) for n in sorted(counts)]
+        print("%s: %d calls; %s" % (letter, len(calls), "; ".join(tally)))
     out = Path(given.out)
     out.mkdir(parents=True, exist_ok=True)
     (out / "stdin").write_bytes(b"".join(stdin))

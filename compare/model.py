@@ -15,6 +15,7 @@ Values are plain integers and tuples:
 import struct
 from collections import namedtuple
 from functools import lru_cache
+from itertools import islice
 
 import partitions
 
@@ -383,7 +384,11 @@ def is_opaque(block, columns, rows):
 
 # ---------------------------------------------------------------------------------------------------------------------
 # The sheet.
-FORM, LARGEST_SIDE, GROUPS = 1, 16384, 3
+LARGEST_SIDE, GROUPS = 16384, 3
+ROWS, TILES = FORMS = 1, 2  # the forms of a sheet, by the order of its blocks
+UNSPECIFIED, LINEAR, SRGB = COLOUR_SPACES = 0, 1, 2
+Head = namedtuple("Head", "width height start colour_space form")
+NO_HEAD = Head(0, 0, 0, UNSPECIFIED, 0)
 
 
 def write_number(value):
@@ -412,27 +417,39 @@ def size_fits(width, height):
     return 1 <= width <= LARGEST_SIDE and 1 <= height <= LARGEST_SIDE
 
 
-def read_head(data):
-    """refusal, width, height, where the blocks start"""
+def read_head(data, forms=FORMS):
+    """refusal, the head. Form 2 has a number more, the colour space; form 1 has no room for one. A call that takes one form alone gives 8
+    for the other where the form is read, before anything that stands behind it."""
     form = read_number(data, 0)
     if form is None:
-        return 7, 0, 0, 0
-    if form[0] != FORM:
-        return 8, 0, 0, 0
-    width = read_number(data, form[1])
-    height = read_number(data, width[1]) if width else None
-    if height is None:
-        return 7, 0, 0, 0
-    if not size_fits(width[0], height[0]):
-        return 9, 0, 0, 0
-    return 0, width[0], height[0], height[1]
+        return 7, NO_HEAD
+    if form[0] not in forms:
+        return 8, NO_HEAD
+    found, at = [], form[1]
+    for _ in range(3 if form[0] == TILES else 2):
+        number = read_number(data, at)
+        if number is None:
+            return 7, NO_HEAD
+        found.append(number[0])
+        at = number[1]
+    width, height, colour_space = (*found, UNSPECIFIED)[:3]
+    if colour_space not in COLOUR_SPACES:
+        return 18, NO_HEAD
+    if not size_fits(width, height):
+        return 9, NO_HEAD
+    return 0, Head(width, height, at, colour_space, form[0])
 
 
 def write_head(width, height):
-    """refusal, the head's bytes (the call answers them with their count)"""
+    """refusal, the head's bytes (the call answers them with their count): form 1"""
     if not size_fits(width, height):
         return 9, b""
-    return 0, write_number(FORM) + write_number(width) + write_number(height)
+    return 0, write_number(ROWS) + write_number(width) + write_number(height)
+
+
+def write_tile_head(width, height, colour_space=UNSPECIFIED):
+    """The bytes of a head of form 2."""
+    return b"".join(map(write_number, (TILES, width, height, colour_space)))
 
 
 def in_blocks(side):
@@ -459,20 +476,118 @@ def decode_row(width, height, row, blocks, out):
     return 0, b"".join(shown)
 
 
+# ---------------------------------------------------------------------------------------------------------------------
+# A whole sheet, of either form. M-108: form 2 stores blocks in tiles. Their numbers count row by row in both forms.
+TILE = 8  # blocks on a side of a tile
+# Row and column of each place in a tile. Its six bits, the highest first: the row's are at 5, 3 and 1, the column's at 4, 2 and 0.
+PLACES = [(int(bits[0::2], 2), int(bits[1::2], 2)) for bits in (format(place, "06b") for place in range(TILE * TILE))]
+
+
+def stored_order(columns, rows, form):
+    """The numbers of a sheet's blocks, one after the other as they are stored."""
+    if form == ROWS:
+        yield from range(columns * rows)
+        return
+    for tile_row in range(0, rows, TILE):
+        for tile_column in range(0, columns, TILE):
+            for row, column in PLACES:
+                if tile_row + row < rows and tile_column + column < columns:
+                    yield (tile_row + row) * columns + tile_column + column
+
+
+def order_of(head):
+    return stored_order(in_blocks(head.width), in_blocks(head.height), head.form)
+
+
+def count_of(head):
+    return in_blocks(head.width) * in_blocks(head.height)
+
+
+def read_sheet(sheet, forms=FORMS):
+    """refusal, the head: 10 among the refusals"""
+    refusal, head = read_head(sheet, forms)
+    if refusal == 0 and len(sheet) - head.start != 16 * count_of(head):
+        return 10, NO_HEAD
+    return refusal, head
+
+
+def blocks_of(sheet, head):
+    """The blocks of a whole sheet, by their numbers."""
+    found = [b""] * count_of(head)
+    for stored, number in enumerate(order_of(head)):
+        at = head.start + 16 * stored
+        found[number] = bytes(sheet[at : at + 16])
+    return found
+
+
+def laid_out(head, blocks):
+    """The sheet with that head, of these blocks by their numbers."""
+    if head.form == TILES:
+        first = write_tile_head(head.width, head.height, head.colour_space)
+    else:
+        first = write_head(head.width, head.height)[1]
+    return first + b"".join(blocks[number] for number in order_of(head))
+
+
 def replace_in_sheet(sheet, block, line, new):
     """refusal, the sheet afterwards"""
     sheet = bytes(sheet)
-    refusal, width, height, start = read_head(sheet)
+    refusal, head = read_sheet(sheet)
     if refusal:
         return refusal, sheet
-    count = in_blocks(width) * in_blocks(height)
-    if len(sheet) - start != 16 * count:
-        return 10, sheet
-    if block >= count:
+    if block >= count_of(head):
         return 12, sheet
-    at = start + 16 * block
-    refusal, changed = replace(sheet[at : at + 16], line, new)
-    return refusal, sheet[:at] + changed + sheet[at + 16 :]
+    blocks = blocks_of(sheet, head)
+    refusal, blocks[block] = replace(blocks[block], line, new)
+    return refusal, laid_out(head, blocks)
+
+
+def block_in_sheet(sheet, block):
+    """refusal, the block's sixteen bytes"""
+    refusal, head = read_sheet(sheet)
+    if refusal == 0 and block >= count_of(head):
+        refusal = 12
+    return (refusal, ZERO_BLOCK) if refusal else (0, blocks_of(sheet, head)[block])
+
+
+def open_sheet(sheet):
+    """refusal, eight numbers: a head is enough for it"""
+    refusal, head = read_head(sheet)
+    columns, rows = in_blocks(head.width), in_blocks(head.height)
+    return refusal, (*head, columns, rows, columns * rows)
+
+
+def decode_sheet_row(sheet, row, out):
+    """refusal, the output afterwards: as row decoding has it of that row's blocks"""
+    refusal, head = read_sheet(sheet)
+    if refusal == 0 and row >= in_blocks(head.height):
+        refusal = 12
+    if refusal:
+        return refusal, bytes(out)
+    columns = in_blocks(head.width)
+    blocks = blocks_of(sheet, head)[columns * row : columns * (row + 1)]
+    return decode_row(head.width, head.height, row, b"".join(blocks), out)
+
+
+def move(sheet, form, out):
+    """refusal, the output afterwards: a sheet of the other form moved to that form, where no stated colour space is lost by it"""
+    refusal, head = read_sheet(sheet, [other for other in FORMS if other != form])
+    if refusal:
+        return refusal, bytes(out)
+    moved = laid_out(head._replace(form=form), blocks_of(sheet, head))
+    if len(out) != len(moved):
+        return 11, bytes(out)
+    if form == ROWS and head.colour_space != UNSPECIFIED:
+        return 16, bytes(out)
+    return 0, moved
+
+
+def to_tiles(sheet, out):
+    return move(sheet, TILES, out)
+
+
+def to_rows(sheet, out):
+    return move(sheet, ROWS, out)
 
 
 # ---------------------------------------------------------------------------------------------------------------------
@@ -527,18 +642,10 @@ def dds_header(width, height):
     )
 
 
-def read_sheet(sheet):
-    """refusal, width, height, start: 10 among the refusals"""
-    refusal, width, height, start = read_head(sheet)
-    if refusal == 0 and len(sheet) - start != 16 * in_blocks(width) * in_blocks(height):
-        return 10, 0, 0, 0
-    return refusal, width, height, start
-
-
 def export_length(sheet):
-    """refusal, the bytes of the file"""
-    refusal, _, _, start = read_sheet(sheet)
-    return (refusal, 0) if refusal else (0, DDS_HEADER + len(sheet) - start)
+    """refusal, the bytes of the file: of form 1 alone"""
+    refusal, head = read_sheet(sheet, [ROWS])
+    return (refusal, 0) if refusal else (0, DDS_HEADER + len(sheet) - head.start)
 
 
 def export_dds(sheet, out):
@@ -546,31 +653,20 @@ def export_dds(sheet, out):
     refusal, needed = export_length(sheet)
     if refusal or len(out) != needed:
         return refusal or 11, bytes(out)
-    _, width, height, start = read_sheet(sheet)
-    return 0, dds_header(width, height) + bytes(sheet[start:])
+    _, head = read_sheet(sheet)
+    return 0, dds_header(head.width, head.height) + bytes(sheet[head.start :])
 
 
 # ---------------------------------------------------------------------------------------------------------------------
-# M-107: the colour space. A head in memory has one; form 1 has no room for it, so of a sheet it is unspecified, and of a file what the format
-# says. Nothing else of import and export depends on it.
-UNSPECIFIED, LINEAR, SRGB = range(3)
-Head = namedtuple("Head", "width height start colour_space")
-NO_HEAD = Head(0, 0, 0, UNSPECIFIED)
-
-
-def read_colour_head(sheet):
-    """refusal, the head"""
-    refusal, *found = read_head(sheet)
-    return refusal, NO_HEAD if refusal else Head(*found, UNSPECIFIED)
-
-
+# M-107: the colour space. A head in memory has one; form 1 has no room for it, so of such a sheet it is unspecified, and of a file what the
+# format says. Nothing else of import and export depends on it.
 def import_colour(data, out):
     """refusal, the head, the output afterwards: the head as it is read of that output, but for the colour space"""
     refusal, sheet = import_dds(data, out)
     if refusal:
         return refusal, NO_HEAD, sheet
     says = {BC7_UNORM: LINEAR, BC7_SRGB: SRGB}
-    return 0, Head(*read_head(sheet)[1:], says[DDS_STRUCT.unpack_from(data)[-5]]), sheet
+    return 0, read_head(sheet)[1]._replace(colour_space=says[DDS_STRUCT.unpack_from(data)[-5]]), sheet
 
 
 def export_colour(colour_space, sheet, out):
@@ -592,17 +688,17 @@ def listed(block, columns, rows):
 
 
 def listing(data):
-    refusal, width, height, start = read_head(data)
+    """In stored order, each block with its number; what is shown of it goes by its column and row."""
+    refusal, head = read_head(data)
     if refusal:
         return "refused %d\n" % refusal
-    declared = in_blocks(width) * in_blocks(height)
-    present = min(declared, (len(data) - start) // 16)
-    text = ["sheet %d %d\n" % (width, height)]
-    for number in range(present):
-        at = start + 16 * number
-        row, column = divmod(number, in_blocks(width))
-        shown = min(4, width - 4 * column), min(4, height - 4 * row)
+    present = min(count_of(head), (len(data) - head.start) // 16)
+    text = ["sheet %d %d\n" % (head.width, head.height)]
+    for stored, number in enumerate(islice(order_of(head), present)):
+        at = head.start + 16 * stored
+        row, column = divmod(number, in_blocks(head.width))
+        shown = min(4, head.width - 4 * column), min(4, head.height - 4 * row)
         text.append("%d %s\n" % (number, listed(bytes(data[at : at + 16]), *shown)))
-    if len(data) - start != 16 * declared:
+    if len(data) - head.start != 16 * count_of(head):
         text.append("refused 10\n")
     return "".join(text)

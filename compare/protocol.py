@@ -24,10 +24,15 @@ A call is (letter, arguments..):
   h data             read a head, with its colour space
   i dds out          import a DDS file, with the head
   x colour sheet out export a sheet under a colour space, 0 to 2
+  T sheet out        move a sheet to form 2
+  Z sheet out        move a sheet back to form 1
+  V row sheet out    show a row of a whole sheet
+  o sheet            open a sheet: the eight numbers of its head
+  b sheet block      a block of a sheet
 """
 import model
 
-LETTERS = "DUPRHWOSlrNEA" + "IXds" + "Q" + "B" + "hix"
+LETTERS = "DUPRHWOSlrNEA" + "IXds" + "Q" + "B" + "hix" + "TZVob"
 KINDS = ("whole", "two", "three", "vector")
 RECORD, REPLACEMENT, READ = 66, 26, 11
 LARGEST_LENGTH = 65536  # a longer slice ends the run
@@ -82,13 +87,14 @@ def call_bytes(call):
         sheet, block, line, new = given
         assert len(sheet) <= LARGEST_LENGTH
         body = number(len(sheet)) + sheet + number(block) + number(line) + bytes(new)
-    elif letter in "IXix":
-        *colour, data, out = given
+    elif letter in "IXixTZV":
+        *first, data, out = given
         assert len(data) <= LARGEST_LENGTH and len(out) <= LARGEST_LENGTH
-        body = bytes(colour) + number(len(data)) + number(len(out)) + data + out
-    elif letter in "lds":
+        body = number(*first) if letter == "V" else bytes(first)
+        body += number(len(data)) + number(len(out)) + data + out
+    elif letter in "ldsob":
         assert len(given[0]) <= LARGEST_LENGTH
-        body = number(len(given[0])) + given[0]
+        body = number(len(given[0])) + given[0] + b"".join(map(number, given[1:]))
     else:  # D, U, P
         body = bytes(given[0])
     return letter.encode() + body
@@ -122,12 +128,19 @@ def model_answer(call):
         rest = bytes([index])
     elif letter == "Q":
         refusal, rest = model.pixel(*given)
-    elif letter == "H":
-        refusal, *found = model.read_head(given[0])
-        rest = b"".join(map(number, found))
-    elif letter == "h":
-        refusal, head = model.read_colour_head(given[0])
-        rest = head_bytes(head)
+    elif letter in "Hh":
+        refusal, head = model.read_head(given[0])
+        rest = head_bytes(head) if letter == "h" else head_bytes(head)[:12]
+    elif letter == "o":
+        refusal, numbers = model.open_sheet(given[0])
+        rest = b"".join(map(number, numbers))
+    elif letter == "b":
+        refusal, rest = model.block_in_sheet(*given)
+    elif letter in "TZ":
+        refusal, rest = (model.to_tiles if letter == "T" else model.to_rows)(*given)
+    elif letter == "V":
+        row, sheet, out = given
+        refusal, rest = model.decode_sheet_row(sheet, row, out)
     elif letter == "W":
         refusal, head = model.write_head(*given)
         rest = bytes([len(head)]) + head.ljust(7, b"\0")

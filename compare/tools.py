@@ -44,23 +44,33 @@ def program(name):
     return started(path) if path.exists() else None
 
 
-def pixel_filter():
-    """The second decoder as a filter over the archive, or None where there is no archive (`rt staticlib rinchovek`) or no kit."""
+def over_archive(name):
+    """NAME.c of this folder as a filter over the archive, or None where there is no archive (`rt staticlib rinchovek`) or no kit."""
     archive = ROOT / "target" / "staticlib" / "librinchovek.a"
     if not archive.exists() or shutil.which("rt") is None:
         return None
-    kit, out = toolchain(), BUILT / "pixel_filter"
+    kit, out = toolchain(), BUILT / name
     lib, headers, part = kit / "lib", BUILT / "include", out.with_suffix(".o")
     headers.mkdir(parents=True, exist_ok=True)
     (headers / "stddef.h").write_text("typedef unsigned long size_t;\n")
     (headers / "stdint.h").write_text("typedef unsigned char uint8_t; typedef unsigned uint32_t;\n")
-    compile_words = ["--target=x86_64-linux-gnu", "-nostdinc", "-isystem", headers, "-I", ROOT / "include", "-O2", "-c", HERE / "pixel_filter.c", "-o", part]
+    compile_words = ["--target=x86_64-linux-gnu", "-nostdinc", "-isystem", headers, "-I", ROOT / "include", "-O2", "-c", HERE / (name + ".c"), "-o", part]
     subprocess.run([kit / "bin" / "clang", *compile_words], check=True)
     before = [lib / name for name in ("Scrt1.o", "crti.o", "crtbeginS.o")]
     behind = [lib / name for name in ("libc.so.6", "libc_nonshared.a", "ld-linux-x86-64.so.2", "libgcc.a", "crtendS.o", "crtn.o")]
     link_words = ["-pie", "-dynamic-linker", lib / "ld-linux-x86-64.so.2", "-o", out, *before, part, archive, *behind]
     subprocess.run([kit / "bin" / "ld.lld", *link_words], check=True)
     return started(out)
+
+
+def pixel_filter():
+    """The second decoder."""
+    return over_archive("pixel_filter")
+
+
+def sheet_filter():
+    """Moves and rows of sheets that are too long for replay."""
+    return over_archive("sheet_filter")
 
 
 def through(command, data, timeout=600):

@@ -13,12 +13,12 @@ use Rattle.head_rules.specs.declared.HeadBytes.{HeadBytes}
 use Rattle.laws.specs.Padding.{padded}
 use Rattle.laws.specs.Refusals.{first}
 use Rattle.head_rules.specs.Colours.{colourNumber, colourOf, colourRefusal}
-use Rattle.head_rules.specs.Heads.{bytesOfHead, colourIn, formIn, formNumber, formOf, headBytes, headRefusalUpTo, heightIn, oldHead}
+use Rattle.head_rules.specs.Heads.{bytesOfHead, colourIn, formIn, formNumber, formOf, headBytes, headRefusalUpTo, heightIn, limit, oldHead}
 use Rattle.head_rules.specs.Heads.{ofFormRefusalUpTo, readHead, readHeadUpTo, readOfForm, readOfFormUpTo, sizeRefusalUpTo, tiledBytes}
 use Rattle.head_rules.specs.Heads.{under, widthIn, writeHead, writeHeadUpTo}
 use Rattle.head_rules.specs.declared.Stage.the-variants.{Width}
 use Rattle.laws.specs.Counting.{count}
-use Rattle.tile_rules.specs.Tiles.{columnAt, columnOfSlot, inSheet, slotIn, storedInTiles, rowAt, rowOfSlot, slotOf, tiles}
+use Rattle.tile_rules.specs.Tiles.{columnAt, columnOfSlot, inSheet, mostAcross, rowAt, rowOfSlot, slotIn, slotOf, storedInTiles, tiles}
 use Rattle.head_rules.specs.Geometry.{across, blocksOf, outLength, placeOf, rowLength, sideShown, storedAt, wholeLength}
 use Rattle.head_rules.specs.Reader.{Reading, atForm, byteTaken, colourTaken, formTaken, groupTaken, lastTaken, readBy, sizeTaken}
 use Rattle.head_rules.specs.Numbers.{groups, numberBytes, raised, readGroups, readNumber}
@@ -107,6 +107,7 @@ pub record Heads : Type 0 where
       reading (tiled Linear 5 6 4) (0x60 ∷ []) ∷ reading (noHead 18) (0x60 ∷ []) ∷ reading (noHead 7) [] ∷ []
   -- columns and rows of blocks, shown scanlines, and of a sheet of 5 by 9 pixels the blocks, the place of block 3, and its length
   pub rounded-up : map across (1 ∷ 4 ∷ 5 ∷ 16383 ∷ 16384 ∷ []) ≡ 1 ∷ 1 ∷ 2 ∷ 4096 ∷ 4096 ∷ []
+  pub most-across : across limit ≡ mostAcross
   pub scanlines-shown : map (sideShown 9) (0 ∷ 1 ∷ 2 ∷ []) ≡ 4 ∷ 4 ∷ 1 ∷ []
   pub blocks-placed : blocksOf (head 5 9 3) ∷ placeOf (head 5 9 3) 3 ∷ wholeLength (head 5 9 3) ∷ rowLength 5 ∷ outLength 5 3 ∷ []
       ≡ 6 ∷ 51 ∷ 99 ∷ 32 ∷ 60 ∷ []
@@ -137,6 +138,7 @@ heads-hold = record {
   a-state = refl;
   heads-by-bytes = refl;
   rounded-up = refl;
+  most-across = refl;
   scanlines-shown = refl;
   blocks-placed = refl;
   blocks-in-rows = refl;

@@ -319,7 +319,8 @@ module _ (s : List ℕ) (w h at : ℕ) where
   no-space-there Rows z ne = absurd (ne (omega arith))
   no-space-there Tiles z ne =
       let x = headIn Tiles Unspecified 0 w h at in
-      let t : colourTaken x (number Tiles .value) (number Tiles .next) ≡ refusedWith 18 = rw (decided-not (colour-test (number Tiles .value)) ne) in (
+      let t : colourTaken x (number Tiles .value) (number Tiles .next) ≡ refusedWith 18
+      = rw (decided-not (colour-test (number Tiles .value)) ne) in (
         ap (λ (r : HeadReader). r .head)
             (next-taken s Colour x refl z ∙ t),
         ap (λ (r : Reading). r .head)
@@ -363,7 +364,8 @@ module _ (s : List ℕ) where
     other-form : (IsForm (formIn s .value) → ⊥) → Reads (headOf 8 0 0 0)
     unfolding formIn formTaken nextNumber
     other-form e =
-        let t : formTaken (formIn s .value) (formIn s .next) ≡ refusedWith 8 = rw (ne-eqb (formNumber form) (formIn s .value) (λ q. e (is-form q))) in
+        let ne : formNumber form ≢ formIn s .value = λ q. e (is-form q) in
+        let t : formTaken (formIn s .value) (formIn s .next) ≡ refusedWith 8 = rw (ne-eqb (formNumber form) (formIn s .value) ne) in
         record {
           by-numbers = ap (λ (r : HeadReader). nextNumber s (nextNumber s (nextNumber s r)) .head)
               (next-taken s Form (headOf 0 0 0 0) refl z ∙ t);
@@ -383,7 +385,8 @@ module _ (s : List ℕ) where
     unfolding widthIn nextNumber
     no-width y = record {
       by-numbers = ap (λ (r : HeadReader). nextNumber s (nextNumber s (nextNumber s r)) .head) (past-form z e .0)
-          ∙ ap (λ (r : HeadReader). nextNumber s (nextNumber s r) .head) (next-refused s Width (headIn form Unspecified 0 0 0 (formIn s .next)) refl y);
+          ∙ ap (λ (r : HeadReader). nextNumber s (nextNumber s r) .head)
+          (next-refused s Width (headIn form Unspecified 0 0 0 (formIn s .next)) refl y);
       by-bytes = ap (λ (x : Reading). x .head) (past-form z e .1)
           ∙ number-broken s Width (headIn form Unspecified 0 0 0 (formIn s .next)) refl y;
     }

@@ -197,7 +197,8 @@ module _ (f w h : ℕ) (z : Sized w h) (l : f < numbersEnd) (rest : List ℕ) wh
   unfolding heightIn
   height-part =
       ap (λ (r : Number). readNumber numbers (r .next)) width-part
-      ∙ ap₂ readNumber (sym (append-assoc (numberBytes f) (numberBytes w) (numberBytes h ++ rest))) (sym (length-append (numberBytes f) (numberBytes w)))
+      ∙ ap₂ readNumber (sym (append-assoc (numberBytes f) (numberBytes w) (numberBytes h ++ rest)))
+      (sym (length-append (numberBytes f) (numberBytes w)))
       ∙ number-read-back (numberBytes f ++ numberBytes w) h rest (omega (arith, z .within-high))
       ∙ ap (λ (n : ℕ). found h (n + length (numberBytes h))) (length-append (numberBytes f) (numberBytes w))
 
@@ -275,19 +276,31 @@ module _ (s : List ℕ) (p : Parts s) (y : Bytes s) where
   height-spelt = number-one-form s (widthIn s .next) y (p .height-told)
 
   three-spelt : s ≡ numberBytes (formIn s .value) ++ (numberBytes w ++ (numberBytes h ++ drop (heightIn s .next) s))
-  three-spelt = form-spelt ∙ ap (λ (x : List ℕ). numberBytes (formIn s .value) ++ x) (width-spelt ∙ ap (λ (x : List ℕ). numberBytes w ++ x) height-spelt)
+  three-spelt =
+      form-spelt ∙ ap (λ (x : List ℕ). numberBytes (formIn s .value) ++ x) (width-spelt ∙ ap (λ (x : List ℕ). numberBytes w ++ x) height-spelt)
+
+  -- with the number of its form
+  named-spelt : {f : Form} → formOf (formIn s .value) ≡ f
+      → s ≡ numberBytes (formNumber f) ++ (numberBytes w ++ (numberBytes h ++ drop (heightIn s .next) s))
+  named-spelt e =
+      three-spelt
+      ∙ ap (λ (n : ℕ). numberBytes n ++ (numberBytes w ++ (numberBytes h ++ drop (heightIn s .next) s)))
+      (sym (form-kept (p .form-one)) ∙ ap formNumber e)
+
+  colour-spelt : formOf (formIn s .value) ≡ Tiles
+      → drop (heightIn s .next) s ≡ numberBytes (colourNumber (colourOf (colourIn s .value))) ++ drop (colourIn s .next) s
+  colour-spelt e =
+      number-one-form s (heightIn s .next) y (ap (λ (r : Number). r .refusal) (sym (colour-tiles s e)) ∙ p .colour-told)
+      ∙ ap (λ (r : Number). numberBytes (r .value) ++ drop (r .next) s) (sym (colour-tiles s e))
+      ∙ ap (λ (n : ℕ). numberBytes n ++ drop (colourIn s .next) s) (sym (number-back (colourIn s .value) (p .space)))
 
   spelt-in : (f : Form) → formOf (formIn s .value) ≡ f → s ≡ headSpelt f (colourOf (colourIn s .value)) w h ++ drop (colourIn s .next) s
   spelt-in Rows e =
-      three-spelt ∙ ap (λ (n : ℕ). numberBytes n ++ (numberBytes w ++ (numberBytes h ++ drop (heightIn s .next) s))) (sym (form-kept (p .form-one)) ∙ ap formNumber e)
-      ∙ sym (in-one w h (drop (heightIn s .next) s)) ∙ ap (λ (r : Number). headBytes w h ++ drop (r .next) s) (sym (colour-rows s e))
+      named-spelt e ∙ sym (in-one w h (drop (heightIn s .next) s))
+      ∙ ap (λ (r : Number). headBytes w h ++ drop (r .next) s) (sym (colour-rows s e))
   spelt-in Tiles e =
-      let c = colourOf (colourIn s .value) in
-      let last : drop (heightIn s .next) s ≡ numberBytes (colourNumber c) ++ drop (colourIn s .next) s
-      = number-one-form s (heightIn s .next) y (ap (λ (r : Number). r .refusal) (sym (colour-tiles s e)) ∙ p .colour-told)
-      ∙ ap (λ (r : Number). numberBytes (r .value) ++ drop (r .next) s) (sym (colour-tiles s e)) ∙ ap (λ (n : ℕ). numberBytes n ++ drop (colourIn s .next) s) (sym (number-back (colourIn s .value) (p .space))) in
-      three-spelt ∙ ap (λ (n : ℕ). numberBytes n ++ (numberBytes w ++ (numberBytes h ++ drop (heightIn s .next) s))) (sym (form-kept (p .form-one)) ∙ ap formNumber e)
-      ∙ ap (λ (t : List ℕ). numberBytes 2 ++ (numberBytes w ++ (numberBytes h ++ t))) last ∙ sym (in-two w h (drop (colourIn s .next) s) c)
+      named-spelt e ∙ ap (λ (t : List ℕ). numberBytes 2 ++ (numberBytes w ++ (numberBytes h ++ t))) (colour-spelt e)
+      ∙ sym (in-two w h (drop (colourIn s .next) s) (colourOf (colourIn s .value)))
 
   spelt : s ≡ headSpelt (formOf (formIn s .value)) (colourOf (colourIn s .value)) w h ++ drop (colourIn s .next) s
   spelt = spelt-in (formOf (formIn s .value)) refl
@@ -351,7 +364,8 @@ read-back-unspecified w h z c rest = head-read-back w h z rest
 -- an accepted head is read of its bytes, whatever stands behind them; so a sheet whose head stays is read as before
 pub spelt-read-back : (f : Form) (c : ColourSpace) (w h : ℕ) → Sized w h → (f ≡ Rows → c ≡ Unspecified) → (rest : List ℕ)
     → readHead (headSpelt f c w h ++ rest) ≡ headIn f c 0 w h (length (headSpelt f c w h))
-spelt-read-back Rows c w h z q rest = head-read-back w h z rest ∙ ap (λ (k : ColourSpace). headIn Rows k 0 w h (length (headBytes w h))) (sym (q refl))
+spelt-read-back Rows c w h z q rest =
+    head-read-back w h z rest ∙ ap (λ (k : ColourSpace). headIn Rows k 0 w h (length (headBytes w h))) (sym (q refl))
 spelt-read-back Tiles c w h z q rest = tiled-read-back c w h z rest
 
 module _ (s : List ℕ) (y : Bytes s) (e : readHead s .refusal ≡ 0) where

@@ -16,7 +16,8 @@ use Rattle.head_rules.specs.declared.ColourSpace.the-variants.{Unspecifi
 use Rattle.head_rules.specs.declared.Form.{Form}
 use Rattle.head_rules.specs.declared.Form.the-variants.{Rows, Tiles}
 use Rattle.head_rules.specs.declared.FormBytes.{FormBytes}
-use Rattle.head_rules.specs.Heads.{Sized, formNumber, headBytes, limit, noBytes, sevenOf, sizeRefusal, tiledBytes, withBytes, writeForm, writeHead, writeHeadUpTo}
+use Rattle.head_rules.specs.Heads.{Sized, formNumber, headBytes, limit, noBytes, sevenOf, sizeRefusal, tiledBytes, withBytes, writeForm}
+use Rattle.head_rules.specs.Heads.{writeHead, writeHeadUpTo}
 use Rattle.head_rules.specs.Numbers.{groups, numberBytes, numbersEnd}
 use Rattle.head_rules.proofs.Heading.{size-0}
 
@@ -110,7 +111,8 @@ zeros-turn (suc n) = ap (λ (t : List ℕ). 0 ∷ t) (zeros-turn n)
 
 pub padded-long : (n : ℕ) (bs : List ℕ) → length bs ≤ n → length (padded n bs) ≡ n
 unfolding padded
-padded-long n bs l = length-append bs (replicate (n - length bs) 0) ∙ ap (λ (m : ℕ). length bs + m) (length-replicate (n - length bs) 0) ∙ omega (arith, l)
+padded-long n bs l =
+    length-append bs (replicate (n - length bs) 0) ∙ ap (λ (m : ℕ). length bs + m) (length-replicate (n - length bs) 0) ∙ omega (arith, l)
 
 zero-more : (n : ℕ) (bs : List ℕ) → length bs ≤ n → padded n bs ++ (0 ∷ []) ≡ padded (n + 1) bs
 unfolding padded
@@ -183,7 +185,9 @@ module _ (w h : ℕ) (z : Sized w h) {x : HeadBytes} (ex : x ≡ writeHead w h) 
         count = x .count + 1;
       } ≡ writeForm f w h
   unfolding writeForm
-  form-tiles e = rw e (ap₂ (λ (bs : List ℕ) (n : ℕ). formBytes bs n) (tiles-written w h bytes-written) (ap (λ (n : ℕ). n + 1) count-written ∙ longer))
+  form-tiles e =
+      rw e
+      (ap₂ (λ (bs : List ℕ) (n : ℕ). formBytes bs n) (tiles-written w h bytes-written) (ap (λ (n : ℕ). n + 1) count-written ∙ longer))
     where
       longer : length (headBytes w h) + 1 ≡ length (tiledBytes Unspecified w h)
       longer = one-longer w h

@@ -31,7 +31,8 @@ blocksOf h = across (h .height) * across (h .width)
 abbrev pub mostBlocks : ℕ
 mostBlocks = across limit * across limit
 
--- which of the stored blocks of c columns and r rows is block b, and which block is stored there: blocks count row by row in both forms
+-- the stored number of block b of c columns and r rows, how many blocks are stored before it; and the number of the block that has p stored
+-- before it: numbers count row by row in both forms
 abbrev pub storedBy : Form → ℕ → ℕ → ℕ → ℕ
 storedBy Rows c r b = b
 storedBy Tiles c r b = storedInTiles c r b
@@ -46,7 +47,7 @@ storedAt h b = storedBy (h .form) (across (h .width)) (across (h .height)) b
 unfoldable pub numberAt : Head → ℕ → ℕ
 numberAt h p = numberBy (h .form) (across (h .width)) (across (h .height)) p
 
--- where block b stands: THE place of a block in a sheet
+-- THE PLACE of block b: its first byte in the sheet
 unfoldable pub placeOf : Head → ℕ → ℕ
 placeOf h b = h .start + 16 * storedAt h b
 

@@ -20,7 +20,7 @@ use Rattle.sheet_rules.specs.Rows.{blockAt}
 unfoldable pub blockListed : Head → ℕ → List ℕ → List ℕ
 blockListed h number block = blockText number (modeOf block) (getD (pixels block) 0 []) (opaqueIn (h .width) (h .height) number block)
 
--- the texts of n blocks that stand one after the other, the first at place `from` of the stored ones
+-- the texts of n blocks that stand one after the other, with `from` stored before the first
 unfoldable pub blocksText : Head → ℕ → ℕ → List ℕ → List ℕ
 blocksText h from zero bs = []
 blocksText h from (suc n) bs = blocksText h from n bs ++ blockListed h (numberAt h (from + n)) (blockAt bs (16 * n))
@@ -33,7 +33,7 @@ listed h from bs = blocksText h from (length bs / 16) bs
 abbrev pub unlessExact : Bool → List ℕ
 unlessExact exact = pick exact [] (refusedText 10)
 
--- n blocks are to come, from place `from` on: the texts of those that are there, and a refusal unless the bytes are exactly as many as
+-- n blocks are to come, with `from` stored before them: the texts of those that are there, and a refusal unless the bytes are exactly as many as
 -- needed
 unfoldable pub blocksListing : Head → ℕ → ℕ → List ℕ → List ℕ
 blocksListing h from n bs = listed h from (take (16 * n) bs) ++ unlessExact (eqb (length bs) (16 * n))

@@ -49,7 +49,8 @@ headText h = pick (eqb (h .refusal) 0) (sheetText (h .width) (h .height)) (refus
 unfoldable pub begun : HeadReader → Machine
 begun r = pick (eqb (r .head .refusal) 0) (inBlocks r 0) (ended false)
 
--- a row of blocks is taken in runs of so many at the most, which is as many as the buffer holds; a run ends with its row
+-- the stored blocks are taken in runs of so many at the most, which is as many as the buffer holds; a run also ends where as many have come
+-- as fill whole rows, which in form 1 is the end of a row
 abbrev pub mostInRun : ℕ
 mostInRun = 1024
 

@@ -13,7 +13,7 @@ pub enum Phase {
     Refused,
 }
 
-// The reader of the head, which keeps it while blocks come, and the number of the next block.
+// The reader of the head, which keeps it while blocks come, and how many blocks have come.
 pub struct Machine {
     pub phase: Phase,
     pub reader: HeadReader,

@@ -7,15 +7,17 @@ use lib.ListN.{replicate}
 use Rattle.laws.specs.Refusals.{first}
 use Rattle.laws.specs.Tables.{table, tableFrom}
 use Rattle.laws.specs.Counting.{count, kept}
-use Rattle.tile_rules.specs.Moves.{moved, movedByte}
 use Rattle.tile_rules.specs.Tiles.{numberInTiles, columnAt, columnOfSlot, inSheet, numberInSlot, slotIn, storedInTiles, rowAt, rowOfSlot, slotOf, slots, storedOrder}
 use Rattle.tile_rules.specs.Tiles.{tiles}
 use Rattle.head_rules.specs.declared.Form.the-variants.{Rows, Tiles}
 use Rattle.head_rules.specs.Colours.{colourOf, colourRefusal}
-use Rattle.head_rules.specs.Geometry.{blocksOf}
+use Rattle.head_rules.specs.Geometry.{blocksOf, placeOf, storedAt}
 use Rattle.head_rules.specs.Heads.{colourIn, formIn, formOf, headBytes, headRefusalUpTo, heightIn, ofFormRefusalUpTo, readHeadUpTo, readOfFormUpTo}
 use Rattle.head_rules.specs.Heads.{sizeRefusalUpTo, tiledBytes, widthIn}
 use Rattle.head_rules.specs.Numbers.{groups, raised, readGroups, readNumber}
+use Rattle.sheet_rules.specs.Pictures.{blocksAs, byteAs}
+use Rattle.sheet_rules.specs.Rows.{blockAt}
+use Rattle.sheet_rules.specs.Sheets.{blockBy}
 use Rattle.move_rules.specs.Moving.{moveAfter, moveRefusal, movedTo}
 
 abbrev block : ℕ → List ℕ
@@ -44,5 +46,5 @@ pub record Moves : Type 0 where
 pub moves-hold : Moves
 unfolding moveAfter moveRefusal movedTo readOfFormUpTo ofFormRefusalUpTo first groups readGroups readNumber raised readHeadUpTo headRefusalUpTo formIn widthIn
     heightIn colourIn sizeRefusalUpTo headBytes tiledBytes blocksOf colourOf colourRefusal formOf storedInTiles count slotOf slotIn inSheet columnAt
-    columnOfSlot rowAt rowOfSlot tiles moved movedByte table tableFrom numberInTiles storedOrder kept numberInSlot slots
+    columnOfSlot rowAt rowOfSlot tiles blocksAs byteAs blockBy blockAt placeOf storedAt table tableFrom numberInTiles storedOrder kept numberInSlot slots
 moves-hold = record { to-tiles = refl; to-rows = refl; tiles-answers = refl; rows-answers = refl; stated = refl; refused-leaves = refl }

@@ -4,19 +4,14 @@ use mathlib.Core.Path.{_≡_, refl, _∙_, ap, ap₂, sym, subst}
 use mathlib.Core.Logic.{_↔_, _≢_}
 use mathlib.Core.Bool.{not}
 use mathlib.Core.List.{List, _∷_, _++_}
-use Prim.Native.Nat.{ℕ, _+_, _-_, _*_, _<_, _≤_}
+use Prim.Native.Nat.{ℕ, _+_, _*_, _<_}
 use native.Mathlib.Omega.{arith}
-use native.Mathlib.Nat.{mul-comm}
 use borrow.Author.Tests.{eqb-true, ne-eqb}
-use lib.Dec.{eqb, lit<}
-use lib.ListN.{length, take, drop, length-append, length-drop}
+use lib.Dec.{eqb}
+use lib.ListN.{length, take, drop, length-append}
 use lib.Seq.{drop-append-seam, drop-drop}
 use Rattle.laws.specs.Refusals.{Given, handed, refuse}
 use Rattle.laws.proofs.Refusals.{Answers, Decided, accepted-when, answers, by-answer, by-not, by-not-eqb, exactly, none, rule, rules}
-use Rattle.tile_rules.specs.Moves.{toRows, toTiles}
-use Rattle.tile_rules.specs.Tiles.{numberInTiles, storedInTiles}
-use Rattle.tile_rules.proofs.Moving.{moved-long, moved-piece}
-use Rattle.tile_rules.proofs.Theorems.{back-and-there, block-in-tiles, stored-within as place-lt, there-and-back}
 use Rattle.head_rules.specs.declared.ColourSpace.{ColourSpace}
 use Rattle.head_rules.specs.declared.ColourSpace.the-variants.{Unspecified, Linear, Srgb}
 use Rattle.head_rules.specs.declared.Form.{Form}
@@ -27,7 +22,11 @@ use Rattle.head_rules.specs.Geometry.{across, blocksOf, placeOf, storedAt, stor
 use Rattle.head_rules.specs.Heads.{Sized, bytesOfHead, headIn, headSpelt, readHead, readOfForm}
 use Rattle.head_rules.specs.Numbers.{Bytes}
 use Rattle.head_rules.proofs.Theorems.{head-long, head-one-form, head-sized, of-form-answers, of-form-is, of-form-when, spelt-read-back}
-use Rattle.move_rules.specs.Moving.{MovesTo, moveBehindHead, blocksTo, headInForm, moveAfter, moveRefusal, moveRules, movedTo, other}
+use Rattle.sheet_rules.specs.Pictures.{blocksAs}
+use Rattle.sheet_rules.specs.Rows.{blockAt}
+use Rattle.sheet_rules.specs.Sheets.{blockBy}
+use Rattle.sheet_rules.proofs.Pictures.{all-as-stored, all-long, all-same, block-in-all}
+use Rattle.move_rules.specs.Moving.{MovesTo, moveBehindHead, headInForm, moveAfter, moveRefusal, moveRules, movedTo, other}
 
 other-other : (f : Form) → other (other f) ≡ f
 other-other Rows = refl
@@ -97,58 +96,35 @@ module _ (f : Form) (s out : List ℕ) where
   unfolding moveAfter
   refused-stays ne = rw (ne-eqb _ 0 ne)
 
--- blocks there and back
-module _ (c r : ℕ) (hc : 0 < c) (l : List ℕ) (e : length l ≡ r * c * 16) where
-  blocks-back : (f : Form) → blocksTo (other f) c r (blocksTo f c r l) ≡ l
-  blocks-back Rows = back-and-there c r hc l e
-  blocks-back Tiles = there-and-back c r hc l e
+-- a whole sheet that was moved: each block keeps its number
+module _ (f : Form) (h : Head) (s : List ℕ) (l : length s ≡ wholeLength h) where
+  pub blocks-moved : drop (headInForm f h .start) (movedTo f h s) ≡ blocksAs f h s
+  unfolding movedTo
+  blocks-moved = drop-append-seam (bytesOfHead (headInForm f h)) (blocksAs f h s)
 
-  block-to : (b : ℕ) → b < r * c → (f : Form)
-      → take 16 (drop (16 * storedBy f c r b) (blocksTo f c r l)) ≡ take 16 (drop (16 * storedBy (other f) c r b) l)
-  block-to b h Rows = moved-piece 16 (lit< tt) (r * c) (storedInTiles c r) l b e h (place-lt c r hc b h)
-  block-to b h Tiles = block-in-tiles c r hc l e b h
+  pub long-moved : length (movedTo f h s) ≡ wholeLength (headInForm f h)
+  unfolding movedTo blocksOf
+  long-moved =
+      length-append (bytesOfHead (headInForm f h)) (blocksAs f h s)
+      ∙ ap (λ (n : ℕ). headInForm f h .start + n) (all-long f h s)
 
-pub blocks-long : (f : Form) (c r : ℕ) (l : List ℕ) → length (blocksTo f c r l) ≡ r * c * 16
-blocks-long Rows c r l = moved-long 16 (lit< tt) (r * c) (storedInTiles c r) l
-blocks-long Tiles c r l = moved-long 16 (lit< tt) (r * c) (numberInTiles c r) l
+  pub block-moved : (b : ℕ) → b < blocksOf h → blockBy (headInForm f h) (movedTo f h s) b ≡ blockBy h s b
+  unfolding blockBy blockAt placeOf storedAt
+  block-moved b lb =
+      let q = 16 * storedBy f (across (h .width)) (across (h .height)) b in
+      ap (take 16) (sym (drop-drop q (headInForm f h .start) (movedTo f h s)) ∙ ap (drop q) blocks-moved) ∙ block-in-all f h s l b lb
 
--- a sheet that was moved: its head, its length, its blocks
+-- its head, and the way back
 module _ (f : Form) (s : List ℕ) (y : Bytes s) (z : readHead s .refusal ≡ 0) (l : length s ≡ wholeLength (readHead s)) where
   abbrev h : Head
   h = readHead s
 
-  abbrev c : ℕ
-  c = across (h .width)
-
-  abbrev r : ℕ
-  r = across (h .height)
-
-  size : Sized (h .width) (h .height)
-  size = head-sized s z
-
-  some-column : 0 < c
-  some-column = omega (arith, size .wide)
-
   abbrev t : List ℕ
   t = movedTo f h s
 
-  behind : length (drop (h .start) s) ≡ r * c * 16
-  unfolding blocksOf
-  behind = length-drop (h .start) s ∙ omega (arith, l)
-
   pub head-moved : readHead t ≡ headInForm f h
   unfolding movedTo
-  head-moved = spelt-read-back f Unspecified (h .width) (h .height) size (λ q. refl) (blocksTo f c r (drop (h .start) s))
-
-  blocks-moved : drop (headInForm f h .start) t ≡ blocksTo f c r (drop (h .start) s)
-  unfolding movedTo
-  blocks-moved = drop-append-seam (bytesOfHead (headInForm f h)) (blocksTo f c r (drop (h .start) s))
-
-  long-moved : length t ≡ wholeLength (headInForm f h)
-  unfolding movedTo blocksOf
-  long-moved =
-      length-append (bytesOfHead (headInForm f h)) (blocksTo f c r (drop (h .start) s))
-      ∙ ap (λ (n : ℕ). headInForm f h .start + n) (blocks-long f c r (drop (h .start) s) ∙ mul-comm (r * c) 16)
+  head-moved = spelt-read-back f Unspecified (h .width) (h .height) (head-sized s z) (λ q. refl) (blocksAs f h s)
 
   module _ (k : h .form ≡ other f) (u : h .«colour_space» ≡ Unspecified) where
     spelt : headSpelt (other f) Unspecified (h .width) (h .height) ≡ bytesOfHead h
@@ -162,7 +138,7 @@ module _ (f : Form) (s : List ℕ) (y : Bytes s) (z : readHead s .refusal ≡ 0)
     back-accepted {room} e = accepts (other f) t room
         (ap (λ (g : Form). readOfForm g t) (other-other f) ∙ of-form-when f t (ap (λ (x : Head). x .refusal) head-moved) (ap (λ (x : Head). x .form) head-moved))
         (ap (λ (x : Head). x .refusal) head-moved)
-        (long-moved ∙ ap (λ (x : Head). wholeLength x) (sym head-moved))
+        (long-moved f h s l ∙ ap (λ (x : Head). wholeLength x) (sym head-moved))
         (e ∙ l ∙ ap (λ (n : ℕ). n + 16 * blocksOf h) (sym start-back) ∙ ap (λ (x : Head). wholeLength (headInForm (other f) x)) (sym head-moved))
         (ap (λ (x : Head). x .«colour_space») head-moved)
 
@@ -170,16 +146,9 @@ module _ (f : Form) (s : List ℕ) (y : Bytes s) (z : readHead s .refusal ≡ 0)
     unfolding movedTo
     back-is =
         ap (λ (x : Head). movedTo (other f) x t) head-moved
-        ∙ ap₂ (λ (a b : List ℕ). a ++ b) spelt (ap (blocksTo (other f) c r) blocks-moved ∙ blocks-back c r some-column (drop (h .start) s) behind f)
+        ∙ ap₂ (λ (a b : List ℕ). a ++ b) spelt
+        (all-same (other f) h s (headInForm f h) t refl refl (block-moved f h s l) ∙ all-as-stored (other f) h s l k)
         ∙ sym (head-one-form s y z .1)
-
-    -- each block keeps its number
-    pub block-kept : (b : ℕ) → b < blocksOf h → take 16 (drop (placeOf (headInForm f h) b) t) ≡ take 16 (drop (placeOf h b) s)
-    unfolding placeOf storedAt blocksOf
-    block-kept b lb =
-        ap (take 16) (sym (drop-drop (16 * storedBy f c r b) (headInForm f h .start) t) ∙ ap (drop (16 * storedBy f c r b)) blocks-moved)
-        ∙ block-to c r some-column (drop (h .start) s) behind b lb f
-        ∙ ap (take 16) (drop-drop (16 * storedBy (other f) c r b) (h .start) s ∙ ap (λ (g : Form). drop (h .start + 16 * storedBy g c r b) s) (sym k))
 
 -- THERE AND BACK
 pub there-and-back-restores : (f : Form) (s out back : List ℕ) → Bytes s → moveRefusal f s (length out) ≡ 0 → length back ≡ length s

@@ -5,17 +5,17 @@ use mathlib.Core.Path.{_≡_}
 use mathlib.Core.Bool.{not}
 use mathlib.Core.List.{List, [], _∷_, _++_}
 use lib.Dec.{eqb}
-use lib.ListN.{length, drop}
+use lib.ListN.{length}
 use Rattle.laws.specs.Refusals.{Rule, first, refuse, unless}
 use Rattle.laws.specs.Tables.{pick}
-use Rattle.tile_rules.specs.Moves.{toRows, toTiles}
 use Rattle.head_rules.specs.declared.ColourSpace.the-variants.{Unspecified}
 use Rattle.head_rules.specs.declared.Form.{Form}
 use Rattle.head_rules.specs.declared.Form.the-variants.{Rows, Tiles}
 use Rattle.head_rules.specs.declared.Head.{Head}
 use Rattle.head_rules.specs.Colours.{colourNumber}
-use Rattle.head_rules.specs.Geometry.{across, wholeLength}
+use Rattle.head_rules.specs.Geometry.{wholeLength}
 use Rattle.head_rules.specs.Heads.{bytesOfHead, headIn, headSpelt, ofFormRules, readOfForm}
+use Rattle.sheet_rules.specs.Pictures.{blocksAs}
 
 -- a move to a form takes a sheet of the other
 abbrev pub other : Form → Form
@@ -26,14 +26,9 @@ other Tiles = Rows
 abbrev pub headInForm : Form → Head → Head
 headInForm f h = headIn f Unspecified 0 (h .width) (h .height) (length (headSpelt f Unspecified (h .width) (h .height)))
 
--- the bytes of all blocks of c by r in the order of form f, from that of the other
-abbrev pub blocksTo : Form → ℕ → ℕ → List ℕ → List ℕ
-blocksTo Rows c r l = toRows c r l
-blocksTo Tiles c r l = toTiles c r l
-
--- the sheet s, whose head is h, in form f
+-- the sheet s, whose head is h, in form f: that head, and behind it the same blocks as that form stores them
 unfoldable pub movedTo : Form → Head → List ℕ → List ℕ
-movedTo f h s = bytesOfHead (headInForm f h) ++ blocksTo f (across (h .width)) (across (h .height)) (drop (h .start) s)
+movedTo f h s = bytesOfHead (headInForm f h) ++ blocksAs f h s
 
 -- the head's, with 8 for a sheet that is of form f already; 10, 11, and last 16, for a stated colour space
 unfoldable pub moveRefusal : Form → List ℕ → ℕ → ℕ

@@ -13,11 +13,12 @@ use Rattle.head_rules.specs.declared.Form.{Form}
 use Rattle.head_rules.specs.declared.Form.the-variants.{Rows, Tiles}
 use Rattle.head_rules.specs.declared.FormBytes.{FormBytes}
 use Rattle.head_rules.specs.declared.Head.{Head}
-use Rattle.head_rules.specs.Geometry.{across, blocksOf, wholeLength}
+use Rattle.head_rules.specs.Geometry.{blocksOf, wholeLength}
 use Rattle.head_rules.specs.Heads.{headSpelt, writeForm}
 use Rattle.head_rules.proofs.Writing.{one-longer, padded-long, short}
-use Rattle.move_rules.specs.Moving.{blocksTo, headInForm, movedTo}
-use Rattle.moves.specs.Rooms.{Lays, Rooms}
+use Rattle.sheet_rules.specs.Pictures.{blocksAs}
+use Rattle.move_rules.specs.Moving.{headInForm, movedTo}
+use Rattle.moves.specs.Rooms.{Lays, MovesBlocks}
 
 module _ (f : Form) (h : Head) {x : FormBytes} (ex : x ≡ writeForm f (h .width) (h .height)) where
   abbrev spelt : List ℕ
@@ -64,35 +65,26 @@ module _ (f : Form) (h : Head) {x : FormBytes} (ex : x ≡ writeForm f (h .width
       pub count-in : x .count ≤ length one
       count-in = omega (arith, one-long, head-fits, part-long)
 
-      all : take (length s - h .start) (drop (h .start) s) ≡ drop (h .start) s
-      all = take-all (length s - h .start) (drop (h .start) s) (le-of-eq (length-drop (h .start) s))
-
       rest : take (length one - x .count) (drop (x .count) one) ≡ drop (x .count) one
       rest = take-all (length one - x .count) (drop (x .count) one) (le-of-eq (length-drop (x .count) one))
 
-      module _ {c r : ℕ} (ec : c ≡ across (h .width)) (er : r ≡ across (h .height)) where
-        count-blocks : r * c ≡ blocksOf h
-        unfolding blocksOf
-        count-blocks = rw (ec, er)
+      as-many : blocksOf (headInForm f h) ≡ blocksOf h
+      unfolding blocksOf
+      as-many = refl
 
-        as-many : blocksOf (headInForm f h) ≡ blocksOf h
-        unfolding blocksOf
-        as-many = refl
+      pub blocks-room : MovesBlocks h (length s) (length (take (length one - x .count) (drop (x .count) one)))
+      blocks-room = record {
+        size = l .size;
+        whole = l .whole;
+        room = ap length rest ∙ length-drop (x .count) one ∙ omega (arith, one-long, l .room, count-is, as-many);
+      }
 
-        pub rooms : Rooms c r (length (take (length s - h .start) (drop (h .start) s))) (length (take (length one - x .count) (drop (x .count) one)))
-        rooms = record {
-          wide = omega (arith, ec, l .size .within-wide);
-          high = omega (arith, er, l .size .within-high);
-          given = ap length all ∙ length-drop (h .start) s ∙ omega (arith, l .whole, count-blocks);
-          room = ap length rest ∙ length-drop (x .count) one ∙ omega (arith, one-long, l .room, count-is, count-blocks, as-many);
-        }
-
-        pub laid : {two : List ℕ} → two ≡ blocksTo f c r (take (length s - h .start) (drop (h .start) s))
-            → take (x .count) one ++ (two ++ drop (length one - x .count) (drop (x .count) one)) ≡ movedTo f h s
-        unfolding movedTo
-        laid {two} et =
-            let none : drop (length one - x .count) (drop (x .count) one) ≡ [] = drop-of-length-le (drop (x .count) one) {i = length one - x .count}
-            (le-of-eq (length-drop (x .count) one)) in
-            rw (none, append-nil two, et, all, ec, er)
-            (ap (λ (t : List ℕ). t ++ blocksTo f (across (h .width)) (across (h .height)) (drop (h .start) s))
-            (ap (take (x .count)) first-is ∙ take-at spelt (drop (length spelt) out) (x .count) (sym count-is)))
+      pub laid : {two : List ℕ} → two ≡ blocksAs f h s
+          → take (x .count) one ++ (two ++ drop (length one - x .count) (drop (x .count) one)) ≡ movedTo f h s
+      unfolding movedTo
+      laid {two} et =
+          let none : drop (length one - x .count) (drop (x .count) one) ≡ [] = drop-of-length-le (drop (x .count) one) {i = length one - x .count}
+          (le-of-eq (length-drop (x .count) one)) in
+          rw (none, append-nil two, et)
+          (ap (λ (t : List ℕ). t ++ blocksAs f h s)
+          (ap (take (x .count)) first-is ∙ take-at spelt (drop (length spelt) out) (x .count) (sym count-is)))

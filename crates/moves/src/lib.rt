@@ -1,17 +1,18 @@
 // Moves of a sheet between its forms: from form 1 to form 2 with number 0, and back where nothing is lost. Both calls take every input and
 // say why they refuse one.
 ghost use mathlib.Core.Path.{_≡_};
-ghost use Prim.Native.Nat.{_+_};
-ghost use lib.ListN.{length, getD};
-ghost use Rattle.laws.specs.Tables.{over};
-ghost use Rattle.tile_rules.specs.Moves.{toRows, toTiles};
+ghost use lib.ListN.{length};
 ghost use Rattle.head_rules.specs.declared.Form.the-variants.{Rows, Tiles};
-ghost use Rattle.head_rules.specs.Geometry.{wholeLength};
+ghost use Rattle.head_rules.specs.Geometry.{storedBy, wholeLength};
 ghost use Rattle.head_rules.specs.Heads.{Sized};
-ghost use Rattle.move_rules.specs.Moving.{MovesTo, blocksTo, headInForm, movedTo, other};
-ghost use Rattle.moves.specs.Rooms.{BlockRoom, Lays, Rooms};
+ghost use Rattle.tiles.specs.Parts.{Numbered};
+ghost use Rattle.sheet_rules.specs.Pictures.{blocksAs};
+ghost use Rattle.move_rules.specs.Moving.{MovesTo, headInForm, movedTo, other};
+ghost use Rattle.moves.specs.Rooms.{Lays, MovesBlocks};
 use head_rules::Form;
 use head_rules::Head;
+use sheet::blocks::load;
+use sheet::blocks::store;
 use sheet_head::colours::number_of;
 use sheet_head::geometry::blocks_across;
 use sheet_head::geometry::blocks_of;
@@ -19,43 +20,32 @@ use sheet_head::geometry::whole_length;
 use sheet_head::read_of_form;
 use sheet_head::write_form;
 
-// One block, from a place to a place.
-fn move_block(from: &[u8], at: usize, to: &mut [u8], place: usize)
-    requires { ⌜ BlockRoom (length (now from)) at (length (now to)) place ⌝ }
-    ensures { λ _. ⌜ now (to .exit) ≡ over (now (to .entry)) place 16 (λ j. getD (now (from .entry)) (at + j) 0) ⌝ }
-{
-    let end = at + 16;
-    bytes::copy(&from[at..end], &mut to[place..]);
-}
-
-// All blocks, from row by row to tile order, and back.
-fn blocks_to_tiles(columns: usize, rows: usize, from: &[u8], to: &mut [u8])
-    requires { ⌜ Rooms columns rows (length (now from)) (length (now to)) ⌝ }
-    ensures { λ _. ⌜ now (to .exit) ≡ toTiles columns rows (now (from .entry)) ⌝ }
-{
-    for b in 0..rows * columns {
-        let place = tiles::stored_in_tiles(columns, rows, b);
-        move_block(from, 16 * b, to, 16 * place);
-    }
-}
-
-fn blocks_to_rows(columns: usize, rows: usize, from: &[u8], to: &mut [u8])
-    requires { ⌜ Rooms columns rows (length (now from)) (length (now to)) ⌝ }
-    ensures { λ _. ⌜ now (to .exit) ≡ toRows columns rows (now (from .entry)) ⌝ }
-{
-    for b in 0..rows * columns {
-        let place = tiles::stored_in_tiles(columns, rows, b);
-        move_block(from, 16 * place, to, 16 * b);
-    }
-}
-
-fn move_blocks(form: Form, columns: usize, rows: usize, from: &[u8], to: &mut [u8])
-    requires { ⌜ Rooms columns rows (length (now from)) (length (now to)) ⌝ }
-    ensures { λ _. ⌜ now (to .exit) ≡ blocksTo form columns rows (now (from .entry)) ⌝ }
+// Which of the stored blocks of a form a block is. The columns and rows are found once for all blocks: `place_of` would find them
+// again for each, and a move would take a hundred instructions a block.
+fn stored_by(form: Form, columns: usize, rows: usize, block: usize) -> usize
+    requires { ⌜ Numbered columns rows block ⌝ }
+    ensures { λ r. ⌜ r ≡ storedBy form columns rows block ⌝ }
 {
     match form {
-        Form::Rows => blocks_to_rows(columns, rows, from, to),
-        Form::Tiles => blocks_to_tiles(columns, rows, from, to),
+        Form::Rows => block,
+        Form::Tiles => tiles::stored_in_tiles(columns, rows, block),
+    }
+}
+
+// All blocks of a sheet, each from where the sheet has it to where the form stores it.
+fn move_blocks(form: Form, head: Head, sheet: &[u8], to: &mut [u8])
+    requires { ⌜ MovesBlocks head (length (now sheet)) (length (now to)) ⌝ }
+    ensures { λ _. ⌜ now (to .exit) ≡ blocksAs form head (now (sheet .entry)) ⌝ }
+{
+    let columns = blocks_across(head.width) as usize;
+    let rows = blocks_across(head.height) as usize;
+    let own = head.form;
+    for b in 0..rows * columns {
+        let block = load(
+            sheet,
+            head.start as usize + 16 * stored_by(own, columns, rows, b),
+        );
+        store(to, 16 * stored_by(form, columns, rows, b), block);
     }
 }
 
@@ -84,16 +74,9 @@ fn lay(form: Form, head: Head, sheet: &[u8], out: &mut [u8])
 {
     let written = write_form(form, head.width, head.height);
     let count = written.count as usize;
-    let start = head.start as usize;
     let bytes = written.bytes;
     bytes::copy(&bytes[..count], out);
-    move_blocks(
-        form,
-        blocks_across(head.width) as usize,
-        blocks_across(head.height) as usize,
-        &sheet[start..],
-        &mut out[count..],
-    );
+    move_blocks(form, head, sheet, &mut out[count..]);
 }
 
 // A sheet of the other form in this one. A refused call leaves the output as it was.

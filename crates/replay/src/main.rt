@@ -24,10 +24,13 @@ use rinchovek::rinchovek_dds_export_length;
 use rinchovek::rinchovek_dds_import;
 use rinchovek::rinchovek_dds_import_colour;
 use rinchovek::rinchovek_dds_import_length;
+use rinchovek::rinchovek_sheet_block;
 use rinchovek::rinchovek_sheet_decode_row;
-use rinchovek::rinchovek_sheet_read_colour_head;
-use rinchovek::rinchovek_sheet_read_head;
+use rinchovek::rinchovek_sheet_open;
 use rinchovek::rinchovek_sheet_replace_line;
+use rinchovek::rinchovek_sheet_show_row;
+use rinchovek::rinchovek_sheet_to_rows;
+use rinchovek::rinchovek_sheet_to_tiles;
 use rinchovek::rinchovek_sheet_write_head;
 
 // The longest input or output that a call may name.
@@ -221,47 +224,6 @@ fn pixel_call() -> bool {
     write_pixel(&rgba)
 }
 
-// The four numbers of a head, of which the colour space is one byte.
-fn write_colour_head(head: [u32; 4]) {
-    write_u32(head[0]);
-    write_u32(head[1]);
-    write_u32(head[2]);
-    write_small(head[3]);
-}
-
-fn read_colour_head_of(sheet: &[u8]) -> bool {
-    let mut head = [0u32; 4];
-    write_small(rinchovek_sheet_read_colour_head(sheet, &mut head));
-    write_colour_head(head);
-    true
-}
-
-// A head with its colour space or without it: both are asked for in the same bytes.
-fn read_head_of(colour: bool, sheet: &mut [u8]) -> bool {
-    if !filled(sheet) {
-        return false;
-    }
-    if colour {
-        return read_colour_head_of(sheet);
-    }
-    let mut head = [0u32; 3];
-    write_small(rinchovek_sheet_read_head(sheet, &mut head));
-    write_u32(head[0]);
-    write_u32(head[1]);
-    write_u32(head[2]);
-    true
-}
-
-fn read_head_call(colour: bool) -> bool {
-    let mut length = [0u8; 1];
-    if !filled(&mut length) {
-        return false;
-    }
-    let n = wide(length[0]) as usize;
-    let mut sheet = [0u8; 256];
-    read_head_of(colour, &mut sheet[..n])
-}
-
 fn write_head_call() -> bool {
     let mut size = [0u8; 8];
     if !filled(&mut size) {
@@ -279,53 +241,65 @@ fn write_head_call() -> bool {
     write_head_bytes(&head)
 }
 
-// A row with room for its blocks and its output; what stands in the output before is read too.
-fn row_call_of(width: u32, height: u32, row: u32, blocks: &mut [u8], out: &mut [u8]) -> bool {
-    if !filled(blocks) {
-        return false;
-    }
-    if !filled(out) {
-        return false;
-    }
-    write_small(rinchovek_sheet_decode_row(width, height, row, blocks, out));
-    io::write_all(STDOUT_FILENO, out)
+// What is asked for with the bytes of one sheet or file, or of the beginning of a sheet.
+enum SheetCall {
+    Head,
+    ColourHead,
+    Open,
+    Block,
+    ReplaceLine,
+    List,
+    ImportLength,
+    ExportLength,
 }
 
-// A row whose blocks are n bytes and whose output is m.
-fn row_call_within(width: u32, height: u32, row: u32, n: usize, m: usize) -> bool
-    requires { ⌜ (n ≤ 65536) × (m ≤ 65536) ⌝ }
-{
-    let mut blocks = [0u8; 65536];
-    let mut out = [0u8; 65536];
-    row_call_of(width, height, row, &mut blocks[..n], &mut out[..m])
+fn write_size(width: u32, height: u32, start: u32) {
+    write_u32(width);
+    write_u32(height);
+    write_u32(start);
 }
 
-fn row_call() -> bool {
-    let mut given = [0u8; 20];
-    if !filled(&mut given) {
-        return false;
-    }
-    let n = number(&given, 12);
-    if MOST < n {
-        return false;
-    }
-    let m = number(&given, 16);
-    if MOST < m {
-        return false;
-    }
-    row_call_within(
-        number(&given, 0),
-        number(&given, 4),
-        number(&given, 8),
-        n as usize,
-        m as usize,
-    )
+// The four numbers of a head, of which the colour space is one byte.
+fn write_head(width: u32, height: u32, start: u32, colour_space: u32) {
+    write_size(width, height, start);
+    write_small(colour_space);
 }
 
-fn sheet_call_of(sheet: &mut [u8]) -> bool {
-    if !filled(sheet) {
+fn head_of(sheet: &[u8]) -> bool {
+    let mut numbers = [0u32; 8];
+    write_small(rinchovek_sheet_open(sheet, &mut numbers));
+    write_size(numbers[0], numbers[1], numbers[2]);
+    true
+}
+
+fn colour_head_of(sheet: &[u8]) -> bool {
+    let mut numbers = [0u32; 8];
+    write_small(rinchovek_sheet_open(sheet, &mut numbers));
+    write_head(numbers[0], numbers[1], numbers[2], numbers[3]);
+    true
+}
+
+fn open_of(sheet: &[u8]) -> bool {
+    let mut numbers = [0u32; 8];
+    write_small(rinchovek_sheet_open(sheet, &mut numbers));
+    write_size(numbers[0], numbers[1], numbers[2]);
+    write_u32(numbers[3]);
+    write_u32(numbers[4]);
+    write_size(numbers[5], numbers[6], numbers[7]);
+    true
+}
+
+fn block_of(sheet: &[u8]) -> bool {
+    let mut block = [0u8; 4];
+    if !filled(&mut block) {
         return false;
     }
+    let mut bytes = [0u8; 16];
+    write_small(rinchovek_sheet_block(sheet, number(&block, 0), &mut bytes));
+    write_block(&bytes)
+}
+
+fn replace_in(sheet: &mut [u8]) -> bool {
     let mut place = [0u8; 8];
     if !filled(&mut place) {
         return false;
@@ -338,34 +312,56 @@ fn sheet_call_of(sheet: &mut [u8]) -> bool {
     io::write_all(STDOUT_FILENO, sheet)
 }
 
-fn sheet_call() -> bool {
-    let mut length = [0u8; 4];
-    if !filled(&mut length) {
-        return false;
-    }
-    let n = number(&length, 0);
-    if MOST < n {
-        return false;
-    }
-    let end = n as usize;
-    let mut sheet = [0u8; 65536];
-    sheet_call_of(&mut sheet[..end])
-}
-
 // The listing has 40 bytes for each block at the most, and two texts more.
-fn list_call_of(sheet: &mut [u8]) -> bool
+fn list_of(sheet: &[u8]) -> bool
     requires { ⌜ length (now sheet) ≤ 65536 ⌝ }
 {
-    if !filled(sheet) {
-        return false;
-    }
     let mut text = [0u8; 163920];
     let count = list_sheet(sheet, &mut text);
     write_u32(count as u32);
     io::write_all(STDOUT_FILENO, &text[..count])
 }
 
-fn list_call() -> bool {
+// The length that importing needs, or exporting.
+fn length_of(export: bool, given: &[u8]) -> bool {
+    let mut length: u32 = 0;
+    let refusal = if export {
+        rinchovek_dds_export_length(given, &mut length)
+    } else {
+        rinchovek_dds_import_length(given, &mut length)
+    };
+    write_small(refusal);
+    write_u32(length);
+    true
+}
+
+fn sheet_call_of(asked: SheetCall, sheet: &mut [u8]) -> bool
+    requires { ⌜ length (now sheet) ≤ 65536 ⌝ }
+{
+    if !filled(sheet) {
+        return false;
+    }
+    match asked {
+        SheetCall::Head => head_of(sheet),
+        SheetCall::ColourHead => colour_head_of(sheet),
+        SheetCall::Open => open_of(sheet),
+        SheetCall::Block => block_of(sheet),
+        SheetCall::ReplaceLine => replace_in(sheet),
+        SheetCall::List => list_of(sheet),
+        SheetCall::ImportLength => length_of(false, sheet),
+        SheetCall::ExportLength => length_of(true, sheet),
+    }
+}
+
+// The sheet is n bytes.
+fn sheet_call_within(asked: SheetCall, n: usize) -> bool
+    requires { ⌜ n ≤ 65536 ⌝ }
+{
+    let mut sheet = [0u8; 65536];
+    sheet_call_of(asked, &mut sheet[..n])
+}
+
+fn sheet_call(asked: SheetCall) -> bool {
     let mut length = [0u8; 4];
     if !filled(&mut length) {
         return false;
@@ -374,88 +370,82 @@ fn list_call() -> bool {
     if MOST < n {
         return false;
     }
-    let end = n as usize;
-    let mut sheet = [0u8; 65536];
-    list_call_of(&mut sheet[..end])
+    sheet_call_within(asked, n as usize)
 }
 
-// A DDS file imported, or a sheet exported, each also with a colour space.
-enum DdsCall {
+// The length of a head is one byte.
+fn head_call(asked: SheetCall) -> bool {
+    let mut length = [0u8; 1];
+    if !filled(&mut length) {
+        return false;
+    }
+    sheet_call_within(asked, wide(length[0]) as usize)
+}
+
+// What is asked for with bytes that are given and an output.
+enum OutCall {
+    DecodeRow(u32, u32, u32),
     Import,
     Export,
     ImportColour,
-    ExportColour(u8),
+    ExportColour(u32),
     ToTiles,
     ToRows,
-    Row(u32),
+    ShowRow(u32),
 }
 
-fn import_of(given: &[u8], out: &mut [u8]) -> bool {
-    write_small(rinchovek_dds_import(given, out));
-    io::write_all(STDOUT_FILENO, out)
-}
-
-fn export_of(given: &[u8], out: &mut [u8]) -> bool {
-    write_small(rinchovek_dds_export(given, out));
-    io::write_all(STDOUT_FILENO, out)
-}
-
-fn import_colour_of(given: &[u8], out: &mut [u8]) -> bool {
+fn import_colour_of(given: &[u8], out: &mut [u8]) {
     let mut head = [0u32; 4];
     write_small(rinchovek_dds_import_colour(given, out, &mut head));
-    write_colour_head(head);
-    io::write_all(STDOUT_FILENO, out)
+    write_head(head[0], head[1], head[2], head[3]);
 }
 
-fn export_colour_of(colour_space: u8, given: &[u8], out: &mut [u8]) -> bool {
-    write_small(rinchovek_dds_export_colour(given, wide(colour_space), out));
-    io::write_all(STDOUT_FILENO, out)
+// What is answered before the output.
+fn answer(asked: OutCall, given: &[u8], out: &mut [u8]) {
+    match asked {
+        OutCall::DecodeRow(width, height, row) => write_small(rinchovek_sheet_decode_row(
+            width,
+            height,
+            row,
+            given,
+            out,
+        )),
+        OutCall::Import => write_small(rinchovek_dds_import(given, out)),
+        OutCall::Export => write_small(rinchovek_dds_export(given, out)),
+        OutCall::ImportColour => import_colour_of(given, out),
+        OutCall::ExportColour(colour_space) => write_small(rinchovek_dds_export_colour(
+            given,
+            colour_space,
+            out,
+        )),
+        OutCall::ToTiles => write_small(rinchovek_sheet_to_tiles(given, out)),
+        OutCall::ToRows => write_small(rinchovek_sheet_to_rows(given, out)),
+        OutCall::ShowRow(row) => write_small(rinchovek_sheet_show_row(given, row, out)),
+    }
 }
 
-fn to_tiles_of(given: &[u8], out: &mut [u8]) -> bool {
-    write_u8(moves::to_tiles(given, out));
-    io::write_all(STDOUT_FILENO, out)
-}
-
-fn to_rows_of(given: &[u8], out: &mut [u8]) -> bool {
-    write_u8(moves::to_rows(given, out));
-    io::write_all(STDOUT_FILENO, out)
-}
-
-fn sheet_row_of(row: u32, given: &[u8], out: &mut [u8]) -> bool {
-    write_u8(sheet::decode_sheet_row(given, row, out));
-    io::write_all(STDOUT_FILENO, out)
-}
-
-// All are asked for in the same bytes. What stands in the output before is read too.
-fn dds_call_of(asked: DdsCall, given: &mut [u8], out: &mut [u8]) -> bool {
+// What stands in the output before is read too.
+fn out_call_of(asked: OutCall, given: &mut [u8], out: &mut [u8]) -> bool {
     if !filled(given) {
         return false;
     }
     if !filled(out) {
         return false;
     }
-    match asked {
-        DdsCall::Import => import_of(given, out),
-        DdsCall::Export => export_of(given, out),
-        DdsCall::ImportColour => import_colour_of(given, out),
-        DdsCall::ExportColour(colour_space) => export_colour_of(colour_space, given, out),
-        DdsCall::ToTiles => to_tiles_of(given, out),
-        DdsCall::ToRows => to_rows_of(given, out),
-        DdsCall::Row(row) => sheet_row_of(row, given, out),
-    }
+    answer(asked, given, out);
+    io::write_all(STDOUT_FILENO, out)
 }
 
 // What is given is n bytes, and the output m.
-fn dds_call_within(asked: DdsCall, n: usize, m: usize) -> bool
+fn out_call_within(asked: OutCall, n: usize, m: usize) -> bool
     requires { ⌜ (n ≤ 65536) × (m ≤ 65536) ⌝ }
 {
     let mut given = [0u8; 65536];
     let mut out = [0u8; 65536];
-    dds_call_of(asked, &mut given[..n], &mut out[..m])
+    out_call_of(asked, &mut given[..n], &mut out[..m])
 }
 
-fn dds_call(asked: DdsCall) -> bool {
+fn out_call(asked: OutCall) -> bool {
     let mut lengths = [0u8; 8];
     if !filled(&mut lengths) {
         return false;
@@ -468,7 +458,15 @@ fn dds_call(asked: DdsCall) -> bool {
     if MOST < m {
         return false;
     }
-    dds_call_within(asked, n as usize, m as usize)
+    out_call_within(asked, n as usize, m as usize)
+}
+
+fn decode_row_call() -> bool {
+    let mut place = [0u8; 12];
+    if !filled(&mut place) {
+        return false;
+    }
+    out_call(OutCall::DecodeRow(number(&place, 0), number(&place, 4), number(&place, 8)))
 }
 
 fn export_colour_call() -> bool {
@@ -479,45 +477,15 @@ fn export_colour_call() -> bool {
     if 2 < colour_space[0] {
         return false;
     }
-    dds_call(DdsCall::ExportColour(colour_space[0]))
+    out_call(OutCall::ExportColour(wide(colour_space[0])))
 }
 
-fn sheet_row_call() -> bool {
+fn show_row_call() -> bool {
     let mut row = [0u8; 4];
     if !filled(&mut row) {
         return false;
     }
-    dds_call(DdsCall::Row(number(&row, 0)))
-}
-
-// The length that importing needs, or exporting.
-fn length_call_of(export: bool, given: &mut [u8]) -> bool {
-    if !filled(given) {
-        return false;
-    }
-    let mut length: u32 = 0;
-    let refusal = if export {
-        rinchovek_dds_export_length(given, &mut length)
-    } else {
-        rinchovek_dds_import_length(given, &mut length)
-    };
-    write_small(refusal);
-    write_u32(length);
-    true
-}
-
-fn length_call(export: bool) -> bool {
-    let mut length = [0u8; 4];
-    if !filled(&mut length) {
-        return false;
-    }
-    let n = number(&length, 0);
-    if MOST < n {
-        return false;
-    }
-    let end = n as usize;
-    let mut given = [0u8; 65536];
-    length_call_of(export, &mut given[..end])
+    out_call(OutCall::ShowRow(number(&row, 0)))
 }
 
 // A read that was asked for: whether there is such a read, and the stream behind it.
@@ -600,27 +568,29 @@ fn call(letter: u8) -> bool {
         b'U' => unpack_call(),
         b'P' => pack_call(),
         b'R' => replace_call(),
-        b'H' => read_head_call(false),
-        b'h' => read_head_call(true),
-        b'W' => write_head_call(),
-        b'O' => row_call(),
-        b'S' => sheet_call(),
-        b'l' => list_call(),
         b'r' => read_line_call(),
         b'N' => index_call(false),
         b'E' => index_call(true),
         b'A' => opacity_call(),
-        b'I' => dds_call(DdsCall::Import),
-        b'X' => dds_call(DdsCall::Export),
-        b'i' => dds_call(DdsCall::ImportColour),
-        b'x' => export_colour_call(),
-        b'd' => length_call(false),
-        b's' => length_call(true),
-        b'T' => dds_call(DdsCall::ToTiles),
-        b'Z' => dds_call(DdsCall::ToRows),
-        b'V' => sheet_row_call(),
         b'Q' => pixel_call(),
         b'B' => reads_call(),
+        b'W' => write_head_call(),
+        b'H' => head_call(SheetCall::Head),
+        b'h' => head_call(SheetCall::ColourHead),
+        b'o' => sheet_call(SheetCall::Open),
+        b'b' => sheet_call(SheetCall::Block),
+        b'S' => sheet_call(SheetCall::ReplaceLine),
+        b'l' => sheet_call(SheetCall::List),
+        b'd' => sheet_call(SheetCall::ImportLength),
+        b's' => sheet_call(SheetCall::ExportLength),
+        b'O' => decode_row_call(),
+        b'V' => show_row_call(),
+        b'I' => out_call(OutCall::Import),
+        b'X' => out_call(OutCall::Export),
+        b'i' => out_call(OutCall::ImportColour),
+        b'x' => export_colour_call(),
+        b'T' => out_call(OutCall::ToTiles),
+        b'Z' => out_call(OutCall::ToRows),
         _ => false,
     }
 }

@@ -12,7 +12,7 @@ pub record ScanlinesAsked (width scanlines : ℕ) : Type 0 where
   pub wide : width ≤ limit
   pub few : scanlines ≤ 4
 
--- of a block, or of a stored one: it is one of a sheet's
+-- of a block's number, or of a stored number: it is one of a sheet's
 pub record BlockAsked (head : Head) (block : ℕ) : Type 0 where
   pub size : Sized (head .width) (head .height)
   pub number : block < blocksOf head

@@ -16,13 +16,13 @@ pub record CountsBlocks (head : Head) (r : ℕ) : Type 0 where
   pub same : r ≡ blocksOf head
   pub few : r ≤ mostBlocks
 
--- which of the stored blocks a block is, and which block is stored there
+-- how many blocks are stored before a block; and the number of the block that has so many stored before it
 pub record StoresAt (head : Head) (block r : ℕ) : Type 0 where
   pub same : r ≡ storedAt head block
   pub few : r < mostBlocks
 
-pub record NumbersAt (head : Head) (place r : ℕ) : Type 0 where
-  pub same : r ≡ numberAt head place
+pub record NumbersAt (head : Head) (stored r : ℕ) : Type 0 where
+  pub same : r ≡ numberAt head stored
   pub few : r < mostBlocks
 
 -- what seven bits count behind so many groups

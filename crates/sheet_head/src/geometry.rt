@@ -50,7 +50,7 @@ pub fn blocks_of(head: Head) -> u32
     blocks_across(head.height) * blocks_across(head.width)
 }
 
-// Which of the stored blocks a block is, and which block is stored there.
+// How many blocks are stored before a block; and the number of the block that has so many stored before it.
 pub fn stored_at(head: Head, block: u32) -> usize
     requires { ⌜ BlockAsked head block ⌝ }
     ensures { λ r. ⌜ StoresAt head block r ⌝ }
@@ -66,22 +66,22 @@ pub fn stored_at(head: Head, block: u32) -> usize
     }
 }
 
-pub fn number_at(head: Head, place: u32) -> usize
-    requires { ⌜ BlockAsked head place ⌝ }
-    ensures { λ r. ⌜ NumbersAt head place r ⌝ }
+pub fn number_at(head: Head, stored: u32) -> usize
+    requires { ⌜ BlockAsked head stored ⌝ }
+    ensures { λ r. ⌜ NumbersAt head stored r ⌝ }
 {
     let form = head.form;
     match form {
-        Form::Rows => place as usize,
+        Form::Rows => stored as usize,
         Form::Tiles => tiles::number_in_tiles(
             blocks_across(head.width) as usize,
             blocks_across(head.height) as usize,
-            place as usize,
+            stored as usize,
         ),
     }
 }
 
-// Where a block stands.
+// The place of a block: its first byte in the sheet.
 pub fn place_of(head: Head, block: u32) -> usize
     requires { ⌜ BlockAsked head block ⌝ }
     ensures { λ r. ⌜ r ≡ placeOf head block ⌝ }

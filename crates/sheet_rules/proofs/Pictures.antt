@@ -1,6 +1,6 @@
 -- The rows of all row numbers together are the picture, and every byte of it is a channel of a shown pixel.
 -- Assumes nothing.
-use mathlib.Core.Path.{_≡_, refl, _∙_, ap, sym}
+use mathlib.Core.Path.{_≡_, refl, _∙_, ap, ap₂, sym}
 use mathlib.Core.List.{List, [], _++_}
 use Prim.Native.Nat.{ℕ, zero, suc, _+_, _*_, _/_, _%_, _<_, _≤_, min}
 use native.Mathlib.Nat.{div-add-mod', div-lt-iff-lt-mul, mod-lt, add-assoc, mul-left-comm, mul-assoc, mul-le-mul-right, add-mul, zero-mul}
@@ -12,16 +12,18 @@ use Rattle.laws.specs.Tables.{table, tableFrom}
 use Rattle.laws.proofs.Joining.{table-append, table-same}
 use Rattle.laws.proofs.Part.{getD-table, length-table}
 use Rattle.bc7_format.specs.Lines.{pixel, pixels}
+use Rattle.tile_rules.proofs.Theorems.{has-columns}
+use Rattle.head_rules.specs.declared.Form.{Form}
 use Rattle.head_rules.specs.declared.Form.the-variants.{Rows}
-use Rattle.head_rules.specs.Geometry.{across, blocksOf, placeOf, sideShown, wholeLength}
+use Rattle.head_rules.specs.declared.Head.{Head}
+use Rattle.head_rules.specs.Geometry.{across, blocksOf, numberAt, numberBy, placeOf, sideShown, storedBy, wholeLength}
 use Rattle.head_rules.specs.Heads.{Sized, readHead}
-use Rattle.head_rules.proofs.Orders.{stored-in-rows}
+use Rattle.head_rules.proofs.Orders.{blocks-within, each-place, form-order}
 use Rattle.laws.proofs.Refusals.{accepted-when}
 use Rattle.sheet_rules.specs.Calls.{WholeSheet}
-use Rattle.sheet_rules.specs.Pictures.{allBlocks, blockShowing, decodedRows, picture, pictureByte, pixelIn, rowOf}
+use Rattle.sheet_rules.specs.Pictures.{allBlocks, blockShowing, blocksAs, byteAs, decodedRows, picture, pictureByte, pixelIn, rowOf}
 use Rattle.sheet_rules.specs.Rows.{blockAt, channel, rowByte, rowBytes, rowOut, rowRefusal}
 use Rattle.sheet_rules.specs.Sheets.{blockIn, blockBy}
-use Rattle.sheet_rules.proofs.Finding.{room}
 use Rattle.sheet_rules.proofs.Refusing.{drawn, row-rules}
 use Rattle.sheet_rules.proofs.Storing.{block-get, block-long}
 
@@ -131,41 +133,94 @@ picture-shows w h all x y c lx ly lc =
     getD-table (h * (4 * w)) (pictureByte w all) 0 (y * (4 * w) + (4 * x + c)) (digits-lt ly l)
     ∙ rw (digits-mod y l, digits-div y l, low, px) (channel-is (blockShowing w all x y) (pixelIn x y) c (omega arith) lc)
 
+-- all blocks of a sheet in the order of form f
+module _ (f : Form) (h : Head) (s : List ℕ) where
+  abbrev c : ℕ
+  c = across (h .width)
+
+  abbrev r : ℕ
+  r = across (h .height)
+
+  pub all-long : length (blocksAs f h s) ≡ 16 * blocksOf h
+  unfolding blocksAs
+  all-long = length-table (16 * blocksOf h) (byteAs f h s)
+
+  -- byte j of the block that stands at q
+  pub byte-in-all : (q j : ℕ) → q < blocksOf h → j < 16 → getD (blocksAs f h s) (16 * q + j) 0 ≡ getD (blockBy h s (numberBy f c r q)) j 0
+  unfolding blocksAs byteAs
+  byte-in-all q j l lj =
+      let up : (16 * q + j) / 16 ≡ q = omega arith in
+      let low : (16 * q + j) % 16 ≡ j = omega arith in
+      getD-table (16 * blocksOf h) (byteAs f h s) 0 (16 * q + j) (omega (arith, l)) ∙ rw (up, low)
+
+  -- the order of form f on the blocks of the sheet
+  pub stored-lt : (b : ℕ) → b < blocksOf h → storedBy f c r b < blocksOf h
+  unfolding blocksOf
+  stored-lt b l = form-order f c r (has-columns c r b l) .to b l
+
+  pub number-lt : (q : ℕ) → q < blocksOf h → numberBy f c r q < blocksOf h
+  unfolding blocksOf
+  number-lt q l = form-order f c r (has-columns c r q l) .from q l
+
+  pub number-back : (b : ℕ) → b < blocksOf h → numberBy f c r (storedBy f c r b) ≡ b
+  unfolding blocksOf
+  number-back b l = form-order f c r (has-columns c r b l) .from-to b l
+
+  pub stored-back : (q : ℕ) → q < blocksOf h → storedBy f c r (numberBy f c r q) ≡ q
+  unfolding blocksOf
+  stored-back q l = form-order f c r (has-columns c r q l) .to-from q l
+
+  as-many : (g : Head) → g .width ≡ h .width → g .height ≡ h .height → blocksOf g ≡ blocksOf h
+  unfolding blocksOf
+  as-many g ew eh = rw (ew, eh)
+
+  -- two sheets of one size that have the same blocks have all of them alike in every order
+  pub all-same : (g : Head) (t : List ℕ) → g .width ≡ h .width → g .height ≡ h .height
+      → ((b : ℕ) → b < blocksOf h → blockBy g t b ≡ blockBy h s b) → blocksAs f g t ≡ blocksAs f h s
+  unfolding blocksAs byteAs
+  all-same g t ew eh e =
+      ap (λ (n : ℕ). table (16 * n) (byteAs f g t)) (as-many g ew eh)
+      ∙ table-same 0 (16 * blocksOf h) (byteAs f g t) (byteAs f h s)
+      (λ k l. ap₂ (λ (m n : ℕ). getD (blockBy g t (numberBy f (across m) (across n) (k / 16))) (k % 16) 0) ew eh
+      ∙ ap (λ (x : List ℕ). getD x (k % 16) 0) (e (numberBy f c r (k / 16)) (number-lt (k / 16) (omega (arith, l)))))
+
+  module _ (whole : length s ≡ wholeLength h) where
+    block-sixteen : (b : ℕ) → b < blocksOf h → length (blockBy h s b) ≡ 16
+    unfolding blockBy
+    block-sixteen b l = block-long s (placeOf h b) (omega (arith, whole, blocks-within h b l))
+
+    -- block b stands where form f stores it
+    pub block-in-all : (b : ℕ) → b < blocksOf h → blockAt (blocksAs f h s) (16 * storedBy f c r b) ≡ blockBy h s b
+    block-in-all b l =
+        let q = storedBy f c r b in
+        let all = block-long (blocksAs f h s) (16 * q) (omega (arith, all-long, stored-lt b l)) in
+        ext-getD 0 (blockAt (blocksAs f h s) (16 * q)) (blockBy h s b) (all ∙ sym (block-sixteen b l))
+        (λ j lj. let lj' : j < 16 = omega (arith, all, lj) in
+        block-get (blocksAs f h s) (16 * q) j lj' ∙ byte-in-all q j (stored-lt b l) lj'
+        ∙ ap (λ (n : ℕ). getD (blockBy h s n) j 0) (number-back b l))
+
+    number-is : (q : ℕ) → h .form ≡ f → placeOf h (numberAt h q) ≡ placeOf h (numberBy f c r q)
+    unfolding numberAt
+    number-is q e = rw e
+
+    -- in the order of their own form they are the bytes behind the head
+    pub all-as-stored : h .form ≡ f → blocksAs f h s ≡ drop (h .start) s
+    unfolding blocksAs byteAs blockBy
+    all-as-stored e =
+        ext-getD 0 (blocksAs f h s) (drop (h .start) s) (all-long ∙ sym (length-drop (h .start) s ∙ omega (arith, whole)))
+        (λ k l. let q = k / 16 in
+        let lq : q < blocksOf h = omega (arith, all-long, l) in
+        getD-table (16 * blocksOf h) (byteAs f h s) 0 k (omega (arith, all-long, l)) ∙ block-get s (placeOf h (numberBy f c r q)) (k % 16) (omega arith)
+        ∙ ap (λ (i : ℕ). getD s i 0) (omega (arith, number-is q e, each-place h q lq)) ∙ sym (getD-drop (h .start) s k 0))
+
 -- block b of a sheet is the one that the picture shows in its column and its row: at x, y is block y / 4 · columns + x / 4
-module _ (s : List ℕ) (told : readHead s .refusal ≡ 0) (whole : length s ≡ wholeLength (readHead s)) where
-  pub all-long : length (allBlocks s) ≡ 16 * blocksOf (readHead s)
-  unfolding allBlocks
-  all-long = length-table (16 * blocksOf (readHead s)) _
-
-  pub block-in-all : (b : ℕ) → b < blocksOf (readHead s) → blockAt (allBlocks s) (16 * b) ≡ blockIn s b
-  unfolding blockBy allBlocks
-  block-in-all b l =
-      let at = placeOf (readHead s) b in
-      let long : length (blockAt s at) ≡ 16 = block-long s at (room s b (record { head-told = told; whole = whole; number = l })) in
-      let all = block-long (allBlocks s) (16 * b) (omega (arith, all-long, l)) in
-      ext-getD 0 (blockAt (allBlocks s) (16 * b)) (blockAt s at) (all ∙ sym long)
-      (λ j lj. let lj' : j < 16 = omega (arith, all, lj) in
-      let up : (16 * b + j) / 16 ≡ b = omega arith in
-      let low : (16 * b + j) % 16 ≡ j = omega arith in
-      block-get (allBlocks s) (16 * b) j lj' ∙ getD-table (16 * blocksOf (readHead s)) _ 0 (16 * b + j) (omega (arith, l)) ∙ rw (up, low))
-
-  -- in form 1 they are the bytes behind the head
-  pub all-in-rows : readHead s .form ≡ Rows → allBlocks s ≡ drop (readHead s .start) s
-  unfolding allBlocks blockBy placeOf
-  all-in-rows e =
-      ext-getD 0 (allBlocks s) (drop (readHead s .start) s) (all-long ∙ sym (length-drop (readHead s .start) s ∙ omega (arith, whole)))
-      (λ k l. let q = k / 16 in
-      getD-table (16 * blocksOf (readHead s)) _ 0 k (omega (arith, all-long, l)) ∙ block-get s (placeOf (readHead s) q) (k % 16) (omega arith)
-      ∙ ap (λ (i : ℕ). getD s i 0) (ap (λ (i : ℕ). readHead s .start + 16 * i + k % 16) (sym (stored-in-rows (readHead s) e q)) ∙ omega arith)
-      ∙ sym (getD-drop (readHead s .start) s k 0))
-
 module _ (s : List ℕ) (z : WholeSheet s) (b x y : ℕ) (l : b < blocksOf (readHead s)) (column : x / 4 ≡ b % across (readHead s .width))
     (row : y / 4 ≡ b / across (readHead s .width)) where
   pub block-shown-there : blockShowing (readHead s .width) (allBlocks s) x y ≡ blockIn s b
   block-shown-there =
       let n = across (readHead s .width) in
       let e : y / 4 * n + x / 4 ≡ b = rw (row, column) (div-add-mod' b n) in
-      rw e (block-in-all s (z .told) (z .long) b l)
+      rw e (block-in-all Rows (readHead s) s (z .long) b l)
 
   pub picture-shows-block : (h c : ℕ) → x < readHead s .width → y < h → c < 4
       → getD (picture (readHead s .width) h (allBlocks s)) (y * (4 * readHead s .width) + (4 * x + c)) 0

@@ -12,6 +12,7 @@ use lib.ListN.{length, drop, length-drop}
 use lib.Seq.{length-take-le}
 use Rattle.laws.specs.Refusals.{Given, handed}
 use Rattle.laws.proofs.Refusals.{Answers, accepted-when, answer-0, answers, by-answer, by-leb, by-not-eqb, exactly, none, rule, rules}
+use Rattle.head_rules.specs.declared.Form.the-variants.{Rows}
 use Rattle.head_rules.specs.Geometry.{across, blocksOf, rowLength, sideShown, wholeLength}
 use Rattle.head_rules.specs.Heads.{Sized, readHead}
 use Rattle.head_rules.proofs.Theorems.{head-answers, head-sized}
@@ -51,7 +52,7 @@ module _ (s : List ℕ) (told : readHead s .refusal ≡ 0) (whole : length s ≡
   row-block c l =
       let at : 16 * (row * across w) + 16 * c ≡ 16 * (row * across w + c) = omega arith in
       block-of-part (allBlocks s) (16 * (row * across w)) (16 * across w) (16 * c) (omega (arith, l))
-      ∙ ap (blockAt (allBlocks s)) at ∙ block-in-all s told whole (row * across w + c) (number-in l)
+      ∙ ap (blockAt (allBlocks s)) at ∙ block-in-all Rows (readHead s) s whole (row * across w + c) (number-in l)
 
   pub row-long : length (rowBlocks s row) ≡ rowLength w
   unfolding rowBlocks rowOf blocksOf
@@ -60,7 +61,7 @@ module _ (s : List ℕ) (told : readHead s .refusal ≡ 0) (whole : length s ≡
       (omega (
         arith,
         length-drop (16 * (row * across w)) (allBlocks s),
-        all-long s told whole,
+        all-long Rows (readHead s) s,
         mul-le-mul-right {m = row + 1} {n = across (readHead s .height)} (across w) (omega (arith, inside)),
       ))
 

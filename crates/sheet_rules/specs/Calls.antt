@@ -36,7 +36,7 @@ onBlock c = callOf (c .line) (c .given)
 abbrev pub callsOn : ℕ → List SheetCall → List Call
 callsOn b cs = calls.callsOn (λ (c : SheetCall). c .block) onBlock b cs
 
--- a sheet with all its blocks: what is neither refused with 7, 8 or 9 nor with 10
+-- a sheet with all its blocks: its head is not refused, with 7, 8, 18 or 9, and its length not with 10
 pub record WholeSheet (s : List ℕ) : Type 0 where
   pub bytes : Bytes s
   pub told : readHead s .refusal ≡ 0

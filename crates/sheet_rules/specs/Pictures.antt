@@ -5,14 +5,25 @@ use mathlib.Core.List.{List, [], _++_}
 use lib.ListN.{getD, take, drop}
 use Rattle.laws.specs.Tables.{table}
 use Rattle.bc7_format.specs.Lines.{pixels}
-use Rattle.head_rules.specs.Geometry.{across, blocksOf}
+use Rattle.head_rules.specs.declared.Form.{Form}
+use Rattle.head_rules.specs.declared.Form.the-variants.{Rows}
+use Rattle.head_rules.specs.declared.Head.{Head}
+use Rattle.head_rules.specs.Geometry.{across, blocksOf, numberBy}
 use Rattle.head_rules.specs.Heads.{readHead}
 use Rattle.sheet_rules.specs.Rows.{blockAt, channel, rowOut}
-use Rattle.sheet_rules.specs.Sheets.{blockIn}
+use Rattle.sheet_rules.specs.Sheets.{blockBy}
 
--- the bytes of all blocks of a sheet by their numbers, row by row, in whatever order it stores them
-unfoldable pub allBlocks : List ℕ → List ℕ
-allBlocks s = table (16 * blocksOf (readHead s)) (λ k. getD (blockIn s (k / 16)) (k % 16) 0)
+-- THE BLOCKS OF A SHEET IN THE ORDER OF A FORM: the bytes of all blocks of the sheet s, whose head is h, as form f stores them, in
+-- whatever order s does
+unfoldable pub byteAs : Form → Head → List ℕ → ℕ → ℕ
+byteAs f h s k = getD (blockBy h s (numberBy f (across (h .width)) (across (h .height)) (k / 16))) (k % 16) 0
+
+unfoldable pub blocksAs : Form → Head → List ℕ → List ℕ
+blocksAs f h s = table (16 * blocksOf h) (byteAs f h s)
+
+-- by their numbers, row by row
+abbrev pub allBlocks : List ℕ → List ℕ
+allBlocks s = blocksAs Rows (readHead s) s
 
 -- the block that shows pixel x, y, and the number of the pixel in it; `all` is the bytes of all blocks
 abbrev pub blockShowing : ℕ → List ℕ → ℕ → ℕ → List ℕ

@@ -2,6 +2,5 @@ pub mod Attested
 pub mod InTile
 pub mod Slots
 pub mod Tiling
-pub mod Moving
 pub mod Theorems
 pub mod Cells

@@ -9,19 +9,16 @@ use Prim.Native.Nat.{ℕ, zero, suc, _*_, _/_, _%_, _<_}
 use native.Mathlib.Nat.{eq-zero-or-pos, le-of-suc-le-suc, mul-zero, not-suc-le-zero}
 use native.Mathlib.Omega.{arith}
 use lib.Dec.{T, eqb, eqb→eq}
-use lib.ListN.{length, getD, take, drop, length-map}
+use lib.ListN.{length, getD, length-map}
 use Rattle.laws.specs.Counting.{count, kept}
 use Rattle.laws.specs.Inverse.{Inverse}
 use Rattle.laws.specs.Tables.{below}
 use Rattle.laws.proofs.Counting.{Kept, at-kept, count-lt, kept-at, kept-long}
-use Rattle.laws.proofs.Inverse.{inverse-turn}
 use Rattle.laws.proofs.Tests.{at}
 use Rattle.tile_rules.specs.Computed.{orderAt, orderInTile}
-use Rattle.tile_rules.specs.Moves.{toRows, toTiles}
-use Rattle.tile_rules.specs.Tiles.{columnOfSlot, inSheet, numberInSlot, numberInTiles, rowOfSlot, slotIn, slotOf, slots, storedInTiles}
-use Rattle.tile_rules.specs.Tiles.{storedOrder}
+use Rattle.tile_rules.specs.Tiles.{columnOfSlot, inSheet, mostAcross, numberInSlot, numberInTiles, rowOfSlot, slotIn, slotOf, slots}
+use Rattle.tile_rules.specs.Tiles.{storedInTiles, storedOrder}
 use Rattle.tile_rules.proofs.InTile.{column-lt, column-of-slot, row-lt, row-of-slot, slot-parted, slot-small}
-use Rattle.tile_rules.proofs.Moving.{moved-back, moved-piece}
 use Rattle.tile_rules.proofs.Slots.{number-lt, number-of-slot, slot-in, slot-lt, slot-of-number}
 use Rattle.tile_rules.proofs.Tiling.{count-all, stored-is}
 
@@ -75,39 +72,25 @@ module _ (c r : ℕ) (hc : 0 < c) where
   pub tile-order : Inverse (r * c) (storedInTiles c r) (numberInTiles c r)
   tile-order = record { to = stored-within; from = number-within; from-to = number-of-stored; to-from = stored-of-number }
 
-  -- moving all blocks there and back restores their bytes, both ways
-  pub there-and-back : (l : List ℕ) → length l ≡ r * c * 16 → toRows c r (toTiles c r l) ≡ l
-  there-and-back l e = moved-back 16 (omega arith) (inverse-turn tile-order) l e
-
-  pub back-and-there : (l : List ℕ) → length l ≡ r * c * 16 → toTiles c r (toRows c r l) ≡ l
-  back-and-there l e = moved-back 16 (omega arith) tile-order l e
-
-  -- block b stands where its stored number says
-  pub block-in-tiles : (l : List ℕ) → length l ≡ r * c * 16 → (b : ℕ) → b < r * c
-      → take 16 (drop (16 * storedInTiles c r b) (toTiles c r l)) ≡ take 16 (drop (16 * b) l)
-  block-in-tiles l e b h =
-      moved-piece 16 (omega arith) (r * c) (numberInTiles c r) l (storedInTiles c r b) e (stored-within b h)
-      (number-within (storedInTiles c r b) (stored-within b h))
-      ∙ ap (λ (k : ℕ). take 16 (drop (16 * k) l)) (number-of-stored b h)
-
--- one row of 4,096 blocks, the widest that there is, is stored as it stands
+-- one row of blocks, the widest that there is, is stored as it stands
 widest : ℕ → Bool
-widest b = eqb (orderAt 4096 1 b 0) b
+widest b = eqb (orderAt mostAcross 1 b 0) b
 
-each-widest : T (below 4096 widest)
+each-widest : T (below mostAcross widest)
 unfolding widest orderAt orderInTile
 each-widest = tt
 
-module _ (b : ℕ) (h : b < 4096) where
-  pub one-row : storedInTiles 4096 1 b ≡ b
+module _ (b : ℕ) (h : b < mostAcross) where
+  pub one-row : storedInTiles mostAcross 1 b ≡ b
   unfolding widest
   one-row =
-      let x : b % 4096 ≡ b = omega arith in
-      let y : b / 4096 ≡ 0 = omega arith in
-      stored-is 4096 1 b (omega arith) (omega arith) ∙ ap₂ (orderAt 4096 1) x y ∙ eqb→eq (orderAt 4096 1 b 0) b (at 4096 widest each-widest b h)
+      let x : b % mostAcross ≡ b = omega arith in
+      let y : b / mostAcross ≡ 0 = omega arith in
+      stored-is mostAcross 1 b (omega arith) (omega arith) ∙ ap₂ (orderAt mostAcross 1) x y
+      ∙ eqb→eq (orderAt mostAcross 1 b 0) b (at mostAcross widest each-widest b h)
 
-  pub one-row-back : numberInTiles 4096 1 b ≡ b
-  one-row-back = ap (numberInTiles 4096 1) (sym one-row) ∙ number-of-stored 4096 1 (omega arith) b (omega arith)
+  pub one-row-back : numberInTiles mostAcross 1 b ≡ b
+  one-row-back = ap (numberInTiles mostAcross 1) (sym one-row) ∙ number-of-stored mostAcross 1 (omega arith) b (omega arith)
 
 -- THE NAMED FORM of document 01: column and row of a tile interleaved to a slot, and parted again, inverse to each other
 pub record Interleaved : Type 0 where

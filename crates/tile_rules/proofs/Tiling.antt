@@ -1,6 +1,6 @@
 -- How many blocks of a sheet are stored before a tile, and before a block in it.
 -- Assumes nothing.
-use mathlib.Core.Path.{_≡_, _∙_, ap, ap₂, sym}
+use mathlib.Core.Path.{_≡_, _∙_, ap, ap₂, sym, subst}
 use mathlib.Core.Logic.{⊎-elim}
 use mathlib.Core.Bool.{Bool, true}
 use Prim.Native.Nat.{ℕ, zero, suc, _+_, _*_, _/_, _%_, _<_, _≤_, min}
@@ -14,7 +14,7 @@ use Rattle.laws.proofs.Tests.{at, implied, true-T}
 use Rattle.laws.specs.Counting.{count}
 use Rattle.tile_rules.specs.Computed.{left, orderAt, orderInTile}
 use Rattle.tile_rules.specs.Tiles.{columnOfSlot, inSheet, slotIn, storedInTiles, rowOfSlot, slotOf, slots, tiles}
-use Rattle.laws.proofs.Counting.{count-add, count-more, count-none, count-same}
+use Rattle.laws.proofs.Counting.{count-add, count-lt, count-more, count-none, count-same}
 use Rattle.tile_rules.proofs.InTile.{column-lt, column-of-slot, slot-small, row-lt, row-of-slot}
 use Rattle.tile_rules.proofs.Slots.{column-at, row-at, slot-in, tiles-reach}
 
@@ -94,6 +94,17 @@ module _ (w h : ℕ) (lw : w ≤ 8) (lh : h ≤ 8) where
       ∙ eqb→eq (within w h p) _
       (implied (inTile w h p) _ (at 64 (shown-at w h) (at-size (λ w h. below 64 (shown-at w h)) each-shown w h lw lh) p l)
       (true-T (inTile w h p) e))
+
+  -- a block of a tile has fewer stored before it than the tile has
+  pub order-within : (x y : ℕ) → x < w → y < h → orderInTile w h x y < h * w
+  unfolding inTile
+  order-within x y lx ly =
+      let p = slotIn x y in
+      let ex : columnOfSlot p ≡ x = column-of-slot x y (omega arith) (omega arith) in
+      let ey : rowOfSlot p ≡ y = row-of-slot x y (omega arith) (omega arith) in
+      let t : inTile w h p ≡ true = rw (ex, ey, lt-ltb x w lx, lt-ltb y h ly) in
+      let e : count p (inTile w h) ≡ orderInTile w h x y = count-slot p (slot-small x y) t ∙ ap₂ (orderInTile w h) ex ey in
+      subst (λ (n : ℕ). n < h * w) e (subst (λ (n : ℕ). count p (inTile w h) < n) count-tile (count-lt (inTile w h) p 64 (slot-small x y) t))
 
 ltb-same : (a b x y : ℕ) → (a < b → x < y) → (x < y → a < b) → ltb a b ≡ ltb x y
 ltb-same a b x y f g =

@@ -1,4 +1,5 @@
--- The stored number of a block by a few products, with no counting, and the number back: cells of side 8 in the sheet, of side 4, 2 and 1 in the tile.
+-- The stored number of a block by a few products, with no counting, and its number back: cells of side 8 in the sheet, of side 4, 2 and 1 in
+-- the tile.
 -- Assumes nothing.
 use Prim.Native.Nat.{ℕ, _+_, _-_, _*_, _/_, _%_, min}
 use Rattle.tile_rules.specs.declared.Cell.{Cell}

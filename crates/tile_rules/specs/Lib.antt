@@ -1,4 +1,3 @@
 -- What tile order means.
 pub mod Tiles
 pub mod Computed
-pub mod Moves

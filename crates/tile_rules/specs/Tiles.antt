@@ -9,6 +9,13 @@ use lib.ListN.{getD}
 use Rattle.laws.specs.Tables.{both}
 use Rattle.laws.specs.Counting.{count, kept}
 
+-- the blocks of a tile; and the most columns or rows of blocks that a sheet has, those of its largest side
+abbrev pub tileBlocks : ℕ
+tileBlocks = 64
+
+abbrev pub mostAcross : ℕ
+mostAcross = 4096
+
 -- slot p of the 64 of a tile: its column's bits are the even ones of p, its row's the odd ones
 unfoldable pub columnOfSlot : ℕ → ℕ
 columnOfSlot p = p % 2 + 2 * (p / 4 % 2) + 4 * (p / 16 % 2)

@@ -12,7 +12,7 @@ use Rattle.laws.proofs.Tests.{at}
 use Rattle.tile_rules.specs.Tiles.{slotIn, rowOfSlot}
 use Rattle.tiles.specs.Parts.{drawn, spread}
 
--- three bits at places 4, 2, 0, and at 2, 1, 0
+-- three bits put at 4, 2 and 0, and at 2, 1 and 0
 test-spread : ℕ → ℕ → ℕ → Bool
 test-spread a b d = eqb (bitOr (bitOr (a * 2 ^ 4 % 2 ^ 8) (b * 2 ^ 2 % 2 ^ 8)) d) (d + 4 * b + 16 * a)
 
@@ -35,15 +35,24 @@ unfolding bits test-drawn
 each-drawn = tt
 
 module _ (v : ℕ) where
+  low : v % 2 < 2
+  low = omega arith
+
   pub spread-is : bitOr (bitOr (bitAnd (v / 2 ^ 2) 1 * 2 ^ 4 % 2 ^ 8) (bitAnd (v / 2 ^ 1) 1 * 2 ^ 2 % 2 ^ 8)) (bitAnd v 1) ≡ spread v
   unfolding test-spread
-  spread-is = rw (and-mask (v / 2 ^ 2) 1, and-mask (v / 2 ^ 1) 1, and-mask v 1) (eqb→eq _ (v % 2 + 4 * (v / 2 % 2) + 16 * (v / 4 % 2)) (at-bits test-spread each-spread (v / 4 % 2) (v / 2 % 2) (v % 2) (omega arith) (omega arith) (omega arith)))
+  spread-is =
+      rw (and-mask (v / 2 ^ 2) 1, and-mask (v / 2 ^ 1) 1, and-mask v 1)
+      (eqb→eq _ (v % 2 + 4 * (v / 2 % 2) + 16 * (v / 4 % 2))
+      (at-bits test-spread each-spread (v / 4 % 2) (v / 2 % 2) (v % 2) (omega arith) (omega arith) low))
 
   pub drawn-is : bitOr (bitOr (bitAnd (v / 2 ^ 4) 1 * 2 ^ 2 % 2 ^ 8) (bitAnd (v / 2 ^ 2) 1 * 2 ^ 1 % 2 ^ 8)) (bitAnd v 1) ≡ drawn v
   unfolding test-drawn
-  drawn-is = rw (and-mask (v / 2 ^ 4) 1, and-mask (v / 2 ^ 2) 1, and-mask v 1) (eqb→eq _ (v % 2 + 2 * (v / 4 % 2) + 4 * (v / 16 % 2)) (at-bits test-drawn each-drawn (v / 16 % 2) (v / 4 % 2) (v % 2) (omega arith) (omega arith) (omega arith)))
+  drawn-is =
+      rw (and-mask (v / 2 ^ 4) 1, and-mask (v / 2 ^ 2) 1, and-mask v 1)
+      (eqb→eq _ (v % 2 + 2 * (v / 4 % 2) + 4 * (v / 16 % 2))
+      (at-bits test-drawn each-drawn (v / 16 % 2) (v / 4 % 2) (v % 2) (omega arith) (omega arith) low))
 
--- two spread numbers, one a place further
+-- two spread numbers, one a bit further up
 woven : ℕ → ℕ → Bool
 woven x y = eqb (bitOr (spread y * 2 ^ 1 % 2 ^ 8) (spread x)) (spread x + 2 * spread y)
 
@@ -68,9 +77,9 @@ woven-is x y =
     (eqb→eq (bitOr (spread (y % 8) * 2 ^ 1 % 2 ^ 8) (spread (x % 8))) (spread (x % 8) + 2 * spread (y % 8))
     (at 8 (woven (x % 8)) (at 8 (λ x. below 8 (woven x)) each-woven (x % 8) (omega arith)) (y % 8) (omega arith)))
 
-pub woven-place : (x y : ℕ) → spread x + 2 * spread y ≡ slotIn x y
+pub woven-slot : (x y : ℕ) → spread x + 2 * spread y ≡ slotIn x y
 unfolding slotIn
-woven-place x y = omega arith
+woven-slot x y = omega arith
 
 pub odd-bits : (p : ℕ) → drawn (p / 2 ^ 1) ≡ rowOfSlot p
 unfolding rowOfSlot

@@ -1,20 +1,20 @@
--- The cell that holds a place, and the block at a place.
+-- The cell that holds a block, found by how many are stored before it, and the block's number.
 -- Assumes nothing.
 use mathlib.Core.Path.{_≡_, _∙_, ap, ap₂, sym, subst}
 use Prim.Native.Nat.{ℕ, _+_, _*_, _/_, _%_, _<_, _≤_}
 use native.Mathlib.Nat.{mul-comm, mul-le-mul, mul-pos}
 use native.Mathlib.Omega.{arith}
 use Rattle.tile_rules.specs.Computed.{cellAt, columnInTile, left, numberFrom, rowInTile}
-use Rattle.tile_rules.specs.Tiles.{numberInTiles, columnOfSlot, rowOfSlot}
+use Rattle.tile_rules.specs.Tiles.{columnOfSlot, mostAcross, numberInTiles, rowOfSlot, tileBlocks}
 use Rattle.tile_rules.proofs.Cells.{cut-in, cut-rest, number-is, whole-column, whole-row}
 use Rattle.tile_rules.proofs.InTile.{column-lt, row-lt}
 use Rattle.tiles.specs.Parts.{CellFound, Numbered, SpotFound}
 use Rattle.tile_rules.specs.declared.Cell.{Cell}
-use Rattle.tiles.proofs.Sizes.{columns-pos}
+use Rattle.tiles.proofs.Sizes.{columns-pos, few}
 
 module _ {s w h m : ℕ} (hs : 0 < s) (h8 : s ≤ 8) (i : Numbered w h m) where
-  pub line-fits : s * w ≤ 32768
-  line-fits = mul-le-mul {n₁ = s} {m₁ = w} {n₂ = 8} {m₂ = 4096} h8 (i .wide)
+  pub line-fits : s * w ≤ 8 * mostAcross
+  line-fits = mul-le-mul {n₁ = s} {m₁ = w} {n₂ = 8} {m₂ = mostAcross} h8 (i .wide)
 
   pub line-pos : 0 < s * w
   line-pos = mul-pos hs (columns-pos i)
@@ -29,7 +29,7 @@ module _ {s w h m : ℕ} (hs : 0 < s) (h8 : s ≤ 8) (i : Numbered w h m) where
     pub column-pos : 0 < s * t
     column-pos = mul-pos hs t-pos
 
-    pub column-fits : s * t ≤ 64
+    pub column-fits : s * t ≤ tileBlocks
     column-fits = mul-le-mul {n₁ = s} {m₁ = t} {n₂ = 8} {m₂ = 8} h8 (omega arith)
 
     past : m % (s * w) < w * t
@@ -47,11 +47,13 @@ module _ {s w h m : ℕ} (hs : 0 < s) (h8 : s ≤ 8) (i : Numbered w h m) where
       rows = y-in;
       wide = omega arith;
       high = omega arith;
-      number = rw eu (subst (λ (n : ℕ). m % (s * w) % (s * t) < n) (mul-comm (left s w (m % (s * w) / (s * t))) t) (cut-rest s w t (m % (s * w)) hs t-pos past));
+      number = rw eu (subst (λ (n : ℕ). m % (s * w) % (s * t) < n) (mul-comm (left s w (m % (s * w) / (s * t))) t)
+          (cut-rest s w t (m % (s * w)) hs t-pos past));
     }
 
 -- three cells one in another
-pub spot : {w h m : ℕ} {b d e : Cell} → w ≤ 8 → h ≤ 8 → CellFound 4 w h m b → CellFound 2 (b .w) (b .h) (b .rest) d → CellFound 1 (d .w) (d .h) (d .rest) e
+pub spot : {w h m : ℕ} {b d e : Cell} → w ≤ 8 → h ≤ 8 → CellFound 4 w h m b → CellFound 2 (b .w) (b .h) (b .rest) d
+    → CellFound 1 (d .w) (d .h) (d .rest) e
     → SpotFound w h m (record { x = 4 * b .x + 2 * d .x + e .x; y = 4 * b .y + 2 * d .y + e .y })
 unfolding columnInTile rowInTile
 spot {w} {h} {m} {b} {d} {e} lw lh fb fd fe = record {
@@ -61,28 +63,28 @@ spot {w} {h} {m} {b} {d} {e} lw lh fb fd fe = record {
   high = omega arith;
 }
 
--- the block at place p
+-- the block that has p stored before it
 module _ {c r p : ℕ} {a : Cell} (i : Numbered c r p) (f : CellFound 8 c r p a) where
-  pub block-sum : (x y : ℕ) → x ≡ columnInTile (a .w) (a .h) (a .rest) → y ≡ rowInTile (a .w) (a .h) (a .rest)
+  pub number-sum : {x y : ℕ} → x ≡ columnInTile (a .w) (a .h) (a .rest) → y ≡ rowInTile (a .w) (a .h) (a .rest)
       → (8 * a .y + y) * c + (8 * a .x + x) ≡ numberInTiles c r p
   unfolding numberFrom
-  block-sum x y ex ey = rw (ex, ey, f .is) (sym (number-is c r p (columns-pos i) (i .number)))
+  number-sum ex ey = rw (ex, ey, f .is) (sym (number-is c r p (columns-pos i) (i .number)))
 
-  pub lines-fit : (y : ℕ) → y ≤ 16 → (8 * a .y + y) * c ≤ 16842752
-  lines-fit y l = mul-le-mul {n₁ = 8 * a .y + y} {m₁ = c} {n₂ = 4112} {m₂ = 4096} (omega arith) (i .wide)
+  pub lines-fit : {y : ℕ} → y < 8 → (8 * a .y + y) * c ≤ mostAcross * mostAcross
+  lines-fit {y} l = few (8 * a .y + y) c (omega (arith, f .rows, i .high)) (i .wide)
 
   module _ (ew : a .w ≡ 8) (eh : a .h ≡ 8) where
-    pub rest-small : a .rest < 64
+    pub rest-small : a .rest < tileBlocks
     rest-small = subst (λ (n : ℕ). a .rest < n) (ap₂ (λ (x y : ℕ). x * y) eh ew) (f .number)
 
-    pub block-whole : (x y : ℕ) → x ≡ columnOfSlot (a .rest) → y ≡ rowOfSlot (a .rest) → (8 * a .y + y) * c + (8 * a .x + x) ≡ numberInTiles c r p
-    block-whole x y ex ey =
-        block-sum x y (ex ∙ sym (whole-column (a .rest) rest-small) ∙ ap₂ (λ (u v : ℕ). columnInTile u v (a .rest)) (sym ew) (sym eh))
+    pub number-whole : {x y : ℕ} → x ≡ columnOfSlot (a .rest) → y ≡ rowOfSlot (a .rest) → (8 * a .y + y) * c + (8 * a .x + x) ≡ numberInTiles c r p
+    number-whole ex ey =
+        number-sum (ex ∙ sym (whole-column (a .rest) rest-small) ∙ ap₂ (λ (u v : ℕ). columnInTile u v (a .rest)) (sym ew) (sym eh))
         (ey ∙ sym (whole-row (a .rest) rest-small) ∙ ap₂ (λ (u v : ℕ). rowInTile u v (a .rest)) (sym ew) (sym eh))
 
 -- a row and a column of a tile are small
-pub row-small : (p y : ℕ) → y ≡ rowOfSlot p → y ≤ 16
-row-small p y e = omega (arith, row-lt p)
+pub row-small : (p : ℕ) {y : ℕ} → y ≡ rowOfSlot p → y < 8
+row-small p e = omega (arith, row-lt p)
 
-pub column-small : (p x : ℕ) → x ≡ columnOfSlot p → x ≤ 16
-column-small p x e = omega (arith, column-lt p)
+pub column-small : (p : ℕ) {x : ℕ} → x ≡ columnOfSlot p → x < 8
+column-small p e = omega (arith, column-lt p)

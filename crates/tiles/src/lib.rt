@@ -1,10 +1,10 @@
-// Tile order: where a block of a sheet stands, and which block stands at a place. A tile's 64 places are column and row
-// interleaved; only at the edges, where places are skipped, it takes more than that.
+// Tile order: from the number of a block to its stored number, and back. In a whole tile a block's slot is its column and row
+// interleaved; only at the edges, where slots are skipped, it takes more than that.
 ghost use mathlib.Core.Path.{_≡_};
 ghost use Prim.Native.Nat.{_*_, _≤_, _<_};
 ghost use Rattle.tile_rules.specs.Computed.{ahead, left, orderInTile};
-ghost use Rattle.tile_rules.specs.Tiles.{numberInTiles, columnOfSlot, slotIn, storedInTiles, rowOfSlot};
-ghost use Rattle.tiles.specs.Parts.{CellFound, Inside, Numbered, Small, SpotFound, drawn, spread};
+ghost use Rattle.tile_rules.specs.Tiles.{columnOfSlot, numberInTiles, rowOfSlot, slotIn, storedInTiles, tileBlocks};
+ghost use Rattle.tiles.specs.Parts.{Below, CellFound, InTile, Inside, Numbered, SpotFound, drawn, spread};
 use tile_rules::Cell;
 
 // Bits 0, 1 and 2 to bits 0, 2 and 4.
@@ -21,7 +21,7 @@ fn together(v: u8) -> u8
     (((v >> 4) & 1) << 2) | (((v >> 2) & 1) << 1) | (v & 1)
 }
 
-// Column and row of a block in its tile interleaved to a place: the column's bits take the even places, the row's the odd ones.
+// Column and row of a block in its tile interleaved to a slot: its even bits are the column's, its odd bits the row's.
 pub fn interleave(column: u8, row: u8) -> u8
     ensures { λ r. ⌜ r ≡ slotIn column row ⌝ }
 {
@@ -29,16 +29,16 @@ pub fn interleave(column: u8, row: u8) -> u8
 }
 
 // And parted again.
-pub fn column_of_slot(place: u8) -> u8
-    ensures { λ r. ⌜ r ≡ columnOfSlot place ⌝ }
+pub fn column_of_slot(slot: u8) -> u8
+    ensures { λ r. ⌜ r ≡ columnOfSlot slot ⌝ }
 {
-    together(place)
+    together(slot)
 }
 
-pub fn row_of_slot(place: u8) -> u8
-    ensures { λ r. ⌜ r ≡ rowOfSlot place ⌝ }
+pub fn row_of_slot(slot: u8) -> u8
+    ensures { λ r. ⌜ r ≡ rowOfSlot slot ⌝ }
 {
-    together(place >> 1)
+    together(slot >> 1)
 }
 
 // Of n columns or rows of blocks, those of cell q of side s.
@@ -53,15 +53,15 @@ fn cell_side(s: usize, n: usize, q: usize) -> usize
 // Of w columns and h rows of blocks, those before the cell in column x and row y of cells of side s.
 fn blocks_ahead(s: usize, w: usize, h: usize, x: usize, y: usize) -> usize
     requires { ⌜ Inside s w h x y ⌝ }
-    ensures { λ r. ⌜ Small 33554432 r (ahead s w h x y) ⌝ }
+    ensures { λ r. ⌜ Below (h * w) r (ahead s w h x y) ⌝ }
 {
     s * y * w + s * x * cell_side(s, h, y)
 }
 
-// The place of the block in column x and row y among the w by h of a tile.
+// How many of the w by h blocks of a tile are stored before the one in column x and row y.
 fn order_in_tile(w: usize, h: usize, x: usize, y: usize) -> usize
-    requires { ⌜ (x < w) × (y < h) × (w ≤ 8) × (h ≤ 8) ⌝ }
-    ensures { λ r. ⌜ Small 100663296 r (orderInTile w h x y) ⌝ }
+    requires { ⌜ InTile w h x y ⌝ }
+    ensures { λ r. ⌜ Below tileBlocks r (orderInTile w h x y) ⌝ }
 {
     let a = x / 4 % 2;
     let b = y / 4 % 2;
@@ -76,25 +76,25 @@ fn order_in_tile(w: usize, h: usize, x: usize, y: usize) -> usize
     first + second + blocks_ahead(1, w2, h2, x % 2, y % 2)
 }
 
-// Where block `block` stands in tile order.
+// The stored number of a block.
 pub fn stored_in_tiles(columns: usize, rows: usize, block: usize) -> usize
     requires { ⌜ Numbered columns rows block ⌝ }
     ensures { λ r. ⌜ r ≡ storedInTiles columns rows block ⌝ }
 {
     let x = block % columns;
     let y = block / columns;
-    let before = blocks_ahead(8, columns, rows, x / 8, y / 8);
     let w = cell_side(8, columns, x / 8);
-    let h = cell_side(8, rows, y / 8);
     if w == 8 {
-        if h == 8 {
+        if cell_side(8, rows, y / 8) == 8 {
+            let before = blocks_ahead(8, columns, rows, x / 8, y / 8);
             return before + interleave((x % 8) as u8, (y % 8) as u8) as usize;
         }
     }
-    before + order_in_tile(w, h, x % 8, y % 8)
+    let before = blocks_ahead(8, columns, rows, x / 8, y / 8);
+    before + order_in_tile(w, cell_side(8, rows, y / 8), x % 8, y % 8)
 }
 
-// The cell of side s that holds place m of w columns and h rows of blocks.
+// The cell of side s that holds the block with m stored before it, of w columns and h rows of blocks.
 fn cell_at(s: usize, w: usize, h: usize, m: usize) -> Cell
     requires { ⌜ (0 < s) × (s ≤ 8) × Numbered w h m ⌝ }
     ensures { λ r. ⌜ CellFound s w h m r ⌝ }
@@ -120,7 +120,7 @@ pub struct Spot {
     pub y: usize,
 }
 
-// Those of the block at place m among the w by h of a tile.
+// Those of the block with m stored before it, of the w by h of a tile.
 fn spot_in_tile(w: usize, h: usize, m: usize) -> Spot
     requires { ⌜ (w ≤ 8) × (h ≤ 8) × (m < h * w) ⌝ }
     ensures { λ r. ⌜ SpotFound w h m r ⌝ }
@@ -134,17 +134,17 @@ fn spot_in_tile(w: usize, h: usize, m: usize) -> Spot
     }
 }
 
-// The number of the block that stands at place `place` in tile order.
-pub fn number_in_tiles(columns: usize, rows: usize, place: usize) -> usize
-    requires { ⌜ Numbered columns rows place ⌝ }
-    ensures { λ r. ⌜ r ≡ numberInTiles columns rows place ⌝ }
+// The number of the block that has so many stored before it.
+pub fn number_in_tiles(columns: usize, rows: usize, stored: usize) -> usize
+    requires { ⌜ Numbered columns rows stored ⌝ }
+    ensures { λ r. ⌜ r ≡ numberInTiles columns rows stored ⌝ }
 {
-    let a = cell_at(8, columns, rows, place);
+    let a = cell_at(8, columns, rows, stored);
     if a.w == 8 {
         if a.h == 8 {
-            let p = a.rest as u8;
-            return (8 * a.y + row_of_slot(p) as usize) * columns
-                + (8 * a.x + column_of_slot(p) as usize);
+            let slot = a.rest as u8;
+            return (8 * a.y + row_of_slot(slot) as usize) * columns
+                + (8 * a.x + column_of_slot(slot) as usize);
         }
     }
     let t = spot_in_tile(a.w, a.h, a.rest);

@@ -1,6 +1,6 @@
 -- `lay` meets its contract.
 -- Assumes nothing.
-use Rattle.moves.proofs.Laying.{count-in, count-room, head-fits, laid, part-long, rooms}
+use Rattle.moves.proofs.Laying.{blocks-room, count-in, count-room, head-fits, laid, part-long}
 use borrow.Author.Needs.{needs}
 use Rattle.moves.proofs.lay.Statement.{statement}
 use Rattle.moves.proofs.lay.Tie as tie
@@ -11,66 +11,40 @@ write-form-requires c κs = search needs
 cast-count : tie.Need-cast-count
 cast-count c = search needs
 
-cast-start : tie.Need-cast-start
-cast-start c = search needs
-
 array-share-prefix-bytes : tie.Need-array-share-prefix-bytes
-array-share-prefix-bytes c = count-room _ (c .before .before .before .before .before .before .args .head) (c .before .before .before .write-form .ensures)
+array-share-prefix-bytes c = count-room _ (c .before .before .before .before .before .args .head) (c .before .before .write-form .ensures)
 
 slice-aggregate-copy : tie.Need-slice-aggregate-copy
-slice-aggregate-copy c = part-long _ (c .before .before .before .before .before .before .before .args .head) (c .before .before .before .before .write-form .ensures)
+slice-aggregate-copy c = part-long _ (c .before .before .before .before .before .before .args .head) (c .before .before .before .write-form .ensures)
 
 copy-requires : tie.Need-copy-requires
-copy-requires c κs = let a = c .before .before .before .before .before .before .before .before in head-fits _ _ (c .before .before .before .before .before .write-form .ensures) (a .args .sheet .now) (a .args .out .now) (a .pre)
-
-blocks-across-requires : tie.Need-blocks-across-requires
-blocks-across-requires c κs = search needs
-
-cast-move-blocks : tie.Need-cast-move-blocks
-cast-move-blocks c = search needs
-
-blocks-across-requires-2 : tie.Need-blocks-across-requires-2
-blocks-across-requires-2 c κs = search needs
-
-cast-move-blocks-2 : tie.Need-cast-move-blocks-2
-cast-move-blocks-2 c = search needs
+copy-requires c κs = let a = c .before .before .before .before .before .before .before in head-fits _ _ (c .before .before .before .before .write-form .ensures) (a .args .sheet .now) (a .args .out .now) (a .pre)
 
 sub-move-blocks : tie.Need-sub-move-blocks
-sub-move-blocks c = search needs
+sub-move-blocks c =
+    let a = c .before .before .before .before .before .before .before .before .before .before in
+    count-in _ _ (c .before .before .before .before .before .before .before .write-form .ensures) (a .args .sheet .now) (a .args .out .now) (a .pre) (c .before .before .copy .ensures .1)
 
 part-move-blocks-start : tie.Need-part-move-blocks-start
-part-move-blocks-start c = search needs
+part-move-blocks-start c =
+    let a = c .before .before .before .before .before .before .before .before .before .before in
+    count-in _ _ (c .before .before .before .before .before .before .before .write-form .ensures) (a .args .sheet .now) (a .args .out .now) (a .pre) (c .before .before .copy .ensures .1)
 
 part-move-blocks-end : tie.Need-part-move-blocks-end
 part-move-blocks-end c = search needs
 
-sub-move-blocks-2 : tie.Need-sub-move-blocks-2
-sub-move-blocks-2 c =
-    let a = c .before .before .before .before .before .before .before .before .before .before .before .before .before .before in
-    count-in _ _ (c .before .before .before .before .before .before .before .before .before .before .before .write-form .ensures) (a .args .sheet .now) (a .args .out .now) (a .pre) (c .before .before .before .before .before .copy .ensures .1)
-
-part-move-blocks-start-2 : tie.Need-part-move-blocks-start-2
-part-move-blocks-start-2 c =
-    let a = c .before .before .before .before .before .before .before .before .before .before .before .before .before .before in
-    count-in _ _ (c .before .before .before .before .before .before .before .before .before .before .before .write-form .ensures) (a .args .sheet .now) (a .args .out .now) (a .pre) (c .before .before .before .before .before .copy .ensures .1)
-
-part-move-blocks-end-2 : tie.Need-part-move-blocks-end-2
-part-move-blocks-end-2 c = search needs
-
 move-blocks-requires : tie.Need-move-blocks-requires
 move-blocks-requires c κs =
-    let a = c .before .before .before .before .before .before .before .before .before .before .before .before .before .before .before in
-    rooms _ _ (c .before .before .before .before .before .before .before .before .before .before .before .before .write-form .ensures) (a .args .sheet .now) (a .args .out .now) (a .pre) (c .before .before .before .before .before .before .copy .ensures .1)
-    (c .before .before .before .blocks-across .ensures) (c .before .before .blocks-across2 .ensures)
+    let a = c .before .before .before .before .before .before .before .before .before .before .before in
+    blocks-room _ _ (c .before .before .before .before .before .before .before .before .write-form .ensures) (a .args .sheet .now) (a .args .out .now) (a .pre) (c .before .before .before .copy .ensures .1)
 
 same-length : tie.Need-same-length
 same-length c = search needs
 
 returns : tie.Need-returns
 returns c =
-    let a = c .before .before .before .before .before .before .before .before .before .before .before .before .before .before .before .before .before .before in
-    laid _ _ (c .before .before .before .before .before .before .before .before .before .before .before .before .before .before .before .write-form .ensures) (a .args .sheet .now) (a .args .out .now) (a .pre) (c .before .before .before .before .before .before .before .before .before .copy .ensures .1)
-    (c .before .before .before .before .before .before .blocks-across .ensures) (c .before .before .before .before .before .blocks-across2 .ensures) (c .before .before .move-blocks .ensures)
+    let a = c .before .before .before .before .before .before .before .before .before .before .before .before .before .before in
+    laid _ _ (c .before .before .before .before .before .before .before .before .before .before .before .write-form .ensures) (a .args .sheet .now) (a .args .out .now) (a .pre) (c .before .before .before .before .before .before .copy .ensures .1) (c .before .before .move-blocks .ensures)
 
 pub lay-spec : {M : Type 1} → statement M
 lay-spec =
@@ -78,20 +52,12 @@ lay-spec =
     (tie.spec
     write-form-requires
     cast-count
-    cast-start
     array-share-prefix-bytes
     slice-aggregate-copy
     copy-requires
-    blocks-across-requires
-    cast-move-blocks
-    blocks-across-requires-2
-    cast-move-blocks-2
     sub-move-blocks
     part-move-blocks-start
     part-move-blocks-end
-    sub-move-blocks-2
-    part-move-blocks-start-2
-    part-move-blocks-end-2
     move-blocks-requires
     same-length
     returns)

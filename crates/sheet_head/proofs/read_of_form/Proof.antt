@@ -24,8 +24,9 @@ no-head-requires-2 c κs = search needs
 returns-2 : tie.Need-returns-2
 returns-2 c =
     let form = c .before .before in
-    c .no-head2 .ensures ∙ only-eight _ _ (form .before .before .before .before .read-number .ensures) (form .before .before .if1 .left) (form .before .number-of-form .ensures)
-    (c .before .if2 .taken)
+    let read = form .before .before in
+    c .no-head2 .ensures
+    ∙ only-eight _ _ (read .before .before .read-number .ensures) (read .if1 .left) (form .before .number-of-form .ensures) (c .before .if2 .taken)
 
 read-head-requires : tie.Need-read-head-requires
 read-head-requires c κs = search needs
@@ -33,8 +34,9 @@ read-head-requires c κs = search needs
 returns-3 : tie.Need-returns-3
 returns-3 c =
     let form = c .before .before in
-    c .read-head .ensures ∙ only-rest _ _ (form .before .before .before .before .read-number .ensures) (form .before .before .if1 .left) (form .before .number-of-form .ensures)
-    (c .before .if2 .left)
+    let read = form .before .before in
+    c .read-head .ensures
+    ∙ only-rest _ _ (read .before .before .read-number .ensures) (read .if1 .left) (form .before .number-of-form .ensures) (c .before .if2 .left)
 
 pub read-of-form-spec : {M : Type 1} → statement M
 read-of-form-spec =

@@ -36,26 +36,29 @@ array-read-t27 c = search needs
 enum-told-2 : tie.Need-enum-told-2
 enum-told-2 c = search needs
 
-array-read-t31 : tie.Need-array-read-t31
-array-read-t31 c = search needs
+cast-t29 : tie.Need-cast-t29
+cast-t29 c = search needs
 
-array-read-t34 : tie.Need-array-read-t34
-array-read-t34 c = search needs
+array-read-t32 : tie.Need-array-read-t32
+array-read-t32 c = search needs
 
-array-read-t37 : tie.Need-array-read-t37
-array-read-t37 c = search needs
+array-read-t35 : tie.Need-array-read-t35
+array-read-t35 c = search needs
 
-array-read-t40 : tie.Need-array-read-t40
-array-read-t40 c = search needs
+array-read-t38 : tie.Need-array-read-t38
+array-read-t38 c = search needs
 
-array-read-t43 : tie.Need-array-read-t43
-array-read-t43 c = search needs
+array-read-t41 : tie.Need-array-read-t41
+array-read-t41 c = search needs
 
-array-read-t46 : tie.Need-array-read-t46
-array-read-t46 c = search needs
+array-read-t44 : tie.Need-array-read-t44
+array-read-t44 c = search needs
 
-add-t48 : tie.Need-add-t48
-add-t48 c = let w = c .before .before .before .before in omega (arith, few-bytes _ _ (w .before .pre) (w .write-head .ensures))
+array-read-t47 : tie.Need-array-read-t47
+array-read-t47 c = search needs
+
+add-t49 : tie.Need-add-t49
+add-t49 c = let w = c .before .before .before .before in omega (arith, few-bytes _ _ (w .before .pre) (w .write-head .ensures))
 
 returns : tie.Need-returns
 returns c = let w = c .before .before .before in form-rows _ _ (w .before .pre) (w .write-head .ensures) (c .enum-told .given .1)
@@ -77,12 +80,13 @@ write-form-spec =
     array-read-t24
     array-read-t27
     enum-told-2
-    array-read-t31
-    array-read-t34
-    array-read-t37
-    array-read-t40
-    array-read-t43
-    array-read-t46
-    add-t48
+    cast-t29
+    array-read-t32
+    array-read-t35
+    array-read-t38
+    array-read-t41
+    array-read-t44
+    array-read-t47
+    add-t49
     returns
     returns-2)

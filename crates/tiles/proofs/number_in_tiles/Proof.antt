@@ -2,15 +2,17 @@
 -- Assumes nothing.
 use native.Mathlib.Omega.{arith}
 use borrow.Author.Needs.{needs}
-use Rattle.tiles.proofs.Found.{block-sum, block-whole, column-small, lines-fit, rest-small, row-small}
+use Rattle.tiles.proofs.Found.{column-small, lines-fit, number-sum, number-whole, rest-small, row-small}
 use Rattle.tiles.proofs.number_in_tiles.Statement.{statement}
 use Rattle.tiles.proofs.number_in_tiles.Tie as tie
 
 cell-at-requires : tie.Need-cell-at-requires
 cell-at-requires c κs = search needs
 
-cast-p : tie.Need-cast-p
-cast-p c = let a = c .before .before .before .before .before in omega (arith, rest-small (a .before .pre) (a .cell-at .ensures) (c .before .before .before .if1 .taken) (c .before .if2 .taken))
+cast-slot : tie.Need-cast-slot
+cast-slot c =
+    let a = c .before .before .before .before .before in
+    omega (arith, rest-small (a .before .pre) (a .cell-at .ensures) (c .before .before .before .if1 .taken) (c .before .if2 .taken))
 
 mul-result : tie.Need-mul-result
 mul-result c = search needs
@@ -25,7 +27,9 @@ add-result : tie.Need-add-result
 add-result c = search needs
 
 mul-result-2 : tie.Need-mul-result-2
-mul-result-2 c = let a = c .before .before .before .before .before .before .before in omega (arith, lines-fit (a .before .pre) (a .cell-at .ensures) _ (row-small _ _ (c .row-of-slot .ensures)))
+mul-result-2 c =
+    let a = c .before .before .before .before .before .before .before in
+    omega (arith, lines-fit (a .before .pre) (a .cell-at .ensures) (row-small _ (c .row-of-slot .ensures)))
 
 mul-result-3 : tie.Need-mul-result-3
 mul-result-3 c = search needs
@@ -42,12 +46,20 @@ add-result-2 c = search needs
 add-result-3 : tie.Need-add-result-3
 add-result-3 c =
     let a = c .before .before .before .before .before .before .before .before .before in
-    omega (arith, lines-fit (a .before .pre) (a .cell-at .ensures) _ (row-small _ _ (c .before .before .row-of-slot .ensures)), column-small _ _ (c .column-of-slot .ensures), a .cell-at .ensures .columns, a .before .pre)
+    omega (
+      arith,
+      lines-fit (a .before .pre) (a .cell-at .ensures) (row-small _ (c .before .before .row-of-slot .ensures)),
+      column-small _ (c .column-of-slot .ensures),
+      a .cell-at .ensures .columns,
+      a .before .pre,
+    )
 
 returns : tie.Need-returns
 returns c =
     let a = c .before .before .before .before .before .before .before .before .before in
-    block-whole (a .before .pre) (a .cell-at .ensures) (c .before .before .before .before .before .before .before .if1 .taken) (c .before .before .before .before .before .if2 .taken) _ _ (c .column-of-slot .ensures) (c .before .before .row-of-slot .ensures)
+    let high = c .before .before .before .before .before in
+    number-whole (a .before .pre) (a .cell-at .ensures) (high .before .before .if1 .taken) (high .if2 .taken) (c .column-of-slot .ensures)
+    (c .before .before .row-of-slot .ensures)
 
 spot-in-tile-requires : tie.Need-spot-in-tile-requires
 spot-in-tile-requires c κs = search needs
@@ -59,7 +71,9 @@ add-result-4 : tie.Need-add-result-4
 add-result-4 c = search needs
 
 mul-result-5 : tie.Need-mul-result-5
-mul-result-5 c = let a = c .before .before .before .before .before in omega (arith, lines-fit (a .before .pre) (a .cell-at .ensures) _ (c .before .before .spot-in-tile .ensures .high))
+mul-result-5 c =
+    let a = c .before .before .before .before .before in
+    omega (arith, lines-fit (a .before .pre) (a .cell-at .ensures) (c .before .before .spot-in-tile .ensures .high))
 
 mul-result-6 : tie.Need-mul-result-6
 mul-result-6 c = search needs
@@ -71,20 +85,20 @@ add-result-6 : tie.Need-add-result-6
 add-result-6 c =
     let a = c .before .before .before .before .before .before .before in
     let t = c .before .before .before .before .spot-in-tile .ensures in
-    omega (arith, lines-fit (a .before .pre) (a .cell-at .ensures) _ (t .high), t .wide, a .cell-at .ensures .columns, a .before .pre)
+    omega (arith, lines-fit (a .before .pre) (a .cell-at .ensures) (t .high), t .wide, a .cell-at .ensures .columns, a .before .pre)
 
 returns-2 : tie.Need-returns-2
 returns-2 c =
     let a = c .before .before .before .before .before .before .before in
     let t = c .before .before .before .before .spot-in-tile .ensures in
-    block-sum (a .before .pre) (a .cell-at .ensures) _ _ (t .column) (t .row)
+    number-sum (a .before .pre) (a .cell-at .ensures) (t .column) (t .row)
 
 pub number-in-tiles-spec : {M : Type 1} → statement M
 number-in-tiles-spec =
     tie.close
     (tie.spec
     cell-at-requires
-    cast-p
+    cast-slot
     mul-result
     row-of-slot-requires
     cast-result

@@ -10,7 +10,7 @@ together-requires : tie.Need-together-requires
 together-requires c κs = search needs
 
 returns : tie.Need-returns
-returns c = c .together .ensures ∙ odd-bits (c .before .args .place)
+returns c = c .together .ensures ∙ odd-bits (c .before .args .slot)
 
 pub row-of-slot-spec : {M : Type 1} → statement M
 row-of-slot-spec = tie.close (tie.spec together-requires returns)

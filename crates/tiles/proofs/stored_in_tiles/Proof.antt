@@ -3,7 +3,7 @@
 use native.Mathlib.Nat.{le-of-lt}
 use native.Mathlib.Omega.{arith}
 use borrow.Author.Needs.{needs}
-use Rattle.tiles.proofs.Sizes.{block-inside, column-inside, columns-pos, place-sum, place-whole, row-inside}
+use Rattle.tiles.proofs.Sizes.{block-inside, column-inside, columns-pos, of-sheet, of-slot, row-inside, stored-sum, stored-whole}
 use Rattle.tiles.proofs.stored_in_tiles.Statement.{statement}
 use Rattle.tiles.proofs.stored_in_tiles.Tie as tie
 
@@ -13,14 +13,14 @@ rem-x c = columns-pos (c .pre)
 div-y : tie.Need-div-y
 div-y c = columns-pos (c .pre)
 
-blocks-ahead-requires : tie.Need-blocks-ahead-requires
-blocks-ahead-requires c κs = block-inside (c .pre)
-
 cell-side-requires : tie.Need-cell-side-requires
-cell-side-requires c κs = le-of-lt (block-inside (c .before .pre) .columns)
+cell-side-requires c κs = le-of-lt (block-inside (c .pre) .columns)
 
 cell-side-requires-2 : tie.Need-cell-side-requires-2
 cell-side-requires-2 c κs = le-of-lt (block-inside (c .before .before .pre) .rows)
+
+blocks-ahead-requires : tie.Need-blocks-ahead-requires
+blocks-ahead-requires c κs = block-inside (c .before .before .before .before .pre)
 
 cast-interleave : tie.Need-cast-interleave
 cast-interleave c = search needs
@@ -35,32 +35,50 @@ cast-result : tie.Need-cast-result
 cast-result c = search needs
 
 add-result : tie.Need-add-result
-add-result c = search needs
+add-result c =
+    let ahead = c .before in
+    let wide = ahead .before .before .before .before in
+    omega (arith, of-sheet (wide .before .pre) (ahead .blocks-ahead .ensures .room), of-slot _ _ (c .interleave .ensures))
 
 returns : tie.Need-returns
 returns c =
-    let b = c .before .before in
-    let d = b .before in
-    let e = d .before in
-    let f = e .before in
-    place-whole (f .before .pre) (f .blocks-ahead .ensures) _ _ (e .cell-side .ensures) (d .cell-side2 .ensures) _ (b .if1 .taken) (c .before .if2 .taken) (c .interleave .ensures)
+    let ahead = c .before in
+    let whole-rows = ahead .before in
+    let high = whole-rows .before in
+    let whole-columns = high .before in
+    let wide = whole-columns .before in
+    stored-whole (wide .before .pre) (ahead .blocks-ahead .ensures .is) (wide .cell-side .ensures) (high .cell-side2 .ensures) (whole-columns .if1 .taken)
+    (whole-rows .if2 .taken) (c .interleave .ensures)
+
+blocks-ahead-requires-2 : tie.Need-blocks-ahead-requires-2
+blocks-ahead-requires-2 c κs = block-inside (c .before .before .pre)
+
+cell-side-requires-3 : tie.Need-cell-side-requires-3
+cell-side-requires-3 c κs = le-of-lt (block-inside (c .before .before .before .pre) .rows)
 
 order-in-tile-requires : tie.Need-order-in-tile-requires
 order-in-tile-requires c κs =
-    let b = c .before in
-    let d = b .before in
-    let i = d .before .before .pre in
-    (rw (d .cell-side .ensures) (column-inside i), rw (b .cell-side2 .ensures) (row-inside i), omega arith, omega arith)
+    let wide = c .before .before .before in
+    let i = wide .before .pre in
+    record {
+      column = rw (wide .cell-side .ensures) (column-inside i);
+      row = rw (c .cell-side3 .ensures) (row-inside i);
+      wide = omega arith;
+      high = omega arith;
+    }
 
 add-result-2 : tie.Need-add-result-2
-add-result-2 c = search needs
+add-result-2 c =
+    let ahead = c .before .before in
+    let wide = ahead .before .before in
+    omega (arith, of-sheet (wide .before .pre) (ahead .blocks-ahead2 .ensures .room), c .order-in-tile .ensures .room)
 
 returns-2 : tie.Need-returns-2
 returns-2 c =
-    let d = c .before .before in
-    let e = d .before in
-    let f = e .before in
-    place-sum (f .before .pre) (f .blocks-ahead .ensures) _ _ (e .cell-side .ensures) (d .cell-side2 .ensures) _ (c .order-in-tile .ensures .is)
+    let high = c .before in
+    let ahead = high .before in
+    let wide = ahead .before .before in
+    stored-sum (wide .before .pre) (ahead .blocks-ahead2 .ensures .is) (wide .cell-side .ensures) (high .cell-side3 .ensures) (c .order-in-tile .ensures .is)
 
 pub stored-in-tiles-spec : {M : Type 1} → statement M
 stored-in-tiles-spec =
@@ -68,15 +86,17 @@ stored-in-tiles-spec =
     (tie.spec
     rem-x
     div-y
-    blocks-ahead-requires
     cell-side-requires
     cell-side-requires-2
+    blocks-ahead-requires
     cast-interleave
     cast-interleave-2
     interleave-requires
     cast-result
     add-result
     returns
+    blocks-ahead-requires-2
+    cell-side-requires-3
     order-in-tile-requires
     add-result-2
     returns-2)

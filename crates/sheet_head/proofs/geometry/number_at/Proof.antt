@@ -54,7 +54,7 @@ returns-2 c =
     let told = wide .before in
     let a = told .before .before in
     found (a .pre) (c .number-in-tiles .ensures ∙ number-in-tiles (a .args .head) (wide .blocks-across .ensures) (high .blocks-across2 .ensures)
-    (told .enum-told2 .given .1) (a .args .place))
+    (told .enum-told2 .given .1) (a .args .stored))
 
 pub number-at-spec : {M : Type 1} → statement M
 number-at-spec =

@@ -1,19 +1,10 @@
--- `list_call_of`: what is written is as long as the listing.
+-- `list_of`: what is written is as long as the listing.
 -- Assumes nothing.
 use mathlib.Core.Path.{sym}
 use lib.Seq.{length-take-le}
 use borrow.Author.Needs.{needs}
-use Rattle.replay.proofs.list_call_of.Statement.{statement}
-use Rattle.replay.proofs.list_call_of.Tie as tie
-
-filled-requires : tie.Need-filled-requires
-filled-requires c κs = search needs
-
-same-length : tie.Need-same-length
-same-length c = search needs
-
-returns : tie.Need-returns
-returns c = search needs
+use Rattle.replay.proofs.list_of.Statement.{statement}
+use Rattle.replay.proofs.list_of.Tie as tie
 
 slice-aggregate-list-sheet : tie.Need-slice-aggregate-list-sheet
 slice-aggregate-list-sheet c = search needs
@@ -37,19 +28,13 @@ slice-aggregate-write-all c =
 write-all-requires : tie.Need-write-all-requires
 write-all-requires c κs = search needs
 
-same-length-2 : tie.Need-same-length-2
-same-length-2 c = search needs
+returns : tie.Need-returns
+returns c = search needs
 
-returns-2 : tie.Need-returns-2
-returns-2 c = search needs
-
-pub list-call-of-spec : {M : Type 1} → statement M
-list-call-of-spec =
+pub list-of-spec : {M : Type 1} → statement M
+list-of-spec =
     tie.close
     (tie.spec
-    filled-requires
-    same-length
-    returns
     slice-aggregate-list-sheet
     list-sheet-requires
     cast-write-u32
@@ -57,5 +42,4 @@ list-call-of-spec =
     array-share-prefix-text
     slice-aggregate-write-all
     write-all-requires
-    same-length-2
-    returns-2)
+    returns)
