@@ -1,3 +1,4 @@
 pub mod Attested
 pub mod Importing
+pub mod Opening
 pub mod Theorems
