@@ -185,6 +185,40 @@ static void try_heads(void) {
     expect("no file", rinchovek_dds_import(sheet, sizeof sheet, file, sizeof file), RINCHOVEK_NOT_A_BC7_TEXTURE);
 }
 
+/* 5 by 9 pixels, so two columns and three rows: first as rows, then as tiles in sRGB. */
+static void try_forms(void) {
+    static const uint8_t sheets[][4] = {{RINCHOVEK_FORM_ROWS, 5, 9}, {RINCHOVEK_FORM_TILES, 5, 9, RINCHOVEK_SRGB}};
+    static const uint32_t spaces[] = {RINCHOVEK_UNSPECIFIED, RINCHOVEK_SRGB}, forms[] = {RINCHOVEK_FORM_ROWS, RINCHOVEK_FORM_TILES};
+    for (uint32_t i = 0; i < 2; i++) {
+        uint32_t numbers[16];
+        for (int k = 0; k < 16; k++) numbers[k] = 99;
+        expect("opened", rinchovek_sheet_open(sheets[i], sizeof sheets[i], numbers), RINCHOVEK_ACCEPTED);
+        expect("width of an opened sheet", numbers[RINCHOVEK_OPEN_WIDTH], 5);
+        expect("height of an opened sheet", numbers[RINCHOVEK_OPEN_HEIGHT], 9);
+        expect("start of an opened sheet", numbers[RINCHOVEK_OPEN_START], 3 + i);
+        expect("colour space of an opened sheet", numbers[RINCHOVEK_OPEN_COLOUR_SPACE], spaces[i]);
+        expect("form of an opened sheet", numbers[RINCHOVEK_OPEN_FORM], forms[i]);
+        expect("columns of an opened sheet", numbers[RINCHOVEK_OPEN_COLUMNS], 2);
+        expect("rows of an opened sheet", numbers[RINCHOVEK_OPEN_ROWS], 3);
+        expect("blocks of an opened sheet", numbers[RINCHOVEK_OPEN_BLOCKS], 6);
+    }
+    expect("an opened sheet's numbers", numbers_written(rinchovek_sheet_open, sheets[0], 3), RINCHOVEK_OPEN_NUMBERS);
+
+    /* the longest numbers, of which the last is no colour space */
+    static const uint8_t longest[] = {RINCHOVEK_FORM_TILES, 0x80, 0x80, 1, 0x80, 0x80, 1, 0x80, 0x80, 1, 0};
+    uint32_t none[RINCHOVEK_OPEN_NUMBERS];
+    expect("a byte less", rinchovek_sheet_open(longest, RINCHOVEK_OPEN_BYTES - 1, none), RINCHOVEK_BAD_NUMBER);
+    expect("all that is looked at", rinchovek_sheet_open(longest, RINCHOVEK_OPEN_BYTES, none), RINCHOVEK_BAD_COLOUR_SPACE);
+
+    uint8_t rows[3 + RINCHOVEK_BLOCK_BYTES] = {1, 4, 4}, tiles[4 + RINCHOVEK_BLOCK_BYTES];
+    expect("to tiles", rinchovek_sheet_to_tiles(rows, sizeof rows, tiles, sizeof tiles), RINCHOVEK_ACCEPTED);
+    expect("the form of tiles", tiles[0], RINCHOVEK_FORM_TILES);
+    expect("to rows", rinchovek_sheet_to_rows(tiles, sizeof tiles, rows, sizeof rows), RINCHOVEK_ACCEPTED);
+    expect("the form of rows", rows[0], RINCHOVEK_FORM_ROWS);
+    tiles[3] = RINCHOVEK_SRGB;
+    expect("16", rinchovek_sheet_to_rows(tiles, sizeof tiles, rows, sizeof rows), RINCHOVEK_COLOUR_SPACE_STATED);
+}
+
 /* How many lines of a height a row of blocks shows: the output of a row has to be so long. */
 static void try_rows(void) {
     for (uint32_t height = 1; height <= 9; height++)
@@ -242,6 +276,7 @@ int main(void) {
     try_records();
     try_lines();
     try_heads();
+    try_forms();
     try_rows();
     try_refusals();
     return wrong;
