@@ -140,6 +140,7 @@ pub record Calls : Type 0 where
   pub reads-colour-head-not : ReadsColourHead (0x02 ∷ []) (nines 4) 8 (nines 4)
   pub reads-colour-head-not-tiles : ReadsColourHead head2 (nines 4) 8 (nines 4)
   pub writes-head : WritesHead 5 6 (nines 7, 9) 0 (0x01 ∷ 0x05 ∷ 0x06 ∷ zeros 4, 3)
+  pub writes-head-long : WritesHead 5 200 (nines 7, 9) 0 (0x01 ∷ 0x05 ∷ 0xC8 ∷ 0x01 ∷ zeros 3, 4)
   pub writes-head-not : WritesHead 5 16385 (nines 7, 9) 9 (nines 7, 9)
   pub decodes-row : DecodesRow 5 6 1 lower (nines 40) 0 lowerScanlines
   pub decodes-row-not : DecodesRow 5 6 1 lower (nines 41) 11 (nines 41)
@@ -219,6 +220,7 @@ calls-hold = record {
   reads-colour-head-not = computed;
   reads-colour-head-not-tiles = computed;
   writes-head = computed;
+  writes-head-long = computed;
   writes-head-not = computed;
   decodes-row = computed;
   decodes-row-not = computed;
