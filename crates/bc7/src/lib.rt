@@ -33,5 +33,5 @@ fn extract_mode(stream: BitStream) -> u8
     requires { ⌜ stream .at + 8 ≤ 128 ⌝ }
     ensures { λ r. ⌜ r ≡ trailing 8 (field (held stream) (stream .at) 8) ⌝ }
 {
-    u8::trailing_zeros(stream.low_u8()) as u8
+    u8::trailing_zeros(stream.low_u8().value as u8) as u8
 }

@@ -16,7 +16,7 @@ fn extract_partition_set_id(mode: u8, stream: BitStream) -> Read
     ensures { λ r. ⌜ Reads stream (pick (eqb mode 0) 4 6) r ⌝ }
 {
     if mode == 0 {
-        return stream.consume_bits(4);
+        return stream.take(4);
     }
-    stream.consume_bits(6)
+    stream.take(6)
 }

@@ -54,35 +54,38 @@ fn mode_0(stream: BitStream) -> [[u8; 4]; 16]
     ensures { λ r. ⌜ r ≡ directPixels 0 (held stream) ⌝ }
 {
     let id = extract_partition_set_id(0, stream);
-    let set = partition_word_3_3(id.value as u8);
-    let r = id.stream.take(24);
-    let g = r.stream.take(24);
-    let b = g.stream.take(24);
-    let p = b.stream.take(6);
-    let reds = r.value;
-    let greens = g.value;
-    let blues = b.value;
-    let ps = p.value;
+    let r0 = id.stream.take(8);
+    let r1 = r0.stream.take(8);
+    let r2 = r1.stream.take(8);
+    let g0 = r2.stream.take(8);
+    let g1 = g0.stream.take(8);
+    let g2 = g1.stream.take(8);
+    let b0 = g2.stream.take(8);
+    let b1 = b0.stream.take(8);
+    let b2 = b1.stream.take(8);
+    let p0 = b2.stream.take(2);
+    let p1 = p0.stream.take(2);
+    let p2 = p1.stream.take(2);
     let first = Stored {
-        r: reds % 256,
-        g: greens % 256,
-        b: blues % 256,
+        r: r0.value,
+        g: g0.value,
+        b: b0.value,
         a: 0,
-        p: ps % 4,
+        p: p0.value,
     };
     let second = Stored {
-        r: (reds >> 8) % 256,
-        g: (greens >> 8) % 256,
-        b: (blues >> 8) % 256,
+        r: r1.value,
+        g: g1.value,
+        b: b1.value,
         a: 0,
-        p: (ps >> 2) % 4,
+        p: p1.value,
     };
     let third = Stored {
-        r: reds >> 16,
-        g: greens >> 16,
-        b: blues >> 16,
+        r: r2.value,
+        g: g2.value,
+        b: b2.value,
         a: 0,
-        p: ps >> 4,
+        p: p2.value,
     };
     let none = Stored {
         r: 0,
@@ -92,7 +95,8 @@ fn mode_0(stream: BitStream) -> [[u8; 4]; 16]
         p: 0,
     };
     let colours = palette_3_3(opaque_p(first, second, 4), opaque_p(third, none, 4));
-    let x = indexes_3(3, p.stream, set);
+    let set = partition_word_3_3(id.value as u8);
+    let x = indexes_3(3, p2.stream, set);
     paint_3_3(colours, keys_3(x, 2, set))
 }
 
@@ -102,7 +106,6 @@ fn mode_2(stream: BitStream) -> [[u8; 4]; 16]
     ensures { λ r. ⌜ r ≡ directPixels 2 (held stream) ⌝ }
 {
     let id = extract_partition_set_id(2, stream);
-    let set = partition_word_3_2(id.value as u8);
     let r0 = id.stream.take(10);
     let r1 = r0.stream.take(10);
     let r2 = r1.stream.take(10);
@@ -141,6 +144,7 @@ fn mode_2(stream: BitStream) -> [[u8; 4]; 16]
         p: 0,
     };
     let colours = palette_3_2(opaque(first, second, 5), opaque(third, none, 5));
+    let set = partition_word_3_2(id.value as u8);
     let x = indexes_3(2, b2.stream, set);
     paint_4(colours, keys_2(x, 2, set))
 }

@@ -52,7 +52,6 @@ fn mode_1(stream: BitStream) -> [[u8; 4]; 16]
     ensures { λ r. ⌜ r ≡ directPixels 1 (held stream) ⌝ }
 {
     let id = extract_partition_set_id(1, stream);
-    let set = partition_word_2_3(id.value as u8);
     let r0 = id.stream.take(12);
     let r1 = r0.stream.take(12);
     let g0 = r1.stream.take(12);
@@ -76,6 +75,7 @@ fn mode_1(stream: BitStream) -> [[u8; 4]; 16]
         p: 3 * p1.value,
     };
     let colours = palette_2_3(opaque_p(first, second, 6));
+    let set = partition_word_2_3(id.value as u8);
     let x = indexes_2(3, p1.stream, set);
     paint_2_3(colours, keys_3(x, 1, set))
 }
@@ -86,7 +86,6 @@ fn mode_3(stream: BitStream) -> [[u8; 4]; 16]
     ensures { λ r. ⌜ r ≡ directPixels 3 (held stream) ⌝ }
 {
     let id = extract_partition_set_id(3, stream);
-    let set = partition_word_2_2(id.value as u8);
     let r0 = id.stream.take(14);
     let r1 = r0.stream.take(14);
     let g0 = r1.stream.take(14);
@@ -110,6 +109,7 @@ fn mode_3(stream: BitStream) -> [[u8; 4]; 16]
         p: p1.value,
     };
     let colours = palette_2_2(opaque_p(first, second, 7));
+    let set = partition_word_2_2(id.value as u8);
     let x = indexes_2(2, p1.stream, set);
     paint_2_2(colours, keys_2(x, 1, set))
 }
@@ -120,7 +120,6 @@ fn mode_7(stream: BitStream) -> [[u8; 4]; 16]
     ensures { λ r. ⌜ r ≡ directPixels 7 (held stream) ⌝ }
 {
     let id = extract_partition_set_id(7, stream);
-    let set = partition_word_2_2(id.value as u8);
     let r0 = id.stream.take(10);
     let r1 = r0.stream.take(10);
     let g0 = r1.stream.take(10);
@@ -146,6 +145,7 @@ fn mode_7(stream: BitStream) -> [[u8; 4]; 16]
         p: p1.value,
     };
     let colours = palette_2_2(translucent_p(first, second, 5));
+    let set = partition_word_2_2(id.value as u8);
     let x = indexes_2(2, p1.stream, set);
     paint_2_2(colours, keys_2(x, 1, set))
 }
