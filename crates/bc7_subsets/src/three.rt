@@ -5,7 +5,7 @@ ghost use mathlib.Core.Path.{_≡_};
 ghost use mathlib.Core.List.{[], _∷_};
 ghost use Prim.Native.Nat.{_-_, _*_};
 ghost use Rattle.bcn_format.specs.Indexes.{expanded};
-ghost use Rattle.bits.specs.Stream.{held, readOf};
+ghost use Rattle.bits.specs.Stream.{held, taken};
 ghost use Rattle.bc7_format.specs.Fields.{directPixels};
 ghost use Rattle.partitions.specs.Words.{secondIn3, thirdIn3};
 ghost use Rattle.bc7_subsets.specs.Asked.{Anchored3, AtMarker};
@@ -38,8 +38,8 @@ pub fn mode_subset_3(mode: u8, stream: BitStream) -> [[u8; 4]; 16]
 
 // Sixteen indexes, read whole and expanded. The anchors behind pixel 0 stand in the partition's word from bit 48 on, four bits each.
 fn indexes_3(bits: u32, stream: BitStream, set: u64) -> u64
-    requires { ⌜ Anchored3 bits set ⌝ }
-    ensures { λ r. ⌜ r ≡ expanded bits (0 ∷ secondIn3 set ∷ thirdIn3 set ∷ []) (readOf stream (16 * bits - 3) .value) ⌝ }
+    requires { ⌜ Anchored3 bits stream set ⌝ }
+    ensures { λ r. ⌜ r ≡ expanded bits (0 ∷ secondIn3 set ∷ thirdIn3 set ∷ []) (taken stream (16 * bits - 3) .value) ⌝ }
 {
     let second = ((set >> 48) % 16) as u32;
     let third = (set >> 52) as u32;

@@ -4,7 +4,7 @@ ghost use mathlib.Core.Path.{_≡_};
 ghost use mathlib.Core.List.{[], _∷_};
 ghost use Prim.Native.Nat.{_-_, _*_};
 ghost use Rattle.bcn_format.specs.Indexes.{expanded};
-ghost use Rattle.bits.specs.Stream.{held, readOf};
+ghost use Rattle.bits.specs.Stream.{held, taken};
 ghost use Rattle.bc7_format.specs.Fields.{directPixels};
 ghost use Rattle.partitions.specs.Words.{anchorIn2};
 ghost use Rattle.bc7_subsets.specs.Asked.{Anchored2, AtMarker};
@@ -38,8 +38,8 @@ pub fn mode_subset_2(mode: u8, stream: BitStream) -> [[u8; 4]; 16]
 
 // Sixteen indexes, read whole and expanded. The anchor behind pixel 0 stands in the partition's word from bit 48 on.
 fn indexes_2(bits: u32, stream: BitStream, set: u64) -> u64
-    requires { ⌜ Anchored2 bits set ⌝ }
-    ensures { λ r. ⌜ r ≡ expanded bits (0 ∷ anchorIn2 set ∷ []) (readOf stream (16 * bits - 2) .value) ⌝ }
+    requires { ⌜ Anchored2 bits stream set ⌝ }
+    ensures { λ r. ⌜ r ≡ expanded bits (0 ∷ anchorIn2 set ∷ []) (taken stream (16 * bits - 2) .value) ⌝ }
 {
     let read = Indexes::new_p2(bits, stream, (set >> 48) as u32);
     let indexes = read.indexes;
