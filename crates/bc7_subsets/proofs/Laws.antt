@@ -9,7 +9,6 @@ use native.Mathlib.Nat.{lt-of-lt-of-le}
 use native.Mathlib.Omega.{arith}
 use borrow.Author.Tests.{ne-eqb}
 use lib.Dec.{T, eqb, eqb→eq}
-use lib.Pow.{field as part-of, mod-mod-pow, shr-shr}
 use Rattle.bc7_format.specs.declared.Split.{Split}
 use Rattle.bc7_format.specs.declared.Split.the-variants.{Three, Two}
 use Rattle.laws.specs.Digits.{total}
@@ -43,16 +42,6 @@ last-of-2 m a b h not-a = eqb→eq m b (or-false (eqb m b) (rw (ne-eqb m a not-a
 
 pub last-of-3 : (m a b c : ℕ) → T (among m (a ∷ b ∷ c ∷ [])) → m ≢ a → m ≢ b → m ≡ c
 last-of-3 m a b c h not-a = last-of-2 m b c (rw (ne-eqb m a not-a) at h)
-
--- a read of u + w bits is two values, the lower one of w
-module _ {v : ℕ} (n a u w : ℕ) (e : v ≡ field n a (u + w)) where
-  pub lower : v % 2 ^ w ≡ field n a w
-  unfolding field
-  lower = rw e (mod-mod-pow (n / 2 ^ a) u w)
-
-  pub upper : v / 2 ^ w ≡ field n (a + w) u
-  unfolding field
-  upper = rw e (part-of (n / 2 ^ a) u w ∙ ap (λ (x : ℕ). x % 2 ^ u) (shr-shr n a w))
 
 -- a word that has w bits for the subset of each pixel
 pub record Maps (w : ℕ) (of : ℕ → ℕ) (word : ℕ) : Type 0 where
