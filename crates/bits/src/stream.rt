@@ -5,7 +5,7 @@ ghost use mathlib.Core.List.{[], _∷_};
 ghost use Prim.Native.Nat.{_+_, _*_, _/_, _%_, _^_, _≤_, _<_};
 ghost use lib.ListN.{replicate};
 ghost use Rattle.laws.specs.Digits.{join};
-ghost use Rattle.bcn_format.specs.Block.{number, field};
+ghost use Rattle.bcn_format.specs.Block.{number};
 ghost use Rattle.bits.specs.Stream.{answered, On, Reads, Room, shortRead, skipped, Taken};
 
 // Bits count from the lowest of `low`, which is byte 0's, to the highest of `high`.

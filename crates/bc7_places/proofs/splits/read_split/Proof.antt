@@ -17,7 +17,7 @@ add-take-2 c = omega (arith, small (c .before .before .pre .of-mode) .split)
 take-requires : tie.Need-take-requires
 take-requires c κs =
     let s = c .before .before in
-    record { narrow = omega (arith, small (s .pre .of-mode) .split); inside = s .pre .inside }
+    record { narrow = omega (arith, small (s .pre .of-mode) .split); inside = omega (arith, s .pre .inside) }
 
 cast-value : tie.Need-cast-value
 cast-value c =

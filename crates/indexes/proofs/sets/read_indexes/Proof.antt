@@ -3,7 +3,6 @@
 use mathlib.Core.Path.{_∙_}
 use native.Mathlib.Omega.{arith}
 use Rattle.indexes.proofs.Remove.{one-kind}
-use borrow.Author.Needs.{needs}
 use Rattle.indexes.proofs.sets.read_indexes.Statement.{statement}
 use Rattle.indexes.proofs.sets.read_indexes.Tie as tie
 

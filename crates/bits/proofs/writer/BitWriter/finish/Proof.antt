@@ -46,9 +46,11 @@ loop-less c = omega arith
 loop-again : tie.Need-loop-again Inv-loop μ-loop
 unfolding held written
 loop-again c =
-    let l = c .before .before in
-    (omega arith, filled-next (l .before .loop .i) _ (l .before .loop .inv .1) (l .loop-test .taken)
-    (ap (λ (r : Read). r .value) (c .before .low-u8 .ensures .same)))
+    let l = c .before .before in (
+      omega arith,
+      filled-next (l .before .loop .i) _ (l .before .loop .inv .1) (l .loop-test .taken)
+          (ap (λ (r : Read). r .value) (c .before .low-u8 .ensures .same)),
+    )
 
 returns : tie.Need-returns Inv-loop μ-loop
 returns c = filled-all (c .before .loop .inv .1) (c .loop-test .left) ∙ sym (bytes-fields _)
