@@ -15,28 +15,34 @@ mul-take c = omega (arith, small (c .before .before .pre .of-mode) .colours)
 
 take-requires : tie.Need-take-requires
 take-requires c κs =
-    record { narrow = omega (arith, small (c .before .before .pre .of-mode) .colours); inside = search needs }
+    let s = c .before .before in
+    record { narrow = omega (arith, small (s .pre .of-mode) .colours); inside = search needs }
 
 mul-take-2 : tie.Need-mul-take-2
 mul-take-2 c = omega (arith, small (c .before .before .before .before .before .pre .of-mode) .colours)
 
 take-requires-2 : tie.Need-take-requires-2
 take-requires-2 c κs =
-    record { narrow = omega (arith, small (c .before .before .before .before .before .pre .of-mode) .colours); inside = search needs }
+    let s = c .before .before .before .before .before in
+    record { narrow = omega (arith, small (s .pre .of-mode) .colours); inside = search needs }
 
 mul-take-3 : tie.Need-mul-take-3
 mul-take-3 c = omega (arith, small (c .before .before .before .before .before .before .before .before .pre .of-mode) .colours)
 
 take-requires-3 : tie.Need-take-requires-3
 take-requires-3 c κs =
-    record { narrow = omega (arith, small (c .before .before .before .before .before .before .before .before .pre .of-mode) .colours); inside = search needs }
+    let s = c .before .before .before .before .before .before .before .before in
+    record { narrow = omega (arith, small (s .pre .of-mode) .colours); inside = search needs }
 
 mul-take-4 : tie.Need-mul-take-4
-mul-take-4 c = omega (arith, small (c .before .before .before .before .before .before .before .before .before .before .before .pre .of-mode) .alphas)
+mul-take-4 c =
+    let s = c .before .before .before .before .before .before .before .before .before .before .before in
+    omega (arith, small (s .pre .of-mode) .alphas)
 
 take-requires-4 : tie.Need-take-requires-4
 take-requires-4 c κs =
-    record { narrow = omega (arith, small (c .before .before .before .before .before .before .before .before .before .before .before .pre .of-mode) .alphas); inside = search needs }
+    let s = c .before .before .before .before .before .before .before .before .before .before .before in
+    record { narrow = omega (arith, small (s .pre .of-mode) .alphas); inside = search needs }
 
 endpoints-of-requires : tie.Need-endpoints-of-requires
 endpoints-of-requires c κs = c .before .before .before .before .before .before .before .before .before .before .before .before .before .pre .of-mode
