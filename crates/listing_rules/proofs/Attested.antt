@@ -4,7 +4,6 @@
 use mathlib.Core.Path.{_≡_, refl}
 use mathlib.Core.List.{List, [], _∷_, _++_, map}
 use Prim.Native.Nat.{ℕ}
-use Prim.Native.String.{String}
 use lib.ListN.{replicate}
 use Rattle.laws.proofs.Attested.{text}
 use Rattle.laws.specs.Refusals.{first}
@@ -22,7 +21,7 @@ use Rattle.head_rules.specs.Geometry.{blocksOf}
 use Rattle.laws.specs.Counting.{kept}
 use Rattle.tile_rules.specs.Tiles.{numberInTiles, columnAt, columnOfSlot, inSheet, rowAt, rowOfSlot, slots, storedOrder, tiles}
 use Rattle.tile_rules.specs.Tiles as tiling
-use Rattle.head_rules.specs.Colours.{colourOf, colourRefusal}
+use Rattle.head_rules.specs.Colours.{colourRefusal}
 use Rattle.head_rules.specs.Geometry.{numberAt}
 use Rattle.head_rules.specs.Heads.{colourIn, formIn, formOf, headRefusalUpTo, heightIn, ofFormRefusalUpTo, oldHead, readHead, readHeadUpTo}
 use Rattle.head_rules.specs.Heads.{readOfFormUpTo, sizeRefusalUpTo, widthIn}

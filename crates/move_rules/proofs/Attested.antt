@@ -2,13 +2,13 @@
 -- Assumes nothing.
 use mathlib.Core.Path.{_≡_, refl}
 use mathlib.Core.List.{List, [], _∷_, _++_, map}
-use Prim.Native.Nat.{ℕ}
+use Prim.Native.Nat.{ℕ, _*_}
 use lib.ListN.{replicate}
 use Rattle.laws.specs.Refusals.{first}
 use Rattle.laws.specs.Tables.{table, tableFrom}
 use Rattle.laws.specs.Counting.{count, kept}
-use Rattle.tile_rules.specs.Tiles.{numberInTiles, columnAt, columnOfSlot, inSheet, numberInSlot, slotIn, storedInTiles, rowAt, rowOfSlot, slotOf, slots, storedOrder}
-use Rattle.tile_rules.specs.Tiles.{tiles}
+use Rattle.tile_rules.specs.Tiles.{columnAt, columnOfSlot, inSheet, numberInSlot, numberInTiles, rowAt, rowOfSlot, slotIn, slotOf, slots}
+use Rattle.tile_rules.specs.Tiles.{storedInTiles, storedOrder, tiles}
 use Rattle.head_rules.specs.declared.Form.the-variants.{Rows, Tiles}
 use Rattle.head_rules.specs.Colours.{colourOf, colourRefusal}
 use Rattle.head_rules.specs.Geometry.{blocksOf, placeOf, storedAt}
@@ -20,10 +20,10 @@ use Rattle.sheet_rules.specs.Rows.{blockAt}
 use Rattle.sheet_rules.specs.Sheets.{blockBy}
 use Rattle.move_rules.specs.Moving.{moveAfter, moveRefusal, movedTo}
 
+-- no two bytes of the blocks are alike: block n has 16 n, 16 n + 1 and so on; form 2 stores 0 1 3 4 2 5
 abbrev block : ℕ → List ℕ
-block n = replicate 16 n
+block n = tableFrom (16 * n) 16 (λ k. k)
 
--- block n has sixteen bytes n; form 2 stores 0 1 3 4 2 5
 abbrev inRows : List ℕ
 inRows = (0x01 ∷ 0x0C ∷ 0x08 ∷ []) ++ (block 0 ++ block 1 ++ block 2 ++ block 3 ++ block 4 ++ block 5)
 
@@ -36,15 +36,29 @@ longer s = s ++ (7 ∷ [])
 pub record Moves : Type 0 where
   pub to-tiles : moveAfter Tiles inRows (replicate 100 9) ≡ inTiles 0
   pub to-rows : moveAfter Rows (inTiles 0) (replicate 99 9) ≡ inRows
-  pub tiles-answers : map (λ (s : List ℕ). moveRefusal Tiles s 99) ((0x80 ∷ []) ∷ (0x02 ∷ 0x80 ∷ 0x00 ∷ []) ∷ (0x01 ∷ 0x00 ∷ []) ∷ (0x01 ∷ 0x00 ∷ 0x04 ∷ []) ∷
-      longer inRows ∷ inRows ∷ []) ≡ 7 ∷ 8 ∷ 7 ∷ 9 ∷ 10 ∷ 11 ∷ []
-  pub rows-answers : map (λ (s : List ℕ). moveRefusal Rows s 100) ([] ∷ (0x01 ∷ []) ∷ (0x02 ∷ 0x00 ∷ 0x04 ∷ []) ∷ (0x02 ∷ 0x00 ∷ 0x04 ∷ 0x03 ∷ []) ∷
-      (0x02 ∷ 0x00 ∷ 0x04 ∷ 0x01 ∷ []) ∷ longer (inTiles 1) ∷ inTiles 1 ∷ []) ≡ 7 ∷ 8 ∷ 7 ∷ 18 ∷ 9 ∷ 10 ∷ 11 ∷ []
+  pub tiles-answers : map (λ (s : List ℕ). moveRefusal Tiles s 99)
+      ((0x80 ∷ []) ∷ (0x02 ∷ 0x80 ∷ 0x00 ∷ []) ∷ (0x01 ∷ 0x00 ∷ []) ∷ (0x01 ∷ 0x00 ∷ 0x04 ∷ []) ∷ longer inRows ∷ inRows ∷ [])
+      ≡ 7 ∷ 8 ∷ 7 ∷ 9 ∷ 10 ∷ 11 ∷ []
+  pub rows-answers : map (λ (s : List ℕ). moveRefusal Rows s 100)
+      ([] ∷ (0x01 ∷ []) ∷ (0x02 ∷ 0x00 ∷ 0x04 ∷ []) ∷ (0x02 ∷ 0x00 ∷ 0x04 ∷ 0x03 ∷ []) ∷ (0x02 ∷ 0x00 ∷ 0x04 ∷ 0x01 ∷ []) ∷
+      longer (inTiles 1) ∷ inTiles 1 ∷ [])
+      ≡ 7 ∷ 8 ∷ 7 ∷ 18 ∷ 9 ∷ 10 ∷ 11 ∷ []
+  -- a whole sheet of the form that is moved to
+  pub other-form : moveRefusal Rows inRows 99 ∷ moveRefusal Tiles (inTiles 0) 100 ∷ [] ≡ 8 ∷ 8 ∷ []
   pub stated : map (λ (n : ℕ). moveRefusal Rows (inTiles n) 99) (0 ∷ 1 ∷ 2 ∷ []) ≡ 0 ∷ 16 ∷ 16 ∷ []
   pub refused-leaves : moveAfter Rows (inTiles 2) (replicate 99 9) ≡ replicate 99 9
 
 pub moves-hold : Moves
-unfolding moveAfter moveRefusal movedTo readOfFormUpTo ofFormRefusalUpTo first groups readGroups readNumber raised readHeadUpTo headRefusalUpTo formIn widthIn
-    heightIn colourIn sizeRefusalUpTo headBytes tiledBytes blocksOf colourOf colourRefusal formOf storedInTiles count slotOf slotIn inSheet columnAt
-    columnOfSlot rowAt rowOfSlot tiles blocksAs byteAs blockBy blockAt placeOf storedAt table tableFrom numberInTiles storedOrder kept numberInSlot slots
-moves-hold = record { to-tiles = refl; to-rows = refl; tiles-answers = refl; rows-answers = refl; stated = refl; refused-leaves = refl }
+unfolding moveAfter moveRefusal movedTo readOfFormUpTo ofFormRefusalUpTo first groups readGroups readNumber raised readHeadUpTo headRefusalUpTo formIn
+    widthIn heightIn colourIn sizeRefusalUpTo headBytes tiledBytes blocksOf colourOf colourRefusal formOf storedInTiles count slotOf slotIn inSheet columnAt
+    columnOfSlot rowAt rowOfSlot tiles blocksAs byteAs blockBy blockAt placeOf storedAt table tableFrom numberInTiles storedOrder kept
+    numberInSlot slots
+moves-hold = record {
+  to-tiles = refl;
+  to-rows = refl;
+  tiles-answers = refl;
+  rows-answers = refl;
+  other-form = refl;
+  stated = refl;
+  refused-leaves = refl;
+}

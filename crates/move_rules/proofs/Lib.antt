@@ -1,3 +1,5 @@
 pub mod Attested
+pub mod Moving
+pub mod Words
+pub mod Whole
 pub mod Theorems
-pub mod Showing

@@ -1,165 +1,180 @@
--- THERE AND BACK restores the bytes, from either form; each block keeps its number; and each refusal exactly when `moveRules` says.
+-- MOVES, in one place: when each refusal is given, that there and back restores the bytes, what alone is lost, and that a moved sheet shows
+-- the same picture and answers every call by block number as before. Everything speaks of `moveRefusal` and `moveAfter`, which the
+-- contracts promise. `Bytes s` says that s is a list of bytes, which each slice of the code is.
 -- Assumes nothing.
 use mathlib.Core.Path.{_≡_, refl, _∙_, ap, ap₂, sym, subst}
-use mathlib.Core.Logic.{_↔_, _≢_}
-use mathlib.Core.Bool.{not}
-use mathlib.Core.List.{List, _∷_, _++_}
-use Prim.Native.Nat.{ℕ, _+_, _*_, _<_}
+use mathlib.Core.Logic.{_⊎_, _↔_, _≢_, inl, inr, ⊎-elim}
+use mathlib.Core.List.{List, [], _∷_}
+use Prim.Native.Nat.{ℕ, zero, suc, _+_, _<_, _≤_}
 use native.Mathlib.Omega.{arith}
-use borrow.Author.Tests.{eqb-true, ne-eqb}
-use lib.Dec.{eqb}
-use lib.ListN.{length, take, drop, length-append}
-use lib.Seq.{drop-append-seam, drop-drop}
-use Rattle.laws.specs.Refusals.{Given, handed, refuse}
-use Rattle.laws.proofs.Refusals.{Answers, Decided, accepted-when, answers, by-answer, by-not, by-not-eqb, exactly, none, rule, rules}
-use Rattle.head_rules.specs.declared.ColourSpace.{ColourSpace}
-use Rattle.head_rules.specs.declared.ColourSpace.the-variants.{Unspecified, Linear, Srgb}
+use lib.ListN.{length}
+use Rattle.line_rules.specs.declared.Replacement.{Replacement}
+use Rattle.laws.specs.Calls as calls
+use Rattle.laws.specs.Refusals.{Given, here, then}
+use Rattle.laws.proofs.Cases.{lt-or}
+use Rattle.laws.proofs.Refusals.{accepted-when, exactly}
+use Rattle.head_rules.specs.declared.ColourSpace.the-variants.{Unspecified}
 use Rattle.head_rules.specs.declared.Form.{Form}
 use Rattle.head_rules.specs.declared.Form.the-variants.{Rows, Tiles}
 use Rattle.head_rules.specs.declared.Head.{Head}
-use Rattle.head_rules.specs.Colours.{colourNumber}
-use Rattle.head_rules.specs.Geometry.{across, blocksOf, placeOf, storedAt, storedBy, wholeLength}
-use Rattle.head_rules.specs.Heads.{Sized, bytesOfHead, headIn, headSpelt, readHead, readOfForm}
+use Rattle.head_rules.specs.Geometry.{blocksOf, wholeLength}
+use Rattle.head_rules.specs.Heads.{colourIn, headSpelt, readHead, readOfForm}
 use Rattle.head_rules.specs.Numbers.{Bytes}
-use Rattle.head_rules.proofs.Theorems.{head-long, head-one-form, head-sized, of-form-answers, of-form-is, of-form-when, spelt-read-back}
-use Rattle.sheet_rules.specs.Pictures.{blocksAs}
-use Rattle.sheet_rules.specs.Rows.{blockAt}
-use Rattle.sheet_rules.specs.Sheets.{blockBy}
-use Rattle.sheet_rules.proofs.Pictures.{all-as-stored, all-long, all-same, block-in-all}
-use Rattle.move_rules.specs.Moving.{MovesTo, moveBehindHead, headInForm, moveAfter, moveRefusal, moveRules, movedTo, other}
+use Rattle.head_rules.proofs.Theorems.{head-long}
+use Rattle.head_rules.proofs.Writing.{one-longer}
+use Rattle.line_rules.specs.Calls.{afterAll}
+use Rattle.line_rules.specs.Replace.{refusal}
+use Rattle.sheet_rules.specs.Calls.{SheetCall, WholeSheet, callsOn, onBlock, refusalOn, sheetWithAll}
+use Rattle.sheet_rules.specs.Pictures.{allBlocks, picture}
+use Rattle.sheet_rules.specs.Sheets.{blockBy, blockIn, findRefusal, sheetAfter, sheetRefusal}
+use Rattle.sheet_rules.proofs.Calling.{all-block, answered-as-block, beyond}
+use Rattle.sheet_rules.proofs.Finding.{finding}
+use Rattle.sheet_rules.proofs.Pictures.{all-same}
+use Rattle.move_rules.specs.Moving.{MovesTo, headInForm, moveAfter, moveRefusal, moveRules, movedTo, other}
+use Rattle.move_rules.proofs.Moving.{Movable, accepts, back-is, back-movable, block-moved, head-moved, movable, moved-is, unmoved}
+use Rattle.move_rules.proofs.Whole.{whole-moved}
+use Rattle.move_rules.proofs.Words.{moving-in-words, tiles-answers}
 
-other-other : (f : Form) → other (other f) ≡ f
-other-other Rows = refl
-other-other Tiles = refl
+-- each refusal number of a move is given exactly when the request says (`moveRules` has the words of each direction)
+pub move-refused-when : (f : Form) (s : List ℕ) (room n : ℕ) → (moveRefusal f s room ≡ n) ↔ Given (moveRules f s room) n
+move-refused-when f s room = exactly (moving-in-words f s room)
 
--- 16: a stated colour space is one with a number above 0
-pub unstated : (c : ColourSpace) → colourNumber c ≡ 0 → c ≡ Unspecified
-unstated Unspecified e = refl
-unstated Linear e = absurd (let q : ⊥ = omega (arith, e) in q)
-unstated Srgb e = absurd (let q : ⊥ = omega (arith, e) in q)
-
-stated-test : (c : ColourSpace) → Decided (refuse 16 (not (eqb (colourNumber c) 0))) 16 (c ≡ Unspecified)
-stated-test c = by-not tt (eqb (colourNumber c) 0) (λ e. unstated c (eqb-true _ 0 e)) (λ e. rw e)
-
-module _ (f : Form) (s : List ℕ) (room : ℕ) where
-  moving : Answers (moveRefusal f s room) (moveRules f s room)
-  unfolding moveRefusal
-  moving =
-      let h = readOfForm (other f) s in
-      answers (rules (of-form-answers (other f) s) λ m. rule (by-not-eqb tt (length s) (wholeLength h)) λ l. rule
-      (by-not-eqb tt room (wholeLength (headInForm f h))) λ r. rule (stated-test (h .«colour_space»)) λ c. none)
-
-  -- each refusal number of a move is given exactly when the request says (`moveRules` has the words)
-  pub move-refused-when : (n : ℕ) → (moveRefusal f s room ≡ n) ↔ Given (moveRules f s room) n
-  move-refused-when = exactly moving
-
-  -- what an accepted move has
-  pub record Movable : Type 0 where
-    pub told : readOfForm (other f) s .refusal ≡ 0
-    pub same : readOfForm (other f) s ≡ readHead s
-    pub form-is : readHead s .form ≡ other f
-    pub long : length s ≡ wholeLength (readHead s)
-    pub space : room ≡ wholeLength (headInForm f (readHead s))
-    pub unstated-head : readHead s .«colour_space» ≡ Unspecified
-
-  pub handing : Answers (moveRefusal f s room) (handed (readOfForm (other f) s .refusal) ∷ moveBehindHead f (readOfForm (other f) s) s room)
-  unfolding moveRefusal
-  handing =
-      let h = readOfForm (other f) s in
-      answers (rule by-answer λ m. rule (by-not-eqb tt (length s) (wholeLength h)) λ l. rule
-      (by-not-eqb tt room (wholeLength (headInForm f h))) λ r. rule (stated-test (h .«colour_space»)) λ c. none)
-
-  pub movable : moveRefusal f s room ≡ 0 → Movable
-  movable e =
-      let (z, (l, (r, (c, u)))) = handing .met e in
-      let (q, k) = of-form-is (other f) s z in
-      record {
-        told = z;
-        same = q;
-        form-is = k;
-        long = subst (λ (h : Head). length s ≡ wholeLength h) q l;
-        space = subst (λ (h : Head). room ≡ wholeLength (headInForm f h)) q r;
-        unstated-head = subst (λ (h : Head). h .«colour_space» ≡ Unspecified) q c;
-      }
-
-  pub accepts : readOfForm (other f) s ≡ readHead s → readHead s .refusal ≡ 0 → length s ≡ wholeLength (readHead s)
-      → room ≡ wholeLength (headInForm f (readHead s)) → readHead s .«colour_space» ≡ Unspecified → moveRefusal f s room ≡ 0
-  accepts q z l r c = accepted-when handing .1 (rw q z, (rw q l, (rw q r, (rw q c, tt))))
-
--- the output of an accepted move, and of a refused one
-module _ (f : Form) (s out : List ℕ) where
-  pub moved-is : moveRefusal f s (length out) ≡ 0 → moveAfter f s out ≡ movedTo f (readHead s) s
-  unfolding moveAfter
-  moved-is e = rw e (ap (λ (h : Head). movedTo f h s) (movable f s (length out) e .same))
-
-  pub refused-stays : moveRefusal f s (length out) ≢ 0 → moveAfter f s out ≡ out
-  unfolding moveAfter
-  refused-stays ne = rw (ne-eqb _ 0 ne)
-
--- a whole sheet that was moved: each block keeps its number
-module _ (f : Form) (h : Head) (s : List ℕ) (l : length s ≡ wholeLength h) where
-  pub blocks-moved : drop (headInForm f h .start) (movedTo f h s) ≡ blocksAs f h s
-  unfolding movedTo
-  blocks-moved = drop-append-seam (bytesOfHead (headInForm f h)) (blocksAs f h s)
-
-  pub long-moved : length (movedTo f h s) ≡ wholeLength (headInForm f h)
-  unfolding movedTo blocksOf
-  long-moved =
-      length-append (bytesOfHead (headInForm f h)) (blocksAs f h s)
-      ∙ ap (λ (n : ℕ). headInForm f h .start + n) (all-long f h s)
-
-  pub block-moved : (b : ℕ) → b < blocksOf h → blockBy (headInForm f h) (movedTo f h s) b ≡ blockBy h s b
-  unfolding blockBy blockAt placeOf storedAt
-  block-moved b lb =
-      let q = 16 * storedBy f (across (h .width)) (across (h .height)) b in
-      ap (take 16) (sym (drop-drop q (headInForm f h .start) (movedTo f h s)) ∙ ap (drop q) blocks-moved) ∙ block-in-all f h s l b lb
-
--- its head, and the way back
-module _ (f : Form) (s : List ℕ) (y : Bytes s) (z : readHead s .refusal ≡ 0) (l : length s ≡ wholeLength (readHead s)) where
-  abbrev h : Head
-  h = readHead s
-
-  abbrev t : List ℕ
-  t = movedTo f h s
-
-  pub head-moved : readHead t ≡ headInForm f h
-  unfolding movedTo
-  head-moved = spelt-read-back f Unspecified (h .width) (h .height) (head-sized s z) (λ q. refl) (blocksAs f h s)
-
-  module _ (k : h .form ≡ other f) (u : h .«colour_space» ≡ Unspecified) where
-    spelt : headSpelt (other f) Unspecified (h .width) (h .height) ≡ bytesOfHead h
-    spelt = rw (k, u)
-
-    start-back : headInForm (other f) (headInForm f h) .start ≡ h .start
-    start-back = ap length spelt ∙ sym (head-long s y z)
-
-    pub back-accepted : {room : ℕ} → room ≡ length s → moveRefusal (other f) t room ≡ 0
-    unfolding blocksOf
-    back-accepted {room} e = accepts (other f) t room
-        (ap (λ (g : Form). readOfForm g t) (other-other f) ∙ of-form-when f t (ap (λ (x : Head). x .refusal) head-moved) (ap (λ (x : Head). x .form) head-moved))
-        (ap (λ (x : Head). x .refusal) head-moved)
-        (long-moved f h s l ∙ ap (λ (x : Head). wholeLength x) (sym head-moved))
-        (e ∙ l ∙ ap (λ (n : ℕ). n + 16 * blocksOf h) (sym start-back) ∙ ap (λ (x : Head). wholeLength (headInForm (other f) x)) (sym head-moved))
-        (ap (λ (x : Head). x .«colour_space») head-moved)
-
-    pub back-is : movedTo (other f) (readHead t) t ≡ s
-    unfolding movedTo
-    back-is =
-        ap (λ (x : Head). movedTo (other f) x t) head-moved
-        ∙ ap₂ (λ (a b : List ℕ). a ++ b) spelt
-        (all-same (other f) h s (headInForm f h) t refl refl (block-moved f h s l) ∙ all-as-stored (other f) h s l k)
-        ∙ sym (head-one-form s y z .1)
-
--- THERE AND BACK
-pub there-and-back-restores : (f : Form) (s out back : List ℕ) → Bytes s → moveRefusal f s (length out) ≡ 0 → length back ≡ length s
-    → (moveRefusal (other f) (moveAfter f s out) (length back) ≡ 0) × (moveAfter (other f) (moveAfter f s out) back ≡ s)
-there-and-back-restores f s out back y e b =
-    let m = movable f s (length out) e in
-    let z : readHead s .refusal ≡ 0 = ap (λ (h : Head). h .refusal) (sym (m .same)) ∙ m .told in
-    let a = back-accepted f s y z (m .long) (m .form-is) (m .unstated-head) b in
-    rw (moved-is f s out e) (a, moved-is (other f) (movedTo f (readHead s) s) back a ∙ back-is f s y z (m .long) (m .form-is) (m .unstated-head))
-
--- any two answers that a move's promise admits coincide
+-- any two answers that a move's promise admits coincide; and where the answer is not 0, the output is as it was
 pub determined-move : (f : Form) (sheet before : List ℕ) (a b : ℕ) (x y : List ℕ) → MovesTo f sheet before a x → MovesTo f sheet before b y
     → (a ≡ b) × (x ≡ y)
 determined-move f sheet before a b x y p q = (p .0 ∙ sym (q .0), p .1 ∙ sym (q .1))
+
+pub refused-move-leaves : (f : Form) (sheet before : List ℕ) (a : ℕ) (x : List ℕ) → MovesTo f sheet before a x → a ≢ 0 → x ≡ before
+refused-move-leaves f sheet before a x p ne = p .1 ∙ unmoved f sheet before (λ e. ne (p .0 ∙ e))
+
+-- a sheet is one byte longer in form 2 than in form 1
+module _ (f : Form) (s out : List ℕ) (y : Bytes s) (e : moveRefusal f s (length out) ≡ 0) where
+  start-is : readHead s .start ≡ length (headSpelt (other f) Unspecified (readHead s .width) (readHead s .height))
+  start-is = let m = movable f s (length out) e in head-long s y (m .told) ∙ rw (m .form-is, m .unstated-head)
+
+  lengths : length out + readHead s .start ≡ length s + headInForm f (readHead s) .start
+  unfolding blocksOf
+  lengths = let m = movable f s (length out) e in omega (arith, m .long, m .space)
+
+pub one-byte-more : (s out : List ℕ) → Bytes s → moveRefusal Tiles s (length out) ≡ 0 → length out ≡ length s + 1
+one-byte-more s out y e = omega (arith, start-is Tiles s out y e, lengths Tiles s out y e, one-longer (readHead s .width) (readHead s .height))
+
+pub one-byte-less : (s out : List ℕ) → Bytes s → moveRefusal Rows s (length out) ≡ 0 → length out + 1 ≡ length s
+one-byte-less s out y e = omega (arith, start-is Rows s out y e, lengths Rows s out y e, one-longer (readHead s .width) (readHead s .height))
+
+-- THERE AND BACK, from either form, for every sheet that is accepted
+pub there-and-back-restores : (f : Form) (s out back : List ℕ) → Bytes s → moveRefusal f s (length out) ≡ 0 → length back ≡ length s
+    → (moveRefusal (other f) (moveAfter f s out) (length back) ≡ 0) × (moveAfter (other f) (moveAfter f s out) back ≡ s)
+there-and-back-restores f s out back y e eb =
+    let m = movable f s (length out) e in
+    let t = movedTo f (readHead s) s in
+    let b : Movable (other f) t (length s) = back-movable f s y (m .told) (m .long) (m .form-is) (m .unstated-head) in
+    let a : moveRefusal (other f) t (length back) ≡ 0 = accepts (other f) t (length back) (subst (Movable (other f) t) (sym eb) b) in
+    rw (moved-is f s out e) (a, moved-is (other f) t back a ∙ back-is f s y (m .told) (m .long) (m .form-is) (m .unstated-head))
+
+-- NOTHING IS LOST exactly where the colour space is not stated: of a whole sheet of form 2, with room for it in form 1, the way back is
+-- refused with 16 exactly where the number of the colour space is 1 or 2, and accepted exactly where it is 0
+stated : (n : ℕ) → n ≤ 2 → n ≢ 0 → (n ≡ 1) ⊎ (n ≡ 2)
+stated zero l ne = absurd (ne refl)
+stated (suc zero) l ne = inl refl
+stated (suc (suc zero)) l ne = inr refl
+stated (suc (suc (suc n))) l ne = absurd (let q : ⊥ = omega (arith, l) in q)
+
+module _ (s : List ℕ) (room : ℕ) (k : readOfForm Tiles s .refusal ≡ 0) (l : length s ≡ wholeLength (readHead s))
+    (r : room ≡ wholeLength (headInForm Rows (readHead s))) where
+  stated-refused : colourIn s .value ≢ 0 → moveRefusal Rows s room ≡ 16
+  stated-refused ne =
+      let (a, (b, (w, (h, (c, (v, (z, u))))))) = tiles-answers s .met k in
+      move-refused-when Rows s room 16 .1 (then a (then b (then w (then h (then c (then v (then z (then l (then r (here ne))))))))))
+
+  pub unstated-accepted : (moveRefusal Rows s room ≡ 0) ↔ (colourIn s .value ≡ 0)
+  unstated-accepted = (
+    λ e. let (a, (b, (w, (h, (c, (v, (z, (i, (o, (n, u)))))))))) = moving-in-words Rows s room .met e in n,
+    λ e.
+        let (a, (b, (w, (h, (c, (v, (z, u))))))) = tiles-answers s .met k in
+        accepted-when (moving-in-words Rows s room) .1 (a, (b, (w, (h, (c, (v, (z, (l, (r, (e, tt)))))))))),
+  )
+
+  pub stated-is-lost : (moveRefusal Rows s room ≡ 16) ↔ ((colourIn s .value ≡ 1) ⊎ (colourIn s .value ≡ 2))
+  stated-is-lost = (
+    λ e.
+        let (a, (b, (w, (h, (c, (v, (z, u))))))) = tiles-answers s .met k in
+        stated (colourIn s .value) v (λ n. let q : ⊥ = omega (arith, e, unstated-accepted .1 n) in q),
+    λ o. stated-refused (λ n. ⊎-elim (λ x. omega (arith, n, x)) (λ x. omega (arith, n, x)) o),
+  )
+
+-- and of any whole sheet of form 2, the bytes in form 1 lead to the same sheet again exactly where its head says no colour space
+pub kept-where-unstated : (s : List ℕ) → WholeSheet s → readHead s .form ≡ Tiles
+    → let t = movedTo Rows (readHead s) s in (movedTo Tiles (readHead t) t ≡ s) ↔ (readHead s .«colour_space» ≡ Unspecified)
+kept-where-unstated s z k = (
+  λ e.
+      let t = movedTo Rows (readHead s) s in
+      ap (λ (x : List ℕ). readHead x .«colour_space») (sym e)
+      ∙ ap (λ (h : Head). h .«colour_space») (head-moved Tiles t (ap (λ (h : Head). h .refusal) (head-moved Rows s (z .told)))),
+  λ u. back-is Rows s (z .bytes) (z .told) (z .long) k u,
+)
+
+-- A MOVED SHEET: t, from s
+module _ (f : Form) (s out : List ℕ) (y : Bytes s) (e : moveRefusal f s (length out) ≡ 0) where
+  abbrev t : List ℕ
+  t = moveAfter f s out
+
+  abbrev m : Movable f s (length out)
+  m = movable f s (length out) e
+
+  whole : WholeSheet s
+  whole = record { bytes = y; told = m .told; long = m .long }
+
+  -- it is whole, of the same width and height, and says no colour space
+  pub whole-there : WholeSheet t
+  whole-there = rw (moved-is f s out e) (whole-moved f s whole)
+
+  pub head-there : readHead t ≡ headInForm f (readHead s)
+  head-there = ap readHead (moved-is f s out e) ∙ head-moved f s (m .told)
+
+  as-many : blocksOf (readHead t) ≡ blocksOf (readHead s)
+  unfolding blocksOf
+  as-many = rw head-there
+
+  -- each block keeps its number
+  pub same-block : (b : ℕ) → b < blocksOf (readHead s) → blockIn t b ≡ blockIn s b
+  same-block b l =
+      ap (λ (h : Head). blockBy h t b) head-there
+      ∙ ap (λ (x : List ℕ). blockBy (headInForm f (readHead s)) x b) (moved-is f s out e) ∙ block-moved f (readHead s) s (m .long) b l
+
+  -- it shows the same picture
+  pub same-picture : picture (readHead t .width) (readHead t .height) (allBlocks t) ≡ picture (readHead s .width) (readHead s .height) (allBlocks s)
+  same-picture =
+      let w = ap (λ (h : Head). h .width) head-there in
+      let g = ap (λ (h : Head). h .height) head-there in
+      ap₂ (λ (a b : ℕ). picture a b (allBlocks t)) w g
+      ∙ ap (picture (readHead s .width) (readHead s .height)) (all-same Rows (readHead s) s (readHead t) t w g same-block)
+
+  -- and every call by block number is answered as before: a block is found, or not; a line of it is replaced, or not; and whatever list of
+  -- calls is made on both sheets, each block is the same in both afterwards
+  pub same-found : (b : ℕ) → findRefusal t b ≡ findRefusal s b
+  same-found b = ⊎-elim
+      (λ l. accepted-when (finding t b) .1 (whole-there .told, (whole-there .long, (rw as-many l, tt)))
+      ∙ sym (accepted-when (finding s b) .1 (m .told, (m .long, (l, tt)))))
+      (λ l. exactly (finding t b) 12 .1 (then (whole-there .told) (then (whole-there .long) (here (λ n. omega (arith, as-many, n, l)))))
+      ∙ sym (exactly (finding s b) 12 .1 (then (m .told) (then (m .long) (here (λ n. omega (arith, n, l)))))))
+      (lt-or b (blocksOf (readHead s)))
+
+  same-call : (c : SheetCall) → refusalOn t c ≡ refusalOn s c
+  same-call c = ⊎-elim
+      (λ l. answered-as-block t whole-there c (rw as-many l) ∙ ap (λ (x : List ℕ). refusal x (onBlock c)) (same-block (c .block) l)
+      ∙ sym (answered-as-block s whole c l))
+      (λ l. beyond t whole-there c (rw as-many l) ∙ sym (beyond s whole c l))
+      (lt-or (c .block) (blocksOf (readHead s)))
+
+  pub same-answer : (b l : ℕ) (new : Replacement) → sheetRefusal t b l new ≡ sheetRefusal s b l new
+  same-answer b l new = same-call (record { block = b; line = l; given = new })
+
+  pub same-after-all : (cs : List SheetCall) (b : ℕ) → b < blocksOf (readHead s) → blockIn (sheetWithAll t cs) b ≡ blockIn (sheetWithAll s cs) b
+  same-after-all cs b l =
+      all-block cs t whole-there b (rw as-many l) ∙ ap (λ (x : List ℕ). afterAll x (callsOn b cs)) (same-block b l) ∙ sym (all-block cs s whole b l)
+
+  pub same-after : (a l : ℕ) (new : Replacement) (b : ℕ) → b < blocksOf (readHead s)
+      → blockIn (sheetAfter t a l new) b ≡ blockIn (sheetAfter s a l new) b
+  unfolding calls.run
+  same-after a l new b lb = same-after-all (record { block = a; line = l; given = new } ∷ []) b lb

@@ -1,12 +1,12 @@
 -- MOVES BETWEEN THE FORMS: a sheet of form 1 as form 2 with number 0, and back where nothing is lost.
 -- Assumes nothing.
-use Prim.Native.Nat.{ℕ}
+use Prim.Native.Nat.{ℕ, _≤_}
 use mathlib.Core.Path.{_≡_}
 use mathlib.Core.Bool.{not}
 use mathlib.Core.List.{List, [], _∷_, _++_}
 use lib.Dec.{eqb}
 use lib.ListN.{length}
-use Rattle.laws.specs.Refusals.{Rule, first, refuse, unless}
+use Rattle.laws.specs.Refusals.{Rule, first, handed, refuse, unless}
 use Rattle.laws.specs.Tables.{pick}
 use Rattle.head_rules.specs.declared.ColourSpace.the-variants.{Unspecified}
 use Rattle.head_rules.specs.declared.Form.{Form}
@@ -14,7 +14,8 @@ use Rattle.head_rules.specs.declared.Form.the-variants.{Rows, Tiles}
 use Rattle.head_rules.specs.declared.Head.{Head}
 use Rattle.head_rules.specs.Colours.{colourNumber}
 use Rattle.head_rules.specs.Geometry.{wholeLength}
-use Rattle.head_rules.specs.Heads.{bytesOfHead, headIn, headSpelt, ofFormRules, readOfForm}
+use Rattle.head_rules.specs.Heads.{Sized, bytesOfHead, colourIn, formIn, formNumber, headIn, headSpelt, heightIn, readHead, readOfForm, rowsRules}
+use Rattle.head_rules.specs.Heads.{widthIn}
 use Rattle.sheet_rules.specs.Pictures.{blocksAs}
 
 -- a move to a form takes a sheet of the other
@@ -41,16 +42,27 @@ moveRefusal f s room =
     ∷ refuse 16 (not (eqb (colourNumber (h .«colour_space»)) 0))
     ∷ [])
 
--- in words, for a sheet whose head was read as h
-abbrev pub moveBehindHead : Form → Head → List ℕ → ℕ → List Rule
-moveBehindHead f h s room =
-    unless 10 (length s ≡ wholeLength h) ∷
-    unless 11 (room ≡ wholeLength (headInForm f h)) ∷
-    unless 16 (h .«colour_space» ≡ Unspecified) ∷
+-- THE SAME IN WORDS: of each direction what it can give, each once. A head of form 2 alone: 7 and 8 on the form, 7 on width, height and
+-- the number of the colour space, 18, then 9 (`rowsRules` has form 1 alone)
+abbrev pub tilesRules : List ℕ → List Rule
+tilesRules s =
+    handed (formIn s .refusal) ∷
+    unless 8 (formIn s .value ≡ formNumber Tiles) ∷
+    handed (widthIn s .refusal) ∷
+    handed (heightIn s .refusal) ∷
+    handed (colourIn s .refusal) ∷
+    unless 18 (colourIn s .value ≤ 2) ∷
+    unless 9 (Sized (widthIn s .value) (heightIn s .value)) ∷
     []
 
+-- 10 unless the sheet is as long as its head says, 11 unless the output is as long as that sheet in form f
+abbrev pub lengthRules : Form → List ℕ → ℕ → List Rule
+lengthRules f s room = unless 10 (length s ≡ wholeLength (readHead s)) ∷ unless 11 (room ≡ wholeLength (headInForm f (readHead s))) ∷ []
+
+-- back to form 1 last 16, unless the number is 0: the colour space is not stated
 abbrev pub moveRules : Form → List ℕ → ℕ → List Rule
-moveRules f s room = ofFormRules (other f) s ++ moveBehindHead f (readOfForm (other f) s) s room
+moveRules Tiles s room = rowsRules s ++ lengthRules Tiles s room
+moveRules Rows s room = tilesRules s ++ lengthRules Rows s room ++ (unless 16 (colourIn s .value ≡ 0) ∷ [])
 
 -- the output afterwards
 unfoldable pub moveAfter : Form → List ℕ → List ℕ → List ℕ

@@ -7,7 +7,7 @@ use Rattle.head_rules.specs.declared.ColourSpace.{ColourSpace}
 use Rattle.head_rules.specs.declared.Form.{Form}
 use Rattle.head_rules.specs.Colours.{colourNumber}
 use Rattle.head_rules.specs.Heads.{readOfForm}
-use Rattle.move_rules.proofs.Theorems.{unstated}
+use Rattle.move_rules.proofs.Moving.{unstated}
 use Rattle.moves.proofs.Answers.{is-moved, not-moved, size-is}
 use borrow.Author.Needs.{needs}
 use Rattle.moves.proofs.move_to.Statement.{statement}
