@@ -34,6 +34,7 @@ extern "C" {
     fn rinchovek_sheet_block(sheet: *const u8, length: usize, block: u32, bytes: *mut u8) -> u32;
     fn rinchovek_sheet_to_tiles(sheet: *const u8, length: usize, out: *mut u8, out_length: usize) -> u32;
     fn rinchovek_sheet_to_rows(sheet: *const u8, length: usize, out: *mut u8, out_length: usize) -> u32;
+    fn rinchovek_sheet_state_colour(sheet: *mut u8, length: usize, colour_space: u32) -> u32;
     fn rinchovek_sheet_replace_line(
         sheet: *mut u8,
         length: usize,
@@ -433,6 +434,12 @@ pub fn to_rows(sheet: &[u8]) -> Result<Vec<u8>, Refusal> {
     let mut out = vec![0; sheet.len().saturating_sub(1)];
     let refusal = unsafe { rinchovek_sheet_to_rows(sheet.as_ptr(), sheet.len(), out.as_mut_ptr(), out.len()) };
     answer(refusal, out)
+}
+
+/// The colour space of a sheet of form 2, stated.
+pub fn state_colour(sheet: &mut [u8], colour_space: ColourSpace) -> Result<(), Refusal> {
+    let (lent, length) = (sheet.as_mut_ptr(), sheet.len());
+    answer(unsafe { rinchovek_sheet_state_colour(lent, length, colour_space.0) }, ())
 }
 
 /// In a sheet of either form.

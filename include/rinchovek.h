@@ -47,7 +47,7 @@
 /* The version of this file. The major number is raised where a call goes, or answers otherwise what it accepted before; the minor
  * one where a call comes, or accepts what it refused before; the patch where neither is so. */
 #define RINCHOVEK_VERSION_MAJOR 1
-#define RINCHOVEK_VERSION_MINOR 7
+#define RINCHOVEK_VERSION_MINOR 8
 #define RINCHOVEK_VERSION_PATCH 0
 #define RINCHOVEK_VERSION (10000 * RINCHOVEK_VERSION_MAJOR + 100 * RINCHOVEK_VERSION_MINOR + RINCHOVEK_VERSION_PATCH)
 
@@ -293,9 +293,17 @@ uint32_t rinchovek_sheet_to_tiles(const uint8_t *sheet, size_t length, uint8_t *
 
 /* Moves a sheet of form 2 back to form 1: writes the whole sheet row by row. A sheet that was moved to tiles comes back byte for byte. Both
  * lengths are exact: the sheet has its head and 16 bytes for each block (10 otherwise), and the output is one byte shorter than the
- * sheet (11 otherwise). A sheet that states a colour space would lose it, and is refused with 16; a sheet of form 1 with 8.
+ * sheet (11 otherwise). A sheet that states a colour space would lose it, and is refused with 16, until rinchovek_sheet_state_colour has
+ * taken it back; a sheet of form 1 is refused with 8.
  * Refusals: 7 and 8 on the form, 7 on width, height and the number of the colour space, 18, 9, 10, 11, 16. */
 uint32_t rinchovek_sheet_to_rows(const uint8_t *sheet, size_t length, uint8_t *out, size_t out_length);
+
+/* States the colour space of a whole sheet of form 2, in place: writes its number (enum rinchovek_colour_space) where the head has it, into
+ * the byte before the first block, and no other byte. What was stated before is lost; RINCHOVEK_UNSPECIFIED takes it back, so that the
+ * sheet can be moved to rows. The length is exact: the head and 16 bytes for each block of the sheet. A sheet of form 1 has no room for a
+ * colour space, and is refused with 8.
+ * Refusals: 7 and 8 on the form, 7 on width, height and the number of the colour space, 18, 9, 10; then 18 for the number that is given. */
+uint32_t rinchovek_sheet_state_colour(uint8_t *sheet, size_t length, uint32_t colour_space);
 
 /* DDS FILES, as office tools exchange them: RINCHOVEK_DDS_HEADER_BYTES of header with the DX10 extension, by Microsoft's guide, and behind
  * it the blocks row by row. So a file is exchanged with a sheet of form 1: importing writes form 1, and the three calls that export refuse
