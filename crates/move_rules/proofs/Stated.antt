@@ -7,8 +7,8 @@ use lib.ListN.{replicate}
 use Rattle.laws.specs.Refusals.{first}
 use Rattle.head_rules.specs.Colours.{colourOf, colourRefusal}
 use Rattle.head_rules.specs.Geometry.{blocksOf}
-use Rattle.head_rules.specs.Heads.{colourIn, formIn, formOf, headRefusalUpTo, heightIn, ofFormRefusal, readHeadUpTo, readOfForm, sizeRefusalUpTo}
-use Rattle.head_rules.specs.Heads.{tiledBytes, widthIn}
+use Rattle.head_rules.specs.Heads.{colourIn, formIn, formOf, headRefusalUpTo, heightIn, ofFormRefusalUpTo, readHeadUpTo, readOfFormUpTo}
+use Rattle.head_rules.specs.Heads.{sizeRefusalUpTo, tiledBytes, widthIn}
 use Rattle.head_rules.specs.Numbers.{groups, raised, readGroups, readNumber}
 use Rattle.move_rules.specs.Stating.{stateAfter, stateRefusal, statedAs}
 
@@ -28,6 +28,6 @@ pub record States : Type 0 where
   pub refused-leaves : stateAfter (sheet 1) 258 ∷ stateAfter (longer (sheet 1)) 2 ∷ [] ≡ sheet 1 ∷ longer (sheet 1) ∷ []
 
 pub states-hold : States
-unfolding stateAfter stateRefusal statedAs readOfForm ofFormRefusal first groups readGroups readNumber raised readHeadUpTo headRefusalUpTo
+unfolding stateAfter stateRefusal statedAs readOfFormUpTo ofFormRefusalUpTo first groups readGroups readNumber raised readHeadUpTo headRefusalUpTo
     formIn widthIn heightIn colourIn sizeRefusalUpTo tiledBytes blocksOf colourOf colourRefusal formOf
 states-hold = record { stated = refl; stated-anew = refl; answers = refl; numbers = refl; refused-leaves = refl }

@@ -4,14 +4,12 @@
 use mathlib.Core.Path.{_≡_, refl, _∙_, ap, ap₂, sym, subst}
 use mathlib.Core.Logic.{_↔_, _≢_}
 use mathlib.Core.List.{List, [], _∷_, _++_, append-assoc}
-use Prim.Native.Nat.{ℕ, _+_, _-_, _*_, _/_, _%_, _<_, _≤_}
+use Prim.Native.Nat.{ℕ, _+_, _-_, _*_, _<_, _≤_}
 use native.Mathlib.Omega.{arith}
 use borrow.Author.Tests.{ne-eqb}
-use lib.ListN.{length, getD, set, take, drop, length-append}
+use lib.ListN.{length, set, take, drop, length-append}
 use lib.Seq.{drop-append-seam, drop-drop, set-at}
 use Rattle.laws.specs.Refusals.{Given, handed}
-use Rattle.laws.specs.Tables.{table}
-use Rattle.laws.proofs.Joining.{table-same}
 use Rattle.laws.proofs.Refusals.{Answers, answers, by-answer, by-not-eqb, exactly, none, rule, rules}
 use Rattle.head_rules.specs.declared.ColourSpace.{ColourSpace}
 use Rattle.head_rules.specs.declared.ColourSpace.the-variants.{Unspecified, Linear, Srgb}
@@ -19,7 +17,7 @@ use Rattle.head_rules.specs.declared.Form.{Form}
 use Rattle.head_rules.specs.declared.Form.the-variants.{Rows, Tiles}
 use Rattle.head_rules.specs.declared.Head.{Head}
 use Rattle.head_rules.specs.Colours.{colourNumber, colourOf}
-use Rattle.head_rules.specs.Geometry.{blocksOf, placeOf, storedAt, wholeLength}
+use Rattle.head_rules.specs.Geometry.{placeOf, storedAt, wholeLength}
 use Rattle.head_rules.specs.Heads.{bytesOfHead, formNumber, headIn, headSpelt, readHead, readOfForm, tiledBytes, under}
 use Rattle.head_rules.specs.Numbers.{Bytes, groups, numberBytes}
 use Rattle.head_rules.proofs.Colours.{colour-test, number-back}
@@ -27,6 +25,7 @@ use Rattle.head_rules.proofs.Theorems.{head-long, head-one-form, head-sized, of
 use Rattle.sheet_rules.specs.Pictures.{allBlocks, picture}
 use Rattle.sheet_rules.specs.Rows.{blockAt}
 use Rattle.sheet_rules.specs.Sheets.{blockBy, blockIn}
+use Rattle.sheet_rules.proofs.Pictures.{all-same}
 use Rattle.move_rules.specs.Stating.{StatesColour, stateAfter, stateBehindHead, stateRefusal, stateRules, statedAs}
 
 module _ (s : List ℕ) (n : ℕ) where
@@ -158,16 +157,9 @@ module _ (s : List ℕ) (y : Bytes s) (n : ℕ) (e : stateRefusal s n ≡ 0) whe
       ap (λ (x : Head). blockBy x t b) head-stated
       ∙ ap (take 16) (sym (drop-drop at (h .start) t) ∙ ap (drop at) behind ∙ drop-drop at (h .start) s)
 
-  as-many : blocksOf (readHead t) ≡ blocksOf h
-  unfolding blocksOf
-  as-many = rw head-stated
-
   pub same-blocks : allBlocks t ≡ allBlocks s
-  unfolding allBlocks
   same-blocks =
-      ap (λ (k : ℕ). table (16 * k) (λ i. getD (blockIn t (i / 16)) (i % 16) 0)) as-many
-      ∙ table-same 0 (16 * blocksOf h) (λ i. getD (blockIn t (i / 16)) (i % 16) 0) (λ i. getD (blockIn s (i / 16)) (i % 16) 0)
-      (λ i l. ap (λ (x : List ℕ). getD x (i % 16) 0) (same-block (i / 16)))
+      all-same Rows h s (readHead t) t (ap (λ (x : Head). x .width) head-stated) (ap (λ (x : Head). x .height) head-stated) (λ b l. same-block b)
 
   -- so the picture does
   pub same-picture : (w k : ℕ) → picture w k (allBlocks t) ≡ picture w k (allBlocks s)
