@@ -36,11 +36,14 @@ static void fail_by_system(const char *name, const char *what) {
     stop(FAILED);
 }
 
-static void check(const char *name, uint32_t refusal) {
+/* Where it is refused, the advice stands behind the text. */
+static void check_with_advice(const char *name, uint32_t refusal, const char *advice) {
     if (refusal == RINCHOVEK_ACCEPTED) return;
-    fprintf(stderr, "rinchovek: %s: refused with %u, %s\n", name, refusal, rinchovek_refusal_text(refusal));
+    fprintf(stderr, "rinchovek: %s: refused with %u, %s%s\n", name, refusal, rinchovek_refusal_text(refusal), advice);
     stop(REFUSED);
 }
+
+static void check(const char *name, uint32_t refusal) { check_with_advice(name, refusal, ""); }
 
 /* ---- files */
 
@@ -212,24 +215,17 @@ static void read_line(const uint8_t widths[RINCHOVEK_LINE_BYTES], uint8_t replac
     if (*word != '\0') fail_by_text("the end");
 }
 
-/* ---- sheets and their blocks */
+/* ---- sheets and their blocks, in either form: where a block stands in a sheet, only the archive knows */
 
 struct sheet {
     const char *name;
     struct bytes file;
-    uint32_t width, height, blocks;
-    size_t start;
+    uint32_t numbers[RINCHOVEK_OPEN_NUMBERS]; /* by enum rinchovek_open_number */
 };
 
 static struct sheet read_sheet(const char *name) {
-    uint32_t head[RINCHOVEK_HEAD_NUMBERS] = {0};
     struct sheet sheet = {.name = name, .file = read_file(name)};
-    check(name, rinchovek_sheet_read_head(sheet.file.at, sheet.file.length, head));
-    sheet.width = head[RINCHOVEK_HEAD_WIDTH];
-    sheet.height = head[RINCHOVEK_HEAD_HEIGHT];
-    sheet.start = head[RINCHOVEK_HEAD_START];
-    sheet.blocks = ((sheet.width + 3) / 4) * ((sheet.height + 3) / 4);
-    if (sheet.file.length - sheet.start != (size_t)RINCHOVEK_BLOCK_BYTES * sheet.blocks) check(name, RINCHOVEK_WRONG_BLOCK_BYTES);
+    check(name, rinchovek_sheet_open(sheet.file.at, sheet.file.length, sheet.numbers));
     return sheet;
 }
 
@@ -237,15 +233,14 @@ static struct sheet read_sheet(const char *name) {
 struct found {
     struct sheet sheet;
     uint32_t block, line;
-    uint8_t *bytes; /* of the block */
+    uint8_t bytes[RINCHOVEK_BLOCK_BYTES]; /* of the block, as the sheet has it */
     uint8_t held[RINCHOVEK_LINE_BYTES], widths[RINCHOVEK_LINE_BYTES];
 };
 
-static struct found find(const char *name, uint32_t block, uint32_t line) {
-    struct found found = {.sheet = read_sheet(name), .block = block, .line = line};
-    if (block >= found.sheet.blocks) check(name, RINCHOVEK_BEYOND_SHEET);
-    found.bytes = found.sheet.file.at + found.sheet.start + (size_t)RINCHOVEK_BLOCK_BYTES * block;
-    check(name, rinchovek_bc7_read_line(found.bytes, line, found.held, found.widths));
+static struct found find(struct sheet sheet, uint32_t block, uint32_t line) {
+    struct found found = {.sheet = sheet, .block = block, .line = line};
+    check(sheet.name, rinchovek_sheet_block(sheet.file.at, sheet.file.length, block, found.bytes));
+    check(sheet.name, rinchovek_bc7_read_line(found.bytes, line, found.held, found.widths));
     return found;
 }
 
@@ -263,18 +258,20 @@ static struct colour drawn(const uint8_t block[RINCHOVEK_BLOCK_BYTES], uint32_t 
     return colour;
 }
 
-/* Replaces the line in the sheet, and the sheet in its file. Answers whether the pair was turned: read again, the line differs then. */
-static int replace_there(const struct found *found, const uint8_t replacement[RINCHOVEK_LINE_BYTES]) {
-    uint8_t stored[RINCHOVEK_LINE_BYTES], widths[RINCHOVEK_LINE_BYTES];
-    const uint32_t block = found->block, line = found->line;
-    const struct sheet sheet = found->sheet;
+/* Replaces the line in the sheet, and the sheet in its file. Answers the line as it stands there now. */
+static struct found replaced(struct found found, const uint8_t replacement[RINCHOVEK_LINE_BYTES]) {
+    const uint32_t block = found.block, line = found.line;
+    const struct sheet sheet = found.sheet;
     check(sheet.name, rinchovek_sheet_replace_line(sheet.file.at, sheet.file.length, block, line, replacement));
-    check(sheet.name, rinchovek_bc7_read_line(found->bytes, line, stored, widths));
+    const struct found after = find(sheet, block, line);
     write_file(sheet.name, sheet.file);
-    return memcmp(stored, replacement, sizeof stored) != 0;
+    return after;
 }
 
-static const char *in_words(int turned) { return turned ? "turned" : "as given"; }
+/* Whether the pair was turned: read again, the line differs then. */
+static const char *pair_in_words(struct found after, const uint8_t replacement[RINCHOVEK_LINE_BYTES]) {
+    return memcmp(after.held, replacement, RINCHOVEK_LINE_BYTES) != 0 ? "turned" : "as given";
+}
 
 /* ---- the commands */
 
@@ -298,11 +295,18 @@ static void import_dds(struct given given) {
     free(sheet.at);
 }
 
+/* Whether it is refused for its form, and is a sheet all the same: of the other form. */
+static int has_other_form(struct bytes sheet, uint32_t refusal) {
+    uint32_t numbers[RINCHOVEK_OPEN_NUMBERS];
+    return refusal == RINCHOVEK_UNKNOWN_FORM && rinchovek_sheet_open(sheet.at, sheet.length, numbers) == RINCHOVEK_ACCEPTED;
+}
+
 static void export_dds(struct given given) {
     const struct bytes sheet = read_file(given.file[0]);
     const uint32_t colour_space = given.number[0];
     uint32_t length = 0;
-    check(given.file[0], rinchovek_dds_export_length(sheet.at, sheet.length, &length));
+    const uint32_t refusal = rinchovek_dds_export_length(sheet.at, sheet.length, &length);
+    check_with_advice(given.file[0], refusal, has_other_form(sheet, refusal) ? "; `rinchovek rows` moves it to form 1, which can be exported" : "");
     const struct bytes dds = {room_for(NULL, length), length};
     check(given.file[0], rinchovek_dds_export_colour(sheet.at, sheet.length, colour_space, dds.at, dds.length));
     write_file(given.file[1], dds);
@@ -310,19 +314,42 @@ static void export_dds(struct given given) {
     free(dds.at);
 }
 
+/* Moves a sheet to its other form, in which it has this length. */
+static void move_sheet(struct given given, struct bytes sheet, size_t length,
+                       uint32_t (*move)(const uint8_t *sheet, size_t length, uint8_t *out, size_t out_length)) {
+    const struct bytes moved = {room_for(NULL, length + 1), length};
+    const uint32_t refusal = move(sheet.at, sheet.length, moved.at, moved.length);
+    check_with_advice(given.file[0], refusal, has_other_form(sheet, refusal) ? "; it has been moved there already" : "");
+    write_file(given.file[1], moved);
+    free(sheet.at);
+    free(moved.at);
+}
+
+static void move_to_tiles(struct given given) {
+    const struct bytes sheet = read_file(given.file[0]);
+    move_sheet(given, sheet, sheet.length + 1, rinchovek_sheet_to_tiles);
+}
+
+static void move_to_rows(struct given given) {
+    const struct bytes sheet = read_file(given.file[0]);
+    move_sheet(given, sheet, sheet.length > 0 ? sheet.length - 1 : 0, rinchovek_sheet_to_rows);
+}
+
 static void draw_picture(struct given given) {
     const struct sheet sheet = read_sheet(given.file[0]);
-    const size_t blocks_length = rinchovek_row_blocks(sheet.width);
-    const uint8_t *blocks = sheet.file.at + sheet.start;
-    uint8_t *out = room_for(NULL, rinchovek_row_pixels(sheet.width, sheet.height, 0));
-    struct output to = start_file(given.file[1]);
-    char header[96];
-    const int length = snprintf(header, sizeof header, "P7\nWIDTH %u\nHEIGHT %u\nDEPTH 4\nMAXVAL 255\nTUPLTYPE RGB_ALPHA\nENDHDR\n", sheet.width,
-                                sheet.height);
-    put(&to, header, (size_t)length);
-    for (uint32_t row = 0; row < (sheet.height + 3) / 4; row++, blocks += blocks_length) {
-        const size_t out_length = rinchovek_row_pixels(sheet.width, sheet.height, row);
-        check(sheet.name, rinchovek_sheet_decode_row(sheet.width, sheet.height, row, blocks, blocks_length, out, out_length));
+    const uint32_t width = sheet.numbers[RINCHOVEK_OPEN_WIDTH], height = sheet.numbers[RINCHOVEK_OPEN_HEIGHT];
+    uint8_t *out = room_for(NULL, rinchovek_row_pixels(width, height, 0));
+    struct output to = {.file = -1};
+    for (uint32_t row = 0; row < sheet.numbers[RINCHOVEK_OPEN_ROWS]; row++) {
+        const size_t out_length = rinchovek_row_pixels(width, height, row);
+        check(sheet.name, rinchovek_sheet_show_row(sheet.file.at, sheet.file.length, row, out, out_length));
+        if (row == 0) { /* what is refused has been by now, so that no file is begun for it */
+            char header[96];
+            const int length = snprintf(header, sizeof header, "P7\nWIDTH %u\nHEIGHT %u\nDEPTH 4\nMAXVAL 255\nTUPLTYPE RGB_ALPHA\nENDHDR\n", width,
+                                        height);
+            to = start_file(given.file[1]);
+            put(&to, header, (size_t)length);
+        }
         put(&to, out, out_length);
     }
     finish_file(&to);
@@ -331,7 +358,7 @@ static void draw_picture(struct given given) {
 }
 
 static void show_line(struct given given) {
-    const struct found found = find(given.file[0], given.number[0], given.number[1]);
+    const struct found found = find(read_sheet(given.file[0]), given.number[0], given.number[1]);
     uint8_t record[RINCHOVEK_RECORD_BYTES];
     check(given.file[0], rinchovek_bc7_unpack(found.bytes, record));
     printf("# block %u, line %u: mode %u\n", found.block, found.line, record[RINCHOVEK_RECORD_MODE]);
@@ -340,7 +367,7 @@ static void show_line(struct given given) {
 }
 
 static void show_nearest(struct given given) {
-    struct found found = find(given.file[0], given.number[0], given.number[1]);
+    struct found found = find(read_sheet(given.file[0]), given.number[0], given.number[1]);
     const uint32_t line = found.line, pixel = given.number[2];
     uint8_t wanted[RINCHOVEK_PIXEL_BYTES];
     uint32_t index = 0;
@@ -353,23 +380,23 @@ static void show_nearest(struct given given) {
 }
 
 static void set_index(struct given given) {
-    struct found found = find(given.file[0], given.number[0], given.number[1]);
+    struct found found = find(read_sheet(given.file[0]), given.number[0], given.number[1]);
     const uint32_t pixel = given.number[2], index = given.number[3];
     const size_t at = RINCHOVEK_LINE_INDEXES + (size_t)pixel;
     if (pixel >= RINCHOVEK_BLOCK_PIXELS || found.widths[at] == 0) check(given.file[0], RINCHOVEK_PIXEL_NOT_IN_LINE);
-    const struct colour before = drawn(found.bytes, pixel);
     const uint32_t was = found.held[at];
     found.held[at] = (uint8_t)index;
-    const int turned = replace_there(&found, found.held);
-    printf("index %u, was %u\npair %s\npixel %s, was %s\n", index, was, in_words(turned), drawn(found.bytes, pixel).words, before.words);
+    const struct found after = replaced(found, found.held);
+    printf("index %u, was %u\npair %s\npixel %s, was %s\n", index, was, pair_in_words(after, found.held), drawn(after.bytes, pixel).words,
+           drawn(found.bytes, pixel).words);
     free(found.sheet.file.at);
 }
 
 static void replace_line(struct given given) {
-    const struct found found = find(given.file[0], given.number[0], given.number[1]);
+    const struct found found = find(read_sheet(given.file[0]), given.number[0], given.number[1]);
     uint8_t replacement[RINCHOVEK_LINE_BYTES];
     read_line(found.widths, replacement);
-    printf("pair %s\n", in_words(replace_there(&found, replacement)));
+    printf("pair %s\n", pair_in_words(replaced(found, replacement), replacement));
     free(found.sheet.file.at);
 }
 
@@ -380,6 +407,8 @@ static const struct command {
 } commands[] = {
     {"import", "DDS SHEET", "ff", "makes a sheet of a DDS file, and prints the file's colour space, linear or srgb", import_dds},
     {"export", "SHEET DDS [linear|srgb]", "ffc", "makes a DDS file of a sheet; where no colour space is given, it says linear", export_dds},
+    {"tiles", "SHEET OUT", "ff", "moves a sheet of form 1 to form 2: the same map, its blocks stored in tiles", move_to_tiles},
+    {"rows", "SHEET OUT", "ff", "moves a sheet of form 2 to form 1, its blocks row by row; refused where it states a colour space", move_to_rows},
     {"picture", "SHEET PAM", "ff", "draws a sheet into a PAM file, red, green, blue and alpha", draw_picture},
     {"line", "SHEET BLOCK LINE", "fnn", "prints a line of a block", show_line},
     {"nearest", "SHEET BLOCK LINE PIXEL RED GREEN BLUE ALPHA", "fnnnbbbb", "prints the index nearest to a colour, and what it draws",
@@ -395,6 +424,9 @@ static void print_help(void) {
     printf("       rinchovek --help, --version\n"
            "\n"
            "Blocks count from 0, row by row; lines from 0; pixels from 0 to 15, row by row within their block. Numbers have digits alone.\n"
+           "\n"
+           "A sheet stores its blocks row by row (form 1) or in tiles of 8 by 8 (form 2), where neighbours stand closer together. A block has\n"
+           "the same number in both, and every command takes either, but for three: `export` and `tiles` take form 1, and `rows` form 2.\n"
            "\n"
            "A line in words:\n"
            "    first    0   0   0   0  # the first endpoint: red, green, blue, alpha as stored\n"

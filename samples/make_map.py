@@ -1,12 +1,13 @@
 #!/usr/bin/env python3
-"""make_map.py [--check]: makes the sample map, map.sheet and map.dds beside this file; with --check it only compares.
+"""make_map.py [--check]: makes the sample map, map.sheet, map.tiles and map.dds beside this file; with --check it only compares.
 
 The map is of our own making: a terrain by noise of a fixed seed, a station on a hill, and around it the link margin as a colour, from dark
 blue where it is weak to yellow where it is strong. Alpha is the terrain mask: 255 where the station is in sight, 0 deep behind a ridge.
 
 Each block gets the mode that draws it best, by a search that knows the lines of a block from compare/model.py. What is stored is made by
 the proved code, through the program `replay` (`rt check replay` builds it): heads by W, each line put in by R, which turns the pair
-where the anchor asks for it, and the DDS file by X. The pixels are drawn by D and held to the terrain's.
+where the anchor asks for it, and the DDS file by X. The pixels are drawn by D and held to the terrain's. Only the order of the blocks in
+map.tiles is computed here, from the words of the request: so it says the same as the moves of the proved code, and not because they made it.
 
 Only sums, products, quotients and square roots of numbers are taken, which every machine rounds alike: the bytes are the same everywhere.
 """
@@ -256,8 +257,20 @@ def opened(mode, split):
     return number.to_bytes(16, "little")
 
 
+def tile_order(columns, rows):
+    """The numbers of the blocks as form 2 stores them: tiles of 8 by 8, row by row, and in each tile its slots from 0 to 63, whose even bits
+    are the column's and odd bits the row's; a slot beyond the sheet is left out."""
+    for top in range(0, rows, 8):
+        for left in range(0, columns, 8):
+            for slot in range(64):
+                column = left + (slot & 1) + (slot >> 1 & 2) + (slot >> 2 & 4)
+                row = top + (slot >> 1 & 1) + (slot >> 2 & 2) + (slot >> 3 & 4)
+                if column < columns and row < rows:
+                    yield row * columns + column
+
+
 def files(wanted):
-    """The bytes of the sheet and of the DDS file, and the blocks by mode."""
+    """The bytes of the sheet, of the sheet in tiles and of the DDS file, and the blocks."""
     chosen, blocks = [], []
     for top in range(0, HEIGHT, 4):
         for left in range(0, WIDTH, 4):
@@ -270,10 +283,13 @@ def files(wanted):
         for i, block in zip(with_line, answers(calls, 16)):
             blocks[i] = block
     (head,) = answers([("W", WIDTH, HEIGHT)], 8)
-    sheet = head[1 : 1 + head[0]] + b"".join(blocks)
+    form_and_size = head[1 : 1 + head[0]]
+    sheet = form_and_size + b"".join(blocks)
+    order = tile_order(model.in_blocks(WIDTH), model.in_blocks(HEIGHT))
+    tiles = b"\2" + form_and_size[1:] + b"\0" + b"".join(blocks[number] for number in order)
     needed = 148 + 16 * len(blocks)
     (dds,) = answers([("X", sheet, bytes(needed))], needed)
-    return sheet, dds, blocks
+    return sheet, tiles, dds, blocks
 
 
 def report(wanted, blocks):
@@ -297,9 +313,10 @@ if __name__ == "__main__":
         sys.exit("make_map.py: target/bin/replay isn't built; rt check replay builds it")
     meant = pixels()
     *made, made_blocks = files(meant)
+    names = ("map.sheet", "map.tiles", "map.dds")
     if len(sys.argv) == 1:
-        for name, data in zip(("map.sheet", "map.dds"), made):
+        for name, data in zip(names, made):
             (HERE / name).write_bytes(data)
         print(report(meant, made_blocks))
-    elif any((HERE / name).read_bytes() != data for name, data in zip(("map.sheet", "map.dds"), made)):
-        sys.exit("make_map.py: map.sheet or map.dds is another")
+    elif any((HERE / name).read_bytes() != data for name, data in zip(names, made)):
+        sys.exit("make_map.py: %s, %s or %s is another" % names)
