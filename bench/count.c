@@ -357,6 +357,8 @@ typedef u32 convert(const u8 *from, u64 length, u8 *to, u64 room);
 typedef u32 convert_length(const u8 *from, u64 length, u32 *needed);
 typedef u32 import_colour(const u8 *from, u64 length, u8 *to, u64 room, u32 *head);
 typedef u32 export_colour(const u8 *from, u64 length, u32 colour_space, u8 *to, u64 room);
+typedef u32 show_row(const u8 *all, u64 length, u32 row, u8 *to, u64 room);
+typedef u32 block_of(const u8 *all, u64 length, u32 block, u8 *bytes);
 
 two_buffers rinchovek_bc7_unpack, rinchovek_bc7_pack;
 read_one rinchovek_bc7_read_line;
@@ -370,6 +372,10 @@ __attribute__((weak)) convert_length rinchovek_dds_import_length, rinchovek_dds_
 __attribute__((weak)) import_colour rinchovek_dds_import_colour;
 __attribute__((weak)) export_colour rinchovek_dds_export_colour;
 __attribute__((weak)) read_head rinchovek_sheet_read_colour_head;
+__attribute__((weak)) convert rinchovek_sheet_to_tiles, rinchovek_sheet_to_rows;
+__attribute__((weak)) show_row rinchovek_sheet_show_row;
+__attribute__((weak)) block_of rinchovek_sheet_block;
+__attribute__((weak)) read_head rinchovek_sheet_open;
 replace_in rinchovek_sheet_replace_line;
 read_head rinchovek_sheet_read_head;
 write_head rinchovek_sheet_write_head;
@@ -399,6 +405,9 @@ static convert *volatile convert_call;
 static convert_length *volatile convert_length_call;
 static import_colour *volatile import_colour_call;
 static export_colour *volatile export_colour_call;
+static show_row *volatile show_row_call;
+static block_of *volatile block_of_call;
+static read_head *volatile open_call;
 
 static u32 no_two_buffers(const u8 *from, u8 *to) {
     __asm__ volatile("" ::"r"(from), "r"(to) : "memory");
@@ -467,6 +476,16 @@ static u32 no_export_colour(const u8 *from, u64 length, u32 colour_space, u8 *to
     return 0;
 }
 
+static u32 no_show_row(const u8 *all, u64 length, u32 row, u8 *to, u64 space) {
+    __asm__ volatile("" ::"r"(all), "r"(length), "r"(row), "r"(to), "r"(space) : "memory");
+    return 0;
+}
+
+static u32 no_block_of(const u8 *all, u64 length, u32 block, u8 *bytes) {
+    __asm__ volatile("" ::"r"(all), "r"(length), "r"(block), "r"(bytes) : "memory");
+    return 0;
+}
+
 typedef u32 one_call(u32 i);
 
 static u32 unpack_one(u32 i) { return two_buffers_call(sheet_blocks + 16 * i, records + RECORD * i); }
@@ -496,7 +515,7 @@ static u32 tell_a_block(u32 i) {
     return 0;
 }
 
-static u32 head_numbers[4];
+static u32 head_numbers[8];
 static u32 read_a_head(u32 i) { return read_head_call(sheet, sizeof sheet - i % 2, head_numbers); }
 static u32 read_a_colour_head(u32 i) { return read_colour_head_call(sheet, sizeof sheet - i % 2, head_numbers); }
 static u32 write_a_head(u32 i) { return write_head_call(128 + i, 4, out, head_numbers); }
@@ -531,7 +550,25 @@ static u32 export_srgb(u32 i) { return (void)i, export_colour_call(given, given_
 static u32 export_none(u32 i) { return (void)i, export_colour_call(given, given_length, SRGB + 1, file, room); }
 static u32 import_with_head(u32 i) { return (void)i, import_colour_call(given, given_length, again, room, head_numbers); }
 
+/* a sheet in both forms, and what one is moved to */
+enum { MOST_OF_A_SHEET = 4096, LONGEST_SHEET = 8 + 16 * MOST_OF_A_SHEET };
+static u8 in_rows[LONGEST_SHEET], in_tiles[LONGEST_SHEET], moved[LONGEST_SHEET], kept_in_rows[LONGEST_SHEET], kept_in_tiles[LONGEST_SHEET];
+static u64 rows_length, tiles_length;
+static u32 block_count, asked_row;
+
+static u32 move_it(u32 i) { return (void)i, convert_call(given, given_length, moved, room); }
+static u32 show_it(u32 i) { return (void)i, show_row_call(given, given_length, asked_row, out, room); }
+static u32 open_it(u32 i) { return (void)i, open_call(given, given_length, head_numbers); }
+/* blocks from all over the sheet */
+static u32 take_a_block(u32 i) { return block_of_call(given, given_length, block_count * i / COUNTED, out); }
+static u32 take_no_block(u32 i) { return block_of_call(given, given_length, block_count + i, out); }
+static u32 replace_in_rows(u32 i) { return replace_in_call(in_rows, rows_length, i, line_numbers[i], lines + LINE * i); }
+static u32 replace_in_tiles(u32 i) { return replace_in_call(in_tiles, tiles_length, i, line_numbers[i], lines + LINE * i); }
+
 static void point_at_calls(int at_none) {
+    show_row_call = at_none ? no_show_row : rinchovek_sheet_show_row;
+    block_of_call = at_none ? no_block_of : rinchovek_sheet_block;
+    open_call = at_none ? no_read_head : rinchovek_sheet_open;
     import_colour_call = at_none ? no_import_colour : rinchovek_dds_import_colour;
     export_colour_call = at_none ? no_export_colour : rinchovek_dds_export_colour;
     read_colour_head_call = at_none ? no_read_head : rinchovek_sheet_read_colour_head;
@@ -549,32 +586,40 @@ static void point_at_calls(int at_none) {
     replace_in_call = at_none ? no_replace_in : rinchovek_sheet_replace_line;
 }
 
-static __attribute__((noinline)) u64 steps_of_calls(one_call *call) {
+static __attribute__((noinline)) u64 steps_of_calls(one_call *call, u32 count) {
     start_counting();
-    for (u32 i = 0; i < COUNTED; i++) call(i);
+    for (u32 i = 0; i < count; i++) call(i);
     return stop_counting();
 }
 
+static void restore_sheets(void) {
+    memcpy(sheet, kept_sheet, sizeof sheet);
+    memcpy(in_rows, kept_in_rows, rows_length);
+    memcpy(in_tiles, kept_in_tiles, tiles_length);
+}
+
 /* The blocks stay as they are: each count starts from the same sheet. Every call must answer this refusal. */
-static u64 call_cost(one_call *call, u32 refusal) {
-    for (u32 i = 0; i < COUNTED; i++)
+static u64 cost_of_calls(one_call *call, u32 count, u32 refusal) {
+    for (u32 i = 0; i < count; i++)
         if (call(i) != refusal) {
             say("ANOTHER refusal than ");
             say_number(refusal, 0);
             say("\n");
             leave(1);
         }
-    memcpy(sheet, kept_sheet, sizeof sheet);
-    u64 steps_with = steps_of_calls(call);
-    memcpy(sheet, kept_sheet, sizeof sheet);
+    restore_sheets();
+    u64 steps_with = steps_of_calls(call, count);
+    restore_sheets();
     two_buffers *kept = two_buffers_call;
     two_buffers_call = no_two_buffers;
     point_at_calls(1);
-    u64 steps_without = steps_of_calls(call);
+    u64 steps_without = steps_of_calls(call, count);
     two_buffers_call = kept;
     point_at_calls(0);
     return steps_with - steps_without;
 }
+
+static u64 call_cost(one_call *call, u32 refusal) { return cost_of_calls(call, COUNTED, refusal); }
 
 static u64 decoded;
 
@@ -689,6 +734,172 @@ static void count_colours(void) {
     say_colour("rinchovek_dds_import_colour, refused with 11", import_with_head, file, ALL, sizeof sheet - 1, 11);
 }
 
+#ifdef FORMS
+
+static void fail_forms(const char *what, u32 width, u32 height) {
+    say(what);
+    say(" in a sheet of ");
+    say_number(width, 0);
+    say(" by ");
+    say_number(height, 0);
+    say("\n");
+    leave(1);
+}
+
+/* Mixed blocks as a sheet of this size in both forms; each block is the same by its number. */
+static void make_forms(u32 width, u32 height) {
+    u32 start = 0;
+    rinchovek_sheet_write_head(width, height, in_rows, &start);
+    block_count = blocks_of_row(width) * blocks_of_row(height);
+    make_blocks(in_rows + start, block_count, MIXED);
+    rows_length = start + 16 * block_count, tiles_length = rows_length + 1;
+    if (rinchovek_sheet_to_tiles(in_rows, rows_length, in_tiles, tiles_length)) fail_forms("REFUSED: the move to tiles", width, height);
+    if (rinchovek_sheet_to_rows(in_tiles, tiles_length, moved, rows_length)) fail_forms("REFUSED: the move to rows", width, height);
+    if (memcmp(in_rows, moved, rows_length)) fail_forms("DIFFERENT bytes come back", width, height);
+    for (u32 block = 0; block < block_count; block++)
+        if (rinchovek_sheet_block(in_tiles, tiles_length, block, out) || memcmp(out, in_rows + start + 16 * block, 16))
+            fail_forms("ANOTHER block", width, height);
+    memcpy(kept_in_rows, in_rows, rows_length);
+    memcpy(kept_in_tiles, in_tiles, tiles_length);
+}
+
+static void give(const u8 *from, u64 length, u64 space) { given = from, given_length = length, room = space; }
+
+static void say_moves(const char *name, u32 width, u32 height) {
+    make_forms(width, height);
+    say_left(name, 40);
+    say_number(block_count, 6);
+    measured_convert = rinchovek_sheet_to_tiles;
+    point_at_calls(0);
+    give(in_rows, rows_length, tiles_length);
+    u64 to_tiles = cost_of_calls(move_it, 1, 0);
+    measured_convert = rinchovek_sheet_to_rows;
+    point_at_calls(0);
+    give(in_tiles, tiles_length, rows_length);
+    u64 to_rows = cost_of_calls(move_it, 1, 0);
+    say_number(to_tiles, 10);
+    say_number(to_rows, 8);
+    say_number(to_tiles / block_count, 10);
+    say_number(to_rows / block_count, 8);
+    say("\n");
+}
+
+static u64 row_shown(const u8 *from, u64 length) {
+    give(from, length, room);
+    return cost_of_calls(show_it, 1, 0);
+}
+
+static void say_shown(const char *name, u32 width, u32 height, u32 row) {
+    make_forms(width, height);
+    u32 count = blocks_of_row(width);
+    asked_row = row;
+    room = 4 * (u64)width * lines_of_row(height, row);
+    memcpy(blocks, in_rows + rows_length - 16 * (u64)block_count + 16 * (u64)count * row, 16 * count);
+    u64 alone = row_cost(rinchovek_sheet_decode_row, width, height, row);
+    u64 rows = row_shown(in_rows, rows_length);
+    memcpy(expected, out, room);
+    u64 tiles = row_shown(in_tiles, tiles_length);
+    if (memcmp(expected, out, room)) fail_forms("DIFFERENT pixels", width, height);
+    say_left(name, 52);
+    say_number(alone / count, 6);
+    say_number(rows / count, 8);
+    say_number(tiles / count, 8);
+    say_ratio(tiles, rows, 8);
+    say("\n");
+}
+
+/* The same call on a sheet in either form. */
+static void say_both(const char *name, u64 rows, u64 tiles) {
+    say_left(name, 52);
+    say_number(rows / COUNTED, 6);
+    say_number(tiles / COUNTED, 8);
+    say_number((tiles - rows) / COUNTED, 8);
+    say("\n");
+}
+
+static u64 cost_given(one_call *call, const u8 *from, u64 length) {
+    give(from, length, 0);
+    return call_cost(call, 0);
+}
+
+static void say_by_number(const char *name, u32 width, u32 height) {
+    make_forms(width, height);
+    u64 open_rows = cost_given(open_it, in_rows, rows_length), open_tiles = cost_given(open_it, in_tiles, tiles_length);
+    u64 rows = cost_given(take_a_block, in_rows, rows_length), tiles = cost_given(take_a_block, in_tiles, tiles_length);
+    say_left(name, 52);
+    say("\n");
+    say_both("  rinchovek_sheet_open", open_rows, open_tiles);
+    say_both("  rinchovek_sheet_block", rows, tiles);
+    say_left("  where the block stands: what is left of the two", 52);
+    say_number((tiles - rows - (open_tiles - open_rows)) / COUNTED, 22);
+    say("\n");
+}
+
+static void say_move_refused(const char *name, convert *call, const u8 *from, u64 length, u64 space, u32 refusal) {
+    measured_convert = call;
+    point_at_calls(0);
+    give(from, length, space);
+    say_call(name, move_it, refusal);
+}
+
+static void count_refused_forms(void) {
+    enum { NUMBER = 3 }; /* of the colour space, behind the form and two sides of one byte each */
+    make_forms(32, 32);
+    say("\nInstructions a call, refused\n");
+    say_move_refused("rinchovek_sheet_to_tiles, 8: form 2 given", rinchovek_sheet_to_tiles, in_tiles, tiles_length, tiles_length + 1, 8);
+    say_move_refused("rinchovek_sheet_to_tiles, 10", rinchovek_sheet_to_tiles, in_rows, rows_length - 1, tiles_length, 10);
+    say_move_refused("rinchovek_sheet_to_tiles, 11", rinchovek_sheet_to_tiles, in_rows, rows_length, rows_length, 11);
+    say_move_refused("rinchovek_sheet_to_rows, 8: form 1 given", rinchovek_sheet_to_rows, in_rows, rows_length, rows_length - 1, 8);
+    say_move_refused("rinchovek_sheet_to_rows, 11", rinchovek_sheet_to_rows, in_tiles, tiles_length, tiles_length, 11);
+    kept_in_tiles[NUMBER] = in_tiles[NUMBER] = SRGB;
+    say_move_refused("rinchovek_sheet_to_rows, 16: sRGB", rinchovek_sheet_to_rows, in_tiles, tiles_length, rows_length, 16);
+    kept_in_tiles[NUMBER] = in_tiles[NUMBER] = SRGB + 1;
+    give(in_tiles, tiles_length, 0);
+    say_call("rinchovek_sheet_open, 18", open_it, 18);
+    kept_in_tiles[NUMBER] = in_tiles[NUMBER] = 0;
+    say_call("rinchovek_sheet_block, 12: form 2", take_no_block, 12);
+    give(in_tiles, tiles_length - 1, 0);
+    say_call("rinchovek_sheet_block, 10: form 2", take_a_block, 10);
+    give(in_tiles, tiles_length, 0);
+    asked_row = 0;
+    say_call("rinchovek_sheet_show_row, 11: form 2", show_it, 11);
+    asked_row = 8;
+    say_call("rinchovek_sheet_show_row, 12: form 2", show_it, 12);
+}
+
+/* Sheets in rows beside the same in tiles: whole tiles, and tiles that are cut at the right, at the bottom and at both. */
+static void count_forms(void) {
+    make_sheet(MIXED);
+    make_lines();
+    say("\nInstructions of a move, of mixed blocks\n");
+    say("                                                       a call            a block\n");
+    say("                                        blocks  to tiles to rows  to tiles to rows\n");
+    say_moves("one block, 4 by 4", 4, 4);
+    say_moves("one whole tile, 32 by 32", 32, 32);
+    say_moves("a row, 256 by 4", 256, 4);
+    say_moves("64 whole tiles, 256 by 256", 256, 256);
+    say_moves("cut at both sides, 244 by 268", 244, 268);
+    say("\nInstructions a block of a row of a whole sheet of mixed blocks, beside the row's blocks alone (decode_row)\n");
+    say("                                                     alone  form 1  form 2   ratio\n");
+    say_shown("64 blocks, whole tiles, row 5 of 256 by 32", 256, 32, 5);
+    say_shown("64 blocks, tiles cut at the bottom, 256 by 4", 256, 4, 0);
+    say_shown("61 blocks, cut at both sides, row 5 of 244 by 268", 244, 268, 5);
+    say_shown("61 blocks, cut at both sides, row 66 of 244 by 268", 244, 268, 66);
+    say("\nInstructions a call over 64 blocks of a sheet\n");
+    say("                                                    form 1  form 2    more\n");
+    say_by_number("one whole tile, 32 by 32", 32, 32);
+    say_by_number("64 whole tiles, 256 by 256", 256, 256);
+    say_by_number("a row, 256 by 4", 256, 4);
+    say_by_number("cut at both sides, 244 by 268", 244, 268);
+    make_forms(32, 32);
+    say_both("rinchovek_sheet_replace_line, 32 by 32, kept", call_cost(replace_in_rows, 0), call_cost(replace_in_tiles, 0));
+    make_forms(28, 40);
+    say_both("rinchovek_sheet_replace_line, 28 by 40, kept", call_cost(replace_in_rows, 0), call_cost(replace_in_tiles, 0));
+    count_refused_forms();
+}
+
+#endif
+
 static void count_writing(void) {
     make_sheet(MIXED);
     make_lines();
@@ -764,6 +975,9 @@ static void count_writing(void) {
         }
     }
     say("\n");
+#ifdef FORMS
+    count_forms();
+#endif
 }
 
 #endif

@@ -9,6 +9,7 @@
 #       has_pixels yes where it has rinchovek_bc7_pixel, else empty
 #       has_files  yes where it has rinchovek_dds_import, else empty
 #       has_colours  yes where it has rinchovek_dds_import_colour, else empty
+#       has_forms  yes where it has rinchovek_sheet_to_tiles, else empty
 #       kit        the folder of the kit's clang and linker for this machine
 #       work       a fresh folder, removed at exit, with the published sources and reference.rs in it
 
@@ -41,6 +42,8 @@ prepare() {
     if grep -qaw rinchovek_dds_import "$archive"; then has_files=yes; fi
     has_colours=
     if grep -qaw rinchovek_dds_import_colour "$archive"; then has_colours=yes; fi
+    has_forms=
+    if grep -qaw rinchovek_sheet_to_tiles "$archive"; then has_forms=yes; fi
 
     place=${2:-$repository/../shared}
     for published in "$place/docs/src/src" "$place/src" "$place"; do
