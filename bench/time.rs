@@ -130,6 +130,16 @@ mod writing {
         fn rinchovek_dds_import_length(dds: *const u8, dds_length: usize, sheet_length: *mut u32) -> u32;
         #[cfg(files)]
         fn rinchovek_dds_export_length(sheet: *const u8, sheet_length: usize, dds_length: *mut u32) -> u32;
+        #[cfg(forms)]
+        fn rinchovek_sheet_to_tiles(sheet: *const u8, length: usize, out: *mut u8, out_length: usize) -> u32;
+        #[cfg(forms)]
+        fn rinchovek_sheet_to_rows(sheet: *const u8, length: usize, out: *mut u8, out_length: usize) -> u32;
+        #[cfg(forms)]
+        fn rinchovek_sheet_show_row(sheet: *const u8, length: usize, row: u32, out: *mut u8, out_length: usize) -> u32;
+        #[cfg(forms)]
+        fn rinchovek_sheet_block(sheet: *const u8, length: usize, block: u32, bytes: &mut Block) -> u32;
+        #[cfg(forms)]
+        fn rinchovek_sheet_open(sheet: *const u8, length: usize, numbers: &mut [u32; 8]) -> u32;
     }
 
     fn nanoseconds(name: &str, count: usize, mut every: impl FnMut() -> u32) {
@@ -138,7 +148,7 @@ mod writing {
             assert_eq!(every(), 0, "{name} refuses a call");
             start.elapsed().as_secs_f64()
         });
-        println!("{name:38} {:7.1}", 1e9 * median(times.collect()) / count as f64);
+        println!("{name:46} {:7.1}", 1e9 * median(times.collect()) / count as f64);
     }
 
     /// Pixel 0 is in line 0 of every mode; what it shows is hit.
@@ -191,6 +201,42 @@ mod writing {
         assert!(again == sheet && head[3] == 2, "a sheet that was exported is imported as another");
     }
 
+    /// The sheet of all blocks moved to tiles and back, and both forms shown, opened, read and corrected by number.
+    #[cfg(forms)]
+    fn time_forms(sheet: &mut [u8], columns: usize, lines: &[Line]) {
+        let (mut tiles, mut again) = (vec![0; sheet.len() + 1], vec![0; sheet.len()]);
+        nanoseconds("rinchovek_sheet_to_tiles, all blocks", 1, || unsafe {
+            rinchovek_sheet_to_tiles(sheet.as_ptr(), sheet.len(), tiles.as_mut_ptr(), tiles.len())
+        });
+        nanoseconds("rinchovek_sheet_to_rows, all blocks", 1, || unsafe {
+            rinchovek_sheet_to_rows(tiles.as_ptr(), tiles.len(), again.as_mut_ptr(), again.len())
+        });
+        assert!(again == sheet, "a sheet that was moved to tiles comes back as another");
+        let (mut row, mut first, mut numbers) = (vec![0; 64 * columns], vec![0; 64 * columns], [0; 8]);
+        for (form, sheet) in [("form 1", &mut *sheet), ("form 2", &mut tiles[..])] {
+            nanoseconds(&format!("rinchovek_sheet_show_row, a block, {form}"), SMALL, || {
+                let show = |y| unsafe { rinchovek_sheet_show_row(sheet.as_ptr(), sheet.len(), y, row.as_mut_ptr(), row.len()) };
+                (0..(SMALL / columns) as u32).map(show).fold(0, |refused, refusal| refused | refusal)
+            });
+            if form == "form 1" {
+                first.clone_from(&row);
+            }
+            assert!(row == first, "the last row shows something else in tiles");
+            nanoseconds(&format!("rinchovek_sheet_open, {form}"), SMALL, || {
+                let open = |_| unsafe { rinchovek_sheet_open(black_box(sheet.as_ptr()), sheet.len(), &mut numbers) };
+                (0..SMALL).map(open).fold(0, |refused, refusal| refused | refusal)
+            });
+            nanoseconds(&format!("rinchovek_sheet_block, {form}"), SMALL, || {
+                let take = |i| unsafe { rinchovek_sheet_block(sheet.as_ptr(), sheet.len(), i, black_box(&mut [0; 16])) };
+                (0..SMALL as u32).map(take).fold(0, |refused, refusal| refused | refusal)
+            });
+            nanoseconds(&format!("rinchovek_sheet_replace_line, {form}"), SMALL, || {
+                let replace = |i| unsafe { rinchovek_sheet_replace_line(sheet.as_mut_ptr(), sheet.len(), i as u32, 0, &lines[i]) };
+                (0..SMALL).map(replace).fold(0, |refused, refusal| refused | refusal)
+            });
+        }
+    }
+
     pub fn time() {
         println!("\nNanoseconds a call, over {SMALL} mixed blocks again and again, {SMALL_ROUNDS} rounds, in cache");
         let blocks = make_blocks(SMALL, MIXED);
@@ -236,6 +282,8 @@ mod writing {
         nanoseconds("rinchovek_sheet_replace_line, kept", SMALL, || {
             every(&mut |i| unsafe { rinchovek_sheet_replace_line(sheet.as_mut_ptr(), sheet.len(), i as u32, 0, &lines[i]) })
         });
+        #[cfg(forms)]
+        time_forms(&mut sheet, 256, &lines);
         for (block, line) in blocks.iter().zip(&mut lines) {
             unsafe { rinchovek_bc7_read_line(block, 0, line, &mut widths) };
             for v in 10..26 {
