@@ -1,6 +1,7 @@
 /* Every call of include/rinchovek.h, from C: a row of a small sheet is decoded, one of its blocks is corrected, and the row is
  * decoded again; the other way round, which index gives a red; the same correction on the block alone; what happens to calls that
- * are refused; records and heads; which blocks are opaque; single pixels; the sheet as a DDS file and back, in sRGB too. */
+ * are refused; records and heads; which blocks are opaque; single pixels; the sheet as a DDS file and back, in sRGB too; a sheet moved
+ * to tiles and back. */
 #include "rinchovek.h"
 
 int printf(const char *format, ...);
@@ -71,6 +72,16 @@ static void show_one(const uint8_t block[RINCHOVEK_BLOCK_BYTES], uint32_t pixel)
     if (refusal == RINCHOVEK_ACCEPTED)
         printf(", %u %u %u %u", rgba[RINCHOVEK_RED], rgba[RINCHOVEK_GREEN], rgba[RINCHOVEK_BLUE], rgba[RINCHOVEK_ALPHA]);
     printf("\n");
+}
+
+/* The numbers of a sheet of either form. */
+static void show_opened(const uint8_t *bytes, size_t length) {
+    uint32_t numbers[RINCHOVEK_OPEN_NUMBERS] = {0};
+    const uint32_t refusal = rinchovek_sheet_open(bytes, length, numbers);
+    printf("opened: %u, %u by %u, blocks from %u, colour space %u, form %u, %u columns, %u rows, %u blocks\n", refusal,
+           numbers[RINCHOVEK_OPEN_WIDTH], numbers[RINCHOVEK_OPEN_HEIGHT], numbers[RINCHOVEK_OPEN_START],
+           numbers[RINCHOVEK_OPEN_COLOUR_SPACE], numbers[RINCHOVEK_OPEN_FORM], numbers[RINCHOVEK_OPEN_COLUMNS],
+           numbers[RINCHOVEK_OPEN_ROWS], numbers[RINCHOVEK_OPEN_BLOCKS]);
 }
 
 int main(void) {
@@ -164,7 +175,41 @@ int main(void) {
     printf("its head: %u, colour space %u\n", refusal, numbers[RINCHOVEK_HEAD_COLOUR_SPACE]);
     show_refusal("colour space 3", rinchovek_dds_export_colour(sheet, sizeof sheet, 3, file, sizeof file));
 
-    for (uint32_t number = RINCHOVEK_RESERVED_BLOCK; number <= RINCHOVEK_NOT_A_BC7_TEXTURE; number++)
+    /* A sheet of three by two blocks of mode 6, block n all in red 4 * n. In tiles they are stored in the order 0 1 3 4 2 5; rows and blocks
+     * are asked for by their numbers as before. Who knows three numbers only is refused, and so is the way back once a colour space is stated. */
+    enum { TILED_HEAD = 4, COLUMNS = 3, BLOCKS = 6 };
+    static uint8_t in_rows[HEAD + BLOCKS * RINCHOVEK_BLOCK_BYTES] = {RINCHOVEK_FORM_ROWS, 12, 8}, back[sizeof in_rows];
+    static uint8_t in_tiles[sizeof in_rows + 1], scanlines[12 * 4 * RINCHOVEK_PIXEL_BYTES], one[RINCHOVEK_BLOCK_BYTES];
+    for (uint32_t n = 0; n < BLOCKS; n++) {
+        in_rows[HEAD + n * RINCHOVEK_BLOCK_BYTES] = 0x40;
+        in_rows[HEAD + n * RINCHOVEK_BLOCK_BYTES + 1] = (uint8_t)n;
+    }
+    show_opened(in_rows, sizeof in_rows);
+    show_refusal("to tiles", rinchovek_sheet_to_tiles(in_rows, sizeof in_rows, in_tiles, sizeof in_tiles));
+    show_opened(in_tiles, sizeof in_tiles);
+    printf("stored");
+    for (uint32_t n = 0; n < BLOCKS; n++) printf(" %u", in_tiles[TILED_HEAD + n * RINCHOVEK_BLOCK_BYTES + 1]);
+    printf("\n");
+    block = 2;
+    show_refusal("block 2", rinchovek_sheet_block(in_tiles, sizeof in_tiles, block, one));
+    show_bytes("block", one, 2);
+    block = BLOCKS;
+    show_refusal("block 6", rinchovek_sheet_block(in_tiles, sizeof in_tiles, block, one));
+    refusal = rinchovek_sheet_show_row(in_tiles, sizeof in_tiles, 1, scanlines, sizeof scanlines);
+    printf("row 1: %u, red", refusal);
+    for (uint32_t n = 0; n < COLUMNS; n++) printf(" %u", scanlines[n * 4 * RINCHOVEK_PIXEL_BYTES + RINCHOVEK_RED]);
+    printf("\n");
+    show_refusal("tiles in three numbers", rinchovek_sheet_read_head(in_tiles, sizeof in_tiles, numbers));
+    show_refusal("to rows", rinchovek_sheet_to_rows(in_tiles, sizeof in_tiles, back, sizeof back));
+    uint32_t same = 1;
+    for (uint32_t i = 0; i < sizeof back; i++) same &= back[i] == in_rows[i];
+    printf("the same bytes: %s\n", same ? "yes" : "no");
+    show_refusal("sRGB stated", rinchovek_sheet_state_colour(in_tiles, sizeof in_tiles, RINCHOVEK_SRGB));
+    show_opened(in_tiles, sizeof in_tiles);
+    show_refusal("3 stated", rinchovek_sheet_state_colour(in_tiles, sizeof in_tiles, 3));
+    show_refusal("sRGB to rows", rinchovek_sheet_to_rows(in_tiles, sizeof in_tiles, back, sizeof back));
+
+    for (uint32_t number = RINCHOVEK_RESERVED_BLOCK; number <= RINCHOVEK_COLOUR_SPACE_STATED; number++)
         printf("%u: %s\n", number, rinchovek_refusal_text(number));
     printf("%u: %s\n", RINCHOVEK_BAD_COLOUR_SPACE, rinchovek_refusal_text(RINCHOVEK_BAD_COLOUR_SPACE));
     printf("%u: %s\n", RINCHOVEK_NO_SUCH_PIXEL, rinchovek_refusal_text(RINCHOVEK_NO_SUCH_PIXEL));

@@ -28,6 +28,15 @@ struct Head {
     ColourSpace colour_space = ColourSpace::unspecified;
 };
 
+enum class Form : uint32_t { rows = RINCHOVEK_FORM_ROWS, tiles = RINCHOVEK_FORM_TILES };
+
+// A sheet of either form.
+struct Opened {
+    Head head;
+    Form form = Form::rows;
+    uint32_t columns = 0, rows = 0, blocks = 0;
+};
+
 // How much of a block is shown.
 struct Shown {
     uint32_t columns, rows;
@@ -94,6 +103,19 @@ uint32_t read_colour_head(const std::vector<uint8_t> &sheet, Head &head) {
     return refusal;
 }
 
+uint32_t open(const std::vector<uint8_t> &sheet, Opened &opened) {
+    uint32_t numbers[RINCHOVEK_OPEN_NUMBERS] = {};
+    uint32_t refusal = rinchovek_sheet_open(sheet.data(), sheet.size(), numbers);
+    if (refusal == RINCHOVEK_ACCEPTED)
+        opened = {{numbers[RINCHOVEK_OPEN_WIDTH], numbers[RINCHOVEK_OPEN_HEIGHT], numbers[RINCHOVEK_OPEN_START],
+                   ColourSpace(numbers[RINCHOVEK_OPEN_COLOUR_SPACE])},
+                  Form(numbers[RINCHOVEK_OPEN_FORM]),
+                  numbers[RINCHOVEK_OPEN_COLUMNS],
+                  numbers[RINCHOVEK_OPEN_ROWS],
+                  numbers[RINCHOVEK_OPEN_BLOCKS]};
+    return refusal;
+}
+
 uint32_t write_head(uint32_t width, uint32_t height, std::vector<uint8_t> &head) {
     uint8_t bytes[RINCHOVEK_HEAD_BYTES] = {};
     uint32_t count = 0;
@@ -108,6 +130,31 @@ uint32_t decode_row(const Head &head, uint32_t row, const std::vector<uint8_t> &
     const size_t from = std::min(head.start + row * length, sheet.size()), count = std::min(length, sheet.size() - from);
     pixels.resize(rinchovek_row_pixels(head.width, head.height, row));
     return rinchovek_sheet_decode_row(head.width, head.height, row, sheet.data() + from, count, pixels.data(), pixels.size());
+}
+
+// A row and a block of a whole sheet of either form, which was opened.
+uint32_t decode_row(const Opened &opened, uint32_t row, const std::vector<uint8_t> &sheet, std::vector<uint8_t> &pixels) {
+    pixels.resize(rinchovek_row_pixels(opened.head.width, opened.head.height, row));
+    return rinchovek_sheet_show_row(sheet.data(), sheet.size(), row, pixels.data(), pixels.size());
+}
+
+uint32_t read_block(const std::vector<uint8_t> &sheet, BlockNumber block, Block &bytes) {
+    return rinchovek_sheet_block(sheet.data(), sheet.size(), uint32_t(block), bytes.data());
+}
+
+// A sheet in the other form, which is a byte longer in tiles.
+uint32_t to_tiles(const std::vector<uint8_t> &sheet, std::vector<uint8_t> &tiles) {
+    tiles.resize(sheet.size() + 1);
+    return rinchovek_sheet_to_tiles(sheet.data(), sheet.size(), tiles.data(), tiles.size());
+}
+
+uint32_t to_rows(const std::vector<uint8_t> &sheet, std::vector<uint8_t> &rows) {
+    rows.resize(sheet.empty() ? 0 : sheet.size() - 1);
+    return rinchovek_sheet_to_rows(sheet.data(), sheet.size(), rows.data(), rows.size());
+}
+
+uint32_t state_colour(std::vector<uint8_t> &tiles, ColourSpace colour_space) {
+    return rinchovek_sheet_state_colour(tiles.data(), tiles.size(), uint32_t(colour_space));
 }
 
 // A DDS file as a sheet, and a sheet as a DDS file; the output gets the length that it needs.
@@ -196,6 +243,14 @@ static void show_one(const Block &block, PixelNumber pixel) {
     std::printf("\n");
 }
 
+static void show_opened(const std::vector<uint8_t> &sheet) {
+    Opened opened;
+    const uint32_t refusal = open(sheet, opened);
+    std::printf("opened: %u, %u by %u, blocks from %u, colour space %u, form %u, %u columns, %u rows, %u blocks\n", refusal,
+                opened.head.width, opened.head.height, opened.head.start, uint32_t(opened.head.colour_space), uint32_t(opened.form),
+                opened.columns, opened.rows, opened.blocks);
+}
+
 int main() {
     const uint32_t version = rinchovek_version();
     if (version / 10000 != RINCHOVEK_VERSION_MAJOR || version < RINCHOVEK_VERSION) return 1;
@@ -275,7 +330,36 @@ int main() {
     std::printf("its head: %u, colour space %u\n", refusal, uint32_t(said.colour_space));
     show_refusal("colour space 3", export_dds(sheet, ColourSpace(3), file));
 
-    for (uint32_t number = RINCHOVEK_RESERVED_BLOCK; number <= RINCHOVEK_NOT_A_BC7_TEXTURE; number++)
+    std::vector<uint8_t> in_rows = {RINCHOVEK_FORM_ROWS, 12, 8}, in_tiles, back, scanlines;
+    for (uint8_t n = 0; n < 6; n++) {
+        const Block filled = {0x40, n};
+        in_rows.insert(in_rows.end(), filled.begin(), filled.end());
+    }
+    show_opened(in_rows);
+    show_refusal("to tiles", to_tiles(in_rows, in_tiles));
+    show_opened(in_tiles);
+    Opened opened;
+    open(in_tiles, opened);
+    std::printf("stored");
+    for (uint32_t n = 0; n < opened.blocks; n++) std::printf(" %u", in_tiles[opened.head.start + n * RINCHOVEK_BLOCK_BYTES + 1]);
+    std::printf("\n");
+    Block one = {};
+    show_refusal("block 2", read_block(in_tiles, BlockNumber(2), one));
+    show_bytes("block", one.data(), 2);
+    show_refusal("block 6", read_block(in_tiles, BlockNumber(6), one));
+    refusal = decode_row(opened, 1, in_tiles, scanlines);
+    std::printf("row 1: %u, red", refusal);
+    for (uint32_t n = 0; n < opened.columns; n++) std::printf(" %u", scanlines[n * 4 * RINCHOVEK_PIXEL_BYTES + RINCHOVEK_RED]);
+    std::printf("\n");
+    show_refusal("tiles in three numbers", read_head(in_tiles, said));
+    show_refusal("to rows", to_rows(in_tiles, back));
+    std::printf("the same bytes: %s\n", back == in_rows ? "yes" : "no");
+    show_refusal("sRGB stated", state_colour(in_tiles, ColourSpace::srgb));
+    show_opened(in_tiles);
+    show_refusal("3 stated", state_colour(in_tiles, ColourSpace(3)));
+    show_refusal("sRGB to rows", to_rows(in_tiles, back));
+
+    for (uint32_t number = RINCHOVEK_RESERVED_BLOCK; number <= RINCHOVEK_COLOUR_SPACE_STATED; number++)
         std::printf("%u: %s\n", number, rinchovek_refusal_text(number));
     std::printf("%u: %s\n", unsigned(RINCHOVEK_BAD_COLOUR_SPACE), rinchovek_refusal_text(RINCHOVEK_BAD_COLOUR_SPACE));
     std::printf("%u: %s\n", unsigned(RINCHOVEK_NO_SUCH_PIXEL), rinchovek_refusal_text(RINCHOVEK_NO_SUCH_PIXEL));

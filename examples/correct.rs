@@ -60,6 +60,18 @@ fn show_one(block: &Block, pixel: u32) {
     println!("pixel {pixel}: {}, {text}", number(&read));
 }
 
+/// What a sheet of either form says of itself.
+fn show_opened(sheet: &[u8]) -> Result<Opened, Refusal> {
+    let opened = open(sheet)?;
+    let Head { width, height, start } = opened.head;
+    let form = if opened.form == Form::Tiles { 2 } else { 1 };
+    println!(
+        "opened: 0, {width} by {height}, blocks from {start}, colour space {}, form {form}, {} columns, {} rows, {} blocks",
+        opened.colour_space.0, opened.columns, opened.rows, opened.blocks
+    );
+    Ok(opened)
+}
+
 fn main() -> Result<(), Refusal> {
     let (major, minor, patch) = version();
     println!("version {major}.{minor}.{patch}");
@@ -139,6 +151,33 @@ fn main() -> Result<(), Refusal> {
     let (_, colour) = read_colour_head(&again)?;
     println!("its head: 0, colour space {}", colour.0);
     show_refusal("colour space 3", &export_colour(&sheet, ColourSpace(3)));
+
+    // a sheet of three by two blocks of mode 6, block n all in red 4 * n; in tiles they are stored in the order 0 1 3 4 2 5
+    let mut in_rows = vec![0x01, 12, 8];
+    for n in 0..6 {
+        in_rows.extend([0x40, n, 0, 0, 0, 0, 0, 0, 0, 0, 0, 0, 0, 0, 0, 0]);
+    }
+    show_opened(&in_rows)?;
+    let moved = to_tiles(&in_rows);
+    show_refusal("to tiles", &moved);
+    let mut in_tiles = moved?;
+    let opened = show_opened(&in_tiles)?;
+    let stored: Vec<String> = in_tiles[opened.head.start..].chunks(16).map(|block| block[1].to_string()).collect();
+    println!("stored {}", stored.join(" "));
+    let block = block_in_sheet(&in_tiles, BlockNumber(2));
+    show_refusal("block 2", &block);
+    show_bytes("block", &block?[..2]);
+    show_refusal("block 6", &block_in_sheet(&in_tiles, BlockNumber(6)));
+    let scanlines = decode_sheet_row(&opened, 1, &in_tiles)?;
+    println!("row 1: 0, red {} {} {}", scanlines[0], scanlines[16], scanlines[32]);
+    show_refusal("tiles in three numbers", &read_head(&in_tiles));
+    let back = to_rows(&in_tiles);
+    show_refusal("to rows", &back);
+    println!("the same bytes: {}", if back? == in_rows { "yes" } else { "no" });
+    show_refusal("sRGB stated", &state_colour(&mut in_tiles, ColourSpace::SRGB));
+    show_opened(&in_tiles)?;
+    show_refusal("3 stated", &state_colour(&mut in_tiles, ColourSpace(3)));
+    show_refusal("sRGB to rows", &to_rows(&in_tiles));
 
     for refusal in Refusal::ALL {
         println!("{}: {refusal}", refusal.number());

@@ -1,5 +1,6 @@
 /* Holds the archive against what include/rinchovek.h says and no proof does: the version, the lengths of a row, NULL where a length
- * is 0, and how much stack a call takes. Exit status 1 where something isn't so. */
+ * is 0, and how much stack a call takes; and that a program which knows form 1 alone is shown nothing of form 2. Exit status 1 where
+ * something isn't so. */
 #include "rinchovek.h"
 
 int printf(const char *format, ...);
@@ -32,8 +33,18 @@ static void try_rows(void) {
 }
 
 static void try_null(void) {
-    uint32_t head[RINCHOVEK_HEAD_NUMBERS], colour_head[RINCHOVEK_COLOUR_HEAD_NUMBERS];
+    uint32_t head[RINCHOVEK_HEAD_NUMBERS], colour_head[RINCHOVEK_COLOUR_HEAD_NUMBERS], numbers[RINCHOVEK_OPEN_NUMBERS];
     static const uint8_t replacement[RINCHOVEK_LINE_BYTES];
+    static uint8_t block[RINCHOVEK_BLOCK_BYTES];
+    static const uint8_t one[3 + RINCHOVEK_BLOCK_BYTES] = {RINCHOVEK_FORM_ROWS, 4, 4};
+    expect("no sheet", rinchovek_sheet_open(NULL, 0, numbers), RINCHOVEK_BAD_NUMBER);
+    expect("no sheet", rinchovek_sheet_show_row(NULL, 0, 0, NULL, 0), RINCHOVEK_BAD_NUMBER);
+    expect("no sheet", rinchovek_sheet_block(NULL, 0, 0, block), RINCHOVEK_BAD_NUMBER);
+    expect("no sheet", rinchovek_sheet_to_tiles(NULL, 0, NULL, 0), RINCHOVEK_BAD_NUMBER);
+    expect("no sheet", rinchovek_sheet_to_rows(NULL, 0, NULL, 0), RINCHOVEK_BAD_NUMBER);
+    expect("no sheet", rinchovek_sheet_state_colour(NULL, 0, 3), RINCHOVEK_BAD_NUMBER);
+    expect("no output", rinchovek_sheet_show_row(one, sizeof one, 0, NULL, 0), RINCHOVEK_WRONG_OUTPUT_LENGTH);
+    expect("no output", rinchovek_sheet_to_tiles(one, sizeof one, NULL, 0), RINCHOVEK_WRONG_OUTPUT_LENGTH);
     expect("no sheet", rinchovek_sheet_read_head(NULL, 0, head), RINCHOVEK_BAD_NUMBER);
     expect("no sheet", rinchovek_sheet_read_colour_head(NULL, 0, colour_head), RINCHOVEK_BAD_NUMBER);
     expect("no sheet", rinchovek_sheet_replace_line(NULL, 0, 0, 0, replacement), RINCHOVEK_BAD_NUMBER);
@@ -66,6 +77,97 @@ static void try_files(void) {
     expect("a file cut off", rinchovek_dds_import(file, whole - 1, sheet, needed), RINCHOVEK_WRONG_BLOCK_BYTES);
 }
 
+/* Numbers that a call must leave. */
+enum { UNTOUCHED = 0x5A5A5A5A };
+
+static void leave(const char *what, const uint32_t *numbers, int count) {
+    for (int i = 0; i < count; i++) expect(what, numbers[i], UNTOUCHED);
+}
+
+/* The calls of three and four numbers refuse form 2, whatever stands behind it, and write nothing: who knows no form would show tiles as
+ * rows. The calls that export refuse it too. rinchovek_sheet_open takes it, and looks at no more bytes than the header says. */
+static void try_tiles(void) {
+    static const uint8_t tiles[4 + 2 * RINCHOVEK_BLOCK_BYTES] = {RINCHOVEK_FORM_TILES, 5, 3, RINCHOVEK_SRGB};
+    static uint8_t file[RINCHOVEK_DDS_HEADER_BYTES + 2 * RINCHOVEK_BLOCK_BYTES];
+    for (size_t length = 1; length <= sizeof tiles; length++) {
+        uint32_t head[RINCHOVEK_COLOUR_HEAD_NUMBERS] = {UNTOUCHED, UNTOUCHED, UNTOUCHED, UNTOUCHED};
+        expect("tiles in three numbers", rinchovek_sheet_read_head(tiles, length, head), RINCHOVEK_UNKNOWN_FORM);
+        expect("tiles in four numbers", rinchovek_sheet_read_colour_head(tiles, length, head), RINCHOVEK_UNKNOWN_FORM);
+        expect("tiles as a file", rinchovek_dds_export(tiles, length, file, sizeof file), RINCHOVEK_UNKNOWN_FORM);
+        expect("tiles as a file", rinchovek_dds_export_colour(tiles, length, 3, file, sizeof file), RINCHOVEK_UNKNOWN_FORM);
+        expect("tiles as a file", rinchovek_dds_export_length(tiles, length, head), RINCHOVEK_UNKNOWN_FORM);
+        leave("a head of tiles", head, RINCHOVEK_COLOUR_HEAD_NUMBERS);
+    }
+    static const uint32_t said[RINCHOVEK_OPEN_NUMBERS] = {5, 3, 4, RINCHOVEK_SRGB, RINCHOVEK_FORM_TILES, 2, 1, 2};
+    uint32_t numbers[RINCHOVEK_OPEN_NUMBERS] = {0};
+    expect("open", rinchovek_sheet_open(tiles, RINCHOVEK_OPEN_BYTES, numbers), RINCHOVEK_ACCEPTED);
+    for (int i = 0; i < RINCHOVEK_OPEN_NUMBERS; i++) expect("a number of an opened sheet", numbers[i], said[i]);
+
+    /* The longest sides, and a colour space of three groups: refused for it by the first RINCHOVEK_OPEN_BYTES bytes, and by fewer for a
+     * number that is cut off. */
+    static const uint8_t longest[RINCHOVEK_OPEN_BYTES + 1] = {RINCHOVEK_FORM_TILES, 0x80, 0x80, 1, 0x80, 0x80, 1, 0x80, 0x80, 1};
+    for (size_t length = 1; length <= sizeof longest; length++) {
+        for (int i = 0; i < RINCHOVEK_OPEN_NUMBERS; i++) numbers[i] = UNTOUCHED;
+        expect("open", rinchovek_sheet_open(longest, length, numbers),
+               length < RINCHOVEK_OPEN_BYTES ? RINCHOVEK_BAD_NUMBER : RINCHOVEK_BAD_COLOUR_SPACE);
+        leave("a refused sheet", numbers, RINCHOVEK_OPEN_NUMBERS);
+    }
+}
+
+/* Every size of up to 3 by 3 tiles: a sheet is a byte longer in tiles, both moves take exactly that, and it comes back; each row is shown out
+ * of the one form as out of the other, with the length that the header computes, each block is read by its number, and a colour space that is
+ * stated changes its own byte. */
+static void try_moves(void) {
+    enum { SIDE = 68, MOST = (SIDE / 4) * (SIDE / 4) };
+    static uint8_t rows[RINCHOVEK_HEAD_BYTES + MOST * RINCHOVEK_BLOCK_BYTES + 1], tiles[sizeof rows + 1], back[sizeof rows];
+    static uint8_t stated[sizeof tiles];
+    static uint8_t shown[RINCHOVEK_PIXEL_BYTES * SIDE * 4 + 1], again[sizeof shown];
+    for (uint32_t width = 1; width <= SIDE; width += 3)
+        for (uint32_t height = 1; height <= SIDE; height += 5) {
+            uint32_t count = 0, numbers[RINCHOVEK_OPEN_NUMBERS] = {0};
+            expect("a head", rinchovek_sheet_write_head(width, height, rows, &count), RINCHOVEK_ACCEPTED);
+            expect("open", rinchovek_sheet_open(rows, count, numbers), RINCHOVEK_ACCEPTED);
+            const uint32_t many = numbers[RINCHOVEK_OPEN_BLOCKS];
+            const size_t length = count + many * (size_t)RINCHOVEK_BLOCK_BYTES;
+            for (uint32_t i = 0; i < many * RINCHOVEK_BLOCK_BYTES; i++)
+                rows[count + i] = (uint8_t)(i % RINCHOVEK_BLOCK_BYTES == 0 ? 1u << i / 16 % 8 : i * 37 + i / 16 * 11);
+            for (uint32_t off = 0; off <= 2; off++) {
+                const uint32_t answer = off == 1 ? RINCHOVEK_ACCEPTED : RINCHOVEK_WRONG_OUTPUT_LENGTH;
+                expect("to tiles", rinchovek_sheet_to_tiles(rows, length, tiles, length + off), answer);
+            }
+            for (uint32_t off = 0; off <= 2; off++) {
+                const uint32_t answer = off == 1 ? RINCHOVEK_ACCEPTED : RINCHOVEK_WRONG_OUTPUT_LENGTH;
+                expect("to rows", rinchovek_sheet_to_rows(tiles, length + 1, back, length - 1 + off), answer);
+            }
+            for (size_t i = 0; i < length; i++) expect("there and back", back[i], rows[i]);
+            for (size_t i = 0; i <= length; i++) stated[i] = tiles[i];
+            expect("stated in rows", rinchovek_sheet_state_colour(back, length, RINCHOVEK_SRGB), RINCHOVEK_UNKNOWN_FORM);
+            expect("stated", rinchovek_sheet_state_colour(stated, length + 1, RINCHOVEK_SRGB), RINCHOVEK_ACCEPTED);
+            expect("no colour space", rinchovek_sheet_state_colour(stated, length + 1, RINCHOVEK_SRGB + 256), RINCHOVEK_BAD_COLOUR_SPACE);
+            for (size_t i = 0; i <= length; i++) expect("a stated sheet", stated[i], i == count ? RINCHOVEK_SRGB : tiles[i]);
+            expect("stated to rows", rinchovek_sheet_to_rows(stated, length + 1, back, length), RINCHOVEK_COLOUR_SPACE_STATED);
+            for (uint32_t row = 0; row < numbers[RINCHOVEK_OPEN_ROWS]; row++) {
+                const size_t room = rinchovek_row_pixels(width, height, row);
+                const uint8_t *stored = rows + count + row * rinchovek_row_blocks(width);
+                for (uint32_t off = 0; off <= 2; off += 2)
+                    expect("a row", rinchovek_sheet_show_row(tiles, length + 1, row, shown, room - 1 + off),
+                           RINCHOVEK_WRONG_OUTPUT_LENGTH);
+                expect("a row", rinchovek_sheet_show_row(tiles, length + 1, row, shown, room), RINCHOVEK_ACCEPTED);
+                expect("a row", rinchovek_sheet_show_row(rows, length, row, again, room), RINCHOVEK_ACCEPTED);
+                for (size_t i = 0; i < room; i++) expect("a row of tiles", shown[i], again[i]);
+                expect("a row", rinchovek_sheet_decode_row(width, height, row, stored, rinchovek_row_blocks(width), again, room),
+                       RINCHOVEK_ACCEPTED);
+                for (size_t i = 0; i < room; i++) expect("a row of rows", shown[i], again[i]);
+            }
+            for (uint32_t block = 0; block < many; block++) {
+                uint8_t one[RINCHOVEK_BLOCK_BYTES];
+                expect("a block", rinchovek_sheet_block(tiles, length + 1, block, one), RINCHOVEK_ACCEPTED);
+                for (uint32_t i = 0; i < RINCHOVEK_BLOCK_BYTES; i++)
+                    expect("a block of tiles", one[i], rows[count + block * RINCHOVEK_BLOCK_BYTES + i]);
+            }
+        }
+}
+
 /* ---- the stack */
 
 /* Every call, on a sheet of one block whose first byte is this, so of this mode, whose lines are read and put back. */
@@ -91,6 +193,15 @@ static __attribute__((noinline)) void make_calls(uint8_t first, uint8_t others) 
     rinchovek_sheet_read_head(sheet, sizeof sheet, head);
     rinchovek_sheet_read_colour_head(sheet, sizeof sheet, head);
     rinchovek_sheet_decode_row(4, 3, 0, block, RINCHOVEK_BLOCK_BYTES, out, 48);
+    uint8_t tiles[sizeof sheet + 1];
+    uint32_t numbers[RINCHOVEK_OPEN_NUMBERS];
+    if (rinchovek_sheet_to_tiles(sheet, count + RINCHOVEK_BLOCK_BYTES, tiles, count + RINCHOVEK_BLOCK_BYTES + 1) == RINCHOVEK_ACCEPTED) {
+        rinchovek_sheet_open(tiles, sizeof tiles, numbers);
+        rinchovek_sheet_show_row(tiles, count + RINCHOVEK_BLOCK_BYTES + 1, 0, out, 48);
+        rinchovek_sheet_block(tiles, count + RINCHOVEK_BLOCK_BYTES + 1, 0, record);
+        rinchovek_sheet_to_rows(tiles, count + RINCHOVEK_BLOCK_BYTES + 1, sheet, count + RINCHOVEK_BLOCK_BYTES);
+        rinchovek_sheet_state_colour(tiles, count + RINCHOVEK_BLOCK_BYTES + 1, RINCHOVEK_SRGB);
+    }
     uint8_t file[RINCHOVEK_DDS_HEADER_BYTES + RINCHOVEK_BLOCK_BYTES];
     if (rinchovek_dds_export_length(sheet, count + RINCHOVEK_BLOCK_BYTES, &index) == RINCHOVEK_ACCEPTED && index == sizeof file)
         rinchovek_dds_export(sheet, count + RINCHOVEK_BLOCK_BYTES, file, sizeof file);
@@ -122,6 +233,8 @@ int main(void) {
     try_rows();
     try_null();
     try_files();
+    try_tiles();
+    try_moves();
     const uint32_t deep = deepest();
     if (deep >= RINCHOVEK_STACK_BYTES) {
         printf("header: the calls took %u bytes of stack\n", deep);

@@ -17,6 +17,7 @@ extern "C" {
     fn rinchovek_bc7_exact_index(block: *const u8, line: u32, pixel: u32, wanted: *const u8, index: *mut u32) -> u32;
     fn rinchovek_bc7_is_opaque(block: *const u8, columns: u32, rows: u32) -> u32;
     fn rinchovek_bc7_pixel(block: *const u8, pixel: u32, rgba: *mut u8) -> u32;
+    fn rinchovek_sheet_open(sheet: *const u8, length: usize, numbers: *mut u32) -> u32;
     fn rinchovek_sheet_read_head(sheet: *const u8, length: usize, head: *mut u32) -> u32;
     fn rinchovek_sheet_read_colour_head(sheet: *const u8, length: usize, head: *mut u32) -> u32;
     fn rinchovek_sheet_write_head(width: u32, height: u32, head: *mut u8, count: *mut u32) -> u32;
@@ -29,6 +30,11 @@ extern "C" {
         out: *mut u8,
         out_length: usize,
     ) -> u32;
+    fn rinchovek_sheet_show_row(sheet: *const u8, length: usize, row: u32, out: *mut u8, out_length: usize) -> u32;
+    fn rinchovek_sheet_block(sheet: *const u8, length: usize, block: u32, bytes: *mut u8) -> u32;
+    fn rinchovek_sheet_to_tiles(sheet: *const u8, length: usize, out: *mut u8, out_length: usize) -> u32;
+    fn rinchovek_sheet_to_rows(sheet: *const u8, length: usize, out: *mut u8, out_length: usize) -> u32;
+    fn rinchovek_sheet_state_colour(sheet: *mut u8, length: usize, colour_space: u32) -> u32;
     fn rinchovek_sheet_replace_line(
         sheet: *mut u8,
         length: usize,
@@ -75,12 +81,13 @@ pub enum Refusal {
     PixelNotInLine = 13,
     NoExactIndex = 14,
     NotABc7Texture = 15,
+    ColourSpaceStated = 16,
     BadColourSpace = 18,
     NoSuchPixel = 21,
 }
 
 impl Refusal {
-    pub const ALL: [Refusal; 17] = [
+    pub const ALL: [Refusal; 18] = [
         Refusal::ReservedBlock,
         Refusal::NoSuchLine,
         Refusal::ValueTooWide,
@@ -96,6 +103,7 @@ impl Refusal {
         Refusal::PixelNotInLine,
         Refusal::NoExactIndex,
         Refusal::NotABc7Texture,
+        Refusal::ColourSpaceStated,
         Refusal::BadColourSpace,
         Refusal::NoSuchPixel,
     ];
@@ -115,7 +123,7 @@ impl fmt::Display for Refusal {
             Refusal::WrongKind => "no such mode, or a kind of split that is not the mode's",
             Refusal::AnchorBitSet => "the index at an anchor has its top bit set",
             Refusal::BadNumber => "a number of the head is cut off, too long or not in its shortest form",
-            Refusal::UnknownForm => "the form of the sheet is not 1",
+            Refusal::UnknownForm => "the form of the sheet is not one that the call takes",
             Refusal::BadSide => "the width or the height is 0 or too large",
             Refusal::WrongBlockBytes => "too few or too many bytes of blocks",
             Refusal::WrongOutputLength => "the output is too short or too long",
@@ -123,6 +131,7 @@ impl fmt::Display for Refusal {
             Refusal::PixelNotInLine => "the pixel is not in the line",
             Refusal::NoExactIndex => "no index of the line gives exactly this colour",
             Refusal::NotABc7Texture => "the file is not a DDS file of one BC7 texture with one level",
+            Refusal::ColourSpaceStated => "the sheet states a colour space, and form 1 has no room for it",
             Refusal::BadColourSpace => "there is no such colour space",
             Refusal::NoSuchPixel => "the block has no such pixel",
         })
@@ -339,6 +348,34 @@ impl Head {
     }
 }
 
+/// In which order a sheet stores its blocks: row by row, or in tiles.
+#[derive(Clone, Copy, Debug, PartialEq, Eq)]
+pub enum Form {
+    Rows,
+    Tiles,
+}
+
+/// What the head of a sheet of either form says, and how many columns, rows and blocks there are.
+#[derive(Clone, Copy, Debug, PartialEq, Eq)]
+pub struct Opened {
+    pub head: Head,
+    pub colour_space: ColourSpace,
+    pub form: Form,
+    pub columns: u32,
+    pub rows: u32,
+    pub blocks: u32,
+}
+
+pub fn open(sheet: &[u8]) -> Result<Opened, Refusal> {
+    let mut numbers = [0; 8];
+    let refusal = unsafe { rinchovek_sheet_open(sheet.as_ptr(), sheet.len(), numbers.as_mut_ptr()) };
+    let [width, height, start, colour_space, form, columns, rows, blocks] = numbers;
+    let head = Head { width, height, start: start as usize };
+    let form = if form == 2 { Form::Tiles } else { Form::Rows };
+    answer(refusal, Opened { head, colour_space: ColourSpace(colour_space), form, columns, rows, blocks })
+}
+
+/// The head of a sheet of form 1; `open` takes either form.
 pub fn read_head(sheet: &[u8]) -> Result<Head, Refusal> {
     let mut head = [0; 3];
     let refusal = unsafe { rinchovek_sheet_read_head(sheet.as_ptr(), sheet.len(), head.as_mut_ptr()) };
@@ -371,6 +408,41 @@ pub fn decode_row(head: Head, row: u32, blocks: &[u8], out: &mut [u8]) -> Result
     answer(refusal, ())
 }
 
+/// The pixels of a row of a whole sheet of either form, which was opened.
+pub fn decode_sheet_row(opened: &Opened, row: u32, sheet: &[u8]) -> Result<Vec<u8>, Refusal> {
+    let mut out = vec![0; opened.head.row_pixels(row)];
+    let (lent, length) = (out.as_mut_ptr(), out.len());
+    answer(unsafe { rinchovek_sheet_show_row(sheet.as_ptr(), sheet.len(), row, lent, length) }, out)
+}
+
+/// A block of a whole sheet of either form, by its number row by row.
+pub fn block_in_sheet(sheet: &[u8], block: BlockNumber) -> Result<Block, Refusal> {
+    let mut bytes = [0; 16];
+    let refusal = unsafe { rinchovek_sheet_block(sheet.as_ptr(), sheet.len(), block.0, bytes.as_mut_ptr()) };
+    answer(refusal, bytes)
+}
+
+/// A sheet of form 1 in tiles, which is one byte longer.
+pub fn to_tiles(sheet: &[u8]) -> Result<Vec<u8>, Refusal> {
+    let mut out = vec![0; sheet.len() + 1];
+    let refusal = unsafe { rinchovek_sheet_to_tiles(sheet.as_ptr(), sheet.len(), out.as_mut_ptr(), out.len()) };
+    answer(refusal, out)
+}
+
+/// A sheet of form 2 row by row, which is one byte shorter.
+pub fn to_rows(sheet: &[u8]) -> Result<Vec<u8>, Refusal> {
+    let mut out = vec![0; sheet.len().saturating_sub(1)];
+    let refusal = unsafe { rinchovek_sheet_to_rows(sheet.as_ptr(), sheet.len(), out.as_mut_ptr(), out.len()) };
+    answer(refusal, out)
+}
+
+/// The colour space of a sheet of form 2, stated.
+pub fn state_colour(sheet: &mut [u8], colour_space: ColourSpace) -> Result<(), Refusal> {
+    let (lent, length) = (sheet.as_mut_ptr(), sheet.len());
+    answer(unsafe { rinchovek_sheet_state_colour(lent, length, colour_space.0) }, ())
+}
+
+/// In a sheet of either form.
 pub fn replace_in_sheet(sheet: &mut [u8], block: BlockNumber, line: LineNumber, new: &Line) -> Result<(), Refusal> {
     let (lent, length) = (sheet.as_mut_ptr(), sheet.len());
     answer(unsafe { rinchovek_sheet_replace_line(lent, length, block.0, line.0, new.bytes().as_ptr()) }, ())

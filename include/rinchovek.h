@@ -1,5 +1,6 @@
 /* rinchovek.h: BC7 blocks, and sheets of them, decoded, taken apart, packed and corrected; which index gives a wanted colour,
- * which blocks are opaque, and what one pixel shows; DDS files in and out.
+ * which blocks are opaque, and what one pixel shows; sheets stored row by row or in tiles, and moved between the two; DDS files in and
+ * out.
  *
  * WORDS
  * A block is 16 bytes that draw 4 by 4 pixels. A pixel is 4 bytes: red, green, blue, alpha. The pixel in column x and row y of a
@@ -8,10 +9,15 @@
  * A line of a block is a pair of endpoints, their p bits, and the indexes by which its pixels choose between the two. It is a
  * subset of the pixels, except in the modes 4 and 5: there line 0 is the vector (red, green and blue before rotation) and line 1
  * the scalar (alpha before rotation), both with all sixteen pixels.
- * A sheet is a head and behind it the blocks of a picture, row by row from 0. There are (width + 3) / 4 columns and (height + 3) / 4
- * rows of blocks; what they draw beyond the edge of the picture is not shown. The head has three numbers: the form, which is 1, the
- * width and the height in pixels. A number is written in groups of seven bits, the low group first, a byte each, whose high bit is
- * set in all but the last; in its shortest form, and in at most three groups: 127 is 7F, 128 is 80 01, 16,384 is 80 80 01.
+ * A sheet is a head and behind it the blocks of a picture. There are (width + 3) / 4 columns and (height + 3) / 4 rows of blocks; what
+ * they draw beyond the edge of the picture is not shown. Blocks are numbered row by row from 0, in every sheet: block n is in column
+ * n % columns and row n / columns. The form of a sheet says in which order its blocks are stored. Form 1 stores them as they are numbered.
+ * Form 2 stores them in tiles of 8 by 8, the tiles row by row; a tile has 64 slots, and the bits of a block's column in the tile are the
+ * bits 0, 2 and 4 of its slot, those of its row the bits 1, 3 and 5. For a slot beyond the sheet nothing is stored. So 3 by 2 blocks are
+ * stored in the order 0 1 3 4 2 5, and a sheet has as many bytes of blocks in the one form as in the other.
+ * The head has three numbers: the form, the width and the height in pixels; and in form 2 a fourth, the colour space. A number is
+ * written in groups of seven bits, the low group first, a byte each, whose high bit is set in all but the last; in its shortest form, and
+ * in at most three groups: 127 is 7F, 128 is 80 01, 16,384 is 80 80 01.
  *
  * HOW TO LINK
  * librinchovek.a is for x86-64 with the System V calling convention (Linux) and needs no processor extension. It wants memcpy, and
@@ -41,7 +47,7 @@
 /* The version of this file. The major number is raised where a call goes, or answers otherwise what it accepted before; the minor
  * one where a call comes, or accepts what it refused before; the patch where neither is so. */
 #define RINCHOVEK_VERSION_MAJOR 1
-#define RINCHOVEK_VERSION_MINOR 6
+#define RINCHOVEK_VERSION_MINOR 8
 #define RINCHOVEK_VERSION_PATCH 0
 #define RINCHOVEK_VERSION (10000 * RINCHOVEK_VERSION_MAJOR + 100 * RINCHOVEK_VERSION_MINOR + RINCHOVEK_VERSION_PATCH)
 
@@ -52,9 +58,11 @@
 #define RINCHOVEK_PIXELS_BYTES 64
 #define RINCHOVEK_RECORD_BYTES 66
 #define RINCHOVEK_LINE_BYTES 26
-#define RINCHOVEK_HEAD_BYTES 7 /* the most that a head has */
+#define RINCHOVEK_HEAD_BYTES 7 /* the most that a head of form 1 has */
+#define RINCHOVEK_OPEN_BYTES 10 /* of a sheet of either form, as many as rinchovek_sheet_open looks at */
 #define RINCHOVEK_HEAD_NUMBERS 3 /* uint32_t */
 #define RINCHOVEK_COLOUR_HEAD_NUMBERS 4 /* uint32_t: those three, and the colour space */
+#define RINCHOVEK_OPEN_NUMBERS 8 /* uint32_t: those four, the form, and how many columns, rows and blocks there are */
 #define RINCHOVEK_LARGEST_SIDE 16384 /* pixels, of a sheet; 4,096 before version 1.4.0 */
 #define RINCHOVEK_DDS_HEADER_BYTES 148
 #define RINCHOVEK_STACK_BYTES 4096 /* found: 2,080 in rinchovek_bc7_pixel; below 2,048 in every other call, and in all before 1.5.0 */
@@ -110,7 +118,7 @@ enum rinchovek_line_offset {
     RINCHOVEK_LINE_INDEXES = 10         /* + pixel */
 };
 
-/* The numbers of a head that was read. The calls whose names have `colour` in them write all four, the others the first three. */
+/* The numbers of a head that was read as form 1. The calls whose names have `colour` in them write all four, the others the first three. */
 enum rinchovek_head_number {
     RINCHOVEK_HEAD_WIDTH = 0,       /* pixels */
     RINCHOVEK_HEAD_HEIGHT = 1,      /* pixels */
@@ -118,8 +126,24 @@ enum rinchovek_head_number {
     RINCHOVEK_HEAD_COLOUR_SPACE = 3 /* enum rinchovek_colour_space */
 };
 
-/* What is known of a sheet's colours. A sheet of form 1 has no room for it: read, it is always unspecified. */
+/* What is known of a sheet's colours. A sheet of form 1 has no room for it: read, it is always unspecified. One of form 2 states it, which
+ * is linear or sRGB, or leaves it unspecified. */
 enum rinchovek_colour_space { RINCHOVEK_UNSPECIFIED = 0, RINCHOVEK_LINEAR = 1, RINCHOVEK_SRGB = 2 };
+
+/* In which order a sheet stores its blocks. */
+enum rinchovek_form { RINCHOVEK_FORM_ROWS = 1, RINCHOVEK_FORM_TILES = 2 };
+
+/* The numbers of a sheet of either form that was opened. */
+enum rinchovek_open_number {
+    RINCHOVEK_OPEN_WIDTH = 0,        /* pixels */
+    RINCHOVEK_OPEN_HEIGHT = 1,       /* pixels */
+    RINCHOVEK_OPEN_START = 2,        /* where the first stored block starts in the sheet */
+    RINCHOVEK_OPEN_COLOUR_SPACE = 3, /* enum rinchovek_colour_space */
+    RINCHOVEK_OPEN_FORM = 4,         /* enum rinchovek_form */
+    RINCHOVEK_OPEN_COLUMNS = 5,      /* of blocks: (width + 3) / 4 */
+    RINCHOVEK_OPEN_ROWS = 6,         /* of blocks: (height + 3) / 4 */
+    RINCHOVEK_OPEN_BLOCKS = 7        /* columns * rows; the whole sheet has start + 16 * blocks bytes */
+};
 
 /* What a call answers. */
 enum rinchovek_refusal {
@@ -131,7 +155,7 @@ enum rinchovek_refusal {
     RINCHOVEK_WRONG_KIND = 5,           /* the record's mode is above 7, or its kind is none, or not the mode's */
     RINCHOVEK_ANCHOR_BIT_SET = 6,       /* the index at an anchor of the record has its top bit set */
     RINCHOVEK_BAD_NUMBER = 7,           /* a number of the head is cut off, not in its shortest form, or has over three groups */
-    RINCHOVEK_UNKNOWN_FORM = 8,         /* the form isn't 1 */
+    RINCHOVEK_UNKNOWN_FORM = 8,         /* the form isn't one that the call takes: 1 or 2, or the one that its comment names */
     RINCHOVEK_BAD_SIDE = 9,             /* the width or the height is 0 or above RINCHOVEK_LARGEST_SIDE */
     RINCHOVEK_WRONG_BLOCK_BYTES = 10,   /* there are not exactly as many bytes of blocks as the sheet, the row or the file needs */
     RINCHOVEK_WRONG_OUTPUT_LENGTH = 11, /* the output isn't exactly as long as needed */
@@ -139,7 +163,8 @@ enum rinchovek_refusal {
     RINCHOVEK_PIXEL_NOT_IN_LINE = 13,   /* the pixel is of another line's subset, or 16 and up */
     RINCHOVEK_NO_EXACT_INDEX = 14,      /* no index of the line gives the pixel exactly what is wanted */
     RINCHOVEK_NOT_A_BC7_TEXTURE = 15,   /* the DDS file isn't one texture of two dimensions in BC7 with one level */
-    RINCHOVEK_BAD_COLOUR_SPACE = 18,    /* the number of the colour space is above 2 */
+    RINCHOVEK_COLOUR_SPACE_STATED = 16, /* the sheet states a colour space, and the form that it is moved to has no room for it */
+    RINCHOVEK_BAD_COLOUR_SPACE = 18,    /* the number of a colour space, in a head or given to a call, is above 2 */
     RINCHOVEK_NO_SUCH_PIXEL = 21        /* the pixel number isn't below 16 */
 };
 
@@ -206,36 +231,84 @@ uint32_t rinchovek_bc7_is_opaque(const uint8_t block[RINCHOVEK_BLOCK_BYTES], uin
  * Refusals: 21. */
 uint32_t rinchovek_bc7_pixel(const uint8_t block[RINCHOVEK_BLOCK_BYTES], uint32_t pixel, uint8_t rgba[RINCHOVEK_PIXEL_BYTES]);
 
-/* Reads the head of a sheet: writes width, height and start (enum rinchovek_head_number). What stands behind the head isn't looked
- * at: the first RINCHOVEK_HEAD_BYTES bytes of a sheet are enough. An empty sheet is refused with 7.
+/* Opens a sheet of either form: writes its eight numbers (enum rinchovek_open_number). Its rows are drawn by rinchovek_sheet_show_row then,
+ * and its blocks read by rinchovek_sheet_block, whatever the form. What stands behind the head isn't looked at: the first
+ * RINCHOVEK_OPEN_BYTES bytes of a sheet are enough. (An accepted head has at most 8 bytes. But 02 80 80 01 80 80 01 80 01, whose colour
+ * space is 128, is refused with 18, and with 7 where it is cut to 8 bytes.) An empty sheet is refused with 7.
+ * Refusals: 7 and 8 on the form, 7 on width, height and (in form 2) the number of the colour space, 18, 9. */
+uint32_t rinchovek_sheet_open(const uint8_t *sheet, size_t length, uint32_t numbers[RINCHOVEK_OPEN_NUMBERS]);
+
+/* Reads the head of a sheet of form 1: writes width, height and start (enum rinchovek_head_number). What stands behind the head isn't
+ * looked at: the first RINCHOVEK_HEAD_BYTES bytes of a sheet are enough. An empty sheet is refused with 7. A sheet of form 2 is refused
+ * with 8, as it was before version 1.7.0: three numbers don't say the form, and a program that knows no more would show tiles as rows.
+ * Call rinchovek_sheet_open, which takes either form and says which it is.
  * Refusals: 7 and 8 on the form, 7 on width and height, 9. */
 uint32_t rinchovek_sheet_read_head(const uint8_t *sheet, size_t length, uint32_t head[RINCHOVEK_HEAD_NUMBERS]);
 
-/* The same with four numbers: behind the start stands the colour space, which is RINCHOVEK_UNSPECIFIED for every sheet of form 1.
+/* The same with four numbers: behind the start stands the colour space, which is RINCHOVEK_UNSPECIFIED for every sheet of form 1. A sheet
+ * of form 2 is refused with 8 here too: call rinchovek_sheet_open, which says its colour space.
  * Refusals: 7 and 8 on the form, 7 on width and height, 9. */
 uint32_t rinchovek_sheet_read_colour_head(const uint8_t *sheet, size_t length, uint32_t head[RINCHOVEK_COLOUR_HEAD_NUMBERS]);
 
-/* Writes the head of a sheet of this size, zeros behind it to all 7 bytes, and how many of them are the head's.
+/* Writes the head of a sheet of form 1 of this size, zeros behind it to all 7 bytes, and how many of them are the head's.
  * Refusals: 9. */
 uint32_t rinchovek_sheet_write_head(uint32_t width, uint32_t height, uint8_t head[RINCHOVEK_HEAD_BYTES], uint32_t *count);
 
 /* Decodes one row of blocks: writes its lines of pixels, the top one first, each width * 4 bytes, pixel by pixel from the left, red,
  * green, blue, alpha. Rows count from 0. Both lengths are exact: blocks_length is rinchovek_row_blocks(width), which is 16 for each
  * block of the row, and out_length rinchovek_row_pixels(width, height, row), which is width * 4 for each line that is shown: 4 lines,
- * or in the last row as many as are left.
+ * or in the last row as many as are left. In a sheet of form 1 the blocks of a row stand side by side, row 0 at the start and each
+ * further row rinchovek_row_blocks(width) behind; in one of form 2 they do not: rinchovek_sheet_show_row takes the whole sheet, of either
+ * form.
  * Refusals: 9, 12, 10, 11. */
 uint32_t rinchovek_sheet_decode_row(uint32_t width, uint32_t height, uint32_t row, const uint8_t *blocks, size_t blocks_length,
                                     uint8_t *out, size_t out_length);
 
-/* Replaces one line of one block in a whole sheet, as rinchovek_bc7_replace_line does; only that block's 16 bytes are written. The
- * length is exact: the head and 16 bytes for each block of the sheet. BEWARE: block and line stand side by side and have one
- * type, so that no compiler sees them exchanged. Hand them over in variables of these names.
- * Refusals: 7 and 8 on the form, 7 on width and height, 9, 10, 12; then the block's 1, 2, 3, 4. */
+/* Decodes one row of blocks of a whole sheet, of either form: writes what rinchovek_sheet_decode_row writes for that row's blocks. Both
+ * lengths are exact: the sheet has its head and 16 bytes for each block, and out_length is rinchovek_row_pixels(width, height, row).
+ * Refusals: 7 and 8 on the form, 7 on width, height and (in form 2) the number of the colour space, 18, 9, 10, 12, 11. */
+uint32_t rinchovek_sheet_show_row(const uint8_t *sheet, size_t length, uint32_t row, uint8_t *out, size_t out_length);
+
+/* Writes the 16 bytes of one block of a whole sheet, of either form: the block of this number, which counts row by row from 0 also where
+ * blocks are stored in tiles. So no program has to know where a block is stored. The length is exact: the head and 16 bytes for each
+ * block of the sheet.
+ * Refusals: 7 and 8 on the form, 7 on width, height and (in form 2) the number of the colour space, 18, 9, 10, 12. */
+uint32_t rinchovek_sheet_block(const uint8_t *sheet, size_t length, uint32_t block, uint8_t bytes[RINCHOVEK_BLOCK_BYTES]);
+
+/* Replaces one line of one block in a whole sheet, of either form, as rinchovek_bc7_replace_line does; only that block's 16 bytes are
+ * written. The block is named by its number, as for rinchovek_sheet_block. The length is exact: the head and 16 bytes for each block of
+ * the sheet. BEWARE: block and line stand side by side and have one type, so that no compiler sees them exchanged. Hand them over in
+ * variables of these names.
+ * Refusals: 7 and 8 on the form, 7 on width, height and (in form 2) the number of the colour space, 18, 9, 10, 12; then the block's 1, 2,
+ * 3, 4. */
 uint32_t rinchovek_sheet_replace_line(uint8_t *sheet, size_t length, uint32_t block, uint32_t line,
                                       const uint8_t replacement[RINCHOVEK_LINE_BYTES]);
 
+/* Moves a sheet of form 1 to form 2, which leaves the colour space unspecified: writes the whole sheet in tiles. It shows the same
+ * picture, and every call by the number of a row or a block answers the same for both. Both lengths are exact: the sheet has its head
+ * and 16 bytes for each block (10 otherwise), and the output is one byte longer than the sheet (11 otherwise). A sheet of form 2 is refused
+ * with 8.
+ * Refusals: 7 and 8 on the form, 7 on width and height, 9, 10, 11. */
+uint32_t rinchovek_sheet_to_tiles(const uint8_t *sheet, size_t length, uint8_t *out, size_t out_length);
+
+/* Moves a sheet of form 2 back to form 1: writes the whole sheet row by row. A sheet that was moved to tiles comes back byte for byte. Both
+ * lengths are exact: the sheet has its head and 16 bytes for each block (10 otherwise), and the output is one byte shorter than the
+ * sheet (11 otherwise). A sheet that states a colour space would lose it, and is refused with 16, until rinchovek_sheet_state_colour has
+ * taken it back; a sheet of form 1 is refused with 8.
+ * Refusals: 7 and 8 on the form, 7 on width, height and the number of the colour space, 18, 9, 10, 11, 16. */
+uint32_t rinchovek_sheet_to_rows(const uint8_t *sheet, size_t length, uint8_t *out, size_t out_length);
+
+/* States the colour space of a whole sheet of form 2, in place: writes its number (enum rinchovek_colour_space) where the head has it, into
+ * the byte before the first block, and no other byte. What was stated before is lost; RINCHOVEK_UNSPECIFIED takes it back, so that the
+ * sheet can be moved to rows. The length is exact: the head and 16 bytes for each block of the sheet. A sheet of form 1 has no room for a
+ * colour space, and is refused with 8.
+ * Refusals: 7 and 8 on the form, 7 on width, height and the number of the colour space, 18, 9, 10; then 18 for the number that is given. */
+uint32_t rinchovek_sheet_state_colour(uint8_t *sheet, size_t length, uint32_t colour_space);
+
 /* DDS FILES, as office tools exchange them: RINCHOVEK_DDS_HEADER_BYTES of header with the DX10 extension, by Microsoft's guide, and behind
- * it the blocks row by row. Both ways the blocks are copied as they stand, so a sheet that was exported and imported again is the same
+ * it the blocks row by row. So a file is exchanged with a sheet of form 1: importing writes form 1, and the three calls that export refuse
+ * form 2 with 8 at the form, before they look at anything behind it, the colour space that is given included; a sheet in tiles goes through
+ * rinchovek_sheet_to_rows first. Both ways the blocks are copied as they stand, so a sheet that was exported and imported again is the same
  * byte for byte. What stands in a file's header and has no place in a sheet is lost by importing. Whether its colours are sRGB has none
  * either: rinchovek_dds_import_colour says it beside the sheet, and rinchovek_dds_export_colour takes it.
  *
@@ -248,7 +321,7 @@ uint32_t rinchovek_sheet_replace_line(uint8_t *sheet, size_t length, uint32_t bl
  *   byte 76    32, the pixel format's size   byte 140   1, the array's size
  *   byte 84    "DX10"
  *
- * Writes the sheet of a DDS file: its head, which has the file's sides (height at byte 12, width at byte 16), then its blocks.
+ * Writes the sheet of a DDS file, in form 1: its head, which has the file's sides (height at byte 12, width at byte 16), then its blocks.
  * Both lengths are exact: the file has 148 bytes and 16 for each block, no more behind them (10 otherwise), and the sheet as many as
  * rinchovek_dds_import_length writes (11 otherwise).
  * Refusals: 15, 9, 10, 11. */
@@ -260,8 +333,8 @@ uint32_t rinchovek_dds_import(const uint8_t *dds, size_t dds_length, uint8_t *sh
 uint32_t rinchovek_dds_import_colour(const uint8_t *dds, size_t dds_length, uint8_t *sheet, size_t sheet_length,
                                      uint32_t head[RINCHOVEK_COLOUR_HEAD_NUMBERS]);
 
-/* Writes the DDS file of a sheet: a header that says format 98 and has all that the table above asks for, then the sheet's blocks. Both
- * lengths are exact: the sheet has its head and 16 bytes for each block (10 otherwise), and the file as many as
+/* Writes the DDS file of a sheet of form 1: a header that says format 98 and has all that the table above asks for, then the sheet's
+ * blocks. Both lengths are exact: the sheet has its head and 16 bytes for each block (10 otherwise), and the file as many as
  * rinchovek_dds_export_length writes, which is 148 and 16 for each block (11 otherwise).
  * Refusals: 7 and 8 on the form, 7 on width and height, 9, 10, 11. */
 uint32_t rinchovek_dds_export(const uint8_t *sheet, size_t sheet_length, uint8_t *dds, size_t dds_length);
@@ -287,7 +360,7 @@ uint32_t rinchovek_dds_export_length(const uint8_t *sheet, size_t sheet_length, 
  * RINCHOVEK_LARGEST_SIDE and n below (side + 3) / 4. */
 static inline uint32_t rinchovek_shown(uint32_t side, uint32_t n) { return side - 4 * n < 4 ? side - 4 * n : 4; }
 
-/* The lengths of a row, for the same sides and rows. */
+/* The lengths of a row, for the same sides and rows: of its blocks, as form 1 stores them side by side, and of its pixels. */
 static inline size_t rinchovek_row_blocks(uint32_t width) { return (size_t)RINCHOVEK_BLOCK_BYTES * ((width + 3) / 4); }
 
 static inline size_t rinchovek_row_pixels(uint32_t width, uint32_t height, uint32_t row) {
@@ -305,7 +378,7 @@ static inline const char *rinchovek_refusal_text(uint32_t refusal) {
     case RINCHOVEK_WRONG_KIND: return "no such mode, or a kind of split that is not the mode's";
     case RINCHOVEK_ANCHOR_BIT_SET: return "the index at an anchor has its top bit set";
     case RINCHOVEK_BAD_NUMBER: return "a number of the head is cut off, too long or not in its shortest form";
-    case RINCHOVEK_UNKNOWN_FORM: return "the form of the sheet is not 1";
+    case RINCHOVEK_UNKNOWN_FORM: return "the form of the sheet is not one that the call takes";
     case RINCHOVEK_BAD_SIDE: return "the width or the height is 0 or too large";
     case RINCHOVEK_WRONG_BLOCK_BYTES: return "too few or too many bytes of blocks";
     case RINCHOVEK_WRONG_OUTPUT_LENGTH: return "the output is too short or too long";
@@ -313,6 +386,7 @@ static inline const char *rinchovek_refusal_text(uint32_t refusal) {
     case RINCHOVEK_PIXEL_NOT_IN_LINE: return "the pixel is not in the line";
     case RINCHOVEK_NO_EXACT_INDEX: return "no index of the line gives exactly this colour";
     case RINCHOVEK_NOT_A_BC7_TEXTURE: return "the file is not a DDS file of one BC7 texture with one level";
+    case RINCHOVEK_COLOUR_SPACE_STATED: return "the sheet states a colour space, and form 1 has no room for it";
     case RINCHOVEK_BAD_COLOUR_SPACE: return "there is no such colour space";
     case RINCHOVEK_NO_SUCH_PIXEL: return "the block has no such pixel";
     default: return "no refusal of this version";

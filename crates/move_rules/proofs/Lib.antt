@@ -1,3 +1,5 @@
 pub mod Attested
 pub mod Theorems
 pub mod Showing
+pub mod Stated
+pub mod Stating

@@ -3,6 +3,7 @@
 // C caller has to know; `rt staticlib rinchovek` writes the archive.
 ghost use Rattle.rinchovek_rules.specs.Promises.{Decodes, Packs, ReadsLine, Replaces, Unpacks, Versions, DecodesRow, ReadsHead, ReplacesIn};
 ghost use Rattle.rinchovek_rules.specs.Promises.{FindsExact, FindsNearest, ReadsPixel, TellsOpaque, WritesHead};
+ghost use Rattle.rinchovek_rules.specs.Promises.{MovesToRows, MovesToTiles, OpensSheet, ReadsBlock, ShowsRow, StatesColour};
 ghost use Rattle.rinchovek_rules.specs.Promises.{ExportNeeds, ExportsColour, ExportsDds, ImportNeeds, ImportsColour, ImportsDds, ReadsColourHead};
 use bc7::decode_bc7_block;
 use bc7_places::places::PLACES;
@@ -13,8 +14,12 @@ use dds::export_numbered;
 use dds::import_dds;
 use dds::import_length;
 use head_rules::ColourSpace;
+use head_rules::Form;
 use line::read_line;
 use line::replace_line;
+use moves::state_colour;
+use moves::to_rows;
+use moves::to_tiles;
 use nearest::exact_index;
 use nearest::nearest_index;
 use opacity::is_opaque;
@@ -23,15 +28,21 @@ use record_bytes::pack_bytes;
 use record_bytes::record_bytes;
 use record_bytes::replacement_bytes;
 use record_bytes::replacement_of;
+use sheet::block_in_sheet;
 use sheet::decode_row;
+use sheet::decode_sheet_row;
 use sheet::replace_in_sheet;
 use sheet_head::colours::number_of;
+use sheet_head::geometry::blocks_across;
+use sheet_head::geometry::blocks_of;
+use sheet_head::number_of_form;
 use sheet_head::read_head;
+use sheet_head::read_of_form;
 use sheet_head::write_head;
 
 // Which version of the calls and their answers this is: 10000 times the major number, 100 times the minor one, and the patch. The
 // header has the same three.
-const VERSION: u32 = 10600;
+const VERSION: u32 = 10800;
 
 #[no_mangle]
 pub extern "C" fn rinchovek_version() -> u32
@@ -179,12 +190,38 @@ pub extern "C" fn rinchovek_bc7_pixel(block: &[u8; 16], pixel: u32, rgba: &mut [
     0
 }
 
-// Width, height and the place of the first block, from the bytes of a sheet.
+// The head of a sheet of either form in eight numbers: width, height, the place of the first block, the numbers of the colour space and
+// of the form, and how many columns, rows and blocks there are.
+#[no_mangle]
+pub extern "C" fn rinchovek_sheet_open(sheet: &[u8], numbers: &mut [u32; 8]) -> u32
+    ensures { λ r. ⌜ OpensSheet (now (sheet .entry)) (now (numbers .entry)) r (now (numbers .exit)) ⌝ }
+{
+    let read = read_head(sheet);
+    if read.refusal != 0 {
+        return read.refusal as u32;
+    }
+    let colour_space = read.colour_space;
+    let form = read.form;
+    *numbers = [
+        read.width,
+        read.height,
+        read.start,
+        number_of(colour_space),
+        number_of_form(form),
+        blocks_across(read.width),
+        blocks_across(read.height),
+        blocks_of(read),
+    ];
+    0
+}
+
+// Width, height and the place of the first block, from the bytes of a sheet of form 1. Three numbers don't say the form, so that who
+// gets no more of a sheet of form 2 would show tiles as rows: 8.
 #[no_mangle]
 pub extern "C" fn rinchovek_sheet_read_head(sheet: &[u8], head: &mut [u32; 3]) -> u32
     ensures { λ r. ⌜ ReadsHead (now (sheet .entry)) (now (head .entry)) r (now (head .exit)) ⌝ }
 {
-    let read = read_head(sheet);
+    let read = read_of_form(Form::Rows, sheet);
     if read.refusal != 0 {
         return read.refusal as u32;
     }
@@ -192,12 +229,12 @@ pub extern "C" fn rinchovek_sheet_read_head(sheet: &[u8], head: &mut [u32; 3]) -
     0
 }
 
-// The same, and the number of the colour space, which is 0 for a sheet of form 1: it has no room for one.
+// The same, and the number of the colour space, which is 0 for each: form 1 has no room for one.
 #[no_mangle]
 pub extern "C" fn rinchovek_sheet_read_colour_head(sheet: &[u8], head: &mut [u32; 4]) -> u32
     ensures { λ r. ⌜ ReadsColourHead (now (sheet .entry)) (now (head .entry)) r (now (head .exit)) ⌝ }
 {
-    let read = read_head(sheet);
+    let read = read_of_form(Form::Rows, sheet);
     if read.refusal != 0 {
         return read.refusal as u32;
     }
@@ -238,6 +275,51 @@ pub extern "C" fn rinchovek_sheet_decode_row(
     ensures { λ r. ⌜ DecodesRow width height row (now (blocks .entry)) (now (out .entry)) r (now (out .exit)) ⌝ }
 {
     decode_row(width, height, row, blocks, out) as u32
+}
+
+// One row of blocks of a whole sheet, of either form, as scanlines.
+#[no_mangle]
+pub extern "C" fn rinchovek_sheet_show_row(sheet: &[u8], row: u32, out: &mut [u8]) -> u32
+    ensures { λ r. ⌜ ShowsRow (now (sheet .entry)) row (now (out .entry)) r (now (out .exit)) ⌝ }
+{
+    decode_sheet_row(sheet, row, out) as u32
+}
+
+// A block of a sheet of either form, by its number.
+#[no_mangle]
+pub extern "C" fn rinchovek_sheet_block(sheet: &[u8], block: u32, bytes: &mut [u8; 16]) -> u32
+    ensures { λ r. ⌜ ReadsBlock (now (sheet .entry)) block (now (bytes .entry)) r (now (bytes .exit)) ⌝ }
+{
+    let read = block_in_sheet(sheet, block);
+    if read.refusal != 0 {
+        return read.refusal as u32;
+    }
+    let stored = read.block;
+    *bytes = stored;
+    0
+}
+
+// A sheet of form 1 as one of form 2, and one of form 2 as one of form 1.
+#[no_mangle]
+pub extern "C" fn rinchovek_sheet_to_tiles(sheet: &[u8], out: &mut [u8]) -> u32
+    ensures { λ r. ⌜ MovesToTiles (now (sheet .entry)) (now (out .entry)) r (now (out .exit)) ⌝ }
+{
+    to_tiles(sheet, out) as u32
+}
+
+#[no_mangle]
+pub extern "C" fn rinchovek_sheet_to_rows(sheet: &[u8], out: &mut [u8]) -> u32
+    ensures { λ r. ⌜ MovesToRows (now (sheet .entry)) (now (out .entry)) r (now (out .exit)) ⌝ }
+{
+    to_rows(sheet, out) as u32
+}
+
+// The colour space of a sheet of form 2, stated by its number: one byte of the head, and no other.
+#[no_mangle]
+pub extern "C" fn rinchovek_sheet_state_colour(sheet: &mut [u8], colour_space: u32) -> u32
+    ensures { λ r. ⌜ StatesColour (now (sheet .entry)) «colour_space» r (now (sheet .exit)) ⌝ }
+{
+    state_colour(sheet, colour_space) as u32
 }
 
 // A line of one block replaced in a sheet; no byte of another block changes.

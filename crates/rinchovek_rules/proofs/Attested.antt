@@ -27,11 +27,18 @@ use Rattle.nearest_rules.specs.Nearest.{nearestRefusal, squared, withIndex, zer
 use Rattle.opacity_rules.specs.Opacity.{isVisible, opaque, passes}
 use Rattle.head_rules.specs.Colours.{colourOf, colourRefusal}
 use Rattle.pixel_rules.specs.Pixels.{pixelRead, pixelRefusal}
+use Rattle.tile_rules.specs.Counting.{count, kept}
+use Rattle.tile_rules.specs.Moves.{moved, movedByte}
+use Rattle.tile_rules.specs.Tiles.{columnAt, columnOfSlot, inSheet, numberInSlot, numberInTiles, rowAt, rowOfSlot, slotIn, slotOf, slots}
+use Rattle.tile_rules.specs.Tiles.{storedInTiles, storedOrder, tiles}
 use Rattle.head_rules.specs.Geometry.{blocksOf, placeOf, storedAt}
 use Rattle.head_rules.specs.Heads.{colourIn, formIn, formOf, headBytes, headRefusalUpTo, heightIn, ofFormRefusal, readHeadUpTo, readOfForm}
-use Rattle.head_rules.specs.Heads.{sizeRefusalUpTo, widthIn, writeHead}
+use Rattle.head_rules.specs.Heads.{sizeRefusalUpTo, tiledBytes, widthIn, writeHead}
 use Rattle.head_rules.specs.Numbers.{groups, raised, readGroups, readNumber}
 use Rattle.sheet_rules.specs.Rows.{blockAt, channel, rowByte, rowBytes, rowOutUpTo, rowRefusalUpTo}
+use Rattle.sheet_rules.specs.Blocks.{blockRead}
+use Rattle.sheet_rules.specs.Pictures.{allBlocks, rowOf}
+use Rattle.sheet_rules.specs.SheetRows.{rowBlocks, sheetRowOut, sheetRowRefusal}
 use Rattle.sheet_rules.specs.Sheets.{blockBy, findRefusalBy, putBlock, replacedBy, sheetAfterBy, sheetRefusalBy}
 use Rattle.sheet_rules.proofs.Attested.{lower, lowerScanlines, small, smallReplaced}
 use Rattle.rinchovek_rules.specs.Promises.{Decodes, Gives, Packs, ReadsLine, Replaces, Unpacks, Versions, DecodesRow, ReadsHead, ReplacesIn}
@@ -41,6 +48,9 @@ use Rattle.dds_rules.specs.Header.{canonicalHeader, entries, formatSays, header
 use Rattle.dds_rules.specs.Files.{exportAfterBy, exportLength, exportRefusalBy, fileMadeBy, fileRefusalUpTo, headMade, importAfterUpTo, importLength}
 use Rattle.dds_rules.specs.Files.{importRefusalUpTo, numberedAfter, numberedRefusal, sheetMade, wholeRefusalBy}
 use Rattle.dds_rules.proofs.Attested.{file53, header53, sheet53}
+use Rattle.move_rules.specs.Moving.{moveAfter, moveRefusal, movedTo}
+use Rattle.move_rules.specs.Stating.{stateAfter, stateRefusal, statedAs}
+use Rattle.rinchovek_rules.specs.Promises.{MovesToRows, MovesToTiles, OpensSheet, ReadsBlock, ShowsRow, StatesColour}
 use Rattle.rinchovek_rules.specs.Promises.{ExportNeeds, ExportsColour, ExportsDds, ImportNeeds, ImportsColour, ImportsDds, ReadsColourHead}
 
 abbrev zeros : ℕ → List ℕ
@@ -70,6 +80,24 @@ widths7 = replicate 8 5 ++ (1 ∷ 1 ∷ zeros 8) ++ replicate 8 2
 abbrev bytesGiven6 : List ℕ
 bytesGiven6 = 1 ∷ 2 ∷ 3 ∷ 4 ∷ 5 ∷ 6 ∷ 7 ∷ 8 ∷ 1 ∷ 0 ∷ 8 ∷ replicate 15 1
 
+-- six blocks of sixteen bytes alike, three columns and two rows, in both forms: form 2 stores 0 1 3 4 2 5
+abbrev six : ℕ → ℕ → ℕ → ℕ → ℕ → ℕ → List ℕ
+six a b c d e f = replicate 16 a ++ replicate 16 b ++ replicate 16 c ++ replicate 16 d ++ replicate 16 e ++ replicate 16 f
+
+abbrev inRows : List ℕ
+inRows = 0x01 ∷ 0x0C ∷ 0x08 ∷ six 10 11 12 13 14 15
+
+abbrev inTiles : ℕ → List ℕ
+inTiles space = 0x02 ∷ 0x0C ∷ 0x08 ∷ space ∷ six 10 11 13 14 12 15
+
+-- form 2 of 12 by 29 pixels, linear
+abbrev head2 : List ℕ
+head2 = 0x02 ∷ 0x0C ∷ 0x1D ∷ 0x01 ∷ []
+
+-- the shortest of the sheets that are refused for colour space 128, with the longest sides: 9 bytes
+abbrev wide2 : List ℕ
+wide2 = 0x02 ∷ 0x80 ∷ 0x80 ∷ 0x01 ∷ 0x80 ∷ 0x80 ∷ 0x01 ∷ 0x80 ∷ []
+
 -- mode 6: all pixels have alpha 255 but pixel 6, in column 2 and row 1, which has 0
 abbrev graded6 : List ℕ
 graded6 = 0x40 ∷ (zeros 5 ++ (0xFE ∷ 0x80 ∷ 0x00 ∷ 0x00 ∷ 0x00 ∷ 0x0F ∷ zeros 4))
@@ -83,7 +111,7 @@ computed : {A : Type 0} {refusal : ℕ} {left : A} → Gives refusal left refusa
 computed = record { answers = refl; leaves = refl }
 
 pub record Calls : Type 0 where
-  pub version : Versions (10000 * 1 + 100 * 6 + 0)
+  pub version : Versions (10000 * 1 + 100 * 8 + 0)
   pub decodes : Decodes block4 (half4 ++ half4)
   pub decodes-reserved : Decodes (zeros 16) (replicate 16 (rgba 0 0 0 0))
   pub unpacks : Unpacks block4 (nines 66) 0 (bytes4 3)
@@ -102,14 +130,34 @@ pub record Calls : Type 0 where
   pub tells-opaque-not : TellsOpaque graded6 4 2 0
   pub reads-pixel : ReadsPixel block4 1 (nines 4) 0 (rgba 13 31 46 29)
   pub reads-pixel-not : ReadsPixel block4 16 (nines 4) 21 (nines 4)
+  pub opens : OpensSheet head2 (nines 8) 0 (12 ∷ 29 ∷ 4 ∷ 1 ∷ 2 ∷ 3 ∷ 8 ∷ 24 ∷ [])
+  pub opens-rows : OpensSheet small (nines 8) 0 (5 ∷ 6 ∷ 3 ∷ 0 ∷ 1 ∷ 2 ∷ 2 ∷ 4 ∷ [])
+  pub opens-not : OpensSheet (0x03 ∷ []) (nines 8) 8 (nines 8)
+  pub opens-not-18 : OpensSheet (wide2 ++ (0x01 ∷ [])) (nines 8) 18 (nines 8)
+  pub opens-not-cut : OpensSheet wide2 (nines 8) 7 (nines 8)
   pub reads-head : ReadsHead small (nines 3) 0 (5 ∷ 6 ∷ 3 ∷ [])
-  pub reads-head-not : ReadsHead (0x03 ∷ []) (nines 3) 8 (nines 3)
+  pub reads-head-not : ReadsHead (0x02 ∷ []) (nines 3) 8 (nines 3)
+  pub reads-head-not-tiles : ReadsHead head2 (nines 3) 8 (nines 3)
   pub reads-colour-head : ReadsColourHead small (nines 4) 0 (5 ∷ 6 ∷ 3 ∷ 0 ∷ [])
-  pub reads-colour-head-not : ReadsColourHead (0x03 ∷ []) (nines 4) 8 (nines 4)
+  pub reads-colour-head-not : ReadsColourHead (0x02 ∷ []) (nines 4) 8 (nines 4)
+  pub reads-colour-head-not-tiles : ReadsColourHead head2 (nines 4) 8 (nines 4)
   pub writes-head : WritesHead 5 6 (nines 7, 9) 0 (0x01 ∷ 0x05 ∷ 0x06 ∷ zeros 4, 3)
   pub writes-head-not : WritesHead 5 16385 (nines 7, 9) 9 (nines 7, 9)
   pub decodes-row : DecodesRow 5 6 1 lower (nines 40) 0 lowerScanlines
   pub decodes-row-not : DecodesRow 5 6 1 lower (nines 41) 11 (nines 41)
+  pub shows-row : ShowsRow small 1 (nines 40) 0 lowerScanlines
+  pub shows-row-not : ShowsRow small 2 (nines 40) 12 (nines 40)
+  pub reads-block : ReadsBlock (inTiles 1) 2 (nines 16) 0 (replicate 16 12)
+  pub reads-block-rows : ReadsBlock inRows 3 (nines 16) 0 (replicate 16 13)
+  pub reads-block-not : ReadsBlock (inTiles 1) 6 (nines 16) 12 (nines 16)
+  pub moves-to-tiles : MovesToTiles inRows (nines 100) 0 (inTiles 0)
+  pub moves-to-tiles-not : MovesToTiles (inTiles 0) (nines 99) 8 (nines 99)
+  pub moves-to-rows : MovesToRows (inTiles 0) (nines 99) 0 inRows
+  pub moves-to-rows-not : MovesToRows inRows (nines 100) 8 (nines 100)
+  pub moves-to-rows-not-16 : MovesToRows (inTiles 2) (nines 99) 16 (nines 99)
+  pub states-colour : StatesColour (inTiles 0) 2 0 (inTiles 2)
+  pub states-colour-not : StatesColour (inTiles 1) 3 18 (inTiles 1)
+  pub states-colour-not-rows : StatesColour inRows 2 8 inRows
   pub replaces-in : ReplacesIn small 2 0 bytesGiven6 0 smallReplaced
   pub replaces-in-not : ReplacesIn small 0 2 bytesGiven6 2 small
   pub imports-dds : ImportsDds file53 (nines 35) 0 sheet53
@@ -142,6 +190,9 @@ unfolding padded first over table tableFrom weights weightOf drawn promoted eigh
     implies isVisible passes opaque pixelRefusal pixelRead
     evenly numberAt entries headerNumber canonicalHeader isTexture headMade sheetMade fileRefusalUpTo importRefusalUpTo importAfterUpTo
     wholeRefusalBy exportRefusalBy fileMadeBy exportAfterBy importLength exportLength formatSays numberedRefusal numberedAfter colourOf colourRefusal
+    count kept moved movedByte columnAt columnOfSlot inSheet numberInSlot numberInTiles rowAt rowOfSlot slotIn slotOf slots storedInTiles storedOrder
+    tiles tiledBytes blockRead allBlocks rowOf rowBlocks sheetRowOut sheetRowRefusal moveAfter moveRefusal movedTo
+    stateAfter stateRefusal statedAs
 calls-hold = record {
   version = refl;
   decodes = refl;
@@ -162,14 +213,34 @@ calls-hold = record {
   tells-opaque-not = refl;
   reads-pixel = computed;
   reads-pixel-not = computed;
+  opens = computed;
+  opens-rows = computed;
+  opens-not = computed;
+  opens-not-18 = computed;
+  opens-not-cut = computed;
   reads-head = computed;
   reads-head-not = computed;
+  reads-head-not-tiles = computed;
   reads-colour-head = computed;
   reads-colour-head-not = computed;
+  reads-colour-head-not-tiles = computed;
   writes-head = computed;
   writes-head-not = computed;
   decodes-row = computed;
   decodes-row-not = computed;
+  shows-row = computed;
+  shows-row-not = computed;
+  reads-block = computed;
+  reads-block-rows = computed;
+  reads-block-not = computed;
+  moves-to-tiles = computed;
+  moves-to-tiles-not = computed;
+  moves-to-rows = computed;
+  moves-to-rows-not = computed;
+  moves-to-rows-not-16 = computed;
+  states-colour = computed;
+  states-colour-not = computed;
+  states-colour-not-rows = computed;
   replaces-in = computed;
   replaces-in-not = computed;
   imports-dds = computed;

@@ -15,9 +15,13 @@ use Rattle.pixel_rules.specs.Pixels.{pixelRead}
 use Rattle.pixel_rules.proofs.Theorems.{pixel-accepted, pixel-of-the-sixteen}
 use Rattle.head_rules.specs.declared.ColourSpace.the-variants.{Unspecified}
 use Rattle.dds_rules.specs.Files.{importAfterUpTo}
+use Rattle.move_rules.specs.Moving.{moveAfter}
+use Rattle.move_rules.specs.Stating.{stateAfter}
+use Rattle.sheet_rules.specs.SheetRows.{sheetRowOut}
 use Rattle.dds_rules.proofs.Theorems.{refused-export-leaves, refused-numbered-leaves}
 use Rattle.rinchovek_rules.specs.Promises.{Decodes, Determined, Gives, Packs, ReadsLine, Replaces, Unpacks, Versions, Writes, DecodesRow}
 use Rattle.rinchovek_rules.specs.Promises.{ReadsHead, ReadsPixel, FindsExact, FindsNearest, ReplacesIn, TellsOpaque, WritesHead}
+use Rattle.rinchovek_rules.specs.Promises.{MovesToRows, MovesToTiles, OpensSheet, ReadsBlock, ShowsRow, StatesColour}
 use Rattle.rinchovek_rules.specs.Promises.{ExportNeeds, ExportsColour, ExportsDds, ImportNeeds, ImportsColour, ImportsDds, ReadsColourHead}
 
 one-given : {A : Type 0} (refusal : ℕ) (left : A) → Determined (Gives refusal left)
@@ -55,6 +59,9 @@ determined-bc7-is-opaque block columns rows a b p q = p ∙ sym q
 pub determined-bc7-pixel : (block : List ℕ) (pixel : ℕ) (before : List ℕ) → Determined (ReadsPixel block pixel before)
 determined-bc7-pixel block pixel before = one-given _ _
 
+pub determined-sheet-open : (sheet before : List ℕ) → Determined (OpensSheet sheet before)
+determined-sheet-open sheet before = one-given _ _
+
 pub determined-sheet-read-head : (sheet before : List ℕ) → Determined (ReadsHead sheet before)
 determined-sheet-read-head sheet before = one-given _ _
 
@@ -66,6 +73,21 @@ determined-sheet-write-head width height before = one-given _ _
 
 pub determined-sheet-decode-row : (width height row : ℕ) (blocks before : List ℕ) → Determined (DecodesRow width height row blocks before)
 determined-sheet-decode-row width height row blocks before = one-given _ _
+
+pub determined-sheet-show-row : (sheet : List ℕ) (row : ℕ) (before : List ℕ) → Determined (ShowsRow sheet row before)
+determined-sheet-show-row sheet row before = one-given _ _
+
+pub determined-sheet-block : (sheet : List ℕ) (block : ℕ) (before : List ℕ) → Determined (ReadsBlock sheet block before)
+determined-sheet-block sheet block before = one-given _ _
+
+pub determined-sheet-to-tiles : (sheet before : List ℕ) → Determined (MovesToTiles sheet before)
+determined-sheet-to-tiles sheet before = one-given _ _
+
+pub determined-sheet-to-rows : (sheet before : List ℕ) → Determined (MovesToRows sheet before)
+determined-sheet-to-rows sheet before = one-given _ _
+
+pub determined-sheet-state-colour : (sheet : List ℕ) (number : ℕ) → Determined (StatesColour sheet number)
+determined-sheet-state-colour sheet number = one-given _ _
 
 pub determined-sheet-replace-line : (sheet : List ℕ) (block line : ℕ) (bytes : List ℕ) → Determined (ReplacesIn sheet block line bytes)
 determined-sheet-replace-line sheet block line bytes = one-given _ _
@@ -120,6 +142,9 @@ refused-bc7-exact-index-leaves block line pixel wanted before = refused-leaves _
 pub refused-bc7-pixel-leaves : (block : List ℕ) (pixel : ℕ) (before : List ℕ) → Leaves before (ReadsPixel block pixel before)
 refused-bc7-pixel-leaves block pixel before = refused-leaves _ _ before
 
+pub refused-sheet-open-leaves : (sheet before : List ℕ) → Leaves before (OpensSheet sheet before)
+refused-sheet-open-leaves sheet before = refused-leaves _ _ before
+
 pub refused-sheet-read-head-leaves : (sheet before : List ℕ) → Leaves before (ReadsHead sheet before)
 refused-sheet-read-head-leaves sheet before = refused-leaves _ _ before
 
@@ -132,6 +157,25 @@ refused-sheet-write-head-leaves width height before = refused-leaves _ _ before
 pub refused-sheet-decode-row-leaves : (width height row : ℕ) (blocks before : List ℕ) → Leaves before (DecodesRow width height row blocks before)
 refused-sheet-decode-row-leaves width height row blocks before answer after p ne =
     refused-row-leaves width height row blocks before answer after (p .answers, p .leaves) ne
+
+pub refused-sheet-show-row-leaves : (sheet : List ℕ) (row : ℕ) (before : List ℕ) → Leaves before (ShowsRow sheet row before)
+unfolding sheetRowOut
+refused-sheet-show-row-leaves sheet row before = refused-leaves _ _ before
+
+pub refused-sheet-block-leaves : (sheet : List ℕ) (block : ℕ) (before : List ℕ) → Leaves before (ReadsBlock sheet block before)
+refused-sheet-block-leaves sheet block before = refused-leaves _ _ before
+
+pub refused-sheet-to-tiles-leaves : (sheet before : List ℕ) → Leaves before (MovesToTiles sheet before)
+unfolding moveAfter
+refused-sheet-to-tiles-leaves sheet before = refused-leaves _ _ before
+
+pub refused-sheet-to-rows-leaves : (sheet before : List ℕ) → Leaves before (MovesToRows sheet before)
+unfolding moveAfter
+refused-sheet-to-rows-leaves sheet before = refused-leaves _ _ before
+
+pub refused-sheet-state-colour-leaves : (sheet : List ℕ) (number : ℕ) → Leaves sheet (StatesColour sheet number)
+unfolding stateAfter
+refused-sheet-state-colour-leaves sheet number = refused-leaves _ _ sheet
 
 pub refused-sheet-replace-line-leaves : (sheet : List ℕ) (block line : ℕ) (bytes : List ℕ) → Leaves sheet (ReplacesIn sheet block line bytes)
 refused-sheet-replace-line-leaves sheet block line bytes answer after p ne =

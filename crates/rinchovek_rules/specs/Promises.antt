@@ -9,21 +9,27 @@ use lib.ListN.{length}
 use Rattle.laws.specs.Tables.{pick}
 use Rattle.bc7_format.specs.Lines.{pixels}
 use Rattle.head_rules.specs.declared.ColourSpace.the-variants.{Unspecified}
+use Rattle.head_rules.specs.declared.Form.the-variants.{Rows, Tiles}
 use Rattle.head_rules.specs.declared.Head.{Head}
 use Rattle.head_rules.specs.Colours.{colourNumber}
-use Rattle.head_rules.specs.Heads.{readHead, writeHead}
+use Rattle.head_rules.specs.Geometry.{across, blocksOf}
+use Rattle.head_rules.specs.Heads.{formNumber, readHead, readOfForm, writeHead}
 use Rattle.line_rules.specs.declared.LineRead.{LineRead}
 use Rattle.line_rules.specs.Read.{lineRead, replacementBytes, replacementOf}
 use Rattle.line_rules.specs.Replace.{replaced}
 use Rattle.record_rules.specs.Records.{takenApart}
 use Rattle.record_rules.specs.Wire.{packedBytes, recordBytes}
+use Rattle.sheet_rules.specs.Blocks.{blockRead}
 use Rattle.sheet_rules.specs.Rows.{rowOut, rowRefusal}
+use Rattle.sheet_rules.specs.SheetRows.{sheetRowOut, sheetRowRefusal}
 use Rattle.sheet_rules.specs.Sheets.{sheetAfter, sheetRefusal}
 use Rattle.nearest_rules.specs.Nearest.{exactIndex, nearestIndex}
 use Rattle.opacity_rules.specs.Opacity.{opaque}
 use Rattle.pixel_rules.specs.Pixels.{pixelRead}
 use Rattle.dds_rules.specs.Files.{exportAfter, exportLength, exportRefusal, headMade, importAfter, importLength, importRefusal, numberedAfter}
 use Rattle.dds_rules.specs.Files.{numberedRefusal, sheetMade}
+use Rattle.move_rules.specs.Moving.{moveAfter, moveRefusal}
+use Rattle.move_rules.specs.Stating.{stateAfter, stateRefusal}
 
 -- this number is answered, and this is left
 pub record Gives {A : Type 0} (refusal : ℕ) (left : A) (answer : ℕ) (after : A) : Type 0 where
@@ -34,9 +40,9 @@ pub record Gives {A : Type 0} (refusal : ℕ) (left : A) (answer : ℕ) (after :
 abbrev pub Writes : {A : Type 0} → ℕ → A → A → ℕ → A → Type 0
 Writes refusal value before = Gives refusal (pick (eqb refusal 0) value before)
 
--- version 1.6.0: major, minor and patch, with two digits for each of the last two
+-- version 1.8.0: major, minor and patch, with two digits for each of the last two
 abbrev pub Versions : ℕ → Type 0
-Versions answer = answer ≡ 10600
+Versions answer = answer ≡ 10800
 
 abbrev pub Decodes : List ℕ → List (List ℕ) → Type 0
 Decodes block after = after ≡ pixels block
@@ -74,19 +80,30 @@ TellsOpaque block columns rows answer = answer ≡ pick (opaque columns rows blo
 abbrev pub ReadsPixel : List ℕ → ℕ → List ℕ → ℕ → List ℕ → Type 0
 ReadsPixel block pixel before = Writes (pixelRead block pixel .refusal) (pixelRead block pixel .rgba) before
 
--- width, height and where the blocks start
+-- of a sheet of either form: width, height, where the blocks start, the numbers of the colour space and of the form, and how many columns,
+-- rows and blocks there are
+abbrev pub openNumbers : Head → List ℕ
+openNumbers head =
+    head .width ∷ head .height ∷ head .start ∷ colourNumber (head .«colour_space») ∷ formNumber (head .form) ∷
+    across (head .width) ∷ across (head .height) ∷ blocksOf head ∷
+    []
+
+abbrev pub OpensSheet : List ℕ → List ℕ → ℕ → List ℕ → Type 0
+OpensSheet sheet before = Writes (readHead sheet .refusal) (openNumbers (readHead sheet)) before
+
+-- of a sheet of form 1 alone, for these numbers don't say the form: width, height and where the blocks start
 abbrev pub headNumbers : Head → List ℕ
 headNumbers head = head .width ∷ head .height ∷ head .start ∷ []
 
 abbrev pub ReadsHead : List ℕ → List ℕ → ℕ → List ℕ → Type 0
-ReadsHead sheet before = Writes (readHead sheet .refusal) (headNumbers (readHead sheet)) before
+ReadsHead sheet before = Writes (readOfForm Rows sheet .refusal) (headNumbers (readOfForm Rows sheet)) before
 
 -- the same, and behind them the colour space by its number
 abbrev pub colourHeadNumbers : Head → List ℕ
 colourHeadNumbers head = head .width ∷ head .height ∷ head .start ∷ colourNumber (head .«colour_space») ∷ []
 
 abbrev pub ReadsColourHead : List ℕ → List ℕ → ℕ → List ℕ → Type 0
-ReadsColourHead sheet before = Writes (readHead sheet .refusal) (colourHeadNumbers (readHead sheet)) before
+ReadsColourHead sheet before = Writes (readOfForm Rows sheet .refusal) (colourHeadNumbers (readOfForm Rows sheet)) before
 
 -- the head's bytes and their count
 abbrev pub WritesHead : ℕ → ℕ → List ℕ × ℕ → ℕ → List ℕ × ℕ → Type 0
@@ -95,6 +112,24 @@ WritesHead width height before = Writes (writeHead width height .refusal) (write
 abbrev pub DecodesRow : ℕ → ℕ → ℕ → List ℕ → List ℕ → ℕ → List ℕ → Type 0
 DecodesRow width height row blocks before =
     Gives (rowRefusal width height row (length blocks) (length before)) (rowOut width height row blocks before)
+
+-- of a whole sheet of either form: a row shown, and a block by its number
+abbrev pub ShowsRow : List ℕ → ℕ → List ℕ → ℕ → List ℕ → Type 0
+ShowsRow sheet row before = Gives (sheetRowRefusal sheet row (length before)) (sheetRowOut sheet row before)
+
+abbrev pub ReadsBlock : List ℕ → ℕ → List ℕ → ℕ → List ℕ → Type 0
+ReadsBlock sheet block before = Writes (blockRead sheet block .refusal) (blockRead sheet block .block) before
+
+-- a sheet moved from the one form to the other
+abbrev pub MovesToTiles : List ℕ → List ℕ → ℕ → List ℕ → Type 0
+MovesToTiles sheet before = Gives (moveRefusal Tiles sheet (length before)) (moveAfter Tiles sheet before)
+
+abbrev pub MovesToRows : List ℕ → List ℕ → ℕ → List ℕ → Type 0
+MovesToRows sheet before = Gives (moveRefusal Rows sheet (length before)) (moveAfter Rows sheet before)
+
+-- the colour space of a sheet of form 2, stated by its number
+abbrev pub StatesColour : List ℕ → ℕ → ℕ → List ℕ → Type 0
+StatesColour sheet number = Gives (stateRefusal sheet number) (stateAfter sheet number)
 
 abbrev pub ReplacesIn : List ℕ → ℕ → ℕ → List ℕ → ℕ → List ℕ → Type 0
 ReplacesIn sheet block line bytes = Gives (sheetRefusal sheet block line (replacementOf bytes)) (sheetAfter sheet block line (replacementOf bytes))

@@ -1,3 +1,4 @@
 pub mod Decoding
+pub mod Reading
 pub mod Replacing
 pub mod SheetDecoding

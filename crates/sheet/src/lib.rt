@@ -1,5 +1,6 @@
 // A sheet of blocks: one row of blocks drawn as scanlines, and a line replaced in a block of a sheet. Both calls take
 // every input and say why they refuse one.
+ghost use Rattle.sheet_rules.specs.Blocks.{ReadsBlock};
 ghost use Rattle.sheet_rules.specs.Rows.{DecodesRow};
 ghost use Rattle.sheet_rules.specs.SheetRows.{DecodesSheetRow};
 ghost use Rattle.sheet_rules.specs.Sheets.{ReplacesInSheet};
@@ -13,6 +14,7 @@ use sheet_head::geometry::blocks_across;
 use sheet_head::geometry::out_length;
 use sheet_head::geometry::shown_in;
 use sheet_head::geometry::whole_length;
+use sheet_rules::BlockRead;
 
 pub mod blocks;
 pub mod output;
@@ -55,6 +57,23 @@ pub fn decode_sheet_row(sheet: &[u8], row: u32, out: &mut [u8]) -> u8
     }
     put_sheet_row(head, row, scanlines, sheet, out);
     0
+}
+
+// A block of a sheet of either form, by its number.
+pub fn block_in_sheet(sheet: &[u8], block: u32) -> BlockRead
+    ensures { λ r. ⌜ ReadsBlock (now (sheet .entry)) block r ⌝ }
+{
+    let found = find_block(sheet, block);
+    if found.refusal != 0 {
+        return BlockRead {
+            refusal: found.refusal,
+            block: [0u8; 16],
+        };
+    }
+    BlockRead {
+        refusal: 0,
+        block: load(sheet, found.at),
+    }
 }
 
 // A line of a block of a sheet, replaced. A refused call leaves the sheet as it was.

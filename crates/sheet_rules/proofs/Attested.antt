@@ -5,6 +5,7 @@ use mathlib.Core.List.{List, [], _∷_, _++_, map}
 use Prim.Native.Nat.{ℕ}
 use lib.ListN.{drop, length, replicate}
 use Rattle.line_rules.specs.declared.Replacement.{Replacement}
+use Rattle.sheet_rules.specs.declared.BlockRead.{BlockRead}
 use Rattle.laws.specs.Refusals.{first}
 use Rattle.laws.specs.Tables.{over, table, tableFrom}
 use Rattle.bcn_format.specs.Block.{bytesOf, number, trailing}
@@ -21,6 +22,7 @@ use Rattle.head_rules.specs.Geometry.{across, blocksOf, placeOf, sideShown, sto
 use Rattle.head_rules.specs.Heads.{colourIn, formIn, formOf, headOf, headRefusalUpTo, heightIn, readHeadUpTo, sizeRefusalUpTo, widthIn}
 use Rattle.head_rules.specs.Numbers.{raised, readGroups, readNumber}
 use Rattle.line_rules.specs.Replace.{after, indexFits, lineFits, lineGiven, oriented, ownWidth, pFits, put, refusal, refusalIn, replaced, valueFits}
+use Rattle.sheet_rules.specs.Blocks.{blockRead}
 use Rattle.sheet_rules.specs.Pictures.{allBlocks, picture, pictureByte, rowOf}
 use Rattle.sheet_rules.specs.SheetRows as whole
 use Rattle.sheet_rules.specs.SheetRows.{sheetRowOut, sheetRowRefusal}
@@ -140,6 +142,32 @@ sheetClaims =
     refuse (0x02 ∷ 0x00 ∷ 0x08 ∷ 0x03 ∷ drop 3 longer) 9 1 18 ∷
     []
 
+-- a block by its number: what is given, and what is answered
+pub record Read : Type 0 where
+  pub sheet : List ℕ
+  pub block : ℕ
+  pub answer : BlockRead
+
+abbrev read : List ℕ → ℕ → List ℕ → Read
+read s b bytes = record { sheet = s; block = b; answer = record { refusal = 0; block = bytes } }
+
+abbrev read-not : List ℕ → ℕ → ℕ → Read
+read-not s b r = record { sheet = s; block = b; answer = record { refusal = r; block = replicate 16 0 } }
+
+-- each call is refused for what the next ones are refused for too
+abbrev pub blockClaims : List Read
+blockClaims =
+    read small 2 shade30 ∷
+    read (tiles3 shade30) 2 shade30 ∷
+    read-not [] 6 7 ∷
+    read-not (0x03 ∷ 0x00 ∷ 0x08 ∷ 0x03 ∷ drop 3 longer) 6 8 ∷
+    read-not (0x02 ∷ 0x00 ∷ 0x08 ∷ 0x03 ∷ drop 3 longer) 6 18 ∷
+    read-not (0x02 ∷ 0x00 ∷ 0x08 ∷ 0x02 ∷ drop 3 longer) 6 9 ∷
+    read-not longer 4 10 ∷
+    read-not small 4 12 ∷
+    read-not (tiles3 shade30) 6 12 ∷
+    []
+
 -- a row of a whole sheet: what is given, the number that is answered, and the output afterwards
 pub record SheetRow : Type 0 where
   pub sheet : List ℕ
@@ -179,6 +207,7 @@ pub record Sheets : Type 0 where
   pub blocks : map (blockIn small) (0 ∷ 1 ∷ 2 ∷ 3 ∷ []) ≡ shade10 ∷ shade20 ∷ shade30 ∷ shade40 ∷ []
   pub tiled-blocks : map (blockIn (tiles3 shade30)) (0 ∷ 1 ∷ 2 ∷ 3 ∷ 4 ∷ 5 ∷ [])
       ≡ shade10 ∷ shade20 ∷ shade30 ∷ shade40 ∷ shade10 ∷ shade20 ∷ []
+  pub blocks-read : map (λ c. blockRead (c .sheet) (c .block)) blockClaims ≡ map (λ c. c .answer) blockClaims
   pub row-answers : map (λ c. rowRefusal (c .wide) (c .high) (c .row) (length (c .blocks)) (length (c .out))) rowClaims
       ≡ map (λ c. c .answer) rowClaims
   pub rows : map (λ c. rowOut (c .wide) (c .high) (c .row) (c .blocks) (c .out)) rowClaims ≡ map (λ c. c .left) rowClaims
@@ -194,7 +223,7 @@ unfolding over table tableFrom weights weightOf drawn promoted eight modeRow kin
     replacedBy sheetAfterBy sheetRefusalBy first sizeRefusalUpTo readHeadUpTo headRefusalUpTo formIn widthIn heightIn readNumber
     readGroups raised replaced after refusal refusalIn lineFits valueFits pFits indexFits ownWidth lineGiven put oriented withLine laid
     turned anchorOf blockOf listOf bytesOf colourIn formOf colourOf colourRefusal storedAt storedInTiles count slotOf slotIn inSheet columnAt
-    columnOfSlot rowAt rowOfSlot tiles allBlocks rowOf sheetRowOut sheetRowRefusal whole.rowBlocks
+    columnOfSlot rowAt rowOfSlot tiles blockRead allBlocks rowOf sheetRowOut sheetRowRefusal whole.rowBlocks
 sheets-hold = record {
   columns = refl;
   in-all = refl;
@@ -202,6 +231,7 @@ sheets-hold = record {
   picture-shown = refl;
   blocks = refl;
   tiled-blocks = refl;
+  blocks-read = refl;
   row-answers = refl;
   rows = refl;
   sheet-row-answers = refl;

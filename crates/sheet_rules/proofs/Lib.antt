@@ -2,6 +2,7 @@ pub mod Attested
 pub mod Refusing
 pub mod Limits
 pub mod Finding
+pub mod Blocks
 pub mod Replacing
 pub mod Pictures
 pub mod SheetRows

@@ -1,4 +1,4 @@
--- `rinchovek_sheet_read_colour_head`: what `read_head` answers, the colour space by its number.
+-- `rinchovek_sheet_read_colour_head`: what `read_of_form` answers of form 1, the colour space by its number.
 -- Assumes nothing.
 use Prim.Native.Nat.{ℕ}
 use mathlib.Core.List.{[], _∷_}
@@ -9,15 +9,15 @@ use borrow.Author.Needs.{needs}
 use Rattle.rinchovek.proofs.rinchovek_sheet_read_colour_head.Statement.{statement}
 use Rattle.rinchovek.proofs.rinchovek_sheet_read_colour_head.Tie as tie
 
-read-head-requires : tie.Need-read-head-requires
-read-head-requires c κs = search needs
+read-of-form-requires : tie.Need-read-of-form-requires
+read-of-form-requires c κs = search needs
 
 cast-result : tie.Need-cast-result
 cast-result c = search needs
 
 returns : tie.Need-returns
 returns c =
-    let e = c .before .before .before .read-head .ensures in
+    let e = c .before .before .before .read-of-form .ensures in
     record { answers = ap (λ (h : Head). h .refusal) e; leaves = rw (← e, ne-eqb _ 0 (c .before .if1 .taken)) }
 
 number-of-requires : tie.Need-number-of-requires
@@ -25,7 +25,7 @@ number-of-requires c κs = search needs
 
 returns-2 : tie.Need-returns-2
 returns-2 c =
-    let r = c .before .before .before .before .read-head in
+    let r = c .before .before .before .before .read-of-form in
     let e = r .ensures in
     let zero = c .before .before .if1 .left in
     let x = r .result in
@@ -34,4 +34,4 @@ returns-2 c =
 
 pub rinchovek-sheet-read-colour-head-spec : {M : Type 1} → statement M
 rinchovek-sheet-read-colour-head-spec =
-    tie.close (tie.spec read-head-requires cast-result returns number-of-requires returns-2)
+    tie.close (tie.spec read-of-form-requires cast-result returns number-of-requires returns-2)

@@ -1,4 +1,4 @@
--- `rinchovek_sheet_read_head`: what `read_head` answers.
+-- `rinchovek_sheet_read_head`: what `read_of_form` answers of form 1.
 -- Assumes nothing.
 use mathlib.Core.Path.{sym, ap, _∙_}
 use borrow.Author.Tests.{eq-eqb, ne-eqb}
@@ -7,22 +7,22 @@ use borrow.Author.Needs.{needs}
 use Rattle.rinchovek.proofs.rinchovek_sheet_read_head.Statement.{statement}
 use Rattle.rinchovek.proofs.rinchovek_sheet_read_head.Tie as tie
 
-read-head-requires : tie.Need-read-head-requires
-read-head-requires c κs = search needs
+read-of-form-requires : tie.Need-read-of-form-requires
+read-of-form-requires c κs = search needs
 
 cast-result : tie.Need-cast-result
 cast-result c = search needs
 
 returns : tie.Need-returns
 returns c =
-    let e = c .before .before .before .read-head .ensures in
+    let e = c .before .before .before .read-of-form .ensures in
     record { answers = ap (λ (h : Head). h .refusal) e; leaves = rw (← e, ne-eqb _ 0 (c .before .if1 .taken)) }
 
 returns-2 : tie.Need-returns-2
 returns-2 c =
-    let e = c .before .before .before .read-head .ensures in
+    let e = c .before .before .before .read-of-form .ensures in
     let zero = c .before .if1 .left in
     record { answers = sym zero ∙ ap (λ (h : Head). h .refusal) e; leaves = rw (← e, eq-eqb _ 0 zero) }
 
 pub rinchovek-sheet-read-head-spec : {M : Type 1} → statement M
-rinchovek-sheet-read-head-spec = tie.close (tie.spec read-head-requires cast-result returns returns-2)
+rinchovek-sheet-read-head-spec = tie.close (tie.spec read-of-form-requires cast-result returns returns-2)
