@@ -15,7 +15,8 @@ use Rattle.laws.specs.Tables.{pick}
 use Rattle.head_rules.specs.declared.Form.{Form}
 use Rattle.head_rules.specs.declared.Form.the-variants.{Rows, Tiles}
 use Rattle.head_rules.specs.declared.Number.{Number}
-use Rattle.head_rules.specs.Heads.{colourBehind, colourIn, formIn, formNumber, formOf, headRefusalUpTo, heightIn, readHead, readHeadUpTo, readOfForm, widthIn}
+use Rattle.head_rules.specs.Heads.{colourBehind, colourIn, formIn, formNumber, formOf, headRefusalUpTo, heightIn, readHead, readHeadUpTo}
+use Rattle.head_rules.specs.Heads.{readOfForm, widthIn}
 use Rattle.head_rules.specs.Numbers.{found, raised, readGroups, readNumber}
 use Rattle.head_rules.proofs.Reading.{every-number, near}
 use Rattle.head_rules.proofs.Theorems.{form-back, of-form-refused, of-form-this}
