@@ -49,10 +49,10 @@ pub record Moves : Type 0 where
   pub refused-leaves : moveAfter Rows (inTiles 2) (replicate 99 9) ≡ replicate 99 9
 
 pub moves-hold : Moves
-unfolding moveAfter moveRefusal movedTo readOfFormUpTo ofFormRefusalUpTo first groups readGroups readNumber raised readHeadUpTo headRefusalUpTo formIn
-    widthIn heightIn colourIn sizeRefusalUpTo headBytes tiledBytes blocksOf colourOf colourRefusal formOf storedInTiles count slotOf slotIn inSheet columnAt
-    columnOfSlot rowAt rowOfSlot tiles blocksAs byteAs blockBy blockAt placeOf storedAt table tableFrom numberInTiles storedOrder kept
-    numberInSlot slots
+unfolding moveAfter moveRefusal movedTo readOfFormUpTo ofFormRefusalUpTo first groups readGroups readNumber raised readHeadUpTo headRefusalUpTo
+    formIn widthIn heightIn colourIn sizeRefusalUpTo headBytes tiledBytes blocksOf colourOf colourRefusal formOf storedInTiles count slotOf
+    slotIn inSheet columnAt columnOfSlot rowAt rowOfSlot tiles blocksAs byteAs blockBy blockAt placeOf storedAt table tableFrom
+    numberInTiles storedOrder kept numberInSlot slots
 moves-hold = record {
   to-tiles = refl;
   to-rows = refl;

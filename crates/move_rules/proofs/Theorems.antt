@@ -25,11 +25,14 @@ use Rattle.head_rules.proofs.Writing.{one-longer}
 use Rattle.line_rules.specs.Calls.{afterAll}
 use Rattle.line_rules.specs.Replace.{refusal}
 use Rattle.sheet_rules.specs.Calls.{SheetCall, WholeSheet, callsOn, onBlock, refusalOn, sheetWithAll}
-use Rattle.sheet_rules.specs.Pictures.{allBlocks, picture}
+use Rattle.sheet_rules.specs.Pictures.{allBlocks, picture, rowOf}
+use Rattle.sheet_rules.specs.Rows.{rowOut, rowRefusal}
+use Rattle.sheet_rules.specs.SheetRows.{rowBlocks, sheetRowOut, sheetRowRefusal}
 use Rattle.sheet_rules.specs.Sheets.{blockBy, blockIn, findRefusal, sheetAfter, sheetRefusal}
 use Rattle.sheet_rules.proofs.Calling.{all-block, answered-as-block, beyond}
 use Rattle.sheet_rules.proofs.Finding.{finding}
 use Rattle.sheet_rules.proofs.Pictures.{all-same}
+use Rattle.sheet_rules.proofs.SheetRows.{equals-the-first}
 use Rattle.move_rules.specs.Moving.{MovesTo, headInForm, moveAfter, moveRefusal, moveRules, movedTo, other}
 use Rattle.move_rules.proofs.Moving.{Movable, accepts, back-is, back-movable, block-moved, head-moved, movable, moved-is, unmoved}
 use Rattle.move_rules.proofs.Whole.{whole-moved}
@@ -142,13 +145,36 @@ module _ (f : Form) (s out : List ℕ) (y : Bytes s) (e : moveRefusal f s (lengt
       ap (λ (h : Head). blockBy h t b) head-there
       ∙ ap (λ (x : List ℕ). blockBy (headInForm f (readHead s)) x b) (moved-is f s out e) ∙ block-moved f (readHead s) s (m .long) b l
 
-  -- it shows the same picture
+  same-width : readHead t .width ≡ readHead s .width
+  same-width = ap (λ (h : Head). h .width) head-there
+
+  same-height : readHead t .height ≡ readHead s .height
+  same-height = ap (λ (h : Head). h .height) head-there
+
+  same-blocks : allBlocks t ≡ allBlocks s
+  same-blocks = all-same Rows (readHead s) s (readHead t) t same-width same-height same-block
+
+  -- it shows the same picture, and each row of blocks is decoded alike
   pub same-picture : picture (readHead t .width) (readHead t .height) (allBlocks t) ≡ picture (readHead s .width) (readHead s .height) (allBlocks s)
   same-picture =
-      let w = ap (λ (h : Head). h .width) head-there in
-      let g = ap (λ (h : Head). h .height) head-there in
-      ap₂ (λ (a b : ℕ). picture a b (allBlocks t)) w g
-      ∙ ap (picture (readHead s .width) (readHead s .height)) (all-same Rows (readHead s) s (readHead t) t w g same-block)
+      ap₂ (λ (a b : ℕ). picture a b (allBlocks t)) same-width same-height ∙ ap (picture (readHead s .width) (readHead s .height)) same-blocks
+
+  row-blocks : (row : ℕ) → rowBlocks t row ≡ rowBlocks s row
+  unfolding rowBlocks
+  row-blocks row = ap₂ (λ (a : ℕ) (x : List ℕ). rowOf a x row) same-width same-blocks
+
+  pub same-row : (row : ℕ) (o : List ℕ) → (sheetRowRefusal t row (length o) ≡ sheetRowRefusal s row (length o))
+      × (sheetRowOut t row o ≡ sheetRowOut s row o)
+  same-row row o =
+      let w = readHead s .width in
+      let g = readHead s .height in
+      let a = equals-the-first t (whole-there .told) (whole-there .long) row o in
+      let b = equals-the-first s (m .told) (m .long) row o in (
+        a .0 ∙ ap₂ (λ (i j : ℕ). rowRefusal i j row (length (rowBlocks t row)) (length o)) same-width same-height
+            ∙ ap (λ (x : List ℕ). rowRefusal w g row (length x) (length o)) (row-blocks row) ∙ sym (b .0),
+        a .1 ∙ ap₂ (λ (i j : ℕ). rowOut i j row (rowBlocks t row) o) same-width same-height
+            ∙ ap (λ (x : List ℕ). rowOut w g row x o) (row-blocks row) ∙ sym (b .1),
+      )
 
   -- and every call by block number is answered as before: a block is found, or not; a line of it is replaced, or not; and whatever list of
   -- calls is made on both sheets, each block is the same in both afterwards

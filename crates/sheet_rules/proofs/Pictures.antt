@@ -210,7 +210,8 @@ module _ (f : Form) (h : Head) (s : List ℕ) where
         ext-getD 0 (blocksAs f h s) (drop (h .start) s) (all-long ∙ sym (length-drop (h .start) s ∙ omega (arith, whole)))
         (λ k l. let q = k / 16 in
         let lq : q < blocksOf h = omega (arith, all-long, l) in
-        getD-table (16 * blocksOf h) (byteAs f h s) 0 k (omega (arith, all-long, l)) ∙ block-get s (placeOf h (numberBy f c r q)) (k % 16) (omega arith)
+        getD-table (16 * blocksOf h) (byteAs f h s) 0 k (omega (arith, all-long, l))
+        ∙ block-get s (placeOf h (numberBy f c r q)) (k % 16) (omega arith)
         ∙ ap (λ (i : ℕ). getD s i 0) (omega (arith, number-is q e, each-place h q lq)) ∙ sym (getD-drop (h .start) s k 0))
 
 -- block b of a sheet is the one that the picture shows in its column and its row: at x, y is block y / 4 · columns + x / 4

@@ -1,27 +1,31 @@
 -- THE SECOND ROW DECODING EQUALS THE FIRST on the blocks of its row, in either form; each refusal exactly when `sheetRowRules` says.
 -- Assumes nothing.
 use mathlib.Core.Path.{_≡_, _∙_, ap, sym}
-use mathlib.Core.Logic.{_↔_, _≢_}
+use mathlib.Core.Logic.{_↔_, _≢_, ⊎-elim}
 use mathlib.Core.List.{List, _∷_}
 use Prim.Native.Nat.{ℕ, _+_, _*_, _<_, _≤_}
 use native.Mathlib.Nat.{mul-le-mul-right}
+use native.Mathlib.Decide.{ℕ-discrete}
 use native.Mathlib.Omega.{arith}
 use borrow.Author.Tests.{ne-eqb}
 use lib.Arith.{digits-lt}
+use lib.Dec.{eqb}
 use lib.ListN.{length, drop, length-drop}
 use lib.Seq.{length-take-le}
-use Rattle.laws.specs.Refusals.{Given, handed}
-use Rattle.laws.proofs.Refusals.{Answers, accepted-when, answer-0, answers, by-answer, by-leb, by-not-eqb, exactly, none, rule, rules}
+use Rattle.laws.specs.Refusals.{Given, accepted, handed, here, then}
+use Rattle.laws.specs.Tables.{pick}
+use Rattle.laws.proofs.Cases.{lt-or}
+use Rattle.laws.proofs.Refusals.{Answers, answer-0, answers, by-answer, by-leb, by-not-eqb, exactly, none, rule, rules}
 use Rattle.head_rules.specs.declared.Form.the-variants.{Rows}
 use Rattle.head_rules.specs.Geometry.{across, blocksOf, rowLength, sideShown, wholeLength}
 use Rattle.head_rules.specs.Heads.{Sized, readHead}
 use Rattle.head_rules.proofs.Theorems.{head-answers, head-sized}
 use Rattle.sheet_rules.specs.Pictures.{allBlocks, rowOf}
-use Rattle.sheet_rules.specs.Rows.{blockAt, rowBytes, rowOut, rowRefusal}
+use Rattle.sheet_rules.specs.Rows.{blockAt, rowBytes, rowOut, rowOutUpTo, rowRefusal, rowRules}
 use Rattle.sheet_rules.specs.SheetRows.{DecodesSheetRow, rowBehindHead, rowBlocks, rowRoom, sheetRowOut, sheetRowRefusal, sheetRowRules}
 use Rattle.sheet_rules.specs.Sheets.{blockIn}
 use Rattle.sheet_rules.proofs.Pictures.{all-long, block-in-all, block-of-part}
-use Rattle.sheet_rules.proofs.Refusing.{drawn, row-rules}
+use Rattle.sheet_rules.proofs.Refusing.{row-rules}
 
 module _ (s : List ℕ) (row room : ℕ) where
   in-words : Answers (sheetRowRefusal s row room) (sheetRowRules s row room)
@@ -38,7 +42,8 @@ module _ (s : List ℕ) (row room : ℕ) where
   pub sheet-row-refused-when : (n : ℕ) → (sheetRowRefusal s row room ≡ n) ↔ Given (sheetRowRules s row room) n
   sheet-row-refused-when = exactly in-words
 
-module _ (s : List ℕ) (told : readHead s .refusal ≡ 0) (whole : length s ≡ wholeLength (readHead s)) (row : ℕ) (inside : row < across (readHead s .height)) where
+module _ (s : List ℕ) (told : readHead s .refusal ≡ 0) (whole : length s ≡ wholeLength (readHead s)) (row : ℕ)
+    (inside : row < across (readHead s .height)) where
   abbrev w : ℕ
   w = readHead s .width
 
@@ -75,15 +80,42 @@ module _ (s : List ℕ) (row : ℕ) (out : List ℕ) where
   unfolding sheetRowOut
   row-drawn e = answer-0 _ _ e
 
-  -- IT EQUALS THE FIRST on that row's blocks: accepted there too, with the same output
-  pub equals-the-first : sheetRowRefusal s row (length out) ≡ 0
-      → (rowRefusal (readHead s .width) (readHead s .height) row (length (rowBlocks s row)) (length out) ≡ 0)
-      × (sheetRowOut s row out ≡ rowOut (readHead s .width) (readHead s .height) row (rowBlocks s row) out)
-  equals-the-first e =
-      let (t, (l, (b, (r, u)))) = handing s row (length out) .met e in
-      let a = accepted-when (row-rules (readHead s .width) (readHead s .height) row (length (rowBlocks s row)) (length out)) .1
-      (head-sized s t, (b, (row-long s t l row b, (r, tt)))) in
-      (a, row-drawn e ∙ sym (drawn (readHead s .width) (readHead s .height) row (rowBlocks s row) out a))
+-- IT EQUALS THE FIRST on that row's blocks, of every whole sheet of either form: the same answer, and the same output, accepted or refused
+module _ (s : List ℕ) (told : readHead s .refusal ≡ 0) (whole : length s ≡ wholeLength (readHead s)) (row : ℕ) (out : List ℕ) where
+  abbrev wide : ℕ
+  wide = readHead s .width
+
+  abbrev high : ℕ
+  high = readHead s .height
+
+  same-answer : sheetRowRefusal s row (length out) ≡ rowRefusal wide high row (length (rowBlocks s row)) (length out)
+  same-answer = ⊎-elim inside (λ l. both 12 (then told (then whole (here (λ q. omega (arith, q, l))))) (then size (here (λ q. omega (arith, q, l)))))
+      (lt-or row (across high))
+    where
+      size : Sized wide high
+      size = head-sized s told
+
+      both : (n : ℕ) → Given (handed (readHead s .refusal) ∷ rowBehindHead (readHead s) s row (length out)) n
+          → Given (rowRules wide high row (length (rowBlocks s row)) (length out)) n
+          → sheetRowRefusal s row (length out) ≡ rowRefusal wide high row (length (rowBlocks s row)) (length out)
+      both n a b =
+          exactly (handing s row (length out)) n .1 a ∙ sym (exactly (row-rules wide high row (length (rowBlocks s row)) (length out)) n .1 b)
+
+      inside : row < across high → sheetRowRefusal s row (length out) ≡ rowRefusal wide high row (length (rowBlocks s row)) (length out)
+      inside l = room (ℕ-discrete (length out) (rowRoom (readHead s) row))
+        where
+          long : length (rowBlocks s row) ≡ rowLength wide
+          long = row-long s told whole row l
+
+          room : Dec (length out ≡ rowRoom (readHead s) row)
+              → sheetRowRefusal s row (length out) ≡ rowRefusal wide high row (length (rowBlocks s row)) (length out)
+          room (yes r) = both 0 (then told (then whole (then l (then r accepted)))) (then size (then l (then long (then r accepted))))
+          room (no n) = both 11 (then told (then whole (then l (here n)))) (then size (then l (then long (here n))))
+
+  pub equals-the-first : (sheetRowRefusal s row (length out) ≡ rowRefusal wide high row (length (rowBlocks s row)) (length out))
+      × (sheetRowOut s row out ≡ rowOut wide high row (rowBlocks s row) out)
+  unfolding sheetRowOut rowOutUpTo
+  equals-the-first = (same-answer, ap (λ (r : ℕ). pick (eqb r 0) (rowBytes wide (sideShown high row) (rowBlocks s row)) out) same-answer)
 
 -- any two answers that its promise admits coincide
 pub determined-sheet-row : (sheet : List ℕ) (row : ℕ) (before : List ℕ) (a b : ℕ) (x y : List ℕ) → DecodesSheetRow sheet row before a x
