@@ -1,23 +1,26 @@
 -- One block moved after another.
 -- Assumes nothing.
 use mathlib.Core.Path.{_≡_, _∙_, ap, ap₂, sym, subst}
-use mathlib.Core.List.{List, []}
+use mathlib.Core.List.{List}
 use Prim.Native.Nat.{ℕ, _+_, _*_, _/_, _%_, _<_, _≤_}
 use native.Mathlib.Nat.{not-suc-le-zero}
 use native.Mathlib.Omega.{arith}
 use lib.ListN.{length, getD}
 use Rattle.laws.proofs.Over.{part-over}
 use Rattle.laws.proofs.Part.{Part, part-all, part-none}
+use Rattle.tile_rules.proofs.Theorems.{has-columns}
 use Rattle.head_rules.specs.declared.Form.{Form}
 use Rattle.head_rules.specs.declared.Head.{Head}
 use Rattle.head_rules.specs.Geometry.{across, blocksOf, mostBlocks, numberBy, placeOf, storedAt, storedBy, wholeLength}
 use Rattle.head_rules.specs.Heads.{Sized}
 use Rattle.head_rules.proofs.Blocks.{few-blocks}
+use Rattle.head_rules.proofs.Orders.{form-order}
 use Rattle.sheet_rules.specs.Pictures.{blocksAs, byteAs}
 use Rattle.sheet_rules.specs.Rows.{blockAt}
 use Rattle.sheet_rules.specs.Sheets.{blockBy, putBlock}
 use Rattle.sheet_rules.proofs.Pictures.{number-back, number-lt, stored-back, stored-lt}
 use Rattle.tiles.specs.Parts.{Numbered}
+use Rattle.moves.specs.Rooms.{Stores}
 
 module _ (f : Form) (h : Head) (s : List ℕ) where
   abbrev columns : ℕ
@@ -45,7 +48,8 @@ module _ (f : Form) (h : Head) (s : List ℕ) where
       let low : (16 * q + j) % 16 ≡ j = omega arith in
       rw (up, low, number-back f h s b l)
 
-  pub next-moved : {out : List ℕ} (b : ℕ) → b < blocksOf h → Moved b out → Moved (b + 1) (putBlock out (16 * storedBy f columns rows b) (blockBy h s b))
+  pub next-moved : {out : List ℕ} (b : ℕ) → b < blocksOf h → Moved b out
+      → Moved (b + 1) (putBlock out (16 * storedBy f columns rows b) (blockBy h s b))
   unfolding putBlock
   next-moved {out} b l z =
       let q = storedBy f columns rows b in
@@ -61,51 +65,56 @@ module _ (f : Form) (h : Head) (s : List ℕ) where
           let i : storedBy f columns rows b ≡ k / 16 = ap (storedBy f columns rows) (sym e) ∙ stored-back f h s (k / 16) (omega (arith, lk)) in
           (omega (arith, i), omega (arith, i))
 
--- the numbers that the loop goes by
-module _ (h : Head) (z : Sized (h .width) (h .height)) {c r : ℕ} (ec : c ≡ across (h .width)) (er : r ≡ across (h .height)) where
+-- where a form stores a block is one of the places
+pub stored-there : {c r b q : ℕ} → Numbered c r b → (f : Form) → q ≡ storedBy f c r b → Stores f c r b q
+stored-there {c} {r} {b} k f e =
+    record { same = e; inside = rw e (form-order f c r (has-columns c r b (k .number)) .to b (k .number)) }
+
+-- the numbers that the loop goes by: c columns and r rows of blocks
+pub record Counted (h : Head) (c r : ℕ) : Type 0 where
+  pub size : Sized (h .width) (h .height)
+  pub columns-are : c ≡ across (h .width)
+  pub rows-are : r ≡ across (h .height)
+
+module _ {h : Head} {c r : ℕ} (k : Counted h c r) where
   pub all-of : r * c ≡ blocksOf h
   unfolding blocksOf
-  all-of = rw (ec, er)
+  all-of = rw (k .columns-are, k .rows-are)
 
   few : blocksOf h ≤ mostBlocks
   unfolding blocksOf
-  few = few-blocks z
+  few = few-blocks (k .size)
 
   pub count-fits : r * c ≤ mostBlocks
   count-fits = omega (arith, all-of, few)
 
   pub numbered : {b : ℕ} → b < r * c → Numbered c r b
-  numbered l = record { wide = omega (arith, ec, z .within-wide); high = omega (arith, er, z .within-high); number = l }
+  numbered l = record {
+    wide = omega (arith, k .columns-are, k .size .within-wide);
+    high = omega (arith, k .rows-are, k .size .within-high);
+    number = l;
+  }
 
-  module _ {b : ℕ} (l : b < r * c) (f : Form) {q : ℕ} (eq : q ≡ storedBy f c r b) where
-    within : b < blocksOf h
-    within = omega (arith, all-of, l)
+  pub stored-within : {q : ℕ} → q < r * c → q < blocksOf h
+  stored-within l = omega (arith, all-of, l)
 
-    stored-is : q ≡ storedBy f (across (h .width)) (across (h .height)) b
-    stored-is = rw (← ec, ← er) eq
+  -- where a block stands in the sheet
+  pub block-there : {n q : ℕ} → n ≡ wholeLength h → q < r * c → h .start + 16 * q + 16 ≤ n
+  block-there e l = omega (arith, e, stored-within l)
 
-    pub stored-within : q < blocksOf h
-    stored-within = omega (arith, stored-is, stored-lt f h [] b within)
-
-    pub stored-fits : q < mostBlocks
-    stored-fits = omega (arith, stored-within, few)
-
-  -- where block b stands in the sheet
-  module _ (s : List ℕ) {b q : ℕ} (l : b < r * c) (eq : q ≡ storedBy (h .form) c r b) where
+  module _ {b q : ℕ} (s : List ℕ) (l : b < r * c) (at : Stores (h .form) c r b q) where
     place-is : h .start + 16 * q ≡ placeOf h b
     unfolding placeOf storedAt
-    place-is = rw (eq, ec, er)
+    place-is = rw (at .same, k .columns-are, k .rows-are)
 
-    pub block-is : {block : List ℕ} → block ≡ blockAt s (h .start + 16 * q) → block ≡ blockBy h s b
+    block-is : {block : List ℕ} → block ≡ blockAt s (h .start + 16 * q) → block ≡ blockBy h s b
     unfolding blockBy
     block-is e = e ∙ ap (blockAt s) place-is
 
-    pub block-there : length s ≡ wholeLength h → h .start + 16 * q + 16 ≤ length s
-    block-there e = omega (arith, e, stored-within l (h .form) eq)
-
     -- one block more
-    pub moved-on : (g : Form) {block out after : List ℕ} {p : ℕ} → block ≡ blockAt s (h .start + 16 * q) → p ≡ storedBy g c r b → Moved g h s b out
-        → after ≡ putBlock out (16 * p) block → Moved g h s (b + 1) after
-    moved-on g {block} {out} {after} {p} eb ep z e =
-        subst (Moved g h s (b + 1)) (sym (e ∙ ap₂ (λ (n : ℕ) (x : List ℕ). putBlock out (16 * n) x) (stored-is l g ep) (block-is eb)))
-        (next-moved g h s b (within l g ep) z)
+    pub moved-on : (g : Form) {block out after : List ℕ} {p : ℕ} → block ≡ blockAt s (h .start + 16 * q) → Stores g c r b p
+        → Moved g h s b out → after ≡ putBlock out (16 * p) block → Moved g h s (b + 1) after
+    moved-on g {block} {out} {after} {p} eb to z e =
+        let stored-is : p ≡ storedBy g (across (h .width)) (across (h .height)) b = rw (← k .columns-are, ← k .rows-are) (to .same) in
+        subst (Moved g h s (b + 1)) (sym (e ∙ ap₂ (λ (n : ℕ) (x : List ℕ). putBlock out (16 * n) x) stored-is (block-is eb)))
+        (next-moved g h s b (omega (arith, all-of, l)) z)

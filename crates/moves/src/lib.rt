@@ -3,13 +3,13 @@
 ghost use mathlib.Core.Path.{_≡_};
 ghost use lib.ListN.{length};
 ghost use Rattle.head_rules.specs.declared.Form.the-variants.{Rows, Tiles};
-ghost use Rattle.head_rules.specs.Geometry.{storedBy, wholeLength};
+ghost use Rattle.head_rules.specs.Geometry.{wholeLength};
 ghost use Rattle.head_rules.specs.Heads.{Sized};
 ghost use Rattle.tiles.specs.Parts.{Numbered};
 ghost use Rattle.sheet_rules.specs.Pictures.{blocksAs};
 ghost use Rattle.move_rules.specs.Moving.{MovesTo, headInForm, movedTo, other};
 ghost use Rattle.move_rules.specs.Stating.{StatesColour};
-ghost use Rattle.moves.specs.Rooms.{Lays, MovesBlocks};
+ghost use Rattle.moves.specs.Rooms.{Lays, MovesBlocks, Stores};
 use head_rules::Form;
 use head_rules::Head;
 use sheet::blocks::load;
@@ -26,7 +26,7 @@ use sheet_head::write_form;
 // again for each, and a move would take a hundred instructions a block.
 fn stored_by(form: Form, columns: usize, rows: usize, block: usize) -> usize
     requires { ⌜ Numbered columns rows block ⌝ }
-    ensures { λ r. ⌜ r ≡ storedBy form columns rows block ⌝ }
+    ensures { λ r. ⌜ Stores form columns rows block r ⌝ }
 {
     match form {
         Form::Rows => block,

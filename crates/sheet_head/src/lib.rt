@@ -144,8 +144,8 @@ fn next_number(sheet: &[u8], reader: HeadReader) -> HeadReader
     take_number(reader, number.value, number.next as u32)
 }
 
-// The head that the bytes of a sheet start with: three numbers, and one more in form 2. In a loop, for then the compiler lays the four rounds
-// out, each for its stage: a head is read in less than half of what four calls take.
+// The head that the bytes of a sheet start with: three numbers, and one more in form 2. They are read in a loop, for then the compiler lays
+// its rounds out, each for its stage: a head is read in a third of what four calls take.
 pub fn read_head(sheet: &[u8]) -> Head
     ensures { λ r. ⌜ ReadsHead (now (sheet .entry)) r ⌝ }
 {

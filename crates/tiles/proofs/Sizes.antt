@@ -42,14 +42,20 @@ module _ (s w h x y : ℕ) (i : Inside s w h x y) where
       let one : 0 < left s h y * left s w x = mul-pos (omega (arith, i .rows)) (omega (arith, i .columns)) in
       record { is = rw e; room = rw e (omega (arith, ahead-lt s w h x y 0 (i .side) (i .columns) (i .rows) one)) }
 
--- the three steps in a tile
-module _ (w h x y : ℕ) (i : InTile w h x y) {w4 h4 w2 h2 p q r : ℕ} where
-  pub tile-sum : w4 ≡ left 4 w (x / 4 % 2) → h4 ≡ left 4 h (y / 4 % 2) → w2 ≡ left 2 w4 (x / 2 % 2) → h2 ≡ left 2 h4 (y / 2 % 2)
-      → p ≡ ahead 4 w h (x / 4 % 2) (y / 4 % 2) → q ≡ ahead 2 w4 h4 (x / 2 % 2) (y / 2 % 2) → r ≡ ahead 1 w2 h2 (x % 2) (y % 2)
-      → Below tileBlocks (p + q + r) (orderInTile w h x y)
+-- the three steps in a tile. Of the last four blocks the one in the other column is before a block, where that is in the second column
+last-four : (n y w x h : ℕ) → y < h → n + y * w + x ≡ n + (1 * y * w + 1 * x * left 1 h y)
+last-four n y w x h inside = let one : left 1 h y ≡ 1 = omega arith in rw one (omega arith)
+
+pub last-fits : (y w d n : ℕ) → n ≡ left 2 w d → y % 2 * n ≤ 2
+last-fits y w d n e = mul-le-mul {n₁ = y % 2} {m₁ = n} {n₂ = 1} {m₂ = 2} (omega arith) (omega arith)
+
+module _ (w h x y : ℕ) (i : InTile w h x y) {w4 h4 w2 p q : ℕ} where
+  pub tile-sum : w4 ≡ left 4 w (x / 4 % 2) → h4 ≡ left 4 h (y / 4 % 2) → w2 ≡ left 2 w4 (x / 2 % 2) → p ≡ ahead 4 w h (x / 4 % 2) (y / 4 % 2)
+      → q ≡ ahead 2 w4 h4 (x / 2 % 2) (y / 2 % 2) → Below tileBlocks (p + q + y % 2 * w2 + x % 2) (orderInTile w h x y)
   unfolding orderInTile
-  tile-sum ew4 eh4 ew2 eh2 ep eq er =
-      let e : p + q + r ≡ orderInTile w h x y = rw (ep, eq, er, ew2, eh2, ew4, eh4) in
+  tile-sum ew4 eh4 ew2 ep eq =
+      let inside : y % 2 < left 2 h4 (y / 2 % 2) = omega (arith, i .row, i .high) in
+      let e : p + q + y % 2 * w2 + x % 2 ≡ orderInTile w h x y = last-four (p + q) (y % 2) w2 (x % 2) _ inside ∙ rw (ep, eq, ew2, ew4, eh4) in
       record {
         is = e;
         room = rw e (of-tile (i .wide) (i .high) (order-within w h (i .wide) (i .high) x y (i .column) (i .row)));

@@ -1,5 +1,6 @@
 // Tile order: from the number of a block to its stored number, and back. In a whole tile a block's slot is its column and row
-// interleaved; only at the edges, where slots are skipped, it takes more than that.
+// interleaved; only at the edges, where slots are skipped, it takes more than that. All numbers are below 2 ^ 32, and divided so:
+// for longer ones the processor is asked first how long they are.
 ghost use mathlib.Core.Path.{_≡_};
 ghost use Prim.Native.Nat.{_*_, _≤_, _<_};
 ghost use Rattle.tile_rules.specs.Computed.{ahead, left, orderInTile};
@@ -71,18 +72,16 @@ fn order_in_tile(w: usize, h: usize, x: usize, y: usize) -> usize
     let d = x / 2 % 2;
     let e = y / 2 % 2;
     let second = blocks_ahead(2, w4, h4, d, e);
-    let w2 = cell_side(2, w4, d);
-    let h2 = cell_side(2, h4, e);
-    first + second + blocks_ahead(1, w2, h2, x % 2, y % 2)
+    first + second + y % 2 * cell_side(2, w4, d) + x % 2
 }
 
-// The stored number of a block.
+// The stored number of a block. What stands before its tile is summed behind the question whether the tile is whole, which most are.
 pub fn stored_in_tiles(columns: usize, rows: usize, block: usize) -> usize
     requires { ⌜ Numbered columns rows block ⌝ }
     ensures { λ r. ⌜ r ≡ storedInTiles columns rows block ⌝ }
 {
-    let x = block % columns;
-    let y = block / columns;
+    let x = (block as u32 % columns as u32) as usize;
+    let y = (block as u32 / columns as u32) as usize;
     let w = cell_side(8, columns, x / 8);
     if w == 8 {
         if cell_side(8, rows, y / 8) == 8 {
@@ -100,17 +99,17 @@ fn cell_at(s: usize, w: usize, h: usize, m: usize) -> Cell
     ensures { λ r. ⌜ CellFound s w h m r ⌝ }
 {
     let line = s * w;
-    let y = m / line;
-    let past = m % line;
+    let y = (m as u32 / line as u32) as usize;
+    let past = (m as u32 % line as u32) as usize;
     let high = cell_side(s, h, y);
     let column = s * high;
-    let x = past / column;
+    let x = (past as u32 / column as u32) as usize;
     Cell {
         x: x,
         y: y,
         w: cell_side(s, w, x),
         h: high,
-        rest: past % column,
+        rest: (past as u32 % column as u32) as usize,
     }
 }
 

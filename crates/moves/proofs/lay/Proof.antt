@@ -12,39 +12,48 @@ cast-count : tie.Need-cast-count
 cast-count c = search needs
 
 array-share-prefix-bytes : tie.Need-array-share-prefix-bytes
-array-share-prefix-bytes c = count-room _ (c .before .before .before .before .before .args .head) (c .before .before .write-form .ensures)
+array-share-prefix-bytes c = let w = c .before .before in count-room _ (w .before .before .before .args .head) (w .write-form .ensures)
 
 slice-aggregate-copy : tie.Need-slice-aggregate-copy
-slice-aggregate-copy c = part-long _ (c .before .before .before .before .before .before .args .head) (c .before .before .before .write-form .ensures)
+slice-aggregate-copy c = let w = c .before .before .before in part-long _ (w .before .before .before .args .head) (w .write-form .ensures)
 
 copy-requires : tie.Need-copy-requires
-copy-requires c κs = let a = c .before .before .before .before .before .before .before in head-fits _ _ (c .before .before .before .before .write-form .ensures) (a .args .sheet .now) (a .args .out .now) (a .pre)
+copy-requires c κs =
+    let w = c .before .before .before .before in
+    let a = w .before .before .before in
+    head-fits _ _ (w .write-form .ensures) (a .args .sheet .now) (a .args .out .now) (a .pre)
 
 sub-move-blocks : tie.Need-sub-move-blocks
 sub-move-blocks c =
-    let a = c .before .before .before .before .before .before .before .before .before .before in
-    count-in _ _ (c .before .before .before .before .before .before .before .write-form .ensures) (a .args .sheet .now) (a .args .out .now) (a .pre) (c .before .before .copy .ensures .1)
+    let w = c .before .before .before .before .before .before .before in
+    let a = w .before .before .before in
+    count-in _ _ (w .write-form .ensures) (a .args .sheet .now) (a .args .out .now) (a .pre) (c .before .before .copy .ensures .1)
 
 part-move-blocks-start : tie.Need-part-move-blocks-start
 part-move-blocks-start c =
-    let a = c .before .before .before .before .before .before .before .before .before .before in
-    count-in _ _ (c .before .before .before .before .before .before .before .write-form .ensures) (a .args .sheet .now) (a .args .out .now) (a .pre) (c .before .before .copy .ensures .1)
+    let w = c .before .before .before .before .before .before .before in
+    let a = w .before .before .before in
+    count-in _ _ (w .write-form .ensures) (a .args .sheet .now) (a .args .out .now) (a .pre) (c .before .before .copy .ensures .1)
 
 part-move-blocks-end : tie.Need-part-move-blocks-end
 part-move-blocks-end c = search needs
 
 move-blocks-requires : tie.Need-move-blocks-requires
 move-blocks-requires c κs =
-    let a = c .before .before .before .before .before .before .before .before .before .before .before in
-    blocks-room _ _ (c .before .before .before .before .before .before .before .before .write-form .ensures) (a .args .sheet .now) (a .args .out .now) (a .pre) (c .before .before .before .copy .ensures .1)
+    let w = c .before .before .before .before .before .before .before .before in
+    let a = w .before .before .before in
+    blocks-room _ _ (w .write-form .ensures) (a .args .sheet .now) (a .args .out .now) (a .pre) (c .before .before .before .copy .ensures .1)
 
 same-length : tie.Need-same-length
 same-length c = search needs
 
 returns : tie.Need-returns
 returns c =
-    let a = c .before .before .before .before .before .before .before .before .before .before .before .before .before .before in
-    laid _ _ (c .before .before .before .before .before .before .before .before .before .before .before .write-form .ensures) (a .args .sheet .now) (a .args .out .now) (a .pre) (c .before .before .before .before .before .before .copy .ensures .1) (c .before .before .move-blocks .ensures)
+    let moved = c .before .before in
+    let copied = moved .before .before .before .before in
+    let w = copied .before .before .before .before .before in
+    let a = w .before .before .before in
+    laid _ _ (w .write-form .ensures) (a .args .sheet .now) (a .args .out .now) (a .pre) (copied .copy .ensures .1) (moved .move-blocks .ensures)
 
 pub lay-spec : {M : Type 1} → statement M
 lay-spec =

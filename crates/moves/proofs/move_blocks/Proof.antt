@@ -4,7 +4,7 @@ use mathlib.Core.Path.{_≡_, _∙_, sym, subst}
 use Prim.Native.Nat.{ℕ, _+_, _*_, _-_, _<_, _≤_}
 use native.Mathlib.Omega.{arith}
 use borrow.Author.Needs.{needs}
-use Rattle.moves.proofs.Steps.{Moved, all-moved, all-of, block-is, block-there, count-fits, moved-on, none-moved, numbered, stored-fits, stored-within}
+use Rattle.moves.proofs.Steps.{Counted, Moved, all-moved, all-of, block-there, count-fits, moved-on, none-moved, numbered, stored-within}
 use Rattle.moves.proofs.move_blocks.Statement.{statement}
 use Rattle.moves.proofs.move_blocks.Tie as tie
 
@@ -26,13 +26,27 @@ blocks-across-requires-2 c κs = search needs
 cast-rows : tie.Need-cast-rows Inv-loop μ-loop
 cast-rows c = search needs
 
+-- how many blocks there are, once columns and rows are counted
+abbrev Both : Type 0
+Both = tie.After-blocks-across2 Inv-loop μ-loop
+
+abbrev all : Both → ℕ
+all c = c .blocks-across2 .result * c .before .blocks-across .result
+
+counted : (c : Both) → Counted (c .before .before .before .before .args .head) (c .before .blocks-across .result) (c .blocks-across2 .result)
+counted c = record {
+  size = c .before .before .before .before .pre .size;
+  columns-are = c .before .blocks-across .ensures;
+  rows-are = c .blocks-across2 .ensures;
+}
+
 mul-b-end : tie.Need-mul-b-end Inv-loop μ-loop
-mul-b-end c =
-    let a = c .before .before .before .before in
-    omega (arith, count-fits (a .args .head) (a .pre .size) (c .before .blocks-across .ensures) (c .blocks-across2 .ensures))
+mul-b-end c = omega (arith, count-fits (counted c))
 
 loop-holds : tie.Need-loop-holds Inv-loop μ-loop
-loop-holds c = let a = c .before .before .before .before in (omega arith, none-moved (a .args .form) (a .args .head) (a .args .sheet .now) (a .pre .room))
+loop-holds c =
+    let a = c .before .before .before .before in
+    (omega arith, none-moved (a .args .form) (a .args .head) (a .args .sheet .now) (a .pre .room))
 
 cast-load : tie.Need-cast-load Inv-loop μ-loop
 cast-load c = search needs
@@ -40,96 +54,60 @@ cast-load c = search needs
 stored-by-requires : tie.Need-stored-by-requires Inv-loop μ-loop
 stored-by-requires c κs =
     let l = c .before .before in
-    let high = l .before in
-    let wide = high .before in
-    let a = wide .before .before .before in
-    let h : l .loop .b < high .blocks-across2 .result * wide .blocks-across .result = omega arith in
-    numbered (a .args .head) (a .pre .size) (wide .blocks-across .ensures) (high .blocks-across2 .ensures) h
+    let h : l .loop .b < all (l .before) = omega arith in
+    numbered (counted (l .before)) h
 
 mul-load : tie.Need-mul-load Inv-loop μ-loop
-mul-load c =
-    let l = c .before .before .before in
-    let high = l .before in
-    let wide = high .before in
-    let a = wide .before .before .before in
-    let h : l .loop .b < high .blocks-across2 .result * wide .blocks-across .result = omega arith in
-    omega (arith, stored-fits (a .args .head) (a .pre .size) (wide .blocks-across .ensures) (high .blocks-across2 .ensures) h (a .args .head .form) (c .stored-by .ensures))
+mul-load c = omega (arith, c .stored-by .ensures .inside, count-fits (counted (c .before .before .before .before)))
 
 add-load : tie.Need-add-load Inv-loop μ-loop
-add-load c =
-    let l = c .before .before .before in
-    let high = l .before in
-    let wide = high .before in
-    let a = wide .before .before .before in
-    let h : l .loop .b < high .blocks-across2 .result * wide .blocks-across .result = omega arith in
-    omega (arith, stored-fits (a .args .head) (a .pre .size) (wide .blocks-across .ensures) (high .blocks-across2 .ensures) h (a .args .head .form) (c .stored-by .ensures))
+add-load c = omega (arith, c .stored-by .ensures .inside, count-fits (counted (c .before .before .before .before)))
 
 load-requires : tie.Need-load-requires Inv-loop μ-loop
 load-requires c κs =
-    let l = c .before .before .before in
-    let high = l .before in
-    let wide = high .before in
-    let a = wide .before .before .before in
-    let h : l .loop .b < high .blocks-across2 .result * wide .blocks-across .result = omega arith in
-    block-there (a .args .head) (a .pre .size) (wide .blocks-across .ensures) (high .blocks-across2 .ensures) (a .args .sheet .now) h (c .stored-by .ensures) (a .pre .whole)
+    let high = c .before .before .before .before in
+    block-there (counted high) (high .before .before .before .before .pre .whole) (c .stored-by .ensures .inside)
 
 stored-by-requires-2 : tie.Need-stored-by-requires-2 Inv-loop μ-loop
 stored-by-requires-2 c κs =
     let l = c .before .before .before .before .before in
-    let high = l .before in
-    let wide = high .before in
-    let a = wide .before .before .before in
-    let h : l .loop .b < high .blocks-across2 .result * wide .blocks-across .result = omega arith in
-    numbered (a .args .head) (a .pre .size) (wide .blocks-across .ensures) (high .blocks-across2 .ensures) h
+    let h : l .loop .b < all (l .before) = omega arith in
+    numbered (counted (l .before)) h
 
 mul-store : tie.Need-mul-store Inv-loop μ-loop
-mul-store c =
-    let l = c .before .before .before .before .before .before in
-    let high = l .before in
-    let wide = high .before in
-    let a = wide .before .before .before in
-    let h : l .loop .b < high .blocks-across2 .result * wide .blocks-across .result = omega arith in
-    omega (arith, stored-fits (a .args .head) (a .pre .size) (wide .blocks-across .ensures) (high .blocks-across2 .ensures) h (a .args .form) (c .stored-by2 .ensures))
+mul-store c = omega (arith, c .stored-by2 .ensures .inside, count-fits (counted (c .before .before .before .before .before .before .before)))
 
 store-requires : tie.Need-store-requires Inv-loop μ-loop
 store-requires c κs =
     let l = c .before .before .before .before .before .before in
-    let high = l .before in
-    let wide = high .before in
-    let a = wide .before .before .before in
-    let h : l .loop .b < high .blocks-across2 .result * wide .blocks-across .result = omega arith in
-    omega (arith, l .loop .inv .1 .long, stored-within (a .args .head) (a .pre .size) (wide .blocks-across .ensures) (high .blocks-across2 .ensures) h (a .args .form) (c .stored-by2 .ensures))
+    omega (arith, l .loop .inv .1 .long, stored-within (counted (l .before)) (c .stored-by2 .ensures .inside))
 
 add-b : tie.Need-add-b Inv-loop μ-loop
 add-b c =
     let guard = c .before .before .before .before .before .before .before .before in
     let l = guard .before in
-    let high = l .before in
-    let wide = high .before in
-    let a = wide .before .before .before in
-    let h : l .loop .b < high .blocks-across2 .result * wide .blocks-across .result = omega (arith, guard) in
-    omega (arith, h, count-fits (a .args .head) (a .pre .size) (wide .blocks-across .ensures) (high .blocks-across2 .ensures))
+    let h : l .loop .b < all (l .before) = omega (arith, guard) in
+    omega (arith, h, count-fits (counted (l .before)))
 
 loop-less : tie.Need-loop-less Inv-loop μ-loop
 loop-less c =
     let guard = c .before .before .before .before .before .before .before .before in
     let l = guard .before in
-    let high = l .before in
-    let wide = high .before in
-    let a = wide .before .before .before in
-    let h : l .loop .b < high .blocks-across2 .result * wide .blocks-across .result = omega (arith, guard) in
+    let h : l .loop .b < all (l .before) = omega (arith, guard) in
     omega (arith, h)
 
 loop-again : tie.Need-loop-again Inv-loop μ-loop
 loop-again c =
     let guard = c .before .before .before .before .before .before .before .before in
     let l = guard .before in
-    let high = l .before in
-    let wide = high .before in
-    let a = wide .before .before .before in
-    let h : l .loop .b < high .blocks-across2 .result * wide .blocks-across .result = omega (arith, guard) in (
+    let h : l .loop .b < all (l .before) = omega (arith, guard) in
+    let a = l .before .before .before .before .before in
+    let put = c .before .before in
+    let found = put .before in
+    let loaded = found .before .before in (
       omega (arith, h),
-      moved-on (a .args .head) (a .pre .size) (wide .blocks-across .ensures) (high .blocks-across2 .ensures) (a .args .sheet .now) h (c .before .before .before .before .before .before .stored-by .ensures) (a .args .form) (c .before .before .before .before .before .load .ensures) (c .before .before .before .stored-by2 .ensures) (l .loop .inv .1) (c .before .before .store .ensures),
+      moved-on (counted (l .before)) (a .args .sheet .now) h (loaded .before .stored-by .ensures) (a .args .form) (loaded .load .ensures)
+          (found .stored-by2 .ensures) (l .loop .inv .1) (put .store .ensures),
     )
 
 same-length : tie.Need-same-length Inv-loop μ-loop
@@ -138,13 +116,11 @@ same-length c = c .before .loop .inv .1 .long ∙ sym (c .before .before .before
 returns : tie.Need-returns Inv-loop μ-loop
 returns c =
     let l = c .before in
-    let high = l .before in
-    let wide = high .before in
-    let a = wide .before .before .before in
-    let e : l .loop .b ≡ high .blocks-across2 .result * wide .blocks-across .result = omega arith in
+    let a = l .before .before .before .before .before in
+    let e : l .loop .b ≡ all (l .before) = omega arith in
     all-moved (a .args .form) (a .args .head) (a .args .sheet .now)
-    (subst (λ (b : ℕ). Moved (a .args .form) (a .args .head) (a .args .sheet .now) b (l .loop .to))
-    (e ∙ all-of (a .args .head) (a .pre .size) (wide .blocks-across .ensures) (high .blocks-across2 .ensures)) (l .loop .inv .1))
+    (subst (λ (b : ℕ). Moved (a .args .form) (a .args .head) (a .args .sheet .now) b (l .loop .to)) (e ∙ all-of (counted (l .before)))
+    (l .loop .inv .1))
 
 pub move-blocks-spec : {M : Type 1} → statement M
 move-blocks-spec =

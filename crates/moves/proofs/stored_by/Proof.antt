@@ -3,6 +3,7 @@
 use mathlib.Core.Path.{_∙_, ap, sym}
 use Rattle.head_rules.specs.declared.Form.{Form}
 use Rattle.head_rules.specs.Geometry.{storedBy}
+use Rattle.moves.proofs.Steps.{stored-there}
 use borrow.Author.Needs.{needs}
 use Rattle.moves.proofs.stored_by.Statement.{statement}
 use Rattle.moves.proofs.stored_by.Tie as tie
@@ -17,13 +18,15 @@ stored-in-tiles-requires : tie.Need-stored-in-tiles-requires
 stored-in-tiles-requires c κs = search needs
 
 returns : tie.Need-returns
-returns c = search needs
+returns c =
+    let a = c .before .before in
+    stored-there (a .pre) _ (sym (ap (λ (f : Form). storedBy f (a .args .columns) (a .args .rows) (a .args .block)) (c .enum-told .given .1)))
 
 returns-2 : tie.Need-returns-2
 returns-2 c =
-    let a = c .before .before .before .args in
-    c .stored-in-tiles .ensures
-    ∙ sym (ap (λ (f : Form). storedBy f (a .columns) (a .rows) (a .block)) (c .before .enum-told2 .given .1))
+    let a = c .before .before .before in
+    stored-there (a .pre) _ (c .stored-in-tiles .ensures
+    ∙ sym (ap (λ (f : Form). storedBy f (a .args .columns) (a .args .rows) (a .args .block)) (c .before .enum-told2 .given .1)))
 
 pub stored-by-spec : {M : Type 1} → statement M
 stored-by-spec =

@@ -1,8 +1,9 @@
 -- `tiles::order_in_tile` meets its contract.
 -- Assumes nothing.
+use Prim.Native.Nat.{_+_, _≤_}
 use native.Mathlib.Omega.{arith}
 use borrow.Author.Needs.{needs}
-use Rattle.tiles.proofs.Sizes.{of-tile, tile-sum}
+use Rattle.tiles.proofs.Sizes.{last-fits, of-tile, tile-sum}
 use Rattle.tiles.proofs.order_in_tile.Statement.{statement}
 use Rattle.tiles.proofs.order_in_tile.Tie as tie
 
@@ -18,52 +19,41 @@ cell-side-requires-2 c κs = search needs
 blocks-ahead-requires-2 : tie.Need-blocks-ahead-requires-2
 blocks-ahead-requires-2 c κs = search needs
 
+-- what stands before the last four
+before-fits : (c : tie.After-blocks-ahead2) → c .before .before .before .blocks-ahead .result + c .blocks-ahead2 .result ≤ 126
+before-fits c =
+    let high = c .before in
+    let wide = high .before in
+    let first = wide .before in
+    omega (
+      arith,
+      of-tile (first .before .pre .wide) (first .before .pre .high) (first .blocks-ahead .ensures .room),
+      of-tile (omega (arith, wide .cell-side .ensures)) (omega (arith, high .cell-side2 .ensures)) (c .blocks-ahead2 .ensures .room),
+    )
+
+add-result : tie.Need-add-result
+add-result c = omega (arith, before-fits c)
+
 cell-side-requires-3 : tie.Need-cell-side-requires-3
 cell-side-requires-3 c κs = search needs
 
-cell-side-requires-4 : tie.Need-cell-side-requires-4
-cell-side-requires-4 c κs = search needs
-
-add-result : tie.Need-add-result
-add-result c =
-    let e = c .before .before in
-    let f = e .before in
-    let g = f .before in
-    let i = g .before in
-    omega (
-      arith,
-      of-tile (i .before .pre .wide) (i .before .pre .high) (i .blocks-ahead .ensures .room),
-      of-tile (omega (arith, g .cell-side .ensures)) (omega (arith, f .cell-side2 .ensures)) (e .blocks-ahead2 .ensures .room),
-    )
-
-blocks-ahead-requires-3 : tie.Need-blocks-ahead-requires-3
-blocks-ahead-requires-3 c κs = search needs
+mul-result : tie.Need-mul-result
+mul-result c = omega (arith, last-fits (c .before .before .before .before .before .args .y) _ _ _ (c .cell-side3 .ensures))
 
 add-result-2 : tie.Need-add-result-2
-add-result-2 c =
-    let b = c .before in
-    let d = b .before in
-    let e = d .before in
-    let f = e .before in
-    let g = f .before in
-    let i = g .before in
-    omega (
-      arith,
-      of-tile (i .before .pre .wide) (i .before .pre .high) (i .blocks-ahead .ensures .room),
-      of-tile (omega (arith, g .cell-side .ensures)) (omega (arith, f .cell-side2 .ensures)) (e .blocks-ahead2 .ensures .room),
-      of-tile (omega (arith, d .cell-side3 .ensures)) (omega (arith, b .cell-side4 .ensures)) (c .blocks-ahead3 .ensures .room),
-    )
+add-result-2 c = omega (arith, before-fits (c .before), last-fits (c .before .before .before .before .before .args .y) _ _ _ (c .cell-side3 .ensures))
+
+add-result-3 : tie.Need-add-result-3
+add-result-3 c = omega (arith, before-fits (c .before), last-fits (c .before .before .before .before .before .args .y) _ _ _ (c .cell-side3 .ensures))
 
 returns : tie.Need-returns
 returns c =
-    let b = c .before in
-    let d = b .before in
-    let e = d .before in
-    let f = e .before in
-    let g = f .before in
-    let i = g .before in
-    tile-sum _ _ _ _ (i .before .pre) (g .cell-side .ensures) (f .cell-side2 .ensures) (d .cell-side3 .ensures) (b .cell-side4 .ensures)
-    (i .blocks-ahead .ensures .is) (e .blocks-ahead2 .ensures .is) (c .blocks-ahead3 .ensures .is)
+    let second = c .before in
+    let high = second .before in
+    let wide = high .before in
+    let first = wide .before in
+    tile-sum _ _ _ _ (first .before .pre) (wide .cell-side .ensures) (high .cell-side2 .ensures) (c .cell-side3 .ensures)
+    (first .blocks-ahead .ensures .is) (second .blocks-ahead2 .ensures .is)
 
 pub order-in-tile-spec : {M : Type 1} → statement M
 order-in-tile-spec =
@@ -73,9 +63,9 @@ order-in-tile-spec =
     cell-side-requires
     cell-side-requires-2
     blocks-ahead-requires-2
-    cell-side-requires-3
-    cell-side-requires-4
     add-result
-    blocks-ahead-requires-3
+    cell-side-requires-3
+    mul-result
     add-result-2
+    add-result-3
     returns)

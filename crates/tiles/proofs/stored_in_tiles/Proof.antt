@@ -1,17 +1,35 @@
 -- `tiles::stored_in_tiles` meets its contract.
 -- Assumes nothing.
-use native.Mathlib.Nat.{le-of-lt}
+use native.Mathlib.Nat.{div-le-self, le-of-lt, mod-le}
 use native.Mathlib.Omega.{arith}
 use borrow.Author.Needs.{needs}
 use Rattle.tiles.proofs.Sizes.{block-inside, column-inside, columns-pos, of-sheet, of-slot, row-inside, stored-sum, stored-whole}
 use Rattle.tiles.proofs.stored_in_tiles.Statement.{statement}
 use Rattle.tiles.proofs.stored_in_tiles.Tie as tie
 
+cast-x : tie.Need-cast-x
+cast-x c = omega (arith, of-sheet (c .pre) (c .pre .number))
+
+cast-x-2 : tie.Need-cast-x-2
+cast-x-2 c = search needs
+
 rem-x : tie.Need-rem-x
 rem-x c = columns-pos (c .pre)
 
+cast-x-3 : tie.Need-cast-x-3
+cast-x-3 c = omega (arith, mod-le (c .args .block) (c .args .columns), of-sheet (c .pre) (c .pre .number))
+
+cast-y : tie.Need-cast-y
+cast-y c = omega (arith, of-sheet (c .pre) (c .pre .number))
+
+cast-y-2 : tie.Need-cast-y-2
+cast-y-2 c = search needs
+
 div-y : tie.Need-div-y
 div-y c = columns-pos (c .pre)
+
+cast-y-3 : tie.Need-cast-y-3
+cast-y-3 c = omega (arith, div-le-self (c .args .block) (c .args .columns), of-sheet (c .pre) (c .pre .number))
 
 cell-side-requires : tie.Need-cell-side-requires
 cell-side-requires c κs = le-of-lt (block-inside (c .pre) .columns)
@@ -37,8 +55,7 @@ cast-result c = search needs
 add-result : tie.Need-add-result
 add-result c =
     let ahead = c .before in
-    let wide = ahead .before .before .before .before in
-    omega (arith, of-sheet (wide .before .pre) (ahead .blocks-ahead .ensures .room), of-slot _ _ (c .interleave .ensures))
+    omega (arith, of-sheet (ahead .before .before .before .before .before .pre) (ahead .blocks-ahead .ensures .room), of-slot _ _ (c .interleave .ensures))
 
 returns : tie.Need-returns
 returns c =
@@ -70,8 +87,7 @@ order-in-tile-requires c κs =
 add-result-2 : tie.Need-add-result-2
 add-result-2 c =
     let ahead = c .before .before in
-    let wide = ahead .before .before in
-    omega (arith, of-sheet (wide .before .pre) (ahead .blocks-ahead2 .ensures .room), c .order-in-tile .ensures .room)
+    omega (arith, of-sheet (ahead .before .before .before .pre) (ahead .blocks-ahead2 .ensures .room), c .order-in-tile .ensures .room)
 
 returns-2 : tie.Need-returns-2
 returns-2 c =
@@ -84,8 +100,14 @@ pub stored-in-tiles-spec : {M : Type 1} → statement M
 stored-in-tiles-spec =
     tie.close
     (tie.spec
+    cast-x
+    cast-x-2
     rem-x
+    cast-x-3
+    cast-y
+    cast-y-2
     div-y
+    cast-y-3
     cell-side-requires
     cell-side-requires-2
     blocks-ahead-requires
