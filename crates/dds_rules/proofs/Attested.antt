@@ -83,11 +83,11 @@ but at byte = set file53 at byte
 abbrev sides : List ℕ → List ℕ
 sides bs = sets file53 12 bs ++ (0 ∷ [])
 
--- nines in every field that isn't looked at, and every bit but the cube flag's in the one of which a bit is
-abbrev unnamed : List ℕ → List ℕ
-unnamed f =
-    sets (sets (sets (sets (sets (sets (sets f 8 (nines 4)) 20 (nines 8)) 32 (nines 44)) 80 (nines 4)) 88 (nines 40)) 144 (nines 4)) 136
-    (0xFB ∷ 0xFF ∷ 0xFF ∷ 0xFF ∷ [])
+-- a byte all over the fields that aren't looked at, and every bit but the cube flag's in the one of which a bit is
+abbrev unnamed : ℕ → List ℕ
+unnamed n =
+    let a : List ℕ = sets (sets (sets file53 8 (replicate 4 n)) 20 (replicate 8 n)) 32 (replicate 44 n) in
+    sets (sets (sets (sets a 80 (replicate 4 n)) 88 (replicate 40 n)) 144 (replicate 4 n)) 136 (0xFB ∷ 0xFF ∷ 0xFF ∷ 0xFF ∷ [])
 
 -- a file or a sheet, the output's length, and the answer
 pub record Claim : Type 0 where
@@ -149,8 +149,10 @@ imports =
     call (but 109 0) 35 0 ∷
     call (but 127 1) 35 0 ∷
     call (but 144 1) 35 0 ∷
-    -- and all of that at once, byte by byte nine
-    call (unnamed file53) 35 0 ∷
+    -- and all of that at once: zeros, nines, and all bits
+    call (unnamed 0) 35 0 ∷
+    call (unnamed 9) 35 0 ∷
+    call (unnamed 0xFF) 35 0 ∷
     -- each is refused for what the next ones are refused for too
     call (set (sides (small 0 ++ small 5)) 140 0) 34 15 ∷
     call (sides (small 0 ++ small 5)) 34 9 ∷
