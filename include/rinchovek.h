@@ -209,11 +209,11 @@ uint32_t rinchovek_bc7_pixel(const uint8_t block[RINCHOVEK_BLOCK_BYTES], uint32_
 /* Reads the head of a sheet: writes width, height and start (enum rinchovek_head_number). What stands behind the head isn't looked
  * at: the first RINCHOVEK_HEAD_BYTES bytes of a sheet are enough. An empty sheet is refused with 7.
  * Refusals: 7 and 8 on the form, 7 on width and height, 9. */
-uint32_t rinchovek_sheet_read_head(const uint8_t *sheet, size_t length, uint32_t head[RINCHOVEK_HEAD_NUMBERS]);
+uint32_t rinchovek_sheet_read_head(const uint8_t *sheet, uint64_t length, uint32_t head[RINCHOVEK_HEAD_NUMBERS]);
 
 /* The same with four numbers: behind the start stands the colour space, which is RINCHOVEK_UNSPECIFIED for every sheet of form 1.
  * Refusals: 7 and 8 on the form, 7 on width and height, 9. */
-uint32_t rinchovek_sheet_read_colour_head(const uint8_t *sheet, size_t length, uint32_t head[RINCHOVEK_COLOUR_HEAD_NUMBERS]);
+uint32_t rinchovek_sheet_read_colour_head(const uint8_t *sheet, uint64_t length, uint32_t head[RINCHOVEK_COLOUR_HEAD_NUMBERS]);
 
 /* Writes the head of a sheet of this size, zeros behind it to all 7 bytes, and how many of them are the head's.
  * Refusals: 9. */
@@ -224,14 +224,14 @@ uint32_t rinchovek_sheet_write_head(uint32_t width, uint32_t height, uint8_t hea
  * block of the row, and out_length rinchovek_row_pixels(width, height, row), which is width * 4 for each line that is shown: 4 lines,
  * or in the last row as many as are left.
  * Refusals: 9, 12, 10, 11. */
-uint32_t rinchovek_sheet_decode_row(uint32_t width, uint32_t height, uint32_t row, const uint8_t *blocks, size_t blocks_length,
-                                    uint8_t *out, size_t out_length);
+uint32_t rinchovek_sheet_decode_row(uint32_t width, uint32_t height, uint32_t row, const uint8_t *blocks, uint64_t blocks_length,
+                                    uint8_t *out, uint64_t out_length);
 
 /* Replaces one line of one block in a whole sheet, as rinchovek_bc7_replace_line does; only that block's 16 bytes are written. The
  * length is exact: the head and 16 bytes for each block of the sheet. BEWARE: block and line stand side by side and have one
  * type, so that no compiler sees them exchanged. Hand them over in variables of these names.
  * Refusals: 7 and 8 on the form, 7 on width and height, 9, 10, 12; then the block's 1, 2, 3, 4. */
-uint32_t rinchovek_sheet_replace_line(uint8_t *sheet, size_t length, uint32_t block, uint32_t line,
+uint32_t rinchovek_sheet_replace_line(uint8_t *sheet, uint64_t length, uint32_t block, uint32_t line,
                                       const uint8_t replacement[RINCHOVEK_LINE_BYTES]);
 
 /* DDS FILES, as office tools exchange them: RINCHOVEK_DDS_HEADER_BYTES of header with the DX10 extension, by Microsoft's guide, and behind
@@ -252,30 +252,30 @@ uint32_t rinchovek_sheet_replace_line(uint8_t *sheet, size_t length, uint32_t bl
  * Both lengths are exact: the file has 148 bytes and 16 for each block, no more behind them (10 otherwise), and the sheet as many as
  * rinchovek_dds_import_length writes (11 otherwise).
  * Refusals: 15, 9, 10, 11. */
-uint32_t rinchovek_dds_import(const uint8_t *dds, size_t dds_length, uint8_t *sheet, size_t sheet_length);
+uint32_t rinchovek_dds_import(const uint8_t *dds, uint64_t dds_length, uint8_t *sheet, uint64_t sheet_length);
 
 /* The same, and writes the head too: width, height and start as they are read of the sheet that was written, and the colour space that the
  * file's format says, RINCHOVEK_LINEAR for 98 and RINCHOVEK_SRGB for 99.
  * Refusals: 15, 9, 10, 11. */
-uint32_t rinchovek_dds_import_colour(const uint8_t *dds, size_t dds_length, uint8_t *sheet, size_t sheet_length,
+uint32_t rinchovek_dds_import_colour(const uint8_t *dds, uint64_t dds_length, uint8_t *sheet, uint64_t sheet_length,
                                      uint32_t head[RINCHOVEK_COLOUR_HEAD_NUMBERS]);
 
 /* Writes the DDS file of a sheet: a header that says format 98 and has all that the table above asks for, then the sheet's blocks. Both
  * lengths are exact: the sheet has its head and 16 bytes for each block (10 otherwise), and the file as many as
  * rinchovek_dds_export_length writes, which is 148 and 16 for each block (11 otherwise).
  * Refusals: 7 and 8 on the form, 7 on width and height, 9, 10, 11. */
-uint32_t rinchovek_dds_export(const uint8_t *sheet, size_t sheet_length, uint8_t *dds, size_t dds_length);
+uint32_t rinchovek_dds_export(const uint8_t *sheet, uint64_t sheet_length, uint8_t *dds, uint64_t dds_length);
 
 /* The same under a colour space: the header says format 99 for RINCHOVEK_SRGB, and 98 for the two others. Imported again, the file says
  * what was given here; but RINCHOVEK_UNSPECIFIED comes back as RINCHOVEK_LINEAR, for 98 was written.
  * Refusals: 7 and 8 on the form, 7 on width and height, 18, 9, 10, 11. */
-uint32_t rinchovek_dds_export_colour(const uint8_t *sheet, size_t sheet_length, uint32_t colour_space, uint8_t *dds, size_t dds_length);
+uint32_t rinchovek_dds_export_colour(const uint8_t *sheet, uint64_t sheet_length, uint32_t colour_space, uint8_t *dds, uint64_t dds_length);
 
 /* How long the output has to be: of importing this file the sheet, of exporting this sheet the file. Refused for what the call itself is
  * refused for, but for 11.
  * Refusals: 15, 9, 10; and 7 and 8 on the form, 7 on width and height, 9, 10. */
-uint32_t rinchovek_dds_import_length(const uint8_t *dds, size_t dds_length, uint32_t *sheet_length);
-uint32_t rinchovek_dds_export_length(const uint8_t *sheet, size_t sheet_length, uint32_t *dds_length);
+uint32_t rinchovek_dds_import_length(const uint8_t *dds, uint64_t dds_length, uint32_t *sheet_length);
+uint32_t rinchovek_dds_export_length(const uint8_t *sheet, uint64_t sheet_length, uint32_t *dds_length);
 
 #ifdef __cplusplus
 }
