@@ -1,5 +1,5 @@
-// The types of rinchovek.js, and what each call does: the words of include/rinchovek.h, whose head has what holds for all of them. javascript/make_face
-// wrote this. Where the text says length, it is the array's own: it isn't handed over. `uint32_t *` is a Uint32Array of one.
+// The types of rinchovek.js, and what each call does, in the words of include/rinchovek.h, whose head has what holds for all of them. Where the
+// text says length, it is the array's own, which isn't handed over. javascript/make_face wrote this.
 
 export const VERSION_MAJOR: 1
 export const VERSION_MINOR: 6

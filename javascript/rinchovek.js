@@ -174,6 +174,7 @@ export async function load(source = new URL('rinchovek.wasm', import.meta.url)) 
   const calls = {}
   for (const [name, shape] of Object.entries(CALLS)) calls[name] = wrap(name, shape, exported)
   const version = calls.version()
-  if (Math.floor(version / 10000) !== VERSION_MAJOR || version < VERSION) throw new Error(`the module is of version ${version}, this file of ${VERSION}`)
+  const fits = Math.floor(version / 10000) === VERSION_MAJOR && version >= VERSION
+  if (!fits) throw new Error(`the module is of version ${version}, this file of ${VERSION}`)
   return Object.freeze(calls)
 }

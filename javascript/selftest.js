@@ -6,13 +6,13 @@
 //
 // The bytes of calls and answers are those of docs/REPLAY.md. Exit status 0 where all passed, 1 where a call failed.
 import { readFileSync, writeFileSync } from 'node:fs'
-import { load, BLOCK_BYTES, LINE_BYTES, PIXEL_BYTES, PIXELS_BYTES, RECORD_BYTES, HEAD_BYTES, HEAD_NUMBERS, COLOUR_HEAD_NUMBERS, VERSION } from './rinchovek.js'
 import * as face from './rinchovek.js'
 
+const { BLOCK_BYTES, LINE_BYTES, PIXEL_BYTES, PIXELS_BYTES, RECORD_BYTES, HEAD_BYTES, HEAD_NUMBERS, COLOUR_HEAD_NUMBERS, VERSION } = face
 const LONGEST = 65536
 const module = readFileSync(new URL('rinchovek.wasm', import.meta.url))
 const { instance } = await WebAssembly.instantiate(module)
-const rinchovek = await load(instance)
+const rinchovek = await face.load(instance)
 
 // ---- calls in, answers out
 class Ended extends Error {}
