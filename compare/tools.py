@@ -44,6 +44,16 @@ def program(name):
     return started(path) if path.exists() else None
 
 
+def native():
+    """The selftest for this machine's own processor, over the archive for it: it answers as `replay` does the calls that C has."""
+    processor = {"x86_64": "x86-64", "aarch64": "aarch64", "arm64": "aarch64"}.get(platform.machine(), "armv7")
+    archive, out = BUILT / "native.a", BUILT / "native"
+    BUILT.mkdir(parents=True, exist_ok=True)
+    subprocess.run([ROOT / "processors/make", processor, archive], check=True, stdout=subprocess.DEVNULL)
+    subprocess.run([ROOT / "selftest/build", processor, archive, out], check=True)
+    return [str(out), "--answers"]
+
+
 def pixel_filter():
     """The second decoder as a filter over the archive, or None where there is no archive (`rt staticlib rinchovek`) or no kit."""
     archive = ROOT / "target" / "staticlib" / "librinchovek.a"
@@ -53,7 +63,7 @@ def pixel_filter():
     lib, headers, part = kit / "lib", BUILT / "include", out.with_suffix(".o")
     headers.mkdir(parents=True, exist_ok=True)
     (headers / "stddef.h").write_text("typedef unsigned long size_t;\n")
-    (headers / "stdint.h").write_text("typedef unsigned char uint8_t; typedef unsigned uint32_t;\n")
+    (headers / "stdint.h").write_text("typedef unsigned char uint8_t; typedef unsigned uint32_t; typedef unsigned long uint64_t;\n")
     compile_words = ["--target=x86_64-linux-gnu", "-nostdinc", "-isystem", headers, "-I", ROOT / "include", "-O2", "-c", HERE / "pixel_filter.c", "-o", part]
     subprocess.run([kit / "bin" / "clang", *compile_words], check=True)
     before = [lib / name for name in ("Scrt1.o", "crti.o", "crtbeginS.o")]

@@ -126,29 +126,41 @@ function checked(name, at, shape, value) {
 }
 
 // A function over the module's: lays the arrays out in its memory one behind the other, calls, and copies back what may be written.
-function wrap(name, [own, ...shapes], exported) {
-  const { memory, __heap_base: base } = exported
+function wrap(name, [own, ...shapes], { memory, __heap_base: base, ...exported }) {
+  const run = exported[own]
+  const starts = shapes.map(() => 0)
+  let bytes = new Uint8Array(memory.buffer)
+  let numbers = new Uint32Array(memory.buffer)
   return (...given) => {
     if (given.length !== shapes.length) throw new TypeError(`${name} takes ${shapes.length} arguments`)
-    shapes.forEach((shape, at) => checked(name, at, shape, given[at]))
-    let end = base.value
     const words = []
-    const lent = []
-    shapes.forEach((shape, at) => {
-      if (shape === NUMBER) return words.push(given[at])
-      const start = (end + 15) & ~15
-      end = start + given[at].byteLength
-      lent.push([shape, given[at], start])
-      words.push(start)
-      if (shape.length === undefined) words.push(BigInt(given[at].length))
-    })
-    const missing = end - memory.buffer.byteLength
-    if (missing > 0) memory.grow(Math.ceil(missing / 65536))
-    const room = new Uint8Array(memory.buffer)
-    const bytesOf = (array) => new Uint8Array(array.buffer, array.byteOffset, array.byteLength)
-    for (const [, array, start] of lent) room.set(bytesOf(array), start)
-    const answer = exported[own](...words)
-    for (const [shape, array, start] of lent) if (shape.written) bytesOf(array).set(room.subarray(start, start + array.byteLength))
+    let end = base.value
+    for (let at = 0; at < shapes.length; at++) {
+      const value = given[at]
+      checked(name, at, shapes[at], value)
+      if (shapes[at] === NUMBER) words.push(value)
+      else {
+        starts[at] = (end + 15) & ~15
+        end = starts[at] + value.byteLength
+        words.push(starts[at])
+        if (shapes[at].length === undefined) words.push(BigInt(value.length))
+      }
+    }
+    if (end > memory.buffer.byteLength) memory.grow(Math.ceil((end - memory.buffer.byteLength) / 65536))
+    if (bytes.buffer !== memory.buffer) {
+      bytes = new Uint8Array(memory.buffer)
+      numbers = new Uint32Array(memory.buffer)
+    }
+    for (let at = 0; at < shapes.length; at++) {
+      if (shapes[at].array === 'bytes') bytes.set(given[at], starts[at])
+      else if (shapes[at].array === 'numbers') numbers.set(given[at], starts[at] / 4)
+    }
+    const answer = run(...words)
+    for (let at = 0; at < shapes.length; at++) {
+      const { array, written } = shapes[at]
+      if (array === 'bytes' && written) given[at].set(bytes.subarray(starts[at], starts[at] + given[at].length))
+      else if (array === 'numbers') given[at].set(numbers.subarray(starts[at] / 4, starts[at] / 4 + given[at].length))
+    }
     return answer === undefined ? undefined : answer >>> 0
   }
 }
