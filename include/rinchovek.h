@@ -14,9 +14,12 @@
  * set in all but the last; in its shortest form, and in at most three groups: 127 is 7F, 128 is 80 01, 16,384 is 80 80 01.
  *
  * HOW TO LINK
- * librinchovek.a is for x86-64 with the System V calling convention (Linux) and needs no processor extension. It wants memcpy, and
- * nothing else. It exports the functions that are declared here and no other name. `./install PREFIX` puts it there with this file,
- * a shared library, and a file for pkg-config.
+ * librinchovek.a is made for one of three processors, under Linux with the usual calling convention of each: x86-64 (System V), aarch64, and
+ * armv7, which has 32 bits (NEON, hard float). It needs no other extension. It wants memcpy, and nothing else. It exports the functions that are
+ * declared here and no other name. `./install PREFIX` puts it there for the machine that it runs on, with this file, a shared library, a file for
+ * pkg-config and a selftest; `./install --for PROCESSOR PREFIX` does for another. For wasm32, as in a browser, there is a module with the same
+ * functions, and a JavaScript that takes arrays.
+ * Code, calls and answers are the same on all of them. A length is a uint64_t, where an address has 32 bits too: hand a size_t over as it is.
  *
  * WHAT HOLDS FOR EVERY CALL
  * - It answers 0, RINCHOVEK_ACCEPTED, or the number of a refusal: of those that its comment lists, the first that applies, in that
