@@ -174,6 +174,12 @@ const LETTERS = {
     giveSmall(rinchovek.sheetBlock(sheet, takeNumber(), block))
     give(block)
   },
+  c() {
+    const colourSpace = takeNumber()
+    const sheet = takeSheet()
+    giveSmall(rinchovek.sheetStateColour(sheet, colourSpace))
+    give(sheet)
+  },
 }
 
 // One call: its answer, or undefined where it is cut off or unknown.

@@ -307,6 +307,18 @@ static int block_of_sheet(void) {
 }
 #endif
 
+#if RINCHOVEK_VERSION >= 10800
+static int state_colour(void) {
+    uint32_t colour_space, length;
+    if (!take_number(&colour_space) || !take_length(&length)) return 0;
+    uint8_t *const sheet = lend_taken(length);
+    if (sheet == NULL) return 0;
+    give_small(rinchovek_sheet_state_colour(sheet, length, colour_space));
+    give(sheet, length);
+    return 1;
+}
+#endif
+
 static int call(uint8_t letter) {
     switch (letter) {
     case 'D': return decode();
@@ -335,6 +347,9 @@ static int call(uint8_t letter) {
     case 'V': return show_row();
     case 'o': return open_sheet();
     case 'b': return block_of_sheet();
+#endif
+#if RINCHOVEK_VERSION >= 10800
+    case 'c': return state_colour();
 #endif
     default: return 0;
     }
