@@ -40,7 +40,7 @@ static uint32_t written(const uint8_t *from_zeros, const uint8_t *from_ones) {
 }
 
 /* of 32 bits each */
-static uint32_t numbers_written(uint32_t (*call)(const uint8_t *, size_t, uint32_t *), const uint8_t *sheet, size_t length) {
+static uint32_t numbers_written(uint32_t (*call)(const uint8_t *, uint64_t, uint32_t *), const uint8_t *sheet, size_t length) {
     uint32_t from_zeros[16] = {0}, from_ones[16], count = 0;
     for (int i = 0; i < 16; i++) from_ones[i] = 0xFFFFFFFF;
     call(sheet, length, from_zeros);

@@ -322,7 +322,7 @@ static const char *advice_on_move(struct bytes sheet, uint32_t refusal) {
 
 /* Moves a sheet to its other form, in which it has this length. */
 static void move_sheet(struct given given, struct bytes sheet, size_t length,
-                       uint32_t (*move)(const uint8_t *sheet, size_t length, uint8_t *out, size_t out_length)) {
+                       uint32_t (*move)(const uint8_t *sheet, uint64_t length, uint8_t *out, uint64_t out_length)) {
     const struct bytes moved = {room_for(NULL, length + 1), length};
     const uint32_t refusal = move(sheet.at, sheet.length, moved.at, moved.length);
     check_with_advice(given.file[0], refusal, advice_on_move(sheet, refusal));
