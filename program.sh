@@ -54,14 +54,17 @@ run() {
         set -- "$kit/lib/ld-linux-x86-64.so.2" --library-path "$kit/lib" "$@"
         [ ! -x "$kit/bin/qemu-x86_64" ] || set -- "$kit/bin/qemu-x86_64" "$@"
     fi
-    # Its standard error, which is caught, is empty where nothing was refused, and `refused` where something was. A pipe that nobody reads
-    # is a write that fails: the program says so.
-    trap '' PIPE
+    # Its standard error, which is caught, is empty where nothing was refused, and `refused` where something was. Where nobody reads the
+    # pipe any more that it writes to, as behind `head`, the signal 13 ends it, and there is nobody to tell.
     (: 3>&1) 2>/dev/null || fail 'cannot write'
     status=0
     { told=$("$@" 2>&1 >&3 3>&-) || status=$?; } 3>&1
     case $told in
-    '') [ "$status" -eq 0 ] || fail "the program ended with status $status"; exit 0 ;;
+    '')
+        [ "$status" -ne 0 ] || exit 0
+        [ "$status" -ne $((128 + 13)) ] || exit 2
+        fail "the program ended with status $status"
+        ;;
     refused) ;;
     *)
         printf '%s\n' "$told" >&2

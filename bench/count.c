@@ -359,6 +359,7 @@ typedef u32 import_colour(const u8 *from, u64 length, u8 *to, u64 room, u32 *hea
 typedef u32 export_colour(const u8 *from, u64 length, u32 colour_space, u8 *to, u64 room);
 typedef u32 show_row(const u8 *all, u64 length, u32 row, u8 *to, u64 room);
 typedef u32 block_of(const u8 *all, u64 length, u32 block, u8 *bytes);
+typedef u32 state_colour(u8 *all, u64 length, u32 colour_space);
 
 two_buffers rinchovek_bc7_unpack, rinchovek_bc7_pack;
 read_one rinchovek_bc7_read_line;
@@ -375,6 +376,7 @@ __attribute__((weak)) read_head rinchovek_sheet_read_colour_head;
 __attribute__((weak)) convert rinchovek_sheet_to_tiles, rinchovek_sheet_to_rows;
 __attribute__((weak)) show_row rinchovek_sheet_show_row;
 __attribute__((weak)) block_of rinchovek_sheet_block;
+__attribute__((weak)) state_colour rinchovek_sheet_state_colour;
 __attribute__((weak)) read_head rinchovek_sheet_open;
 replace_in rinchovek_sheet_replace_line;
 read_head rinchovek_sheet_read_head;
@@ -407,6 +409,7 @@ static import_colour *volatile import_colour_call;
 static export_colour *volatile export_colour_call;
 static show_row *volatile show_row_call;
 static block_of *volatile block_of_call;
+static state_colour *volatile state_colour_call;
 static read_head *volatile open_call;
 
 static u32 no_two_buffers(const u8 *from, u8 *to) {
@@ -486,6 +489,11 @@ static u32 no_block_of(const u8 *all, u64 length, u32 block, u8 *bytes) {
     return 0;
 }
 
+static u32 no_state_colour(u8 *all, u64 length, u32 colour_space) {
+    __asm__ volatile("" ::"r"(all), "r"(length), "r"(colour_space) : "memory");
+    return 0;
+}
+
 typedef u32 one_call(u32 i);
 
 static u32 unpack_one(u32 i) { return two_buffers_call(sheet_blocks + 16 * i, records + RECORD * i); }
@@ -562,12 +570,16 @@ static u32 open_it(u32 i) { return (void)i, open_call(given, given_length, head_
 /* blocks from all over the sheet */
 static u32 take_a_block(u32 i) { return block_of_call(given, given_length, block_count * i / COUNTED, out); }
 static u32 take_no_block(u32 i) { return block_of_call(given, given_length, block_count + i, out); }
+static u32 state_a_colour(u32 i) { return state_colour_call(in_tiles, tiles_length, i % (SRGB + 1)); }
+static u32 state_no_colour(u32 i) { return (void)i, state_colour_call(in_tiles, tiles_length, SRGB + 1); }
+static u32 state_in_rows(u32 i) { return (void)i, state_colour_call(in_rows, rows_length, SRGB); }
 static u32 replace_in_rows(u32 i) { return replace_in_call(in_rows, rows_length, i, line_numbers[i], lines + LINE * i); }
 static u32 replace_in_tiles(u32 i) { return replace_in_call(in_tiles, tiles_length, i, line_numbers[i], lines + LINE * i); }
 
 static void point_at_calls(int at_none) {
     show_row_call = at_none ? no_show_row : rinchovek_sheet_show_row;
     block_of_call = at_none ? no_block_of : rinchovek_sheet_block;
+    state_colour_call = at_none ? no_state_colour : rinchovek_sheet_state_colour;
     open_call = at_none ? no_read_head : rinchovek_sheet_open;
     import_colour_call = at_none ? no_import_colour : rinchovek_dds_import_colour;
     export_colour_call = at_none ? no_export_colour : rinchovek_dds_export_colour;
@@ -867,6 +879,14 @@ static void count_refused_forms(void) {
     say_call("rinchovek_sheet_show_row, 12: form 2", show_it, 12);
 }
 
+static void count_stating(void) {
+    make_forms(32, 32);
+    say_call("rinchovek_sheet_state_colour, 18", state_no_colour, 18);
+    say_call("rinchovek_sheet_state_colour, 8: form 1 given", state_in_rows, 8);
+    say("\nInstructions a call, accepted\n");
+    say_call("rinchovek_sheet_state_colour, 32 by 32", state_a_colour, 0);
+}
+
 /* Sheets in rows beside the same in tiles: whole tiles, and tiles that are cut at the right, at the bottom and at both. */
 static void count_forms(void) {
     make_sheet(MIXED);
@@ -896,6 +916,7 @@ static void count_forms(void) {
     make_forms(28, 40);
     say_both("rinchovek_sheet_replace_line, 28 by 40, kept", call_cost(replace_in_rows, 0), call_cost(replace_in_tiles, 0));
     count_refused_forms();
+    if (rinchovek_sheet_state_colour) count_stating();
 }
 
 #endif

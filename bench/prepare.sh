@@ -10,6 +10,7 @@
 #       has_files  yes where it has rinchovek_dds_import, else empty
 #       has_colours  yes where it has rinchovek_dds_import_colour, else empty
 #       has_forms  yes where it has rinchovek_sheet_to_tiles, else empty
+#       has_stating  yes where it has rinchovek_sheet_state_colour, else empty
 #       kit        the folder of the kit's clang and linker for this machine
 #       work       a fresh folder, removed at exit, with the published sources and reference.rs in it
 
@@ -44,6 +45,8 @@ prepare() {
     if grep -qaw rinchovek_dds_import_colour "$archive"; then has_colours=yes; fi
     has_forms=
     if grep -qaw rinchovek_sheet_to_tiles "$archive"; then has_forms=yes; fi
+    has_stating=
+    if grep -qaw rinchovek_sheet_state_colour "$archive"; then has_stating=yes; fi
 
     place=${2:-$repository/../shared}
     for published in "$place/docs/src/src" "$place/src" "$place"; do

@@ -138,6 +138,8 @@ mod writing {
         fn rinchovek_sheet_show_row(sheet: *const u8, length: usize, row: u32, out: *mut u8, out_length: usize) -> u32;
         #[cfg(forms)]
         fn rinchovek_sheet_block(sheet: *const u8, length: usize, block: u32, bytes: &mut Block) -> u32;
+        #[cfg(stating)]
+        fn rinchovek_sheet_state_colour(sheet: *mut u8, length: usize, colour_space: u32) -> u32;
         #[cfg(forms)]
         fn rinchovek_sheet_open(sheet: *const u8, length: usize, numbers: &mut [u32; 8]) -> u32;
     }
@@ -212,6 +214,11 @@ mod writing {
             rinchovek_sheet_to_rows(tiles.as_ptr(), tiles.len(), again.as_mut_ptr(), again.len())
         });
         assert!(again == sheet, "a sheet that was moved to tiles comes back as another");
+        #[cfg(stating)]
+        nanoseconds("rinchovek_sheet_state_colour", SMALL, || {
+            let state = |i| unsafe { rinchovek_sheet_state_colour(tiles.as_mut_ptr(), tiles.len(), i % 3) };
+            (0..SMALL as u32).map(state).fold(0, |refused, refusal| refused | refusal)
+        });
         let (mut row, mut first, mut numbers) = (vec![0; 64 * columns], vec![0; 64 * columns], [0; 8]);
         for (form, sheet) in [("form 1", &mut *sheet), ("form 2", &mut tiles[..])] {
             nanoseconds(&format!("rinchovek_sheet_show_row, a block, {form}"), SMALL, || {

@@ -362,6 +362,12 @@ def some_move(dice, form, largest=20):
     return sheet, some_output(dice, max(0, len(sheet) + (1 if form == model.TILES else -1)))
 
 
+def some_stating(dice, largest=20):
+    """The arguments of stating a colour space: mostly of a sheet of form 2."""
+    number = dice.below(3) if dice.chance(85) else dice.one_of((3, 4, 258, *LARGE))
+    return number, some_listed(dice, largest, either_form(dice, 92))
+
+
 def some_shown_row(dice, largest=20):
     """The arguments of showing a row of a whole sheet."""
     sheet = some_listed(dice, largest, either_form(dice))

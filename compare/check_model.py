@@ -202,5 +202,6 @@ def check_moves(seed, count):
         assert refusals[0] == refusals[1] and model.to_tiles(sheets[0], bytes(len(tiles))) == (0, sheets[1])
         for colour_space in (model.LINEAR, model.SRGB):
             stated = model.write_tile_head(width, height, colour_space) + tiles[start + 1 :]
+            assert model.state_colour(colour_space, tiles) == (0, stated) and model.state_colour(0, stated) == (0, tiles)
             assert model.to_rows(stated, bytes(len(rows)))[0] == 16 and model.to_rows(stated, b"")[0] == 11
     return count

@@ -48,6 +48,7 @@ from cases import (
     some_sheet,
     some_sheet_call,
     some_shown_row,
+    some_stating,
     some_tile_head,
     some_tile_sheet,
     some_wanted,
@@ -869,6 +870,26 @@ def taking_blocks(dice, shared):
     return calls
 
 
+def stating(dice, shared):
+    """Each colour space over each, at sides of one, two and three groups; numbers that there aren't (18), also ones whose low byte there is. What
+    is refused before: heads, form 1 (8) with any number, bytes missing and too many (10 before 18); a stored number above 2 (18). The largest
+    sheets, and by chance."""
+    del shared
+    calls = []
+    for width, height in ((1, 1), (5, 4), (33, 5), (9, 36), (128, 1), (2, 200), (127, 9)):
+        for colour in range(3):
+            sheet = sheet_of(model.TILES, width, height, dice_blocks(dice), colour)
+            numbers = (0, 1, 2, 3, 4, 128, 256, 257, 258, *LARGE) if (width, colour) == (5, 1) else (0, 1, 2, 3)
+            calls += [("c", number, sheet) for number in numbers]
+        calls += [("c", number, sheet_of(model.ROWS, width, height, dice_blocks(dice))) for number in (0, 1, 3)]
+    for turn, sheet in enumerate(refused_sheets(dice)):
+        calls += [("c", number, sheet) for number in ((1, 3), (2,), (0,))[turn % 3]]
+    for colour in COLOUR_NUMBERS:
+        calls += [("c", 1, model.write_tile_head(3, 4, colour) + document_01.C)]
+    calls += [("c", 2, sheet_of(model.TILES, *sides, marked)) for sides in ((16380, 1), (252, 256))]
+    return calls + [("c", *some_stating(dice, 44)) for _ in range(60)]
+
+
 def replacing_in_tiles(dice, shared):
     """Replacement in form 2: each block of a sheet of cut tiles, and the first beyond; every refusal of a block and of the sheet, and of heads;
     a sheet of as many blocks as a call takes. A sequence on one sheet, and by chance."""
@@ -982,6 +1003,7 @@ MAKERS = (
     ("X", exporting_tiles("X")),
     ("x", exporting_tiles("x")),
     ("s", needing_for_tiles),
+    ("c", stating),
 )
 
 

@@ -582,6 +582,16 @@ def move(sheet, form, out):
     return 0, moved
 
 
+def state_colour(number, sheet):
+    """refusal, the sheet afterwards: of form 2 alone, its colour space as the number says and all else as it was"""
+    refusal, head = read_sheet(sheet, [TILES])
+    if refusal == 0 and number not in COLOUR_SPACES:
+        refusal = 18
+    if refusal:
+        return refusal, bytes(sheet)
+    return 0, laid_out(head._replace(colour_space=number), blocks_of(sheet, head))
+
+
 def to_tiles(sheet, out):
     return move(sheet, TILES, out)
 

@@ -29,10 +29,11 @@ A call is (letter, arguments..):
   V row sheet out    show a row of a whole sheet
   o sheet            open a sheet: the eight numbers of its head
   b sheet block      a block of a sheet
+  c colour sheet     state the colour space of a form 2 sheet; any number
 """
 import model
 
-LETTERS = "DUPRHWOSlrNEA" + "IXds" + "Q" + "B" + "hix" + "TZVob"
+LETTERS = "DUPRHWOSlrNEA" + "IXds" + "Q" + "B" + "hix" + "TZVob" + "c"
 KINDS = ("whole", "two", "three", "vector")
 RECORD, REPLACEMENT, READ = 66, 26, 11
 LARGEST_LENGTH = 65536  # a longer slice ends the run
@@ -92,6 +93,9 @@ def call_bytes(call):
         assert len(data) <= LARGEST_LENGTH and len(out) <= LARGEST_LENGTH
         body = number(*first) if letter == "V" else bytes(first)
         body += number(len(data)) + number(len(out)) + data + out
+    elif letter == "c":
+        assert len(given[1]) <= LARGEST_LENGTH
+        body = number(given[0]) + number(len(given[1])) + given[1]
     elif letter in "ldsob":
         assert len(given[0]) <= LARGEST_LENGTH
         body = number(len(given[0])) + given[0] + b"".join(map(number, given[1:]))
@@ -136,6 +140,8 @@ def model_answer(call):
         rest = b"".join(map(number, numbers))
     elif letter == "b":
         refusal, rest = model.block_in_sheet(*given)
+    elif letter == "c":
+        refusal, rest = model.state_colour(*given)
     elif letter in "TZ":
         refusal, rest = (model.to_tiles if letter == "T" else model.to_rows)(*given)
     elif letter == "V":

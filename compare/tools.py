@@ -44,8 +44,35 @@ def program(name):
     return started(path) if path.exists() else None
 
 
+def own_archive():
+    """The processor of this machine, and the archive for it."""
+    processor = {"x86_64": "x86-64", "aarch64": "aarch64", "arm64": "aarch64"}.get(platform.machine(), "armv7")
+    archive = BUILT / "native.a"
+    BUILT.mkdir(parents=True, exist_ok=True)
+    subprocess.run([ROOT / "processors/make", processor, archive], check=True, stdout=subprocess.DEVNULL)
+    return processor, archive
+
+
+def native():
+    """The selftest for this machine's own processor, over the archive for it: it answers as `replay` does the calls that C has."""
+    processor, archive = own_archive()
+    out = BUILT / "native"
+    subprocess.run([ROOT / "selftest/build", processor, archive, out], check=True)
+    return [str(out), "--answers"]
+
+
+def over_own_archive(name):
+    """NAME.c of this folder as a filter over the archive for this machine's own processor, or None where there is no C compiler."""
+    if shutil.which("cc") is None:
+        return None
+    _, archive = own_archive()
+    out = BUILT / ("native_" + name)
+    subprocess.run(["cc", "-O2", "-I", ROOT / "include", HERE / (name + ".c"), archive, "-o", out], check=True)
+    return [str(out)]
+
+
 def over_archive(name):
-    """NAME.c of this folder as a filter over the archive, or None where there is no archive (`rt staticlib rinchovek`) or no kit."""
+    """The same over the archive for x86-64, by the kit, or None where there is no archive (`rt staticlib rinchovek`) or no kit."""
     archive = ROOT / "target" / "staticlib" / "librinchovek.a"
     if not archive.exists() or shutil.which("rt") is None:
         return None
@@ -53,24 +80,14 @@ def over_archive(name):
     lib, headers, part = kit / "lib", BUILT / "include", out.with_suffix(".o")
     headers.mkdir(parents=True, exist_ok=True)
     (headers / "stddef.h").write_text("typedef unsigned long size_t;\n")
-    (headers / "stdint.h").write_text("typedef unsigned char uint8_t; typedef unsigned uint32_t;\n")
-    compile_words = ["--target=x86_64-linux-gnu", "-nostdinc", "-isystem", headers, "-I", ROOT / "include", "-O2", "-c", HERE / (name + ".c"), "-o", part]
-    subprocess.run([kit / "bin" / "clang", *compile_words], check=True)
+    (headers / "stdint.h").write_text("typedef unsigned char uint8_t; typedef unsigned uint32_t; typedef unsigned long uint64_t;\n")
+    compile_words = ["--target=x86_64-linux-gnu", "-nostdinc", "-isystem", headers, "-I", ROOT / "include", "-O2"]
+    subprocess.run([kit / "bin" / "clang", *compile_words, "-c", HERE / (name + ".c"), "-o", part], check=True)
     before = [lib / name for name in ("Scrt1.o", "crti.o", "crtbeginS.o")]
     behind = [lib / name for name in ("libc.so.6", "libc_nonshared.a", "ld-linux-x86-64.so.2", "libgcc.a", "crtendS.o", "crtn.o")]
     link_words = ["-pie", "-dynamic-linker", lib / "ld-linux-x86-64.so.2", "-o", out, *before, part, archive, *behind]
     subprocess.run([kit / "bin" / "ld.lld", *link_words], check=True)
     return started(out)
-
-
-def pixel_filter():
-    """The second decoder."""
-    return over_archive("pixel_filter")
-
-
-def sheet_filter():
-    """Moves and rows of sheets that are too long for replay."""
-    return over_archive("sheet_filter")
 
 
 def through(command, data, timeout=600):

@@ -176,7 +176,7 @@ int main(void) {
     show_refusal("colour space 3", rinchovek_dds_export_colour(sheet, sizeof sheet, 3, file, sizeof file));
 
     /* A sheet of three by two blocks of mode 6, block n all in red 4 * n. In tiles they are stored in the order 0 1 3 4 2 5; rows and blocks
-     * are asked for by their numbers as before. Who knows three numbers only is refused, and so is a stated colour space on the way back. */
+     * are asked for by their numbers as before. Who knows three numbers only is refused, and so is the way back once a colour space is stated. */
     enum { TILED_HEAD = 4, COLUMNS = 3, BLOCKS = 6 };
     static uint8_t in_rows[HEAD + BLOCKS * RINCHOVEK_BLOCK_BYTES] = {RINCHOVEK_FORM_ROWS, 12, 8}, back[sizeof in_rows];
     static uint8_t in_tiles[sizeof in_rows + 1], scanlines[12 * 4 * RINCHOVEK_PIXEL_BYTES], one[RINCHOVEK_BLOCK_BYTES];
@@ -204,7 +204,9 @@ int main(void) {
     uint32_t same = 1;
     for (uint32_t i = 0; i < sizeof back; i++) same &= back[i] == in_rows[i];
     printf("the same bytes: %s\n", same ? "yes" : "no");
-    in_tiles[TILED_HEAD - 1] = RINCHOVEK_SRGB;
+    show_refusal("sRGB stated", rinchovek_sheet_state_colour(in_tiles, sizeof in_tiles, RINCHOVEK_SRGB));
+    show_opened(in_tiles, sizeof in_tiles);
+    show_refusal("3 stated", rinchovek_sheet_state_colour(in_tiles, sizeof in_tiles, 3));
     show_refusal("sRGB to rows", rinchovek_sheet_to_rows(in_tiles, sizeof in_tiles, back, sizeof back));
 
     for (uint32_t number = RINCHOVEK_RESERVED_BLOCK; number <= RINCHOVEK_COLOUR_SPACE_STATED; number++)

@@ -153,6 +153,10 @@ uint32_t to_rows(const std::vector<uint8_t> &sheet, std::vector<uint8_t> &rows) 
     return rinchovek_sheet_to_rows(sheet.data(), sheet.size(), rows.data(), rows.size());
 }
 
+uint32_t state_colour(std::vector<uint8_t> &tiles, ColourSpace colour_space) {
+    return rinchovek_sheet_state_colour(tiles.data(), tiles.size(), uint32_t(colour_space));
+}
+
 // A DDS file as a sheet, and a sheet as a DDS file; the output gets the length that it needs.
 uint32_t import_dds(const std::vector<uint8_t> &file, std::vector<uint8_t> &sheet) {
     uint32_t needed = 0, refusal = rinchovek_dds_import_length(file.data(), file.size(), &needed);
@@ -350,7 +354,9 @@ int main() {
     show_refusal("tiles in three numbers", read_head(in_tiles, said));
     show_refusal("to rows", to_rows(in_tiles, back));
     std::printf("the same bytes: %s\n", back == in_rows ? "yes" : "no");
-    in_tiles[opened.head.start - 1] = uint8_t(ColourSpace::srgb);
+    show_refusal("sRGB stated", state_colour(in_tiles, ColourSpace::srgb));
+    show_opened(in_tiles);
+    show_refusal("3 stated", state_colour(in_tiles, ColourSpace(3)));
     show_refusal("sRGB to rows", to_rows(in_tiles, back));
 
     for (uint32_t number = RINCHOVEK_RESERVED_BLOCK; number <= RINCHOVEK_COLOUR_SPACE_STATED; number++)

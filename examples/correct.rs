@@ -174,7 +174,9 @@ fn main() -> Result<(), Refusal> {
     let back = to_rows(&in_tiles);
     show_refusal("to rows", &back);
     println!("the same bytes: {}", if back? == in_rows { "yes" } else { "no" });
-    in_tiles[opened.head.start - 1] = ColourSpace::SRGB.0 as u8;
+    show_refusal("sRGB stated", &state_colour(&mut in_tiles, ColourSpace::SRGB));
+    show_opened(&in_tiles)?;
+    show_refusal("3 stated", &state_colour(&mut in_tiles, ColourSpace(3)));
     show_refusal("sRGB to rows", &to_rows(&in_tiles));
 
     for refusal in Refusal::ALL {

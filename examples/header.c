@@ -42,6 +42,7 @@ static void try_null(void) {
     expect("no sheet", rinchovek_sheet_block(NULL, 0, 0, block), RINCHOVEK_BAD_NUMBER);
     expect("no sheet", rinchovek_sheet_to_tiles(NULL, 0, NULL, 0), RINCHOVEK_BAD_NUMBER);
     expect("no sheet", rinchovek_sheet_to_rows(NULL, 0, NULL, 0), RINCHOVEK_BAD_NUMBER);
+    expect("no sheet", rinchovek_sheet_state_colour(NULL, 0, 3), RINCHOVEK_BAD_NUMBER);
     expect("no output", rinchovek_sheet_show_row(one, sizeof one, 0, NULL, 0), RINCHOVEK_WRONG_OUTPUT_LENGTH);
     expect("no output", rinchovek_sheet_to_tiles(one, sizeof one, NULL, 0), RINCHOVEK_WRONG_OUTPUT_LENGTH);
     expect("no sheet", rinchovek_sheet_read_head(NULL, 0, head), RINCHOVEK_BAD_NUMBER);
@@ -114,10 +115,12 @@ static void try_tiles(void) {
 }
 
 /* Every size of up to 3 by 3 tiles: a sheet is a byte longer in tiles, both moves take exactly that, and it comes back; each row is shown out
- * of the one form as out of the other, with the length that the header computes, and each block is read by its number. */
+ * of the one form as out of the other, with the length that the header computes, each block is read by its number, and a colour space that is
+ * stated changes its own byte. */
 static void try_moves(void) {
     enum { SIDE = 68, MOST = (SIDE / 4) * (SIDE / 4) };
     static uint8_t rows[RINCHOVEK_HEAD_BYTES + MOST * RINCHOVEK_BLOCK_BYTES + 1], tiles[sizeof rows + 1], back[sizeof rows];
+    static uint8_t stated[sizeof tiles];
     static uint8_t shown[RINCHOVEK_PIXEL_BYTES * SIDE * 4 + 1], again[sizeof shown];
     for (uint32_t width = 1; width <= SIDE; width += 3)
         for (uint32_t height = 1; height <= SIDE; height += 5) {
@@ -137,6 +140,12 @@ static void try_moves(void) {
                 expect("to rows", rinchovek_sheet_to_rows(tiles, length + 1, back, length - 1 + off), answer);
             }
             for (size_t i = 0; i < length; i++) expect("there and back", back[i], rows[i]);
+            for (size_t i = 0; i <= length; i++) stated[i] = tiles[i];
+            expect("stated in rows", rinchovek_sheet_state_colour(back, length, RINCHOVEK_SRGB), RINCHOVEK_UNKNOWN_FORM);
+            expect("stated", rinchovek_sheet_state_colour(stated, length + 1, RINCHOVEK_SRGB), RINCHOVEK_ACCEPTED);
+            expect("no colour space", rinchovek_sheet_state_colour(stated, length + 1, RINCHOVEK_SRGB + 256), RINCHOVEK_BAD_COLOUR_SPACE);
+            for (size_t i = 0; i <= length; i++) expect("a stated sheet", stated[i], i == count ? RINCHOVEK_SRGB : tiles[i]);
+            expect("stated to rows", rinchovek_sheet_to_rows(stated, length + 1, back, length), RINCHOVEK_COLOUR_SPACE_STATED);
             for (uint32_t row = 0; row < numbers[RINCHOVEK_OPEN_ROWS]; row++) {
                 const size_t room = rinchovek_row_pixels(width, height, row);
                 const uint8_t *stored = rows + count + row * rinchovek_row_blocks(width);
@@ -191,6 +200,7 @@ static __attribute__((noinline)) void make_calls(uint8_t first, uint8_t others) 
         rinchovek_sheet_show_row(tiles, count + RINCHOVEK_BLOCK_BYTES + 1, 0, out, 48);
         rinchovek_sheet_block(tiles, count + RINCHOVEK_BLOCK_BYTES + 1, 0, record);
         rinchovek_sheet_to_rows(tiles, count + RINCHOVEK_BLOCK_BYTES + 1, sheet, count + RINCHOVEK_BLOCK_BYTES);
+        rinchovek_sheet_state_colour(tiles, count + RINCHOVEK_BLOCK_BYTES + 1, RINCHOVEK_SRGB);
     }
     uint8_t file[RINCHOVEK_DDS_HEADER_BYTES + RINCHOVEK_BLOCK_BYTES];
     if (rinchovek_dds_export_length(sheet, count + RINCHOVEK_BLOCK_BYTES, &index) == RINCHOVEK_ACCEPTED && index == sizeof file)

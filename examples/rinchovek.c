@@ -314,12 +314,18 @@ static void export_dds(struct given given) {
     free(dds.at);
 }
 
+/* Why a move is refused may have a remedy. */
+static const char *advice_on_move(struct bytes sheet, uint32_t refusal) {
+    if (refusal == RINCHOVEK_COLOUR_SPACE_STATED) return "; `rinchovek colour` takes it back, with unspecified";
+    return has_other_form(sheet, refusal) ? "; it has been moved there already" : "";
+}
+
 /* Moves a sheet to its other form, in which it has this length. */
 static void move_sheet(struct given given, struct bytes sheet, size_t length,
-                       uint32_t (*move)(const uint8_t *sheet, size_t length, uint8_t *out, size_t out_length)) {
+                       uint32_t (*move)(const uint8_t *sheet, uint64_t length, uint8_t *out, uint64_t out_length)) {
     const struct bytes moved = {room_for(NULL, length + 1), length};
     const uint32_t refusal = move(sheet.at, sheet.length, moved.at, moved.length);
-    check_with_advice(given.file[0], refusal, has_other_form(sheet, refusal) ? "; it has been moved there already" : "");
+    check_with_advice(given.file[0], refusal, advice_on_move(sheet, refusal));
     write_file(given.file[1], moved);
     free(sheet.at);
     free(moved.at);
@@ -333,6 +339,18 @@ static void move_to_tiles(struct given given) {
 static void move_to_rows(struct given given) {
     const struct bytes sheet = read_file(given.file[0]);
     move_sheet(given, sheet, sheet.length > 0 ? sheet.length - 1 : 0, rinchovek_sheet_to_rows);
+}
+
+static void state_colour(struct given given) {
+    const struct bytes sheet = read_file(given.file[0]);
+    const uint32_t colour_space = given.number[0];
+    uint32_t before[RINCHOVEK_OPEN_NUMBERS] = {0};
+    rinchovek_sheet_open(sheet.at, sheet.length, before); /* where this is refused, the next call is too */
+    const uint32_t refusal = rinchovek_sheet_state_colour(sheet.at, sheet.length, colour_space);
+    check_with_advice(given.file[0], refusal, has_other_form(sheet, refusal) ? "; `rinchovek tiles` moves it to form 2, which has room for it" : "");
+    write_file(given.file[0], sheet);
+    printf("%s, was %s\n", colour_spaces[colour_space], colour_spaces[before[RINCHOVEK_OPEN_COLOUR_SPACE]]);
+    free(sheet.at);
 }
 
 static void draw_picture(struct given given) {
@@ -400,7 +418,8 @@ static void replace_line(struct given given) {
     free(found.sheet.file.at);
 }
 
-/* Of its arguments f is a file, n any number, b a number from 0 to 255, and c a colour space, which may be left out. */
+/* Of its arguments f is a file, n any number, b a number from 0 to 255, u a colour space or unspecified, and c a colour space, which may be
+ * left out. */
 static const struct command {
     const char *name, *arguments, *kinds, *does;
     void (*run)(struct given);
@@ -409,6 +428,8 @@ static const struct command {
     {"export", "SHEET DDS [linear|srgb]", "ffc", "makes a DDS file of a sheet; where no colour space is given, it says linear", export_dds},
     {"tiles", "SHEET OUT", "ff", "moves a sheet of form 1 to form 2: the same map, its blocks stored in tiles", move_to_tiles},
     {"rows", "SHEET OUT", "ff", "moves a sheet of form 2 to form 1, its blocks row by row; refused where it states a colour space", move_to_rows},
+    {"colour", "SHEET linear|srgb|unspecified", "fu", "states the colour space of a sheet of form 2, or takes it back; prints it, and what it was",
+     state_colour},
     {"picture", "SHEET PAM", "ff", "draws a sheet into a PAM file, red, green, blue and alpha", draw_picture},
     {"line", "SHEET BLOCK LINE", "fnn", "prints a line of a block", show_line},
     {"nearest", "SHEET BLOCK LINE PIXEL RED GREEN BLUE ALPHA", "fnnnbbbb", "prints the index nearest to a colour, and what it draws",
@@ -426,7 +447,7 @@ static void print_help(void) {
            "Blocks count from 0, row by row; lines from 0; pixels from 0 to 15, row by row within their block. Numbers have digits alone.\n"
            "\n"
            "A sheet stores its blocks row by row (form 1) or in tiles of 8 by 8 (form 2), where neighbours stand closer together. A block has\n"
-           "the same number in both, and every command takes either, but for three: `export` and `tiles` take form 1, and `rows` form 2.\n"
+           "the same number in both, and every command takes either, but for four: `export` and `tiles` take form 1, `rows` and `colour` form 2.\n"
            "\n"
            "A line in words:\n"
            "    first    0   0   0   0  # the first endpoint: red, green, blue, alpha as stored\n"
@@ -465,9 +486,10 @@ static struct given take(const struct command *command, int count, char **words)
             given.file[files++] = word;
             continue;
         }
-        if (*kind == 'c') {
-            *number = strcmp(word, colour_spaces[RINCHOVEK_SRGB]) == 0 ? RINCHOVEK_SRGB : RINCHOVEK_LINEAR;
-            if (strcmp(word, colour_spaces[*number]) != 0) fail_by_usage(command);
+        if (*kind == 'c' || *kind == 'u') {
+            *number = *kind == 'c' ? RINCHOVEK_LINEAR : RINCHOVEK_UNSPECIFIED;
+            while (strcmp(word, colour_spaces[*number]) != 0)
+                if (++*number > RINCHOVEK_SRGB) fail_by_usage(command);
         } else if (!is_number(word, *kind == 'b' ? UINT8_MAX : UINT32_MAX, number)) {
             fprintf(stderr, "rinchovek: \"%s\" is no number from 0 to %u\n", word, *kind == 'b' ? UINT8_MAX : UINT32_MAX);
             fail_by_usage(command);

@@ -17,48 +17,49 @@ extern "C" {
     fn rinchovek_bc7_exact_index(block: *const u8, line: u32, pixel: u32, wanted: *const u8, index: *mut u32) -> u32;
     fn rinchovek_bc7_is_opaque(block: *const u8, columns: u32, rows: u32) -> u32;
     fn rinchovek_bc7_pixel(block: *const u8, pixel: u32, rgba: *mut u8) -> u32;
-    fn rinchovek_sheet_open(sheet: *const u8, length: usize, numbers: *mut u32) -> u32;
-    fn rinchovek_sheet_read_head(sheet: *const u8, length: usize, head: *mut u32) -> u32;
-    fn rinchovek_sheet_read_colour_head(sheet: *const u8, length: usize, head: *mut u32) -> u32;
+    fn rinchovek_sheet_open(sheet: *const u8, length: u64, numbers: *mut u32) -> u32;
+    fn rinchovek_sheet_read_head(sheet: *const u8, length: u64, head: *mut u32) -> u32;
+    fn rinchovek_sheet_read_colour_head(sheet: *const u8, length: u64, head: *mut u32) -> u32;
     fn rinchovek_sheet_write_head(width: u32, height: u32, head: *mut u8, count: *mut u32) -> u32;
     fn rinchovek_sheet_decode_row(
         width: u32,
         height: u32,
         row: u32,
         blocks: *const u8,
-        blocks_length: usize,
+        blocks_length: u64,
         out: *mut u8,
-        out_length: usize,
+        out_length: u64,
     ) -> u32;
-    fn rinchovek_sheet_show_row(sheet: *const u8, length: usize, row: u32, out: *mut u8, out_length: usize) -> u32;
-    fn rinchovek_sheet_block(sheet: *const u8, length: usize, block: u32, bytes: *mut u8) -> u32;
-    fn rinchovek_sheet_to_tiles(sheet: *const u8, length: usize, out: *mut u8, out_length: usize) -> u32;
-    fn rinchovek_sheet_to_rows(sheet: *const u8, length: usize, out: *mut u8, out_length: usize) -> u32;
+    fn rinchovek_sheet_show_row(sheet: *const u8, length: u64, row: u32, out: *mut u8, out_length: u64) -> u32;
+    fn rinchovek_sheet_block(sheet: *const u8, length: u64, block: u32, bytes: *mut u8) -> u32;
+    fn rinchovek_sheet_to_tiles(sheet: *const u8, length: u64, out: *mut u8, out_length: u64) -> u32;
+    fn rinchovek_sheet_to_rows(sheet: *const u8, length: u64, out: *mut u8, out_length: u64) -> u32;
+    fn rinchovek_sheet_state_colour(sheet: *mut u8, length: u64, colour_space: u32) -> u32;
     fn rinchovek_sheet_replace_line(
         sheet: *mut u8,
-        length: usize,
+        length: u64,
         block: u32,
         line: u32,
         replacement: *const u8,
     ) -> u32;
-    fn rinchovek_dds_import(dds: *const u8, dds_length: usize, sheet: *mut u8, sheet_length: usize) -> u32;
-    fn rinchovek_dds_export(sheet: *const u8, sheet_length: usize, dds: *mut u8, dds_length: usize) -> u32;
+    fn rinchovek_dds_import(dds: *const u8, dds_length: u64, sheet: *mut u8, sheet_length: u64) -> u32;
+    fn rinchovek_dds_export(sheet: *const u8, sheet_length: u64, dds: *mut u8, dds_length: u64) -> u32;
     fn rinchovek_dds_import_colour(
         dds: *const u8,
-        dds_length: usize,
+        dds_length: u64,
         sheet: *mut u8,
-        sheet_length: usize,
+        sheet_length: u64,
         head: *mut u32,
     ) -> u32;
     fn rinchovek_dds_export_colour(
         sheet: *const u8,
-        sheet_length: usize,
+        sheet_length: u64,
         colour_space: u32,
         dds: *mut u8,
-        dds_length: usize,
+        dds_length: u64,
     ) -> u32;
-    fn rinchovek_dds_import_length(dds: *const u8, dds_length: usize, sheet_length: *mut u32) -> u32;
-    fn rinchovek_dds_export_length(sheet: *const u8, sheet_length: usize, dds_length: *mut u32) -> u32;
+    fn rinchovek_dds_import_length(dds: *const u8, dds_length: u64, sheet_length: *mut u32) -> u32;
+    fn rinchovek_dds_export_length(sheet: *const u8, sheet_length: u64, dds_length: *mut u32) -> u32;
 }
 
 /// Why a call was refused. It then has changed nothing.
@@ -367,7 +368,7 @@ pub struct Opened {
 
 pub fn open(sheet: &[u8]) -> Result<Opened, Refusal> {
     let mut numbers = [0; 8];
-    let refusal = unsafe { rinchovek_sheet_open(sheet.as_ptr(), sheet.len(), numbers.as_mut_ptr()) };
+    let refusal = unsafe { rinchovek_sheet_open(sheet.as_ptr(), sheet.len() as u64, numbers.as_mut_ptr()) };
     let [width, height, start, colour_space, form, columns, rows, blocks] = numbers;
     let head = Head { width, height, start: start as usize };
     let form = if form == 2 { Form::Tiles } else { Form::Rows };
@@ -377,14 +378,14 @@ pub fn open(sheet: &[u8]) -> Result<Opened, Refusal> {
 /// The head of a sheet of form 1; `open` takes either form.
 pub fn read_head(sheet: &[u8]) -> Result<Head, Refusal> {
     let mut head = [0; 3];
-    let refusal = unsafe { rinchovek_sheet_read_head(sheet.as_ptr(), sheet.len(), head.as_mut_ptr()) };
+    let refusal = unsafe { rinchovek_sheet_read_head(sheet.as_ptr(), sheet.len() as u64, head.as_mut_ptr()) };
     answer(refusal, Head { width: head[0], height: head[1], start: head[2] as usize })
 }
 
 /// The head, and the colour space, of which a sheet of form 1 says nothing.
 pub fn read_colour_head(sheet: &[u8]) -> Result<(Head, ColourSpace), Refusal> {
     let mut head = [0; 4];
-    let refusal = unsafe { rinchovek_sheet_read_colour_head(sheet.as_ptr(), sheet.len(), head.as_mut_ptr()) };
+    let refusal = unsafe { rinchovek_sheet_read_colour_head(sheet.as_ptr(), sheet.len() as u64, head.as_mut_ptr()) };
     answer(refusal, colour_head(head))
 }
 
@@ -400,9 +401,9 @@ pub fn write_head(width: u32, height: u32) -> Result<Vec<u8>, Refusal> {
 
 /// The blocks are exactly `head.row_blocks()` bytes, and the output `head.row_pixels(row)`.
 pub fn decode_row(head: Head, row: u32, blocks: &[u8], out: &mut [u8]) -> Result<(), Refusal> {
-    let (lent, length) = (out.as_mut_ptr(), out.len());
+    let (lent, length) = (out.as_mut_ptr(), out.len() as u64);
     let refusal = unsafe {
-        rinchovek_sheet_decode_row(head.width, head.height, row, blocks.as_ptr(), blocks.len(), lent, length)
+        rinchovek_sheet_decode_row(head.width, head.height, row, blocks.as_ptr(), blocks.len() as u64, lent, length)
     };
     answer(refusal, ())
 }
@@ -410,70 +411,76 @@ pub fn decode_row(head: Head, row: u32, blocks: &[u8], out: &mut [u8]) -> Result
 /// The pixels of a row of a whole sheet of either form, which was opened.
 pub fn decode_sheet_row(opened: &Opened, row: u32, sheet: &[u8]) -> Result<Vec<u8>, Refusal> {
     let mut out = vec![0; opened.head.row_pixels(row)];
-    let (lent, length) = (out.as_mut_ptr(), out.len());
-    answer(unsafe { rinchovek_sheet_show_row(sheet.as_ptr(), sheet.len(), row, lent, length) }, out)
+    let (lent, length) = (out.as_mut_ptr(), out.len() as u64);
+    answer(unsafe { rinchovek_sheet_show_row(sheet.as_ptr(), sheet.len() as u64, row, lent, length) }, out)
 }
 
 /// A block of a whole sheet of either form, by its number row by row.
 pub fn block_in_sheet(sheet: &[u8], block: BlockNumber) -> Result<Block, Refusal> {
     let mut bytes = [0; 16];
-    let refusal = unsafe { rinchovek_sheet_block(sheet.as_ptr(), sheet.len(), block.0, bytes.as_mut_ptr()) };
+    let refusal = unsafe { rinchovek_sheet_block(sheet.as_ptr(), sheet.len() as u64, block.0, bytes.as_mut_ptr()) };
     answer(refusal, bytes)
 }
 
 /// A sheet of form 1 in tiles, which is one byte longer.
 pub fn to_tiles(sheet: &[u8]) -> Result<Vec<u8>, Refusal> {
     let mut out = vec![0; sheet.len() + 1];
-    let refusal = unsafe { rinchovek_sheet_to_tiles(sheet.as_ptr(), sheet.len(), out.as_mut_ptr(), out.len()) };
+    let refusal = unsafe { rinchovek_sheet_to_tiles(sheet.as_ptr(), sheet.len() as u64, out.as_mut_ptr(), out.len() as u64) };
     answer(refusal, out)
 }
 
 /// A sheet of form 2 row by row, which is one byte shorter.
 pub fn to_rows(sheet: &[u8]) -> Result<Vec<u8>, Refusal> {
     let mut out = vec![0; sheet.len().saturating_sub(1)];
-    let refusal = unsafe { rinchovek_sheet_to_rows(sheet.as_ptr(), sheet.len(), out.as_mut_ptr(), out.len()) };
+    let refusal = unsafe { rinchovek_sheet_to_rows(sheet.as_ptr(), sheet.len() as u64, out.as_mut_ptr(), out.len() as u64) };
     answer(refusal, out)
+}
+
+/// The colour space of a sheet of form 2, stated.
+pub fn state_colour(sheet: &mut [u8], colour_space: ColourSpace) -> Result<(), Refusal> {
+    let (lent, length) = (sheet.as_mut_ptr(), sheet.len() as u64);
+    answer(unsafe { rinchovek_sheet_state_colour(lent, length, colour_space.0) }, ())
 }
 
 /// In a sheet of either form.
 pub fn replace_in_sheet(sheet: &mut [u8], block: BlockNumber, line: LineNumber, new: &Line) -> Result<(), Refusal> {
-    let (lent, length) = (sheet.as_mut_ptr(), sheet.len());
+    let (lent, length) = (sheet.as_mut_ptr(), sheet.len() as u64);
     answer(unsafe { rinchovek_sheet_replace_line(lent, length, block.0, line.0, new.bytes().as_ptr()) }, ())
 }
 
 /// The bytes of the sheet that a DDS file makes.
 pub fn import_length(dds: &[u8]) -> Result<usize, Refusal> {
     let mut length = 0;
-    let refusal = unsafe { rinchovek_dds_import_length(dds.as_ptr(), dds.len(), &mut length) };
+    let refusal = unsafe { rinchovek_dds_import_length(dds.as_ptr(), dds.len() as u64, &mut length) };
     answer(refusal, length as usize)
 }
 
 /// The sheet of a DDS file.
 pub fn import_dds(dds: &[u8]) -> Result<Vec<u8>, Refusal> {
     let mut sheet = vec![0; import_length(dds)?];
-    let refusal = unsafe { rinchovek_dds_import(dds.as_ptr(), dds.len(), sheet.as_mut_ptr(), sheet.len()) };
+    let refusal = unsafe { rinchovek_dds_import(dds.as_ptr(), dds.len() as u64, sheet.as_mut_ptr(), sheet.len() as u64) };
     answer(refusal, sheet)
 }
 
 /// The bytes of the DDS file that a sheet makes.
 pub fn export_length(sheet: &[u8]) -> Result<usize, Refusal> {
     let mut length = 0;
-    let refusal = unsafe { rinchovek_dds_export_length(sheet.as_ptr(), sheet.len(), &mut length) };
+    let refusal = unsafe { rinchovek_dds_export_length(sheet.as_ptr(), sheet.len() as u64, &mut length) };
     answer(refusal, length as usize)
 }
 
 /// The DDS file of a sheet.
 pub fn export_dds(sheet: &[u8]) -> Result<Vec<u8>, Refusal> {
     let mut dds = vec![0; export_length(sheet)?];
-    let refusal = unsafe { rinchovek_dds_export(sheet.as_ptr(), sheet.len(), dds.as_mut_ptr(), dds.len()) };
+    let refusal = unsafe { rinchovek_dds_export(sheet.as_ptr(), sheet.len() as u64, dds.as_mut_ptr(), dds.len() as u64) };
     answer(refusal, dds)
 }
 
 /// The sheet of a DDS file, and beside it its head and the colour space that the file says.
 pub fn import_colour(dds: &[u8]) -> Result<(Vec<u8>, Head, ColourSpace), Refusal> {
     let (mut sheet, mut head) = (vec![0; import_length(dds)?], [0; 4]);
-    let (lent, length) = (sheet.as_mut_ptr(), sheet.len());
-    let refusal = unsafe { rinchovek_dds_import_colour(dds.as_ptr(), dds.len(), lent, length, head.as_mut_ptr()) };
+    let (lent, length) = (sheet.as_mut_ptr(), sheet.len() as u64);
+    let refusal = unsafe { rinchovek_dds_import_colour(dds.as_ptr(), dds.len() as u64, lent, length, head.as_mut_ptr()) };
     let (head, colour_space) = colour_head(head);
     answer(refusal, (sheet, head, colour_space))
 }
@@ -481,6 +488,6 @@ pub fn import_colour(dds: &[u8]) -> Result<(Vec<u8>, Head, ColourSpace), Refusal
 /// The DDS file of a sheet under a colour space.
 pub fn export_colour(sheet: &[u8], colour_space: ColourSpace) -> Result<Vec<u8>, Refusal> {
     let mut dds = vec![0; export_length(sheet).unwrap_or(0)];
-    let (lent, length) = (dds.as_mut_ptr(), dds.len());
-    answer(unsafe { rinchovek_dds_export_colour(sheet.as_ptr(), sheet.len(), colour_space.0, lent, length) }, dds)
+    let (lent, length) = (dds.as_mut_ptr(), dds.len() as u64);
+    answer(unsafe { rinchovek_dds_export_colour(sheet.as_ptr(), sheet.len() as u64, colour_space.0, lent, length) }, dds)
 }

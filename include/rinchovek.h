@@ -20,9 +20,12 @@
  * in at most three groups: 127 is 7F, 128 is 80 01, 16,384 is 80 80 01.
  *
  * HOW TO LINK
- * librinchovek.a is for x86-64 with the System V calling convention (Linux) and needs no processor extension. It wants memcpy, and
- * nothing else. It exports the functions that are declared here and no other name. `./install PREFIX` puts it there with this file,
- * a shared library, and a file for pkg-config.
+ * librinchovek.a is made for one of three processors, under Linux with the usual calling convention of each: x86-64 (System V), aarch64, and
+ * armv7, which has 32 bits (NEON, hard float). It needs no other extension. It wants memcpy, and nothing else. It exports the functions that are
+ * declared here and no other name. `./install PREFIX` puts it there for the machine that it runs on, with this file, a shared library, a file for
+ * pkg-config and a selftest; `./install --for PROCESSOR PREFIX` does for another. For wasm32, as in a browser, there is a module with the same
+ * functions, and a JavaScript that takes arrays.
+ * Code, calls and answers are the same on all of them. A length is a uint64_t, also where an address has 32 bits: hand a size_t over as it is.
  *
  * WHAT HOLDS FOR EVERY CALL
  * - It answers 0, RINCHOVEK_ACCEPTED, or the number of a refusal: of those that its comment lists, the first that applies, in that
@@ -47,7 +50,7 @@
 /* The version of this file. The major number is raised where a call goes, or answers otherwise what it accepted before; the minor
  * one where a call comes, or accepts what it refused before; the patch where neither is so. */
 #define RINCHOVEK_VERSION_MAJOR 1
-#define RINCHOVEK_VERSION_MINOR 7
+#define RINCHOVEK_VERSION_MINOR 8
 #define RINCHOVEK_VERSION_PATCH 0
 #define RINCHOVEK_VERSION (10000 * RINCHOVEK_VERSION_MAJOR + 100 * RINCHOVEK_VERSION_MINOR + RINCHOVEK_VERSION_PATCH)
 
@@ -236,19 +239,19 @@ uint32_t rinchovek_bc7_pixel(const uint8_t block[RINCHOVEK_BLOCK_BYTES], uint32_
  * RINCHOVEK_OPEN_BYTES bytes of a sheet are enough. (An accepted head has at most 8 bytes. But 02 80 80 01 80 80 01 80 01, whose colour
  * space is 128, is refused with 18, and with 7 where it is cut to 8 bytes.) An empty sheet is refused with 7.
  * Refusals: 7 and 8 on the form, 7 on width, height and (in form 2) the number of the colour space, 18, 9. */
-uint32_t rinchovek_sheet_open(const uint8_t *sheet, size_t length, uint32_t numbers[RINCHOVEK_OPEN_NUMBERS]);
+uint32_t rinchovek_sheet_open(const uint8_t *sheet, uint64_t length, uint32_t numbers[RINCHOVEK_OPEN_NUMBERS]);
 
 /* Reads the head of a sheet of form 1: writes width, height and start (enum rinchovek_head_number). What stands behind the head isn't
  * looked at: the first RINCHOVEK_HEAD_BYTES bytes of a sheet are enough. An empty sheet is refused with 7. A sheet of form 2 is refused
  * with 8, as it was before version 1.7.0: three numbers don't say the form, and a program that knows no more would show tiles as rows.
  * Call rinchovek_sheet_open, which takes either form and says which it is.
  * Refusals: 7 and 8 on the form, 7 on width and height, 9. */
-uint32_t rinchovek_sheet_read_head(const uint8_t *sheet, size_t length, uint32_t head[RINCHOVEK_HEAD_NUMBERS]);
+uint32_t rinchovek_sheet_read_head(const uint8_t *sheet, uint64_t length, uint32_t head[RINCHOVEK_HEAD_NUMBERS]);
 
 /* The same with four numbers: behind the start stands the colour space, which is RINCHOVEK_UNSPECIFIED for every sheet of form 1. A sheet
  * of form 2 is refused with 8 here too: call rinchovek_sheet_open, which says its colour space.
  * Refusals: 7 and 8 on the form, 7 on width and height, 9. */
-uint32_t rinchovek_sheet_read_colour_head(const uint8_t *sheet, size_t length, uint32_t head[RINCHOVEK_COLOUR_HEAD_NUMBERS]);
+uint32_t rinchovek_sheet_read_colour_head(const uint8_t *sheet, uint64_t length, uint32_t head[RINCHOVEK_COLOUR_HEAD_NUMBERS]);
 
 /* Writes the head of a sheet of form 1 of this size, zeros behind it to all 7 bytes, and how many of them are the head's.
  * Refusals: 9. */
@@ -261,19 +264,19 @@ uint32_t rinchovek_sheet_write_head(uint32_t width, uint32_t height, uint8_t hea
  * further row rinchovek_row_blocks(width) behind; in one of form 2 they do not: rinchovek_sheet_show_row takes the whole sheet, of either
  * form.
  * Refusals: 9, 12, 10, 11. */
-uint32_t rinchovek_sheet_decode_row(uint32_t width, uint32_t height, uint32_t row, const uint8_t *blocks, size_t blocks_length,
-                                    uint8_t *out, size_t out_length);
+uint32_t rinchovek_sheet_decode_row(uint32_t width, uint32_t height, uint32_t row, const uint8_t *blocks, uint64_t blocks_length,
+                                    uint8_t *out, uint64_t out_length);
 
 /* Decodes one row of blocks of a whole sheet, of either form: writes what rinchovek_sheet_decode_row writes for that row's blocks. Both
  * lengths are exact: the sheet has its head and 16 bytes for each block, and out_length is rinchovek_row_pixels(width, height, row).
  * Refusals: 7 and 8 on the form, 7 on width, height and (in form 2) the number of the colour space, 18, 9, 10, 12, 11. */
-uint32_t rinchovek_sheet_show_row(const uint8_t *sheet, size_t length, uint32_t row, uint8_t *out, size_t out_length);
+uint32_t rinchovek_sheet_show_row(const uint8_t *sheet, uint64_t length, uint32_t row, uint8_t *out, uint64_t out_length);
 
 /* Writes the 16 bytes of one block of a whole sheet, of either form: the block of this number, which counts row by row from 0 also where
  * blocks are stored in tiles. So no program has to know where a block is stored. The length is exact: the head and 16 bytes for each
  * block of the sheet.
  * Refusals: 7 and 8 on the form, 7 on width, height and (in form 2) the number of the colour space, 18, 9, 10, 12. */
-uint32_t rinchovek_sheet_block(const uint8_t *sheet, size_t length, uint32_t block, uint8_t bytes[RINCHOVEK_BLOCK_BYTES]);
+uint32_t rinchovek_sheet_block(const uint8_t *sheet, uint64_t length, uint32_t block, uint8_t bytes[RINCHOVEK_BLOCK_BYTES]);
 
 /* Replaces one line of one block in a whole sheet, of either form, as rinchovek_bc7_replace_line does; only that block's 16 bytes are
  * written. The block is named by its number, as for rinchovek_sheet_block. The length is exact: the head and 16 bytes for each block of
@@ -281,7 +284,7 @@ uint32_t rinchovek_sheet_block(const uint8_t *sheet, size_t length, uint32_t blo
  * variables of these names.
  * Refusals: 7 and 8 on the form, 7 on width, height and (in form 2) the number of the colour space, 18, 9, 10, 12; then the block's 1, 2,
  * 3, 4. */
-uint32_t rinchovek_sheet_replace_line(uint8_t *sheet, size_t length, uint32_t block, uint32_t line,
+uint32_t rinchovek_sheet_replace_line(uint8_t *sheet, uint64_t length, uint32_t block, uint32_t line,
                                       const uint8_t replacement[RINCHOVEK_LINE_BYTES]);
 
 /* Moves a sheet of form 1 to form 2, which leaves the colour space unspecified: writes the whole sheet in tiles. It shows the same
@@ -289,13 +292,21 @@ uint32_t rinchovek_sheet_replace_line(uint8_t *sheet, size_t length, uint32_t bl
  * and 16 bytes for each block (10 otherwise), and the output is one byte longer than the sheet (11 otherwise). A sheet of form 2 is refused
  * with 8.
  * Refusals: 7 and 8 on the form, 7 on width and height, 9, 10, 11. */
-uint32_t rinchovek_sheet_to_tiles(const uint8_t *sheet, size_t length, uint8_t *out, size_t out_length);
+uint32_t rinchovek_sheet_to_tiles(const uint8_t *sheet, uint64_t length, uint8_t *out, uint64_t out_length);
 
 /* Moves a sheet of form 2 back to form 1: writes the whole sheet row by row. A sheet that was moved to tiles comes back byte for byte. Both
  * lengths are exact: the sheet has its head and 16 bytes for each block (10 otherwise), and the output is one byte shorter than the
- * sheet (11 otherwise). A sheet that states a colour space would lose it, and is refused with 16; a sheet of form 1 with 8.
+ * sheet (11 otherwise). A sheet that states a colour space would lose it, and is refused with 16, until rinchovek_sheet_state_colour has
+ * taken it back; a sheet of form 1 is refused with 8.
  * Refusals: 7 and 8 on the form, 7 on width, height and the number of the colour space, 18, 9, 10, 11, 16. */
-uint32_t rinchovek_sheet_to_rows(const uint8_t *sheet, size_t length, uint8_t *out, size_t out_length);
+uint32_t rinchovek_sheet_to_rows(const uint8_t *sheet, uint64_t length, uint8_t *out, uint64_t out_length);
+
+/* States the colour space of a whole sheet of form 2, in place: writes its number (enum rinchovek_colour_space) where the head has it, into
+ * the byte before the first block, and no other byte. What was stated before is lost; RINCHOVEK_UNSPECIFIED takes it back, so that the
+ * sheet can be moved to rows. The length is exact: the head and 16 bytes for each block of the sheet. A sheet of form 1 has no room for a
+ * colour space, and is refused with 8.
+ * Refusals: 7 and 8 on the form, 7 on width, height and the number of the colour space, 18, 9, 10; then 18 for the number that is given. */
+uint32_t rinchovek_sheet_state_colour(uint8_t *sheet, uint64_t length, uint32_t colour_space);
 
 /* DDS FILES, as office tools exchange them: RINCHOVEK_DDS_HEADER_BYTES of header with the DX10 extension, by Microsoft's guide, and behind
  * it the blocks row by row. So a file is exchanged with a sheet of form 1: importing writes form 1, and the three calls that export refuse
@@ -317,30 +328,30 @@ uint32_t rinchovek_sheet_to_rows(const uint8_t *sheet, size_t length, uint8_t *o
  * Both lengths are exact: the file has 148 bytes and 16 for each block, no more behind them (10 otherwise), and the sheet as many as
  * rinchovek_dds_import_length writes (11 otherwise).
  * Refusals: 15, 9, 10, 11. */
-uint32_t rinchovek_dds_import(const uint8_t *dds, size_t dds_length, uint8_t *sheet, size_t sheet_length);
+uint32_t rinchovek_dds_import(const uint8_t *dds, uint64_t dds_length, uint8_t *sheet, uint64_t sheet_length);
 
 /* The same, and writes the head too: width, height and start as they are read of the sheet that was written, and the colour space that the
  * file's format says, RINCHOVEK_LINEAR for 98 and RINCHOVEK_SRGB for 99.
  * Refusals: 15, 9, 10, 11. */
-uint32_t rinchovek_dds_import_colour(const uint8_t *dds, size_t dds_length, uint8_t *sheet, size_t sheet_length,
+uint32_t rinchovek_dds_import_colour(const uint8_t *dds, uint64_t dds_length, uint8_t *sheet, uint64_t sheet_length,
                                      uint32_t head[RINCHOVEK_COLOUR_HEAD_NUMBERS]);
 
 /* Writes the DDS file of a sheet of form 1: a header that says format 98 and has all that the table above asks for, then the sheet's
  * blocks. Both lengths are exact: the sheet has its head and 16 bytes for each block (10 otherwise), and the file as many as
  * rinchovek_dds_export_length writes, which is 148 and 16 for each block (11 otherwise).
  * Refusals: 7 and 8 on the form, 7 on width and height, 9, 10, 11. */
-uint32_t rinchovek_dds_export(const uint8_t *sheet, size_t sheet_length, uint8_t *dds, size_t dds_length);
+uint32_t rinchovek_dds_export(const uint8_t *sheet, uint64_t sheet_length, uint8_t *dds, uint64_t dds_length);
 
 /* The same under a colour space: the header says format 99 for RINCHOVEK_SRGB, and 98 for the two others. Imported again, the file says
  * what was given here; but RINCHOVEK_UNSPECIFIED comes back as RINCHOVEK_LINEAR, for 98 was written.
  * Refusals: 7 and 8 on the form, 7 on width and height, 18, 9, 10, 11. */
-uint32_t rinchovek_dds_export_colour(const uint8_t *sheet, size_t sheet_length, uint32_t colour_space, uint8_t *dds, size_t dds_length);
+uint32_t rinchovek_dds_export_colour(const uint8_t *sheet, uint64_t sheet_length, uint32_t colour_space, uint8_t *dds, uint64_t dds_length);
 
 /* How long the output has to be: of importing this file the sheet, of exporting this sheet the file. Refused for what the call itself is
  * refused for, but for 11.
  * Refusals: 15, 9, 10; and 7 and 8 on the form, 7 on width and height, 9, 10. */
-uint32_t rinchovek_dds_import_length(const uint8_t *dds, size_t dds_length, uint32_t *sheet_length);
-uint32_t rinchovek_dds_export_length(const uint8_t *sheet, size_t sheet_length, uint32_t *dds_length);
+uint32_t rinchovek_dds_import_length(const uint8_t *dds, uint64_t dds_length, uint32_t *sheet_length);
+uint32_t rinchovek_dds_export_length(const uint8_t *sheet, uint64_t sheet_length, uint32_t *dds_length);
 
 #ifdef __cplusplus
 }

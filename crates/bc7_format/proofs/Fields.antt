@@ -3,7 +3,7 @@
 use mathlib.Core.Path.{_≡_, refl, sym, ap, ap₂, _∙_}
 use mathlib.Core.Bool.{Bool}
 use mathlib.Core.List.{List, []}
-use Prim.Native.Nat.{ℕ, zero, suc, _+_, _*_, _/_, _%_, _^_, _≤_, _<_}
+use Prim.Native.Nat.{ℕ, zero, suc, _+_, _-_, _*_, _/_, _%_, _^_, _≤_, _<_}
 use native.Mathlib.Nat.{div-one, lt-of-lt-of-le, mod-one}
 use native.Mathlib.Omega.{arith}
 use borrow.Author.Tests.{lt-ltb}
@@ -18,12 +18,13 @@ use Rattle.laws.specs.Tables.{below, implies, pick, table, tableFrom}
 use Rattle.laws.proofs.Rows.{split-mod, total-more}
 use Rattle.laws.proofs.Tests.{at, implied}
 use Rattle.bcn_format.specs.Block.{field}
-use Rattle.bc7_format.specs.Modes.{alphaBits, channelBits, colourBits, endpointCount, indexBits, kindOfMode, modeRow, pCount}
+use Rattle.bc7_format.specs.Modes.{alphaBits, channelBits, colourBits, endpointCount, firstBits, indexBits, kindOfMode, modeRow, pCount}
+use Rattle.bc7_format.specs.Modes.{secondBits}
 use Rattle.bc7_format.specs.Places.{atPlace, placeAt, pos, width, widths, firstFrom, secondFrom}
 use Rattle.bc7_format.specs.Splits.{anchors, splitAt}
 use Rattle.bc7_format.proofs.Places.{inside-index, inside-pbit, inside-value, placeAt-pos}
 use Rattle.bc7_format.proofs.Starts.{at-field, start, start-next}
-use Rattle.bcn_format.specs.Indexes.{expanded, indexWidth, indexWidths, part}
+use Rattle.bcn_format.specs.Indexes.{anchorCount, expanded, indexWidth, indexWidths, part}
 use Rattle.bcn_format.proofs.Expanding.{part-expanded}
 use Rattle.bc7_format.specs.Fields.{leadEnd, pStart, valueStart}
 
@@ -50,6 +51,13 @@ ps-start s = tt
 pub first-start : (m : ℕ) (s : Split) → m < 8 → start m s firstFrom ≡ valuesEnd m + pCount m
 unfolding start widths table tableFrom placeAt width leadEnd modeRow endpointCount
 first-start m s h = eqb→eq _ _ (at 8 (λ m. eqb (start m s firstFrom) (valuesEnd m + pCount m)) tt m h)
+
+-- THE GROUPS FILL THE BLOCK: behind the values the p bits, the first set of indexes, and the second, which has one anchor
+pub groups-128 : (m : ℕ) → m < 8
+    → valuesEnd m + pCount m + (16 * firstBits m - anchorCount (kindOfMode m)) + (16 * secondBits m - 1) ≡ 128
+unfolding leadEnd modeRow kindOfMode endpointCount
+groups-128 m h =
+    eqb→eq _ _ (at 8 (λ m. eqb (valuesEnd m + pCount m + (16 * firstBits m - anchorCount (kindOfMode m)) + (16 * secondBits m - 1)) 128) tt m h)
 
 six-ends : (m : ℕ) → m < 8 → endpointCount m ≤ 6
 unfolding modeRow endpointCount

@@ -11,7 +11,6 @@ pub mod Reserved
 pub mod FullAlpha
 pub mod Modes
 pub mod Starts
-pub mod ReadsFit
 pub mod Lens
 pub mod Subsets
 pub mod Meaning

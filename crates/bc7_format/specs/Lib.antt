@@ -6,4 +6,3 @@ pub mod Splits
 pub mod Places
 pub mod Lines
 pub mod WellFormed
-pub mod Reads

@@ -1,2 +1,2 @@
 -- What is proved of the reads of a block.
-pub mod NoShortRead
+pub mod FieldsStood

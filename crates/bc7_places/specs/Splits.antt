@@ -16,7 +16,8 @@ use Rattle.bcn_format.specs.Block.{field, number}
 use Rattle.bc7_format.specs.Fields.{leadEnd}
 use Rattle.bc7_format.specs.Modes.{modeOf}
 use Rattle.bc7_format.specs.Splits.{anchors, ofKind, partition, splitOf}
-use Rattle.bits.specs.Stream.{On, readOf}
+use Rattle.bits.specs.Stream.{On, taken}
+use Rattle.bc7_places.specs.Modes.{OfMode}
 use Rattle.partitions.specs.Maps.{map2, map3}
 
 -- the anchors as three pixels: pixel 0 again where a split has fewer
@@ -53,8 +54,13 @@ pub record PixelIn (x : Subsets) (q : ℕ) : Type 0 where
 -- the bits of the split are one read: a partition, or a rotation of two bits with the index mode above it
 abbrev pub splitRead : ModeRow → BitStream → ReadSplit
 splitRead row s =
-    let r = readOf s (row .partition + row .rotation + row .«index_mode») in
+    let r = taken s (row .partition + row .rotation + row .«index_mode») in
     record { split = ofKind (row .kind) (r .value) (r .value % 4) (r .value / 2 ^ 2); stream = r .stream }
+
+-- what that asks: the row of a mode, whose split's bits lie ahead
+pub record SplitAhead (row : ModeRow) (s : BitStream) : Type 0 where
+  pub of-mode : OfMode row
+  pub inside : s .at + (row .partition + row .rotation + row .«index_mode») ≤ 128
 
 -- the lead of a block: its split, whose partition the tables have, and the stream on the block where the values start
 pub record IsLead (bs : List ℕ) (r : ReadSplit) : Type 0 where

@@ -88,12 +88,6 @@ pub record IndexAsked (m : ℕ) (cs : List ℕ) (a q : ℕ) : Type 0 where
   pub some : 1 ≤ indexBits m a
   pub pixel : q < 16
 
--- an index of 2, 3 or 4 bits
-pub record Weighed (b i : ℕ) : Type 0 where
-  pub least : 2 ≤ b
-  pub most : b ≤ 4
-  pub within : i < 2 ^ b
-
 -- two bytes and a weight of 64
 pub record Mixable (x y w : ℕ) : Type 0 where
   pub first : x < 256

@@ -6,7 +6,7 @@ ghost use mathlib.Core.Path.{_≡_};
 ghost use Prim.Native.Nat.{_+_, _*_, _<_};
 ghost use Rattle.laws.specs.Tables.{table};
 ghost use Rattle.bcn_format.specs.Block.{field, number};
-ghost use Rattle.bcn_format.specs.Drawing.{drawn, promoted, weightOf};
+ghost use Rattle.bcn_format.specs.Drawing.{Weighed, drawn, promoted, weightOf};
 ghost use Rattle.bc7_format.specs.Fields.{endByte, leadEnd, pStart, valueStart};
 ghost use Rattle.bc7_format.specs.Lines.{rotated};
 ghost use Rattle.bc7_format.specs.Modes.{alphaBits, channelBits, colourBits, endpointCount, indexBits, modeOf};
@@ -14,7 +14,7 @@ ghost use Rattle.pixel_rules.specs.Plain.{channelIn, firstStart, indexIn, plain
 ghost use Rattle.pixel_rules.specs.Promises.{ReadsPixel};
 ghost use Rattle.bc7_plain.specs.Asked.{Bits, Byte, ChannelAsked, ChannelOf, Column, EndpointOf, Has, InTable, IndexAsked};
 ghost use Rattle.bc7_plain.specs.Asked.{IndexModeOf, Mixable, PixelAsked, PixelOf, Promoted, Rotatable, SetAsked, SetOf};
-ghost use Rattle.bc7_plain.specs.Asked.{ShortField, SplitRead, Weighed};
+ghost use Rattle.bc7_plain.specs.Asked.{ShortField, SplitRead};
 use pixel_rules::PixelRead;
 use strings::anchors_before;
 use strings::is_anchor;
@@ -261,24 +261,14 @@ fn index_of(block: [u8; 16], mode: usize, string: &[u8], set: usize, pixel: usiz
     bits(block, start, width)
 }
 
-// The weights of 64 as they are printed.
-const OF_TWO_BITS: [usize; 4] = [0, 21, 43, 64];
-
-const OF_THREE_BITS: [usize; 8] = [0, 9, 18, 27, 37, 46, 55, 64];
-
-const OF_FOUR_BITS: [usize; 16] = [0, 4, 9, 13, 17, 21, 26, 30, 34, 38, 43, 47, 51, 55, 60, 64];
-
+// The weight of an index, of 64: the last has the whole, and each index an equal part of it, rounded. It is computed here too, so that no table of
+// weights stands in the code.
 fn weight(width: usize, index: usize) -> usize
     requires { ⌜ Weighed width index ⌝ }
     ensures { λ r. ⌜ r ≡ weightOf width index ⌝ }
 {
-    if width == 2 {
-        return OF_TWO_BITS[index];
-    }
-    if width == 3 {
-        return OF_THREE_BITS[index];
-    }
-    OF_FOUR_BITS[index]
+    let last = (1usize << width) - 1;
+    (64 * index + last / 2) / last
 }
 
 // A channel between two endpoints.

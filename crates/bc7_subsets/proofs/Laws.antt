@@ -4,12 +4,11 @@ use mathlib.Core.Path.{_≡_, refl, sym, ap, _∙_}
 use mathlib.Core.Bool.{false}
 use mathlib.Core.Logic.{_≢_}
 use mathlib.Core.List.{List, [], _∷_}
-use Prim.Native.Nat.{ℕ, _+_, _-_, _*_, _/_, _%_, _^_, _≤_, _<_}
+use Prim.Native.Nat.{ℕ, _+_, _-_, _*_, _^_, _≤_, _<_}
 use native.Mathlib.Nat.{lt-of-lt-of-le}
 use native.Mathlib.Omega.{arith}
 use borrow.Author.Tests.{ne-eqb}
 use lib.Dec.{T, eqb, eqb→eq}
-use lib.Pow.{field as part-of, mod-mod-pow, shr-shr}
 use Rattle.bc7_format.specs.declared.Split.{Split}
 use Rattle.bc7_format.specs.declared.Split.the-variants.{Three, Two}
 use Rattle.laws.specs.Digits.{total}
@@ -21,7 +20,7 @@ use Rattle.bc7_format.proofs.Modes.{or-false}
 use Rattle.bc7_format.proofs.Starts.{index-start, indexStart, start}
 use Rattle.bc7_format.proofs.Subsets.{subset-below}
 use Rattle.bits.specs.declared.stream.BitStream.{BitStream}
-use Rattle.bits.specs.Stream.{readOf}
+use Rattle.bits.specs.Stream.{taken}
 use Rattle.bits.proofs.On.{On, got}
 use Rattle.bcn_format.specs.Indexes.{OneFixup, TwoFixups, expanded, indexWidths, part}
 use Rattle.bcn_format.proofs.Expanding.{size-2, size-3}
@@ -43,16 +42,6 @@ last-of-2 m a b h not-a = eqb→eq m b (or-false (eqb m b) (rw (ne-eqb m a not-a
 
 pub last-of-3 : (m a b c : ℕ) → T (among m (a ∷ b ∷ c ∷ [])) → m ≢ a → m ≢ b → m ≡ c
 last-of-3 m a b c h not-a = last-of-2 m b c (rw (ne-eqb m a not-a) at h)
-
--- a read of u + w bits is two values, the lower one of w
-module _ {v : ℕ} (n a u w : ℕ) (e : v ≡ field n a (u + w)) where
-  pub lower : v % 2 ^ w ≡ field n a w
-  unfolding field
-  lower = rw e (mod-mod-pow (n / 2 ^ a) u w)
-
-  pub upper : v / 2 ^ w ≡ field n (a + w) u
-  unfolding field
-  upper = rw e (part-of (n / 2 ^ a) u w ∙ ap (λ (x : ℕ). x % 2 ^ u) (shr-shr n a w))
 
 -- a word that has w bits for the subset of each pixel
 pub record Maps (w : ℕ) (of : ℕ → ℕ) (word : ℕ) : Type 0 where
@@ -92,43 +81,43 @@ module _ {w id set : ℕ} (hid : id < 64) (most : w ≤ 3) where
 
   -- so its indexes can be read
   module _ (least : 2 ≤ w) where
-    pub anchored-2 : set ≡ partitionWord2 w id → Anchored2 w set
-    anchored-2 e = let f = fixes-2 (omega arith) e in record { least = least; most = most; fixup = f .fixup }
+    pub anchored-2 : set ≡ partitionWord2 w id → {s : BitStream} → s .at + (16 * w - 2) ≤ 128 → Anchored2 w s set
+    anchored-2 e ahead = let f = fixes-2 (omega arith) e in record { least = least; most = most; fixup = f .fixup; inside = ahead }
 
-    pub anchored-3 : set ≡ partitionWord3 w id → Anchored3 w set
-    anchored-3 e = let f = fixes-3 least e in record { least = least; most = most; fixups = f .fixups }
+    pub anchored-3 : set ≡ partitionWord3 w id → {s : BitStream} → s .at + (16 * w - 3) ≤ 128 → Anchored3 w s set
+    anchored-3 e ahead = let f = fixes-3 least e in record { least = least; most = most; fixups = f .fixups; inside = ahead }
 
 -- a mode with subsets: the indexes are read where they start, and pixels looked up by their keys
 module _ (m n b : ℕ) (hm : m < 8) (eb : firstBits m ≡ b) (least : 2 ≤ b) (most : b ≤ 3) {id set : ℕ} (hid : id < 64)
     {stream : BitStream} (on : On n (indexStart m) stream) {x : ℕ} {keys : Keys} {p picture : List (List ℕ)} where
   by-keys : (s : Split) (k t c : ℕ) (an : List ℕ) → splitAt m n ≡ s → isVector s ≡ false → ((q : ℕ) → q < 16 → subset s q < k) → k ≤ 2 ^ t → t ≤ b
-      → anchors s ≡ an → total (indexWidths b an) ≡ c → indexStart m + c ≤ 128 → Maps b (subset s) set → x ≡ expanded b an (readOf stream c .value)
+      → anchors s ≡ an → total (indexWidths b an) ≡ c → Maps b (subset s) set → x ≡ expanded b an (taken stream c .value)
       → keys ≡ keysOf b t x set
       → Palette m n b k t p → picture ≡ painted (keyAt b t keys) p → picture ≡ directPixels m n
-  by-keys s k t c an es flat subsets room narrow ea et fits maps ex ek palette drawn =
+  by-keys s k t c an es flat subsets room narrow ea et maps ex ek palette drawn =
       let small : (q : ℕ) → q < 16 → part set b q < 2 ^ t = λ q hq. rw (maps .at q hq) (lt-of-lt-of-le (subsets q hq) room) in
-      let first : expanded b an (readOf stream c .value) ≡ expanded b an (field n (start m s (firstFrom + (16 * 0 + 0))) c) =
-      ap (expanded b an) (got on c fits refl ∙ ap (λ (a : ℕ). field n a c) (sym (index-start m s hm))) in
+      let first : expanded b an (taken stream c .value) ≡ expanded b an (field n (start m s (firstFrom + (16 * 0 + 0))) c) =
+      ap (expanded b an) (got on c refl ∙ ap (λ (a : ℕ). field n a c) (sym (index-start m s hm))) in
       drawn
       ∙ keyed-law m n b k t s eb es flat subsets palette x _
       (λ q hq. ap (λ (keys : Keys). keyAt b t keys q) ek ∙ key-at b t x set narrow small q hq
       ∙ ap (λ (l : ℕ). part x b q * 2 ^ t + l) (maps .at q hq))
       (indexes-at m s 0 n b c an (omega arith) eb ea et (ex ∙ first))
 
-  pub two-keys : splitAt m n ≡ Two id → set ≡ partitionWord2 b id → indexStart m + (16 * b - 2) ≤ 128
-      → x ≡ expanded b (0 ∷ anchorIn2 set ∷ []) (readOf stream (16 * b - 2) .value)
+  pub two-keys : splitAt m n ≡ Two id → set ≡ partitionWord2 b id
+      → x ≡ expanded b (0 ∷ anchorIn2 set ∷ []) (taken stream (16 * b - 2) .value)
       → keys ≡ keysOf b 1 x set → Palette m n b 2 1 p → picture ≡ painted (keyAt b 1 keys) p → picture ≡ directPixels m n
-  two-keys es e fits =
+  two-keys es e =
       let fixes : Fixes2 id (anchorIn2 set) = fixes-2 hid most (omega arith) e in
       let f = fixes .fixup in
       by-keys (Two id) 2 1 (16 * b - 2) (0 ∷ anchorIn2 set ∷ []) es refl (λ q. subset-below (Two id) q hid) (omega arith) (omega arith)
-      (fixes .are) (size-2 b (anchorIn2 set) (omega arith) (f .above) (f .pixel)) fits (maps-2 hid most (omega arith) e)
+      (fixes .are) (size-2 b (anchorIn2 set) (omega arith) (f .above) (f .pixel)) (maps-2 hid most (omega arith) e)
 
-  pub three-keys : splitAt m n ≡ Three id → set ≡ partitionWord3 b id → indexStart m + (16 * b - 3) ≤ 128
-      → x ≡ expanded b (0 ∷ secondIn3 set ∷ thirdIn3 set ∷ []) (readOf stream (16 * b - 3) .value)
+  pub three-keys : splitAt m n ≡ Three id → set ≡ partitionWord3 b id
+      → x ≡ expanded b (0 ∷ secondIn3 set ∷ thirdIn3 set ∷ []) (taken stream (16 * b - 3) .value)
       → keys ≡ keysOf b 2 x set → Palette m n b 3 2 p → picture ≡ painted (keyAt b 2 keys) p → picture ≡ directPixels m n
-  three-keys es e fits =
+  three-keys es e =
       let fixes : Fixes3 id (secondIn3 set) (thirdIn3 set) = fixes-3 hid most least e in
       let f = fixes .fixups in
       by-keys (Three id) 3 2 (16 * b - 3) (0 ∷ secondIn3 set ∷ thirdIn3 set ∷ []) es refl (λ q. subset-below (Three id) q hid) (omega arith) least
-      (fixes .are) (size-3 b (secondIn3 set) (thirdIn3 set) (omega arith) (f .above) (f .rising) (f .pixel)) fits (maps-3 hid most least e)
+      (fixes .are) (size-3 b (secondIn3 set) (thirdIn3 set) (omega arith) (f .above) (f .rising) (f .pixel)) (maps-3 hid most least e)

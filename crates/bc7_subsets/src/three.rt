@@ -5,7 +5,7 @@ ghost use mathlib.Core.Path.{_≡_};
 ghost use mathlib.Core.List.{[], _∷_};
 ghost use Prim.Native.Nat.{_-_, _*_};
 ghost use Rattle.bcn_format.specs.Indexes.{expanded};
-ghost use Rattle.bits.specs.Stream.{held, readOf};
+ghost use Rattle.bits.specs.Stream.{held, taken};
 ghost use Rattle.bc7_format.specs.Fields.{directPixels};
 ghost use Rattle.partitions.specs.Words.{secondIn3, thirdIn3};
 ghost use Rattle.bc7_subsets.specs.Asked.{Anchored3, AtMarker};
@@ -38,8 +38,8 @@ pub fn mode_subset_3(mode: u8, stream: BitStream) -> [[u8; 4]; 16]
 
 // Sixteen indexes, read whole and expanded. The anchors behind pixel 0 stand in the partition's word from bit 48 on, four bits each.
 fn indexes_3(bits: u32, stream: BitStream, set: u64) -> u64
-    requires { ⌜ Anchored3 bits set ⌝ }
-    ensures { λ r. ⌜ r ≡ expanded bits (0 ∷ secondIn3 set ∷ thirdIn3 set ∷ []) (readOf stream (16 * bits - 3) .value) ⌝ }
+    requires { ⌜ Anchored3 bits stream set ⌝ }
+    ensures { λ r. ⌜ r ≡ expanded bits (0 ∷ secondIn3 set ∷ thirdIn3 set ∷ []) (taken stream (16 * bits - 3) .value) ⌝ }
 {
     let second = ((set >> 48) % 16) as u32;
     let third = (set >> 52) as u32;
@@ -54,35 +54,38 @@ fn mode_0(stream: BitStream) -> [[u8; 4]; 16]
     ensures { λ r. ⌜ r ≡ directPixels 0 (held stream) ⌝ }
 {
     let id = extract_partition_set_id(0, stream);
-    let set = partition_word_3_3(id.value as u8);
-    let r = id.stream.take(24);
-    let g = r.stream.take(24);
-    let b = g.stream.take(24);
-    let p = b.stream.take(6);
-    let reds = r.value;
-    let greens = g.value;
-    let blues = b.value;
-    let ps = p.value;
+    let r0 = id.stream.take(8);
+    let r1 = r0.stream.take(8);
+    let r2 = r1.stream.take(8);
+    let g0 = r2.stream.take(8);
+    let g1 = g0.stream.take(8);
+    let g2 = g1.stream.take(8);
+    let b0 = g2.stream.take(8);
+    let b1 = b0.stream.take(8);
+    let b2 = b1.stream.take(8);
+    let p0 = b2.stream.take(2);
+    let p1 = p0.stream.take(2);
+    let p2 = p1.stream.take(2);
     let first = Stored {
-        r: reds % 256,
-        g: greens % 256,
-        b: blues % 256,
+        r: r0.value,
+        g: g0.value,
+        b: b0.value,
         a: 0,
-        p: ps % 4,
+        p: p0.value,
     };
     let second = Stored {
-        r: (reds >> 8) % 256,
-        g: (greens >> 8) % 256,
-        b: (blues >> 8) % 256,
+        r: r1.value,
+        g: g1.value,
+        b: b1.value,
         a: 0,
-        p: (ps >> 2) % 4,
+        p: p1.value,
     };
     let third = Stored {
-        r: reds >> 16,
-        g: greens >> 16,
-        b: blues >> 16,
+        r: r2.value,
+        g: g2.value,
+        b: b2.value,
         a: 0,
-        p: ps >> 4,
+        p: p2.value,
     };
     let none = Stored {
         r: 0,
@@ -92,7 +95,8 @@ fn mode_0(stream: BitStream) -> [[u8; 4]; 16]
         p: 0,
     };
     let colours = palette_3_3(opaque_p(first, second, 4), opaque_p(third, none, 4));
-    let x = indexes_3(3, p.stream, set);
+    let set = partition_word_3_3(id.value as u8);
+    let x = indexes_3(3, p2.stream, set);
     paint_3_3(colours, keys_3(x, 2, set))
 }
 
@@ -102,7 +106,6 @@ fn mode_2(stream: BitStream) -> [[u8; 4]; 16]
     ensures { λ r. ⌜ r ≡ directPixels 2 (held stream) ⌝ }
 {
     let id = extract_partition_set_id(2, stream);
-    let set = partition_word_3_2(id.value as u8);
     let r0 = id.stream.take(10);
     let r1 = r0.stream.take(10);
     let r2 = r1.stream.take(10);
@@ -141,6 +144,7 @@ fn mode_2(stream: BitStream) -> [[u8; 4]; 16]
         p: 0,
     };
     let colours = palette_3_2(opaque(first, second, 5), opaque(third, none, 5));
+    let set = partition_word_3_2(id.value as u8);
     let x = indexes_3(2, b2.stream, set);
     paint_4(colours, keys_2(x, 2, set))
 }

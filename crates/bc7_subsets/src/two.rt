@@ -4,7 +4,7 @@ ghost use mathlib.Core.Path.{_≡_};
 ghost use mathlib.Core.List.{[], _∷_};
 ghost use Prim.Native.Nat.{_-_, _*_};
 ghost use Rattle.bcn_format.specs.Indexes.{expanded};
-ghost use Rattle.bits.specs.Stream.{held, readOf};
+ghost use Rattle.bits.specs.Stream.{held, taken};
 ghost use Rattle.bc7_format.specs.Fields.{directPixels};
 ghost use Rattle.partitions.specs.Words.{anchorIn2};
 ghost use Rattle.bc7_subsets.specs.Asked.{Anchored2, AtMarker};
@@ -38,8 +38,8 @@ pub fn mode_subset_2(mode: u8, stream: BitStream) -> [[u8; 4]; 16]
 
 // Sixteen indexes, read whole and expanded. The anchor behind pixel 0 stands in the partition's word from bit 48 on.
 fn indexes_2(bits: u32, stream: BitStream, set: u64) -> u64
-    requires { ⌜ Anchored2 bits set ⌝ }
-    ensures { λ r. ⌜ r ≡ expanded bits (0 ∷ anchorIn2 set ∷ []) (readOf stream (16 * bits - 2) .value) ⌝ }
+    requires { ⌜ Anchored2 bits stream set ⌝ }
+    ensures { λ r. ⌜ r ≡ expanded bits (0 ∷ anchorIn2 set ∷ []) (taken stream (16 * bits - 2) .value) ⌝ }
 {
     let read = Indexes::new_p2(bits, stream, (set >> 48) as u32);
     let indexes = read.indexes;
@@ -52,7 +52,6 @@ fn mode_1(stream: BitStream) -> [[u8; 4]; 16]
     ensures { λ r. ⌜ r ≡ directPixels 1 (held stream) ⌝ }
 {
     let id = extract_partition_set_id(1, stream);
-    let set = partition_word_2_3(id.value as u8);
     let r0 = id.stream.take(12);
     let r1 = r0.stream.take(12);
     let g0 = r1.stream.take(12);
@@ -76,6 +75,7 @@ fn mode_1(stream: BitStream) -> [[u8; 4]; 16]
         p: 3 * p1.value,
     };
     let colours = palette_2_3(opaque_p(first, second, 6));
+    let set = partition_word_2_3(id.value as u8);
     let x = indexes_2(3, p1.stream, set);
     paint_2_3(colours, keys_3(x, 1, set))
 }
@@ -86,7 +86,6 @@ fn mode_3(stream: BitStream) -> [[u8; 4]; 16]
     ensures { λ r. ⌜ r ≡ directPixels 3 (held stream) ⌝ }
 {
     let id = extract_partition_set_id(3, stream);
-    let set = partition_word_2_2(id.value as u8);
     let r0 = id.stream.take(14);
     let r1 = r0.stream.take(14);
     let g0 = r1.stream.take(14);
@@ -110,6 +109,7 @@ fn mode_3(stream: BitStream) -> [[u8; 4]; 16]
         p: p1.value,
     };
     let colours = palette_2_2(opaque_p(first, second, 7));
+    let set = partition_word_2_2(id.value as u8);
     let x = indexes_2(2, p1.stream, set);
     paint_2_2(colours, keys_2(x, 1, set))
 }
@@ -120,7 +120,6 @@ fn mode_7(stream: BitStream) -> [[u8; 4]; 16]
     ensures { λ r. ⌜ r ≡ directPixels 7 (held stream) ⌝ }
 {
     let id = extract_partition_set_id(7, stream);
-    let set = partition_word_2_2(id.value as u8);
     let r0 = id.stream.take(10);
     let r1 = r0.stream.take(10);
     let g0 = r1.stream.take(10);
@@ -146,6 +145,7 @@ fn mode_7(stream: BitStream) -> [[u8; 4]; 16]
         p: p1.value,
     };
     let colours = palette_2_2(translucent_p(first, second, 5));
+    let set = partition_word_2_2(id.value as u8);
     let x = indexes_2(2, p1.stream, set);
     paint_2_2(colours, keys_2(x, 1, set))
 }

@@ -20,7 +20,7 @@ use Rattle.laws.proofs.Rows.{split-mod}
 use Rattle.bcn_format.specs.Drawing.{weightOf}
 use Rattle.bcn_format.proofs.Drawing.{drawn-lt, weight-le}
 use Rattle.bcn_format.specs.Painting.{between}
-use Rattle.weights.specs.Weights.{Weighed}
+use Rattle.bcn_format.specs.Drawing.{Weighed}
 use Rattle.drawing.specs.declared.colour.Ends.{Ends}
 use Rattle.drawing.specs.Words.{Alone, endpoint, wordBytes}
 use Rattle.drawing.specs.Colours.{shade}

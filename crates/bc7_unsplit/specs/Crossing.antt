@@ -10,7 +10,7 @@ use Rattle.laws.specs.Tables.{pick}
 use Rattle.bcn_format.specs.Painting.{between}
 use Rattle.drawing.specs.declared.colour.Ends.{Ends}
 use Rattle.drawing.specs.Words.{Alone, endpoint, wordBytes}
-use Rattle.weights.specs.Weights.{Weighed}
+use Rattle.bcn_format.specs.Drawing.{Weighed}
 use Rattle.indexes.specs.declared.Indexes.{Indexes}
 
 -- red, green and blue of a colour, or its alpha, and 0 in place of the others

@@ -182,8 +182,8 @@ pub fn mode_4(stream: BitStream) -> [[u8; 4]; 16]
     requires { ⌜ stream .at ≡ 5 ⌝ }
     ensures { λ r. ⌜ r ≡ directPixels 4 (held stream) ⌝ }
 {
-    let rotation = stream.consume_bits(2);
-    let index_mode = rotation.stream.consume_bits(1);
+    let rotation = stream.take(2);
+    let index_mode = rotation.stream.take(1);
     let r = index_mode.stream.take(10);
     let g = r.stream.take(10);
     let b = g.stream.take(10);
@@ -211,7 +211,7 @@ pub fn mode_5(stream: BitStream) -> [[u8; 4]; 16]
     requires { ⌜ stream .at ≡ 6 ⌝ }
     ensures { λ r. ⌜ r ≡ directPixels 5 (held stream) ⌝ }
 {
-    let rotation = stream.consume_bits(2);
+    let rotation = stream.take(2);
     let r = rotation.stream.take(14);
     let g = r.stream.take(14);
     let b = g.stream.take(14);

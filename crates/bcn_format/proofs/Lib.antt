@@ -3,6 +3,7 @@ pub mod Insert
 pub mod Expanding
 pub mod Printed
 pub mod Drawing
+pub mod Weighing
 pub mod Anchors
 pub mod Trailing
 pub mod Theorems

@@ -1,6 +1,6 @@
 -- Drawing, in the format's own numbers.
 -- Assumes nothing.
-use Prim.Native.Nat.{ℕ, zero, suc, _+_, _-_, _*_, _/_, _^_}
+use Prim.Native.Nat.{ℕ, zero, suc, _+_, _-_, _*_, _/_, _^_, _<_, _≤_}
 use mathlib.Core.List.{List, [], _∷_}
 use lib.ListN.{getD}
 
@@ -18,6 +18,12 @@ weights (suc (suc (suc (suc b)))) = 0 ∷ 4 ∷ 9 ∷ 13 ∷ 17 ∷ 21 ∷ 26 �
 
 unfoldable pub weightOf : ℕ → ℕ → ℕ
 weightOf b i = getD (weights b) i 0
+
+-- which indexes have one: those of 2, 3 and 4 bits
+pub record Weighed (bits index : ℕ) : Type 0 where
+  pub least : 2 ≤ bits
+  pub most : bits ≤ 4
+  pub within : index < 2 ^ bits
 
 -- the channel between e0 and e1 at the weight w of 64
 unfoldable pub drawn : ℕ → ℕ → ℕ → ℕ

@@ -18,8 +18,8 @@ use Rattle.laws.specs.Digits.{Fit, join, more, none}
 use Rattle.laws.proofs.Cases.{lt-or}
 use Rattle.laws.proofs.Digits.{join-lt}
 use Rattle.bcn_format.specs.Block.{bitsOf, bitsOfBytes, eights, field, number, valueOfBits}
-use Rattle.bits.specs.Stream.{held, readOf, On}
-use Rattle.bits.proofs.On.{got, next-is, on-read}
+use Rattle.bits.specs.Stream.{On, readOf, taken}
+use Rattle.bits.proofs.On.{accepts, got, on-read}
 
 -- the bits of a number
 value-of-bits : (k n : ℕ) → valueOfBits (bitsOf k n) ≡ n % 2 ^ k
@@ -101,9 +101,9 @@ module _ {bs : List ℕ} (block : Fit eights bs) where
       sym (field-bits 128 (join eights bs) at w (join-lt block)) ∙ ap (λ (l : List ℕ). valueOfBits (take w (drop at l))) (sym (bytes-bits 16 block))
 
   -- each read of a stream that stands at bit a of the block
-  module _ {a : ℕ} {s : BitStream} (o : On (number bs) a s) where
-    pub low-u8-bits : {r : ℕ} → r ≡ field (held s) (s .at) 8 → r ≡ listed bs a 8
-    low-u8-bits e = e ∙ next-is o 8 ∙ field-is-bits a 8
+  module _ {a : ℕ} {s : BitStream} (o : On (number bs) a s) (w : ℕ) {r : Read} where
+    pub taken-bits : r ≡ taken s w → (r .value ≡ listed bs a w) × On (number bs) (a + w) (r .stream)
+    taken-bits e = (got o w e ∙ field-is-bits a w, on-read o w e)
 
-    pub read-bits : (w : ℕ) → a + w ≤ 128 → {r : Read} → r ≡ readOf s w → (r .value ≡ listed bs a w) × On (number bs) (a + w) (r .stream)
-    read-bits w h e = (got o w h e ∙ field-is-bits a w, on-read o w h e)
+    pub read-bits : a + w ≤ 128 → r ≡ readOf s w → (r .value ≡ listed bs a w) × On (number bs) (a + w) (r .stream)
+    read-bits h e = taken-bits (accepts o w h e)

@@ -12,7 +12,7 @@ use Rattle.bits.specs.declared.stream.Read.{Read}
 use Rattle.laws.specs.Digits.{split, total}
 use Rattle.bcn_format.specs.Block.{field}
 use Rattle.bits.specs.Stream.{On, Stood, readsOf}
-use Rattle.bits.proofs.On.{accepts, got, left, on-read, stood}
+use Rattle.bits.proofs.On.{accepts, got, left, not-refused, on-read, stood}
 
 -- THE LAW OF READS IN ORDER
 pub in-order : {n a : ℕ} {s : BitStream} → On n a s → (ws : List ℕ) → a + total ws ≤ 128 → (none : Read) (i : ℕ) → i < length ws
@@ -20,16 +20,15 @@ pub in-order : {n a : ℕ} {s : BitStream} → On n a s → (ws : List ℕ) → 
 unfolding readsOf field
 in-order o [] h none i l = absurd (not-suc-le-zero l)
 in-order {n} {a} {s} o (w ∷ ws) h none zero l =
-    let fits : a + w ≤ 128 = omega arith in
+    let e = accepts o w (omega arith) refl in
     record {
-      accepted = accepts o w fits refl;
-      digit = got o w fits refl;
-      starts = rw (add-zero a) (stood o w fits refl);
-      leaves = rw (add-zero a) (left o w fits refl);
+      accepted = not-refused o w e;
+      digit = got o w e;
+      starts = rw (add-zero a) (stood o w e);
+      leaves = rw (add-zero a) (left o w e);
     }
 in-order {n} {a} {s} o (w ∷ ws) h none (suc i) l =
-    let fits : a + w ≤ 128 = omega arith in
-    let behind = in-order (on-read o w fits refl) ws (omega arith) none i (le-of-suc-le-suc l) in
+    let behind = in-order (on-read o w (accepts o w (omega arith) refl)) ws (omega arith) none i (le-of-suc-le-suc l) in
     let before : a + w + total (take i ws) ≡ a + (total (take i ws) + w) = omega arith in
     record {
       accepted = behind .accepted;

@@ -19,12 +19,12 @@ use Rattle.laws.proofs.Rows.{split-table}
 use Rattle.laws.proofs.Words.{rem-window}
 use Rattle.bcn_format.specs.Block.{field}
 pub use Rattle.bcn_format.proofs.Fields.{field-below, field-lt}
-use Rattle.bits.specs.Stream.{Reads, answered, held, readOf, shortRead, skipped}
+use Rattle.bits.specs.Stream.{Reads, Taken, held, readOf, shortRead, skipped, taken}
 pub use Rattle.bits.specs.Stream.{On}
 
 -- a read by whether its bits are there
 module _ (s : BitStream) (w : ℕ) where
-  pub read-fits : s .at + w ≤ 128 → readOf s w ≡ answered s w (field (held s) (s .at) w)
+  pub read-fits : s .at + w ≤ 128 → readOf s w ≡ taken s w
   unfolding readOf
   read-fits h = rw (le-ltb 128 (s .at + w) h)
 
@@ -49,9 +49,12 @@ module _ (s : BitStream) (w : ℕ) where
   pub refused-when : (n : ℕ) → (readOf s w .refusal ≡ n) ↔ Given (unless 22 (s .at + w ≤ 128) ∷ []) n
   refused-when = exactly (alone decided)
 
-  -- what a read promises
+  -- what a read promises, and what one promises that was asked for its room
   pub reads : {r : Read} → r ≡ readOf s w → Reads s w r
-  reads e = record { same = e; small = rw e read-small; fits = λ h. e ∙ read-fits h }
+  reads e = record { same = e; small = rw e read-small }
+
+  pub takes : {r : Read} → r ≡ taken s w → Taken s w r
+  takes e = record { same = e; small = rw e (field-lt _ _ _); stands = rw e refl }
 
 -- the w bits that come next, in the 64 of a window there; no bits are asked for where the window isn't there
 pub in-window : (x n a w : ℕ) → w < 64 → (a < 128 → x ≡ n / 2 ^ a % 2 ^ 64) → a + w ≤ 128 → x % ((1 * 2 ^ w) % 2 ^ 64) ≡ field n a w
@@ -74,26 +77,27 @@ module _ {n a : ℕ} {s : BitStream} (o : On n a s) where
   pub next-is : (w : ℕ) → field (held s) (s .at) w ≡ field n a w
   next-is w = ap₂ (λ (x y : ℕ). field x y w) (o .of) (o .stands)
 
--- a read from bit a of n, where w bits are there: that it is accepted, what it reads, where it stood and what remains, and where the
--- stream stands then
-module _ {n a : ℕ} {s : BitStream} (o : On n a s) (w : ℕ) (h : a + w ≤ 128) {r : Read} (e : r ≡ readOf s w) where
-  is-answer : r ≡ answered s w (field (held s) (s .at) w)
-  is-answer = e ∙ read-fits s w (rw (o .stands) h)
+  -- a read takes its bits where they are there
+  pub accepts : (w : ℕ) → a + w ≤ 128 → {r : Read} → r ≡ readOf s w → r ≡ taken s w
+  accepts w h e = e ∙ read-fits s w (rw (o .stands) h)
 
-  pub accepts : r .refusal ≡ 0
-  accepts = ap (λ (r : Read). r .refusal) is-answer
+-- w bits taken from bit a of n on: that they are not refused, what they are, where they stood and what remains, and where the stream stands
+-- then
+module _ {n a : ℕ} {s : BitStream} (o : On n a s) (w : ℕ) {r : Read} (e : r ≡ taken s w) where
+  pub not-refused : r .refusal ≡ 0
+  not-refused = ap (λ (r : Read). r .refusal) e
 
   pub got : r .value ≡ field n a w
-  got = ap (λ (r : Read). r .value) is-answer ∙ next-is o w
+  got = ap (λ (r : Read). r .value) e ∙ next-is o w
 
   pub stood : r .first ≡ a
-  stood = ap (λ (r : Read). r .first) is-answer ∙ o .stands
+  stood = ap (λ (r : Read). r .first) e ∙ o .stands
 
   pub left : r .remaining ≡ 128 - (a + w)
-  left = ap (λ (r : Read). r .remaining) is-answer ∙ ap (λ (b : ℕ). 128 - (b + w)) (o .stands)
+  left = ap (λ (r : Read). r .remaining) e ∙ ap (λ (b : ℕ). 128 - (b + w)) (o .stands)
 
   pub on-read : On n (a + w) (r .stream)
-  on-read = rw is-answer (on-skipped o w)
+  on-read = rw e (on-skipped o w)
 
 -- values read at the widths f 0, f 1, .. one after the other are the digits of n
 pub split-fields : (k : ℕ) (f : ℕ → ℕ) (n : ℕ) → split (table k f) n ≡ table k (λ i. field n (total (table i f)) (f i))

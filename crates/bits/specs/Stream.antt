@@ -32,21 +32,34 @@ answered s w v = record { refusal = 0; value = v; first = s .at; remaining = 128
 abbrev pub shortRead : BitStream → Read
 shortRead s = record { refusal = 22; value = 0; first = s .at; remaining = 128 - s .at; stream = s }
 
--- A READ of w bits is refused where it wants more of the 128 than remain; else it answers the w bits of the number that come next
+-- the w bits of the number that come next
+abbrev pub taken : BitStream → ℕ → Read
+taken s w = answered s w (field (held s) (s .at) w)
+
+-- A READ of w bits is refused where it wants more of the 128 than remain; else they are taken
 unfoldable pub readOf : BitStream → ℕ → Read
-readOf s w = pick (ltb 128 (s .at + w)) (shortRead s) (answered s w (field (held s) (s .at) w))
+readOf s w = pick (ltb 128 (s .at + w)) (shortRead s) (taken s w)
 
 -- reads of these widths, one after the other
 unfoldable pub readsOf : BitStream → List ℕ → List Read
 readsOf s [] = []
 readsOf s (w ∷ ws) = readOf s w ∷ readsOf (readOf s w .stream) ws
 
--- What every read promises: all of its answer; and what follows from that, a value within its width, and what is answered where the
--- bits are there.
+-- What a read promises that may be refused: all of its answer; and what follows from that, a value within its width.
 pub record Reads (s : BitStream) (w : ℕ) (r : Read) : Type 0 where
   pub same : r ≡ readOf s w
   pub small : r .value < 2 ^ w
-  pub fits : s .at + w ≤ 128 → r ≡ answered s w (field (held s) (s .at) w)
+
+-- What is asked of a read that is never refused: ROOM for its bits, of which there are fewer than 64.
+pub record Room (s : BitStream) (w : ℕ) : Type 0 where
+  pub narrow : w < 64
+  pub inside : s .at + w ≤ 128
+
+-- And what it promises: all of its answer; and what follows, where the stream stands then.
+pub record Taken (s : BitStream) (w : ℕ) (r : Read) : Type 0 where
+  pub same : r ≡ taken s w
+  pub small : r .value < 2 ^ w
+  pub stands : r .stream .at ≡ s .at + w
 
 -- Of reads at the widths ws from bit a of n on, the i-th stood behind those before it: it was accepted, it read the i-th digit of what stands
 -- there, started behind the widths before its own, and left what remains behind it.

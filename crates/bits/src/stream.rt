@@ -5,8 +5,8 @@ ghost use mathlib.Core.List.{[], _∷_};
 ghost use Prim.Native.Nat.{_+_, _*_, _/_, _%_, _^_, _≤_, _<_};
 ghost use lib.ListN.{replicate};
 ghost use Rattle.laws.specs.Digits.{join};
-ghost use Rattle.bcn_format.specs.Block.{number, field};
-ghost use Rattle.bits.specs.Stream.{answered, held, On, Reads, shortRead, skipped};
+ghost use Rattle.bcn_format.specs.Block.{number};
+ghost use Rattle.bits.specs.Stream.{answered, On, Reads, Room, shortRead, skipped, Taken};
 
 // Bits count from the lowest of `low`, which is byte 0's, to the highest of `high`.
 pub struct BitStream {
@@ -84,12 +84,12 @@ impl BitStream {
         }
     }
 
-    // The next eight bits; the stream stays where it is.
-    pub fn low_u8(self) -> u8
-        requires { ⌜ self .at + 8 ≤ 128 ⌝ }
-        ensures { λ r. ⌜ r ≡ field (held self) (self .at) 8 ⌝ }
+    // The next eight bits. In the Rust the stream stays where it is; here the caller still has it, beside the one in the answer.
+    pub fn low_u8(self) -> Read
+        requires { ⌜ Room self 8 ⌝ }
+        ensures { λ r. ⌜ Taken self 8 r ⌝ }
     {
-        (window(self.low, self.high, self.at) % 256) as u8
+        self.take(8)
     }
 
     pub fn skip(self, count: u32) -> Self
@@ -103,31 +103,40 @@ impl BitStream {
         }
     }
 
-    // Fewer than 64 bits, and none where a width comes from a table in which it may be 0.
+    // For whoever knows where the stream stands: it asks for its bits, so that it is never refused and compares nothing. Fewer than 64,
+    // and none where a width comes from a table in which it may be 0.
     pub fn take(self, count: u32) -> Read
-        requires { ⌜ count < 64 ⌝ }
-        ensures { λ r. ⌜ Reads self count r ⌝ }
+        requires { ⌜ Room self count ⌝ }
+        ensures { λ r. ⌜ Taken self count r ⌝ }
     {
-        if self.at as u64 + count as u64 > 128 {
-            return self.short();
-        }
         self.accepted(
             count,
             window(self.low, self.high, self.at) % (1u64 << count),
         )
     }
 
+    // For whoever doesn't: the same where the bits are there, else refused.
+    fn consume(self, count: u32) -> Read
+        requires { ⌜ count < 64 ⌝ }
+        ensures { λ r. ⌜ Reads self count r ⌝ }
+    {
+        if self.at as u64 + count as u64 > 128 {
+            return self.short();
+        }
+        self.take(count)
+    }
+
     pub fn consume_bit(self) -> Read
         ensures { λ r. ⌜ Reads self 1 r ⌝ }
     {
-        self.take(1)
+        self.consume(1)
     }
 
     pub fn consume_bits(self, count: u32) -> Read
         requires { ⌜ (0 < count) × (count ≤ 8) ⌝ }
         ensures { λ r. ⌜ Reads self count r ⌝ }
     {
-        self.take(count)
+        self.consume(count)
     }
 
     pub fn consume_bits_64(self, count: u32) -> Read
@@ -135,7 +144,7 @@ impl BitStream {
         ensures { λ r. ⌜ Reads self count r ⌝ }
     {
         if count < 64 {
-            return self.take(count);
+            return self.consume(count);
         }
         if self.at > 64 {
             return self.short();

@@ -56,7 +56,8 @@ impl BitWriter {
                 high: self.high,
                 at: 8 * (i as u32),
             };
-            bytes[i] = stream.low_u8();
+            let bits = stream.low_u8();
+            bytes[i] = bits.value as u8;
         }
         bytes
     }

@@ -1,13 +1,15 @@
 -- WHAT HOLDS THE DEFINITION OF A CHART: charts written out whole. The first bits are those of the public pages (Chart of bc7_format).
 -- Assumes nothing.
-use mathlib.Core.Path.{_≡_, refl}
+use mathlib.Core.Path.{_≡_, refl, ap}
 use mathlib.Core.List.{List, [], _∷_, _++_, map}
 use Prim.Native.Nat.{ℕ}
 use Prim.Native.String.{String}
+use lib.Dec.{leb→le}
 use lib.ListN.{length, replicate}
 use Rattle.bc7_format.specs.declared.Split.the-variants.{Whole, Vector}
 use Rattle.laws.specs.Refusals.{first}
 use Rattle.laws.specs.Tables.{table, tableFrom}
+use Rattle.laws.proofs.Tests.{eqb-of}
 use Rattle.bcn_format.specs.Block.{number, trailing}
 use Rattle.bcn_format.specs.Partitions.{anchors2, anchors3, marks, strings2, strings3}
 use Rattle.bc7_format.specs.Modes.{modeOf, endpointCount, kindOfMode, modeRow}
@@ -16,7 +18,8 @@ use Rattle.bc7_format.specs.Splits.{splitAt, splitOf}
 use Rattle.bc7_format.proofs.Examples.{block0, block4}
 use Rattle.laws.specs.Text.{ascii, decimal, digitsIn, refusedText}
 use Rattle.laws.proofs.Attested.{text}
-use Rattle.chart_rules.specs.Charts.{chart, chartRefusal, fieldText, placeText, placesText, textMost}
+use Rattle.chart_rules.specs.declared.Chart.{Chart}
+use Rattle.chart_rules.specs.Charts.{ChartsWithin, chart, chartRefusal, charted, fieldText, placeText, placesText, textMost}
 use Rattle.chart_rules.specs.Names.{nameOf}
 
 -- places of mode 6: the marker, no partition, red of the endpoints 0 to 2, of which there are two, the first index, which is the
@@ -90,3 +93,18 @@ pub charts-refused : map chart ([] ∷ replicate 15 0 ∷ replicate 17 0 ∷ (bl
     ≡ map text (("refused 10" ∷ []) ∷ ("refused 10" ∷ []) ∷ ("refused 10" ∷ []) ∷ ("refused 10" ∷ []) ∷ ("refused 1" ∷ []) ∷ [])
 unfolding text chart chartRefusal ascii decimal digitsIn refusedText first trailing modeOf
 charts-refused = refl
+
+-- THE PROMISE: a chart, a refusal, and an answer that it does not admit: the length's number for a reserved block
+pub record Promised : Type 0 where
+  pub charts : ChartsWithin blockC (charted 0 (text chart6))
+  pub charts-not : ChartsWithin (replicate 16 0) (charted 1 (text ("refused 1" ∷ [])))
+  pub no-10-for-1 : ChartsWithin (replicate 16 0) (charted 10 (text ("refused 10" ∷ []))) → ⊥
+
+pub promises-hold : Promised
+unfolding text chart chartRefusal placesText fieldText nameOf ascii decimal digitsIn refusedText first table tableFrom trailing number modeOf modeRow
+    kindOfMode endpointCount splitAt splitOf placeAt width widths start anchors2 anchors3 marks strings2 strings3
+promises-hold = record {
+  charts = record { is = refl; within = leb→le _ _ tt };
+  charts-not = record { is = refl; within = leb→le _ _ tt };
+  no-10-for-1 = λ e. eqb-of _ _ (ap (λ (c : Chart). c .refusal) (e .is));
+}

@@ -31,7 +31,7 @@ use Rattle.bc7_format.proofs.Places.{inside-placeAt, pos-placeAt}
 use Rattle.bc7_format.proofs.Starts.{at-field, start-next}
 use Rattle.bc7_format.proofs.Subsets.{sixteen-bytes}
 use Rattle.laws.specs.Text.{ascii, decimal, digitsIn, refusedText}
-use Rattle.chart_rules.specs.Charts.{Charts, chart, chartRefusal, chartRules, fieldText, placeText, placesText, textMost, wantedBytes}
+use Rattle.chart_rules.specs.Charts.{ChartsWithin, chart, chartRefusal, chartRules, fieldText, placeText, placesText, textMost, wantedBytes}
 use Rattle.chart_rules.specs.Names.{nameOf}
 use Rattle.chart_rules.proofs.Lengths.{all-texts}
 use Rattle.chart_rules.proofs.Standing.{all-passed, nothing-between, start-zero, wide}
@@ -158,5 +158,5 @@ chart-at-most bs bytes = go (ℕ-discrete (length bs) 16) (ℕ-discrete (modeOf 
         (all-texts (modeOf bs) (splitOf bs) low (good-kind g) (good-partition g))
 
 -- any two answers that the promise admits coincide
-pub determined-chart : (bs : List ℕ) (a b : Chart) → Charts bs a → Charts bs b → a ≡ b
-determined-chart bs a b p q = p ∙ sym q
+pub determined-chart : (bs : List ℕ) (a b : Chart) → ChartsWithin bs a → ChartsWithin bs b → a ≡ b
+determined-chart bs a b p q = p .is ∙ sym (q .is)

@@ -13,7 +13,7 @@ use Rattle.head_rules.specs.declared.ColourSpace.{ColourSpace}
 use Rattle.head_rules.specs.declared.Head.{Head}
 use Rattle.head_rules.specs.declared.HeadBytes.{HeadBytes}
 use Rattle.head_rules.specs.Geometry.{blocksOf, wholeLength}
-use Rattle.head_rules.specs.Heads.{Sized, headBytes, headOf, limit, sevenOf, sizeRefusal, under, writeHead}
+use Rattle.head_rules.specs.Heads.{Sized, headBytes, headOf, limit, sevenOf, sizeRefusal, under, writeHead, writeHeadUpTo}
 use Rattle.head_rules.proofs.Heading.{size-0}
 use Rattle.head_rules.proofs.Theorems.{head-not-written-when}
 use Rattle.laws.specs.Padding.{padded}
@@ -54,7 +54,7 @@ module _ (w h : ℕ) {b : HeadBytes} (e : b ≡ writeHead w h) where
       go (then s accepted) ne = absurd (ne refl)
 
   seven : Sized w h → b ≡ sevenOf (headBytes w h)
-  unfolding writeHead
+  unfolding writeHeadUpTo
   seven z = e ∙ rw (eq-eqb (sizeRefusal w h) 0 (size-0 limit w h z))
 
   pub counted : b .refusal ≡ 0 → b .count ≡ length (headBytes w h)

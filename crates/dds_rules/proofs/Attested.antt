@@ -83,6 +83,12 @@ but at byte = set file53 at byte
 abbrev sides : List ℕ → List ℕ
 sides bs = sets file53 12 bs ++ (0 ∷ [])
 
+-- a byte all over the fields that aren't looked at, and every bit but the cube flag's in the one of which a bit is
+abbrev unnamed : ℕ → List ℕ
+unnamed n =
+    let a : List ℕ = sets (sets (sets file53 8 (replicate 4 n)) 20 (replicate 8 n)) 32 (replicate 44 n) in
+    sets (sets (sets (sets a 80 (replicate 4 n)) 88 (replicate 40 n)) 144 (replicate 4 n)) 136 (0xFB ∷ 0xFF ∷ 0xFF ∷ 0xFF ∷ [])
+
 -- a file or a sheet, the output's length, and the answer
 pub record Claim : Type 0 where
   pub given : List ℕ
@@ -99,11 +105,18 @@ imports =
     call [] 35 15 ∷
     call (take 147 file53) 35 15 ∷
     call header53 35 10 ∷
-    -- magic, both sizes, the code
+    -- magic, both sizes and the code, each one below and one above, and with a high byte
+    call (but 0 0x43) 35 15 ∷
     call (but 0 0x45) 35 15 ∷
     call (but 3 0x00) 35 15 ∷
+    call (but 4 123) 35 15 ∷
     call (but 4 125) 35 15 ∷
-    call (but 76 24) 35 15 ∷
+    call (but 5 1) 35 15 ∷
+    call (but 76 31) 35 15 ∷
+    call (but 76 33) 35 15 ∷
+    call (but 77 1) 35 15 ∷
+    call (but 84 0x43) 35 15 ∷
+    call (but 84 0x45) 35 15 ∷
     call (but 87 0x35) 35 15 ∷
     -- the format, from 97 to 100
     call (but 128 97) 35 15 ∷
@@ -114,6 +127,7 @@ imports =
     -- the dimension; the array size 0, 2, and 1 with a high byte
     call (but 132 2) 35 15 ∷
     call (but 132 4) 35 15 ∷
+    call (but 133 1) 35 15 ∷
     call (but 140 0) 35 15 ∷
     call (but 140 2) 35 15 ∷
     call (but 143 1) 35 15 ∷
@@ -135,6 +149,10 @@ imports =
     call (but 109 0) 35 0 ∷
     call (but 127 1) 35 0 ∷
     call (but 144 1) 35 0 ∷
+    -- and all of that at once: zeros, nines, and all bits
+    call (unnamed 0) 35 0 ∷
+    call (unnamed 9) 35 0 ∷
+    call (unnamed 0xFF) 35 0 ∷
     -- each is refused for what the next ones are refused for too
     call (set (sides (small 0 ++ small 5)) 140 0) 34 15 ∷
     call (sides (small 0 ++ small 5)) 34 9 ∷
@@ -142,6 +160,8 @@ imports =
     call (sides (small 3 ++ (0x01 ∷ 0x40 ∷ 0 ∷ 0 ∷ []))) 34 9 ∷
     call (sides ((0x01 ∷ 0x40 ∷ 0 ∷ 0 ∷ []) ++ small 5)) 34 9 ∷
     call (sides (replicate 8 0xFF)) 34 9 ∷
+    -- 65,539, which is 3 with a high byte
+    call (sides ((0x03 ∷ 0x00 ∷ 0x01 ∷ 0x00 ∷ []) ++ small 5)) 34 9 ∷
     call (sides (0 ∷ 0 ∷ 1 ∷ 0 ∷ 0 ∷ 0 ∷ 1 ∷ 0 ∷ [])) 34 9 ∷
     call (sides ((0x00 ∷ 0x40 ∷ 0 ∷ 0 ∷ []) ++ (0x00 ∷ 0x40 ∷ 0 ∷ 0 ∷ []))) 34 10 ∷
     call (sides (small 3 ++ small 5)) 34 10 ∷

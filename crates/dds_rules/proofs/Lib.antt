@@ -3,6 +3,7 @@ pub mod Numbers
 pub mod Textures
 pub mod Refusing
 pub mod Making
+pub mod Fields
 pub mod Numbered
 pub mod Limits
 pub mod Theorems

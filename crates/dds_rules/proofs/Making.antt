@@ -34,7 +34,7 @@ format-one Unspecified = (omega arith, omega arith)
 format-one Linear = (omega arith, omega arith)
 format-one Srgb = (omega arith, omega arith)
 
-format-small : (c : ColourSpace) → formatOf c < 2 ^ 32
+pub format-small : (c : ColourSpace) → formatOf c < 2 ^ 32
 format-small c = omega (arith, format-one c .1)
 
 format-said : (c : ColourSpace) → formatSays (formatOf c) ≡ said c

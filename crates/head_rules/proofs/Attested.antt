@@ -14,7 +14,7 @@ use Rattle.laws.specs.Refusals.{first}
 use Rattle.head_rules.specs.Colours.{colourNumber, colourOf, colourRefusal}
 use Rattle.head_rules.specs.Heads.{bytesOfHead, colourIn, formIn, formNumber, formOf, headBytes, headRefusalUpTo, heightIn, limit, oldHead}
 use Rattle.head_rules.specs.Heads.{ofFormRefusalUpTo, readHead, readHeadUpTo, readOfForm, readOfFormUpTo, sizeRefusalUpTo, tiledBytes}
-use Rattle.head_rules.specs.Heads.{under, widthIn, writeHead}
+use Rattle.head_rules.specs.Heads.{under, widthIn, writeHead, writeHeadUpTo}
 use Rattle.head_rules.specs.declared.Stage.the-variants.{Width}
 use Rattle.laws.specs.Counting.{count}
 use Rattle.tile_rules.specs.Tiles.{columnAt, columnOfSlot, inSheet, mostAcross, rowAt, rowOfSlot, slotIn, slotOf, storedInTiles, tiles}
@@ -115,7 +115,7 @@ pub record Heads : Type 0 where
   pub blocks-in-tiles : map (placeOf (tiled Unspecified 12 8 4)) (0 ∷ 1 ∷ 3 ∷ 4 ∷ 2 ∷ 5 ∷ []) ≡ 4 ∷ 20 ∷ 36 ∷ 52 ∷ 68 ∷ 84 ∷ []
 
 pub heads-hold : Heads
-unfolding groups readGroups readNumber raised readHeadUpTo headRefusalUpTo formIn widthIn heightIn colourIn first sizeRefusalUpTo writeHead
+unfolding groups readGroups readNumber raised readHeadUpTo headRefusalUpTo formIn widthIn heightIn colourIn first sizeRefusalUpTo writeHeadUpTo
     headBytes tiledBytes padded formTaken sizeTaken colourTaken lastTaken groupTaken readBy blocksOf placeOf colourOf colourRefusal formOf
     readOfFormUpTo ofFormRefusalUpTo storedAt storedInTiles count slotOf slotIn inSheet columnAt columnOfSlot rowAt rowOfSlot tiles
 heads-hold = record {

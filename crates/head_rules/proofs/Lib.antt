@@ -1,5 +1,6 @@
 pub mod Attested
 pub mod Reading
+pub mod Cut
 pub mod Writing
 pub mod Blocks
 pub mod Orders

@@ -7,8 +7,8 @@ use mathlib.Core.List.{List, [], _∷_, _++_, append-assoc}
 use Prim.Native.Nat.{ℕ, zero, suc, _+_, _-_, _*_, _/_, _%_, _^_, _<_, _≤_}
 use native.Mathlib.Nat.{div-lt-iff-lt-mul, eq-zero-or-pos, pow-suc, zero-add}
 use native.Mathlib.Omega.{arith}
-use lib.ListN.{length, drop, length-append}
-use lib.Seq.{drop-drop, drop-append-seam, getD-drop}
+use lib.ListN.{length, drop, replicate, take, length-append}
+use lib.Seq.{drop-drop, drop-append-seam, getD-drop, take-append-seam}
 use Rattle.head_rules.specs.declared.Number.{Number}
 use Rattle.head_rules.specs.declared.ColourSpace.{ColourSpace}
 use Rattle.head_rules.specs.declared.ColourSpace.the-variants.{Unspecified, Linear, Srgb}
@@ -16,15 +16,16 @@ use Rattle.head_rules.specs.declared.Head.{Head}
 use Rattle.head_rules.specs.declared.Form.{Form}
 use Rattle.head_rules.specs.declared.Form.the-variants.{Rows, Tiles}
 use Rattle.head_rules.specs.declared.HeadBytes.{HeadBytes}
+use Rattle.laws.specs.Padding.{padded}
 use Rattle.laws.specs.Refusals.{Given, here, then}
 use Rattle.laws.proofs.Cases.{lt-or}
 use Rattle.laws.specs.Inverse.{Inverse}
 use Rattle.laws.proofs.Refusals.{Answers, accepted-when, alone, exactly}
 use Rattle.head_rules.specs.Colours.{colourNumber, colourOf}
-use Rattle.head_rules.specs.Heads.{IsForm, ReadsHead, Sized, WritesHead, bytesOfHead, colourIn, formIn, formNumber, formOf, headBytes}
-use Rattle.head_rules.specs.Heads.{headIn, headOf, headRefusal, headRules, headSpelt, heightIn, limit, oldHead, oldLimit}
+use Rattle.head_rules.specs.Heads.{IsForm, ReadsHead, Sized, SizedUpTo, WritesHead, bytesOfHead, colourIn, formIn, formNumber, formOf, headBytes}
+use Rattle.head_rules.specs.Heads.{headIn, headOf, headRefusal, headRules, headSpelt, heightIn, limit, noBytes, oldHead, oldLimit}
 use Rattle.head_rules.specs.Heads.{ofFormRules, readHead, readOfForm, rowsRules}
-use Rattle.head_rules.specs.Heads.{sizeRefusal, sizeRules, tiledBytes, under, widthIn, writeHead}
+use Rattle.head_rules.specs.Heads.{sizeRefusal, sizeRules, tiledBytes, under, widthIn, writeHead, writeHeadUpTo}
 use Rattle.head_rules.specs.Numbers.{Bytes, found, groups, noNumber, numberBytes, numbersEnd, raised, readGroups, readNumber}
 use Rattle.head_rules.specs.Geometry.{across, blocksOf, numberAt, placeOf, storedAt, wholeLength}
 use Rattle.head_rules.specs.Reader.{atForm, readBy}
@@ -32,8 +33,8 @@ use Rattle.head_rules.proofs.Blocks.{some-blocks}
 use Rattle.head_rules.proofs.Bytewise.{bytes-behind-head, bytes-read-head}
 use Rattle.head_rules.proofs.Colours.{colour-back, number-back}
 use Rattle.head_rules.proofs.Heading.{accepted, form-back, form-kept, head-rules, of-a-form, of-form-not, of-form-number, of-form-rules}
-use Rattle.head_rules.proofs.Heading.{of-form-same, of-form-told, refusal-is, refused, size-test}
-use Rattle.head_rules.proofs.Limits.{head-kept, head-refused-before}
+use Rattle.head_rules.proofs.Heading.{of-form-same, of-form-told, refusal-is, refused, size-0, size-9, size-test}
+use Rattle.head_rules.proofs.Limits.{head-kept, head-refused-before, wider}
 use Rattle.head_rules.proofs.Orders.{blocks-apart, blocks-behind-head, blocks-within, each-place, numbered-in, one-order}
 use Rattle.head_rules.proofs.Reading.{every-number, raised-some, read-last, read-more, value-small}
 use Rattle.head_rules.proofs.Writing.{groups-last, groups-more, nothing, written}
@@ -343,6 +344,16 @@ form-1-unspecified s e =
     said : formOf (formIn s .value) ≡ Rows → colourOf (colourIn s .value) ≡ Unspecified
     said q = ap (λ (r : Number). colourOf (r .value)) (colour-rows s q) ∙ colour-back Unspecified .0
 
+-- what `write_head` writes is form 1: of a head in memory, under whichever colour space, it is read back unspecified
+pub writing-forgets : (h : Head) → Sized (h .width) (h .height) → (rest : List ℕ)
+    → let b = writeHead (h .width) (h .height) in
+    readHead (take (b .count) (b .bytes) ++ rest) ≡ headOf 0 (h .width) (h .height) (b .count)
+unfolding writeHeadUpTo padded
+writing-forgets h z rest =
+    let bs = headBytes (h .width) (h .height) in
+    rw (size-0 limit (h .width) (h .height) z, take-append-seam bs (replicate (7 - length bs) 0)) (head-read-back (h .width) (h .height) z rest)
+
+-- and the bytes of a head of form 1 are the same under each
 pub form-1-forgets : (h : Head) (a b : ColourSpace) → h .form ≡ Rows → bytesOfHead (under a h) ≡ bytesOfHead (under b h)
 form-1-forgets h a b e = rw e
 
@@ -505,6 +516,15 @@ pub old-head-empty : (s : List ℕ) → oldHead s .refusal ≢ 0 → oldHead s �
 old-head-empty s ne =
     let e = of-form-number oldLimit Rows s in
     sym (of-form-not oldLimit Rows s (oldHead s .refusal) (rw e (of-form-rules oldLimit Rows s .given)) ne)
+
+-- writing a head: what such a console wrote is written as it was; a larger size it refused with 9
+pub stored-heads-written : (w h : ℕ) → SizedUpTo oldLimit w h → writeHead w h ≡ writeHeadUpTo oldLimit w h
+unfolding writeHeadUpTo
+stored-heads-written w h z = rw (size-0 limit w h (wider (omega arith) z), size-0 oldLimit w h z)
+
+pub old-console-writes-nothing : (w h : ℕ) → (SizedUpTo oldLimit w h → ⊥) → writeHeadUpTo oldLimit w h ≡ noBytes 9
+unfolding writeHeadUpTo
+old-console-writes-nothing w h n = rw (size-9 oldLimit w h n)
 
 -- the largest side has three groups
 pub largest-side : numberBytes limit ≡ 0x80 ∷ 0x80 ∷ 0x01 ∷ []

@@ -17,7 +17,7 @@ use Rattle.head_rules.specs.declared.Form.{Form}
 use Rattle.head_rules.specs.declared.Form.the-variants.{Rows, Tiles}
 use Rattle.head_rules.specs.declared.FormBytes.{FormBytes}
 use Rattle.head_rules.specs.Heads.{Sized, formNumber, headBytes, limit, noBytes, sevenOf, sizeRefusal, tiledBytes, withBytes, writeForm}
-use Rattle.head_rules.specs.Heads.{writeHead}
+use Rattle.head_rules.specs.Heads.{writeHead, writeHeadUpTo}
 use Rattle.head_rules.specs.Numbers.{groups, numberBytes, numbersEnd}
 use Rattle.head_rules.proofs.Heading.{size-0}
 
@@ -67,7 +67,7 @@ unfolding groups
 one-byte = refl
 
 pub nothing : (w h : ℕ) {r : ℕ} → r ≡ sizeRefusal w h → (r ≡ 0 → ⊥) → noBytes r ≡ writeHead w h
-unfolding writeHead
+unfolding writeHeadUpTo
 nothing w h e ne = rw (← e, ne-eqb _ 0 ne)
 
 module _ (w h : ℕ) where
@@ -85,7 +85,7 @@ module _ (w h : ℕ) where
 
   pub written : {r : ℕ} → r ≡ sizeRefusal w h → r ≡ 0 → withBytes (withBytes (withBytes (noBytes 0) (numberBytes (formNumber Rows))) (numberBytes w))
       (numberBytes h) ≡ writeHead w h
-  unfolding writeHead
+  unfolding writeHeadUpTo
   written e z = all ∙ sym (rw (eq-eqb (sizeRefusal w h) 0 (sym e ∙ z)))
 
 -- the ways of `write_form`: a zero behind the seven bytes of `write_head`, and 2 in front of them for form 2
@@ -156,7 +156,7 @@ formBytes bs n = record { bytes = bs; count = n }
 
 module _ (w h : ℕ) (z : Sized w h) {x : HeadBytes} (ex : x ≡ writeHead w h) where
   head-written : x ≡ sevenOf (headBytes w h)
-  unfolding writeHead
+  unfolding writeHeadUpTo
   head-written = ex ∙ rw (size-0 limit w h z)
 
   abbrev b : List ℕ

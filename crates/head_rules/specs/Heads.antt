@@ -190,8 +190,11 @@ abbrev pub noBytes : ℕ → HeadBytes
 noBytes r = record { refusal = r; bytes = replicate 7 0; count = 0 }
 
 -- writing a head
-unfoldable pub writeHead : ℕ → ℕ → HeadBytes
-writeHead w h = pick (eqb (sizeRefusal w h) 0) (sevenOf (headBytes w h)) (noBytes (sizeRefusal w h))
+unfoldable pub writeHeadUpTo : ℕ → ℕ → ℕ → HeadBytes
+writeHeadUpTo top w h = pick (eqb (sizeRefusalUpTo top w h) 0) (sevenOf (headBytes w h)) (noBytes (sizeRefusalUpTo top w h))
+
+abbrev pub writeHead : ℕ → ℕ → HeadBytes
+writeHead w h = writeHeadUpTo limit w h
 
 -- the head in form f that says no colour space, with zeros behind, eight bytes in all
 unfoldable pub writeForm : Form → ℕ → ℕ → FormBytes

@@ -2,13 +2,13 @@
 -- Assumes nothing.
 use mathlib.Core.Path.{_≡_}
 use mathlib.Core.List.{List, []}
-use Prim.Native.Nat.{ℕ, _^_, _≤_, _<_}
+use Prim.Native.Nat.{ℕ, _+_, _-_, _*_, _^_, _≤_, _<_}
 use Rattle.indexes.specs.declared.Indexes.{Indexes}
 use Rattle.indexes.specs.declared.NewIndexes.{NewIndexes}
 use Rattle.bits.specs.declared.stream.BitStream.{BitStream}
-use Rattle.bits.specs.Stream.{readOf}
+use Rattle.bits.specs.Stream.{taken}
 use Rattle.laws.specs.Digits.{Fit}
-use Rattle.bcn_format.specs.Indexes.{OneFixup, Rising, TwoFixups, expanded, indexWidths, part}
+use Rattle.bcn_format.specs.Indexes.{OneFixup, Rising, TwoFixups, anchorCount, expanded, indexWidths, part}
 
 -- index i, which is within its width
 pub record Index (x : Indexes) (i r : ℕ) : Type 0 where
@@ -18,9 +18,9 @@ pub record Index (x : Indexes) (i r : ℕ) : Type 0 where
 abbrev pub indexesOf : ℕ → List ℕ → ℕ → Indexes
 indexesOf w an n = record { uncompressed = expanded w an n; bits = w }
 
--- the indexes that a read of t bits gives, none where it is refused
+-- the indexes in the t bits that come next
 abbrev pub newIndexes : ℕ → List ℕ → BitStream → ℕ → NewIndexes
-newIndexes w an s t = record { indexes = indexesOf w an (readOf s t .value); stream = readOf s t .stream }
+newIndexes w an s t = record { indexes = indexesOf w an (taken s t .value); stream = taken s t .stream }
 
 -- what is asked of indexes with one, two or three anchors: they have one to four bits, and the fix-ups rise
 pub record Anchors1 (w : ℕ) : Type 0 where
@@ -37,7 +37,12 @@ pub record Anchors3 (w p q : ℕ) : Type 0 where
   pub most : w ≤ 4
   pub fixups : TwoFixups p q
 
--- and of a number that they stand in: it has no more than their t bits
+-- and of a stream that they are read from: their t bits lie ahead
+pub record Ahead (Anchors : Type 0) (s : BitStream) (t : ℕ) : Type 0 where
+  pub anchors : Anchors
+  pub inside : s .at + t ≤ 128
+
+-- or of a number that they stand in: it has no more than their t bits
 pub record Compressed (Anchors : Type 0) (n t : ℕ) : Type 0 where
   pub anchors : Anchors
   pub enough : n < 2 ^ t
@@ -54,11 +59,12 @@ pub record Insertable (w n i : ℕ) : Type 0 where
   pub pixel : i < 16
   pub room : n < 2 ^ 63
 
--- of a set that comes next: its kind's anchors rise
-pub record SetAt (kind w p q : ℕ) : Type 0 where
+-- of a set that comes next: its kind's anchors rise, and its bits lie ahead
+pub record SetAhead (s : BitStream) (kind w p q : ℕ) : Type 0 where
   pub least : 0 < w
   pub most : w ≤ 4
   pub rising : Rising kind p q
+  pub inside : s .at + (16 * w - anchorCount kind) ≤ 128
 
 -- of sixteen indexes
 pub record SetFits (vs : List ℕ) (w : ℕ) : Type 0 where

@@ -5,7 +5,7 @@ ghost use mathlib.Core.Path.{_≡_};
 ghost use mathlib.Core.List.{[], _∷_};
 ghost use Prim.Native.Nat.{_+_, _-_, _*_, _≤_, _<_};
 ghost use Rattle.laws.specs.Digits.{inserted};
-ghost use Rattle.indexes.specs.Reading.{Anchors1, Anchors2, Anchors3, Compressed, Index, Insertable, indexesOf, newIndexes};
+ghost use Rattle.indexes.specs.Reading.{Ahead, Anchors1, Anchors2, Anchors3, Compressed, Index, Insertable, indexesOf, newIndexes};
 use bits::stream::BitStream;
 
 pub mod sets;
@@ -35,7 +35,7 @@ fn decompress_single_index(bits: u32, compressed: u64, index: u32) -> u64
 
 impl Indexes {
     pub fn new_p1(bits: u32, stream: BitStream) -> NewIndexes
-        requires { ⌜ Anchors1 bits ⌝ }
+        requires { ⌜ Ahead (Anchors1 bits) stream (16 * bits - 1) ⌝ }
         ensures { λ r. ⌜ r ≡ newIndexes bits (0 ∷ []) stream (16 * bits - 1) ⌝ }
     {
         let compressed = stream.take(16 * bits - 1);
@@ -48,7 +48,7 @@ impl Indexes {
     }
 
     pub fn new_p2(bits: u32, stream: BitStream, p2_fixup: u32) -> NewIndexes
-        requires { ⌜ Anchors2 bits «p2_fixup» ⌝ }
+        requires { ⌜ Ahead (Anchors2 bits «p2_fixup») stream (16 * bits - 2) ⌝ }
         ensures { λ r. ⌜ r ≡ newIndexes bits (0 ∷ «p2_fixup» ∷ []) stream (16 * bits - 2) ⌝ }
     {
         let compressed = stream.take(16 * bits - 2);
@@ -61,7 +61,7 @@ impl Indexes {
     }
 
     pub fn new_p3(bits: u32, stream: BitStream, p2_fixup: u32, p3_fixup: u32) -> NewIndexes
-        requires { ⌜ Anchors3 bits «p2_fixup» «p3_fixup» ⌝ }
+        requires { ⌜ Ahead (Anchors3 bits «p2_fixup» «p3_fixup») stream (16 * bits - 3) ⌝ }
         ensures { λ r. ⌜ r ≡ newIndexes bits (0 ∷ «p2_fixup» ∷ «p3_fixup» ∷ []) stream (16 * bits - 3) ⌝ }
     {
         let compressed = stream.take(16 * bits - 3);

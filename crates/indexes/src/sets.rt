@@ -7,7 +7,7 @@ ghost use Rattle.laws.specs.Digits.{join};
 ghost use Rattle.laws.specs.Tables.{table};
 ghost use Rattle.bcn_format.specs.Block.{field};
 ghost use Rattle.bcn_format.specs.Indexes.{anchorCount, anchorsOfKind, indexWidths, part};
-ghost use Rattle.indexes.specs.Reading.{IndexAt, SetAt, SetFits, newIndexes};
+ghost use Rattle.indexes.specs.Reading.{IndexAt, SetAhead, SetFits, newIndexes};
 use crate::Indexes;
 use crate::NewIndexes;
 use bits::stream::BitStream;
@@ -20,7 +20,7 @@ pub fn read_indexes(
     second: usize,
     third: usize,
 ) -> NewIndexes
-    requires { ⌜ SetAt kind bits second third ⌝ }
+    requires { ⌜ SetAhead stream kind bits second third ⌝ }
     ensures { λ r. ⌜ r ≡ newIndexes bits (anchorsOfKind kind second third) stream (16 * bits - anchorCount kind) ⌝ }
 {
     if kind == 1 {

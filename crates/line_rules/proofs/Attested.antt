@@ -1,15 +1,17 @@
 -- WHAT HOLDS THE DEFINITIONS OF REPLACING AND READING A LINE: calls with the block that each leaves or the line that it answers,
 -- written out (format's Examples has what the blocks store, and where); and the bytes of a replacement.
 -- Assumes nothing.
-use mathlib.Core.Path.{_≡_, refl}
+use mathlib.Core.Path.{_≡_, refl, ap}
 use mathlib.Core.List.{List, [], _∷_, _++_, map}
 use Prim.Native.Nat.{ℕ, _+_}
-use lib.ListN.{replicate}
+use lib.ListN.{getD, replicate}
 use Rattle.line_rules.specs.declared.Replacement.{Replacement}
 use Rattle.line_rules.specs.declared.LineRead.{LineRead}
+use Rattle.line_rules.specs.declared.Replaced.{Replaced}
 use Rattle.laws.specs.Refusals.{first}
 use Rattle.laws.specs.Tables.{table, tableFrom}
 use Rattle.laws.specs.Calls.{run}
+use Rattle.laws.proofs.Tests.{eqb-of}
 use Rattle.bcn_format.specs.Block.{bytesOf, number, trailing}
 use Rattle.bc7_format.specs.Modes.{modeOf, endpointCount, kindOfMode, modeRow}
 use Rattle.bc7_format.specs.Lines.{anchorOf, indexSetOf, has, indexPlace, laid, lineBits, lineOf, own, pPlace, turned, valuePlace, withLine}
@@ -21,6 +23,7 @@ use Rattle.line_rules.specs.Calls.{afterAll}
 use Rattle.line_rules.specs.Read.{givenAs, lineRead, readRefusal, replacementBytes, replacementOf, valueAt, widthsOf}
 use Rattle.line_rules.specs.Replace.{after, callOf, indexFits, lineFits, lineGiven, oriented, ownWidth, pFits, put, refusal, refusalIn}
 use Rattle.line_rules.specs.Replace.{replaced, valueFits}
+use Rattle.line_rules.specs.Promises.{ReadsLine, ReadsReplacement, Replaces, WritesReplacement}
 
 -- two endpoints, of which the first has this red and this p; indexes at the pixels 8 to 15, of which 15 is the anchor, and one at pixel
 -- 0, which is another line's
@@ -156,3 +159,44 @@ pub record Bytes : Type 0 where
 pub bytes-hold : Bytes
 unfolding replacementOf replacementBytes valueAt table tableFrom
 bytes-hold = record { of-replacement = refl; to-replacement = refl; to-replacement-in-order = refl }
+
+-- THE PROMISES: of each call an accepted answer, a refused one where it refuses, and one that it does not admit: the block as it was, the
+-- other line's first red, another index at the last pixel
+abbrev leaves : ℕ → List ℕ → Replaced
+leaves n b = record { refusal = n; block = b }
+
+abbrev line7Of : ℕ → Replacement
+line7Of red = parts (red ∷ 10 ∷ 11 ∷ 12 ∷ 13 ∷ 14 ∷ 15 ∷ 16 ∷ []) (1 ∷ 1 ∷ []) (replicate 8 0 ++ (0 ∷ 3 ∷ 2 ∷ 1 ∷ 0 ∷ 3 ∷ 2 ∷ 1 ∷ []))
+
+abbrev widths7 : Replacement
+widths7 = parts (replicate 8 5) (1 ∷ 1 ∷ []) (replicate 8 0 ++ replicate 8 2)
+
+pub record Promised : Type 0 where
+  pub replaces : Replaces block7 1 (given7 1) (leaves 0 after7)
+  pub replaces-not : Replaces block7 2 (given7 1) (leaves 2 block7)
+  pub not-as-it-was : Replaces block7 1 (given7 1) (leaves 0 block7) → ⊥
+  pub reads-line : ReadsLine block7 1 (reads 0 (line7Of 9) widths7)
+  pub reads-line-not : ReadsLine block7 2 (reads 2 nothing nothing)
+  pub not-the-other-line : ReadsLine block7 1 (reads 0 (line7Of 1) widths7) → ⊥
+  pub reads-replacement : ReadsReplacement bytesGiven (given7 1)
+  pub no-other-replacement : ReadsReplacement bytesGiven (given7 2) → ⊥
+  pub writes-replacement : WritesReplacement (given7 1) bytesGiven
+  pub no-other-bytes : WritesReplacement (given7 2) bytesGiven → ⊥
+
+pub promises-hold : Promised
+unfolding first table tableFrom digits marks strings2 strings3 subset2 subset3 anchors2 anchors3 modeRow kindOfMode endpointCount placeAt pos width
+    widths trailing number modeOf splitAt splitOf atPlace opened has valuePlace pPlace indexSetOf indexPlace lineBits lineOf replaced after refusal
+    refusalIn lineFits valueFits pFits indexFits ownWidth lineGiven put oriented withLine laid turned anchorOf blockOf listOf bytesOf own
+    lineRead readRefusal givenAs widthsOf replacementOf replacementBytes valueAt
+promises-hold = record {
+  replaces = refl;
+  replaces-not = refl;
+  not-as-it-was = λ e. eqb-of _ _ (ap (λ (r : Replaced). getD (r .block) 3 0) e);
+  reads-line = refl;
+  reads-line-not = refl;
+  not-the-other-line = λ e. eqb-of _ _ (ap (λ (r : LineRead). getD (r .line .endpoints) 0 0) e);
+  reads-replacement = refl;
+  no-other-replacement = λ e. eqb-of _ _ (ap (λ (g : Replacement). getD (g .indexes) 15 0) e);
+  writes-replacement = refl;
+  no-other-bytes = λ e. eqb-of _ _ (ap (λ (l : List ℕ). getD l 25 0) e);
+}

@@ -61,17 +61,16 @@ unfolding listingBy
 old-console-lists-no-tiles s e = rw (old-console-knows-no-tiles s e)
 
 -- any two results that a promise admits coincide: the output whole, and the place behind the text
-module _ {before after after' : List ℕ} {at next next' : ℕ} where
-  pub determined-text : (text : List ℕ) → Says text before at after next → Says text before at after' next' → (after ≡ after') × (next ≡ next')
-  determined-text text p q = (p .bytes ∙ sym (q .bytes), p .ends ∙ sym (q .ends))
+one-text : (text before : List ℕ) (at : ℕ) (a b : List ℕ) (m n : ℕ) → Says text before at a m → Says text before at b n → (a ≡ b) × (m ≡ n)
+one-text text before at a b m n p q = (p .bytes ∙ sym (q .bytes), p .ends ∙ sym (q .ends))
 
-  pub determined-list : (m : Machine) (came : List ℕ) → SaysNext m came before at after next → SaysNext m came before at after' next'
-      → (after ≡ after') × (next ≡ next')
-  determined-list m came = determined-text (textOf m came)
+pub determined-list : (s : Machine) (came before : List ℕ) (at : ℕ) (a b : List ℕ) (m n : ℕ)
+    → SaysNext s came before at a m → SaysNext s came before at b n → (a ≡ b) × (m ≡ n)
+determined-list s came = one-text (textOf s came)
 
-  pub determined-list-sheet : (sheet : List ℕ) → SaysListing sheet before at after next → SaysListing sheet before at after' next'
-      → (after ≡ after') × (next ≡ next')
-  determined-list-sheet sheet = determined-text (listing sheet)
+pub determined-list-sheet : (sheet before : List ℕ) (at : ℕ) (a b : List ℕ) (m n : ℕ)
+    → SaysListing sheet before at a m → SaysListing sheet before at b n → (a ≡ b) × (m ≡ n)
+determined-list-sheet sheet = one-text (listing sheet)
 
 pub determined-next : (m : Machine) (came : List ℕ) (a b : Machine) → GoesOn m came a → GoesOn m came b → a ≡ b
 determined-next m came a b p q = p ∙ sym q

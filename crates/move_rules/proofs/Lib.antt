@@ -3,3 +3,5 @@ pub mod Moving
 pub mod Words
 pub mod Whole
 pub mod Theorems
+pub mod Stated
+pub mod Stating

@@ -1,2 +1,3 @@
 -- What a move means.
 pub mod Moving
+pub mod Stating

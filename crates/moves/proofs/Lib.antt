@@ -1,3 +1,4 @@
 pub mod Steps
 pub mod Laying
 pub mod Answers
+pub mod Stating

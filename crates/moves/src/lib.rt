@@ -1,5 +1,5 @@
-// Moves of a sheet between its forms: from form 1 to form 2 with number 0, and back where nothing is lost. Both calls take every input and
-// say why they refuse one.
+// Moves of a sheet between its forms: from form 1 to form 2 with number 0, and back where nothing is lost; and the colour space of a sheet
+// of form 2 stated, which is what a move back would lose. Each call takes every input and says why it refuses one.
 ghost use mathlib.Core.Path.{_≡_};
 ghost use lib.ListN.{length};
 ghost use Rattle.head_rules.specs.declared.Form.the-variants.{Rows, Tiles};
@@ -8,11 +8,13 @@ ghost use Rattle.head_rules.specs.Heads.{Sized};
 ghost use Rattle.tiles.specs.Parts.{Numbered};
 ghost use Rattle.sheet_rules.specs.Pictures.{blocksAs};
 ghost use Rattle.move_rules.specs.Moving.{MovesTo, headInForm, movedTo, other};
+ghost use Rattle.move_rules.specs.Stating.{StatesColour};
 ghost use Rattle.moves.specs.Rooms.{Lays, MovesBlocks, Stores};
 use head_rules::Form;
 use head_rules::Head;
 use sheet::blocks::load;
 use sheet::blocks::store;
+use sheet_head::colours::colour_refusal;
 use sheet_head::colours::number_of;
 use sheet_head::geometry::blocks_across;
 use sheet_head::geometry::blocks_of;
@@ -111,4 +113,25 @@ pub fn to_rows(sheet: &[u8], out: &mut [u8]) -> u8
     ensures { λ r. ⌜ MovesTo Rows (now (sheet .entry)) (now (out .entry)) r (now (out .exit)) ⌝ }
 {
     move_to(Form::Rows, sheet, out)
+}
+
+// The colour space of a sheet of form 2, by its number: the byte before the first block, and no other. A refused call leaves the sheet as it
+// was.
+pub fn state_colour(sheet: &mut [u8], number: u32) -> u8
+    ensures { λ r. ⌜ StatesColour (now (sheet .entry)) number r (now (sheet .exit)) ⌝ }
+{
+    let head = read_of_form(Form::Tiles, sheet);
+    if head.refusal != 0 {
+        return head.refusal;
+    }
+    if sheet.len() != whole_length(head) {
+        return 10;
+    }
+    let refusal = colour_refusal(number);
+    if refusal != 0 {
+        return refusal;
+    }
+    let at = head.start as usize - 1;
+    sheet[at] = number as u8;
+    0
 }

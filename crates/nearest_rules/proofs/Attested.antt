@@ -1,12 +1,13 @@
 -- WHAT HOLDS THE DEFINITIONS OF THE NEAREST INDEX AND OF THE ONE THAT HITS: calls with their answers, written out from document 02.
 -- Assumes nothing.
-use mathlib.Core.Path.{_≡_, refl}
+use mathlib.Core.Path.{_≡_, refl, ap}
 use mathlib.Core.List.{List, [], _∷_, _++_, map}
 use Prim.Native.Nat.{ℕ}
 use lib.ListN.{replicate}
 use Rattle.nearest_rules.specs.declared.Found.{Found}
 use Rattle.laws.specs.Refusals.{first}
 use Rattle.laws.specs.Tables.{table, tableFrom}
+use Rattle.laws.proofs.Tests.{eqb-of}
 use Rattle.bcn_format.specs.Block.{number, trailing}
 use Rattle.bcn_format.specs.Drawing.{drawn, promoted, weightOf, weights}
 use Rattle.bcn_format.specs.Partitions.{anchors2, anchors3, digits, marks, strings2, strings3, subset2, subset3}
@@ -19,6 +20,7 @@ use Rattle.bc7_format.proofs.Examples.{block7}
 use Rattle.line_rules.specs.Read.{readRefusal}
 use Rattle.nearest_rules.specs.Nearest.{channelDistance, distance, drawnWith, exactIndex, exactRefusal, inLine, indexCount, leastAt}
 use Rattle.nearest_rules.specs.Nearest.{nearestIndex, nearestRefusal, squared, withIndex, zeroAt}
+use Rattle.nearest_rules.specs.Promises.{FindsExact, FindsNearest}
 
 -- a call, and what the nearest index and the one that hits are
 pub record Claim : Type 0 where
@@ -102,6 +104,13 @@ claims =
     hits block7 1 8 (rgba 88 96 104 112) 1 ∷
     -- index 0 is 0 0 0 29 away, which makes 841, and index 1 is 11 11 11 18 away, which makes 687
     misses block7 1 8 (rgba 77 85 93 130) 1 ∷
+    -- each channel counts once, and by its square. Index 0 is 20 0 0 0 away, 400, and index 1 is 9 11 11 11, 444: by fourth powers it would
+    -- be nearer
+    misses block7 1 8 (rgba 97 85 93 101) 0 ∷
+    -- 8 8 5 0 makes 153, and 3 3 6 11 makes 175: with red or green counted twice 217 and 184
+    misses block7 1 8 (rgba 85 93 98 101) 0 ∷
+    -- 0 5 8 8 makes 153, and 11 6 3 3 makes 175: with blue or alpha counted twice 217 and 184, three times 281 and 193
+    misses block7 1 8 (rgba 77 90 101 109) 0 ∷
     -- the first byte is zero; no line 2 or 1; the other line's pixels; no pixel 16
     refuses (replicate 16 0) 9 99 1 ∷
     refuses solid1 2 99 2 ∷
@@ -125,3 +134,27 @@ unfolding first table tableFrom digits marks strings2 strings3 subset2 subset3 a
     lineBits meansStored meansShown rotated lineAt draws eight promoted drawn weightOf weights readRefusal
     exactIndex exactRefusal nearestRefusal inLine indexCount zeroAt distance channelDistance drawnWith withIndex squared
 exact-as-claimed = refl
+
+-- THE PROMISES: of each call an accepted answer, a refused one, and one that it does not admit. The colour 77 85 93 130 has a nearest index,
+-- and none that hits: what the one call answers, the other may not
+pub record Promised : Type 0 where
+  pub finds-nearest : FindsNearest block7 1 8 (rgba 77 85 93 130) (index 1)
+  pub finds-nearest-not : FindsNearest block7 1 7 (rgba 77 85 93 130) (refused 13)
+  pub no-exact-for-nearest : FindsNearest block7 1 8 (rgba 77 85 93 130) (refused 14) → ⊥
+  pub finds-exact : FindsExact block7 1 8 (rgba 88 96 104 112) (index 1)
+  pub finds-exact-not : FindsExact block7 1 8 (rgba 77 85 93 130) (refused 14)
+  pub no-nearest-for-exact : FindsExact block7 1 8 (rgba 77 85 93 130) (index 1) → ⊥
+
+pub promises-hold : Promised
+unfolding first table tableFrom digits marks strings2 strings3 subset2 subset3 anchors2 anchors3 modeRow kindOfMode endpointCount
+    placeAt pos width widths trailing number modeOf splitAt splitOf atPlace opened has valuePlace pPlace indexSetOf indexPlace own lineOf
+    lineBits meansStored meansShown rotated lineAt draws eight promoted drawn weightOf weights readRefusal
+    nearestIndex nearestRefusal inLine indexCount leastAt distance channelDistance drawnWith withIndex squared exactIndex exactRefusal zeroAt
+promises-hold = record {
+  finds-nearest = refl;
+  finds-nearest-not = refl;
+  no-exact-for-nearest = λ e. eqb-of _ _ (ap (λ (f : Found). f .refusal) e);
+  finds-exact = refl;
+  finds-exact-not = refl;
+  no-nearest-for-exact = λ e. eqb-of _ _ (ap (λ (f : Found). f .refusal) e);
+}

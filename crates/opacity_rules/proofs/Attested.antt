@@ -1,11 +1,12 @@
 -- WHAT HOLDS THE DEFINITION OF OPACITY: blocks with what is visible of them and the answer, written out from document 02.
 -- Assumes nothing.
-use mathlib.Core.Path.{_≡_, refl}
+use mathlib.Core.Path.{_≡_, refl, sym}
 use mathlib.Core.Bool.{Bool, true, false}
 use mathlib.Core.List.{List, [], _∷_, _++_, map}
 use Prim.Native.Nat.{ℕ}
 use lib.ListN.{replicate}
 use Rattle.laws.specs.Tables.{implies, table, tableFrom}
+use Rattle.laws.proofs.Tests.{no-both}
 use Rattle.bcn_format.specs.Block.{number, trailing}
 use Rattle.bcn_format.specs.Drawing.{drawn, promoted, weightOf, weights}
 use Rattle.bcn_format.specs.Partitions.{anchors2, anchors3, digits, marks, strings2, strings3, subset2, subset3}
@@ -16,6 +17,7 @@ use Rattle.bc7_format.specs.Places.{atPlace, opened, placeAt, pos, width, width
 use Rattle.bc7_format.specs.Splits.{splitAt, splitOf}
 use Rattle.bc7_format.proofs.Examples.{block4}
 use Rattle.opacity_rules.specs.Opacity.{isVisible, opaque, opaqueIn, opaqueShort, passes}
+use Rattle.opacity_rules.specs.Promises.{TellsOpaque}
 
 -- mode 6: seven bits of the marker, then two reds, greens, blues and alphas of seven bits (the alphas from bit 49 and from bit 56 on), p bits at 63
 -- and 64, indexes from 65 on. Both alphas 127 with p 1: 255 everywhere
@@ -112,3 +114,10 @@ unfolding implies table tableFrom digits marks strings2 strings3 subset2 subset3
     modeRow kindOfMode endpointCount placeAt pos width widths trailing number modeOf splitAt splitOf atPlace opened has valuePlace pPlace
     indexSetOf indexPlace own lineOf lineBits meansStored rotated lineAt shown pixel isVisible passes opaque opaqueIn
 in-a-sheet = refl
+
+-- THE PROMISE: two columns of the block hide its pixel 6 and two rows don't; so the answer for the one isn't that for the other
+pub promise-holds : TellsOpaque middle 2 4 true × TellsOpaque middle 4 2 false × (TellsOpaque middle 2 4 false → ⊥)
+unfolding implies table tableFrom digits marks strings2 strings3 subset2 subset3 anchors2 anchors3 weights weightOf drawn promoted eight
+    modeRow kindOfMode endpointCount placeAt pos width widths trailing number modeOf splitAt splitOf atPlace opened has valuePlace pPlace
+    indexSetOf indexPlace own lineOf lineBits meansStored rotated lineAt shown pixel isVisible passes opaque
+promise-holds = (refl, refl, λ e. no-both refl (sym e))

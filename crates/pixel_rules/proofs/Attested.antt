@@ -1,12 +1,13 @@
 -- WHAT HOLDS THE DEFINITIONS OF READING ONE PIXEL: strings, first bits and pixels, written down on paper from documents 01 and 02.
 -- Assumes nothing.
-use mathlib.Core.Path.{_≡_, refl}
+use mathlib.Core.Path.{_≡_, refl, ap}
 use mathlib.Core.Bool.{true, false}
 use mathlib.Core.List.{List, [], _∷_, map}
 use Prim.Native.Nat.{ℕ}
 use lib.ListN.{getD, replicate}
 use Rattle.laws.specs.Refusals.{first}
 use Rattle.laws.specs.Tables.{table, tableFrom}
+use Rattle.laws.proofs.Tests.{eqb-of}
 use Rattle.bcn_format.specs.Block.{field, number, trailing}
 use Rattle.bcn_format.specs.Drawing.{drawn, promoted, weightOf, weights}
 use Rattle.bcn_format.specs.Partitions.{anchors2, anchors3, digits, marks, strings2, strings3, subset2, subset3}
@@ -20,6 +21,7 @@ use Rattle.bc7_format.proofs.Examples.{block0, block4, block7}
 use Rattle.pixel_rules.specs.declared.PixelRead.{PixelRead}
 use Rattle.pixel_rules.specs.Columns.{columnOf, printedRows}
 use Rattle.pixel_rules.specs.Pixels.{pixelRead, pixelRefusal}
+use Rattle.pixel_rules.specs.Promises.{ReadsPixel}
 use Rattle.pixel_rules.specs.Plain.{channelIn, firstStart, indexStart, indexWide, lettersOf, plainChannel, plainPixel, setFor, setStart}
 use Rattle.pixel_rules.specs.Strings.{anchorsBefore, isAnchorIn, letters, placeIn, stringFor, subsetIn}
 
@@ -82,3 +84,11 @@ unfolding first table tableFrom digits marks strings2 strings3 subset2 subset3 a
     modeRow kindOfMode endpointCount placeAt pos width widths trailing number modeOf splitAt splitOf atPlace opened has valuePlace pPlace
     indexSetOf indexPlace own lineOf lineBits meansStored rotated lineAt shown pixel pixelRefusal pixelRead
 answers = (refl, refl, refl, refl)
+
+-- THE PROMISE: an accepted answer, a refused one, and one that it does not admit: the pixel before its rotation, which exchanges green and alpha
+pub promise-holds : ReadsPixel block4 1 (answer 0 (rgba 13 31 46 29)) × ReadsPixel block4 16 (answer 21 (rgba 0 0 0 0))
+    × (ReadsPixel block4 1 (answer 0 (rgba 13 29 46 31)) → ⊥)
+unfolding first table tableFrom digits marks strings2 strings3 subset2 subset3 anchors2 anchors3 weights weightOf drawn promoted eight
+    modeRow kindOfMode endpointCount placeAt pos width widths trailing number modeOf splitAt splitOf atPlace opened has valuePlace pPlace
+    indexSetOf indexPlace own lineOf lineBits meansStored rotated lineAt shown pixel pixelRefusal pixelRead
+promise-holds = (refl, refl, λ e. eqb-of _ _ (ap (λ (r : PixelRead). getD (r .rgba) 1 0) e))

@@ -1,6 +1,7 @@
 -- What is read of a block group by group, by the row of its mode.
 -- Assumes nothing.
-use Prim.Native.Nat.{ℕ, _-_, _*_, _/_, _%_}
+use mathlib.Core.Path.{_≡_}
+use Prim.Native.Nat.{ℕ, _+_, _-_, _*_, _/_, _%_, _≤_}
 use mathlib.Core.List.{List, [], _∷_}
 use lib.Dec.{eqb, ltb}
 use lib.ListN.{getD, replicate}
@@ -12,7 +13,7 @@ use Rattle.bits.specs.declared.stream.BitStream.{BitStream}
 use Rattle.laws.specs.Tables.{pick, table}
 use Rattle.bcn_format.specs.Indexes.{anchorCount, anchorsOfKind, part, Rising}
 use Rattle.indexes.specs.Reading.{newIndexes}
-use Rattle.bits.specs.Stream.{readOf}
+use Rattle.bits.specs.Stream.{taken}
 use Rattle.bc7_places.specs.Modes.{OfMode}
 
 -- the endpoints of four words, one a channel: value e of a channel is part e of its word, and 0 where the mode has no endpoint e
@@ -27,15 +28,24 @@ endpointsOf row red green blue alpha =
 -- four reads, a word for each channel
 unfoldable pub endpointsRead : ModeRow → BitStream → ReadEndpoints
 endpointsRead row s =
-    let r = readOf s (row .endpoints * row .colour) in
-    let g = readOf (r .stream) (row .endpoints * row .colour) in
-    let b = readOf (g .stream) (row .endpoints * row .colour) in
-    let a = readOf (b .stream) (row .endpoints * row .alpha) in
+    let r = taken s (row .endpoints * row .colour) in
+    let g = taken (r .stream) (row .endpoints * row .colour) in
+    let b = taken (g .stream) (row .endpoints * row .colour) in
+    let a = taken (b .stream) (row .endpoints * row .alpha) in
     record { endpoints = endpointsOf row (r .value) (g .value) (b .value) (a .value); stream = a .stream }
 
--- one of all p bits
+-- what they ask: their bits ahead
+pub record EndpointsAhead (row : ModeRow) (s : BitStream) : Type 0 where
+  pub of-mode : OfMode row
+  pub inside : s .at + 3 * (row .endpoints * row .colour) + row .endpoints * row .alpha ≤ 128
+
+-- one of all p bits, which asks for them
 unfoldable pub pRead : ModeRow → BitStream → ReadP
-pRead row s = let r = readOf s (row .p) in record { p = table 6 (part (r .value) 1); stream = r .stream }
+pRead row s = let r = taken s (row .p) in record { p = table 6 (part (r .value) 1); stream = r .stream }
+
+pub record PAhead (row : ModeRow) (s : BitStream) : Type 0 where
+  pub of-mode : OfMode row
+  pub inside : s .at + row .p ≤ 128
 
 -- the second set comes next, where the mode has one
 unfoldable pub secondRead : ModeRow → Anchors → BitStream → List ℕ
@@ -45,7 +55,8 @@ secondRead row a s =
     .uncompressed) (row .second)))
     (replicate 16 0)
 
--- what that asks for: anchors in rising order
-pub record SecondAt (row : ModeRow) (a : Anchors) : Type 0 where
+-- what that asks for: anchors in rising order, and the set's bits ahead
+pub record SecondAhead (row : ModeRow) (a : Anchors) (s : BitStream) : Type 0 where
   pub of-mode : OfMode row
   pub rising : Rising (row .kind) (a .b) (a .c)
+  pub inside : row .kind ≡ 3 → s .at + (16 * row .second - anchorCount (row .kind)) ≤ 128

@@ -5,7 +5,7 @@ ghost use Prim.Native.Nat.{_<_, _≤_};
 ghost use Rattle.bcn_format.specs.Indexes.{part};
 ghost use Rattle.record_rules.specs.Records.{recordOf};
 ghost use Rattle.bc7_places.specs.Modes.{OfBlock, OfMode};
-ghost use Rattle.record.specs.Reading.{SecondAt, endpointsOf, endpointsRead, pRead, secondRead};
+ghost use Rattle.record.specs.Reading.{EndpointsAhead, PAhead, SecondAhead, endpointsOf, endpointsRead, pRead, secondRead};
 use bc7_places::modes::ModeRow;
 use bc7_places::splits::Anchors;
 use bc7_places::splits::anchors_of;
@@ -47,7 +47,7 @@ pub struct ReadEndpoints {
 
 // A channel's values stand side by side: one read for each channel.
 pub fn read_endpoints(row: ModeRow, stream: BitStream) -> ReadEndpoints
-    requires { ⌜ OfMode row ⌝ }
+    requires { ⌜ EndpointsAhead row stream ⌝ }
     ensures { λ r. ⌜ r ≡ endpointsRead row stream ⌝ }
 {
     let count = row.endpoints as u32;
@@ -73,7 +73,7 @@ pub struct ReadP {
 
 // What the mode hasn't got is 0, since a word of its p bits has no more.
 pub fn read_p(row: ModeRow, stream: BitStream) -> ReadP
-    requires { ⌜ OfMode row ⌝ }
+    requires { ⌜ PAhead row stream ⌝ }
     ensures { λ r. ⌜ r ≡ pRead row stream ⌝ }
 {
     let bits = stream.take(row.p as u32);
@@ -94,7 +94,7 @@ pub fn read_p(row: ModeRow, stream: BitStream) -> ReadP
 
 // The second set of indexes, zeros where the mode has none.
 pub fn read_second(row: ModeRow, anchors: Anchors, stream: BitStream) -> [u8; 16]
-    requires { ⌜ SecondAt row anchors ⌝ }
+    requires { ⌜ SecondAhead row anchors stream ⌝ }
     ensures { λ r. ⌜ r ≡ secondRead row anchors stream ⌝ }
 {
     if row.kind != 3 {

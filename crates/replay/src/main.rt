@@ -29,6 +29,7 @@ use rinchovek::rinchovek_sheet_decode_row;
 use rinchovek::rinchovek_sheet_open;
 use rinchovek::rinchovek_sheet_replace_line;
 use rinchovek::rinchovek_sheet_show_row;
+use rinchovek::rinchovek_sheet_state_colour;
 use rinchovek::rinchovek_sheet_to_rows;
 use rinchovek::rinchovek_sheet_to_tiles;
 use rinchovek::rinchovek_sheet_write_head;
@@ -248,6 +249,7 @@ enum SheetCall {
     Open,
     Block,
     ReplaceLine,
+    StateColour(u32),
     List,
     ImportLength,
     ExportLength,
@@ -312,6 +314,11 @@ fn replace_in(sheet: &mut [u8]) -> bool {
     io::write_all(STDOUT_FILENO, sheet)
 }
 
+fn state_colour_in(sheet: &mut [u8], colour_space: u32) -> bool {
+    write_small(rinchovek_sheet_state_colour(sheet, colour_space));
+    io::write_all(STDOUT_FILENO, sheet)
+}
+
 // The listing has 40 bytes for each block at the most, and two texts more.
 fn list_of(sheet: &[u8]) -> bool
     requires { ⌜ length (now sheet) ≤ 65536 ⌝ }
@@ -347,6 +354,7 @@ fn sheet_call_of(asked: SheetCall, sheet: &mut [u8]) -> bool
         SheetCall::Open => open_of(sheet),
         SheetCall::Block => block_of(sheet),
         SheetCall::ReplaceLine => replace_in(sheet),
+        SheetCall::StateColour(colour_space) => state_colour_in(sheet, colour_space),
         SheetCall::List => list_of(sheet),
         SheetCall::ImportLength => length_of(false, sheet),
         SheetCall::ExportLength => length_of(true, sheet),
@@ -371,6 +379,14 @@ fn sheet_call(asked: SheetCall) -> bool {
         return false;
     }
     sheet_call_within(asked, n as usize)
+}
+
+fn state_colour_call() -> bool {
+    let mut colour_space = [0u8; 4];
+    if !filled(&mut colour_space) {
+        return false;
+    }
+    sheet_call(SheetCall::StateColour(number(&colour_space, 0)))
 }
 
 // The length of a head is one byte.
@@ -580,6 +596,7 @@ fn call(letter: u8) -> bool {
         b'o' => sheet_call(SheetCall::Open),
         b'b' => sheet_call(SheetCall::Block),
         b'S' => sheet_call(SheetCall::ReplaceLine),
+        b'c' => state_colour_call(),
         b'l' => sheet_call(SheetCall::List),
         b'd' => sheet_call(SheetCall::ImportLength),
         b's' => sheet_call(SheetCall::ExportLength),

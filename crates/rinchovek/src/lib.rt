@@ -3,7 +3,7 @@
 // C caller has to know; `rt staticlib rinchovek` writes the archive.
 ghost use Rattle.rinchovek_rules.specs.Promises.{Decodes, Packs, ReadsLine, Replaces, Unpacks, Versions, DecodesRow, ReadsHead, ReplacesIn};
 ghost use Rattle.rinchovek_rules.specs.Promises.{FindsExact, FindsNearest, ReadsPixel, TellsOpaque, WritesHead};
-ghost use Rattle.rinchovek_rules.specs.Promises.{MovesToRows, MovesToTiles, OpensSheet, ReadsBlock, ShowsRow};
+ghost use Rattle.rinchovek_rules.specs.Promises.{MovesToRows, MovesToTiles, OpensSheet, ReadsBlock, ShowsRow, StatesColour};
 ghost use Rattle.rinchovek_rules.specs.Promises.{ExportNeeds, ExportsColour, ExportsDds, ImportNeeds, ImportsColour, ImportsDds, ReadsColourHead};
 use bc7::decode_bc7_block;
 use bc7_places::places::PLACES;
@@ -17,6 +17,7 @@ use head_rules::ColourSpace;
 use head_rules::Form;
 use line::read_line;
 use line::replace_line;
+use moves::state_colour;
 use moves::to_rows;
 use moves::to_tiles;
 use nearest::exact_index;
@@ -41,7 +42,7 @@ use sheet_head::write_head;
 
 // Which version of the calls and their answers this is: 10000 times the major number, 100 times the minor one, and the patch. The
 // header has the same three.
-const VERSION: u32 = 10700;
+const VERSION: u32 = 10800;
 
 #[no_mangle]
 pub extern "C" fn rinchovek_version() -> u32
@@ -311,6 +312,14 @@ pub extern "C" fn rinchovek_sheet_to_rows(sheet: &[u8], out: &mut [u8]) -> u32
     ensures { λ r. ⌜ MovesToRows (now (sheet .entry)) (now (out .entry)) r (now (out .exit)) ⌝ }
 {
     to_rows(sheet, out) as u32
+}
+
+// The colour space of a sheet of form 2, stated by its number: one byte of the head, and no other.
+#[no_mangle]
+pub extern "C" fn rinchovek_sheet_state_colour(sheet: &mut [u8], colour_space: u32) -> u32
+    ensures { λ r. ⌜ StatesColour (now (sheet .entry)) «colour_space» r (now (sheet .exit)) ⌝ }
+{
+    state_colour(sheet, colour_space) as u32
 }
 
 // A line of one block replaced in a sheet; no byte of another block changes.

@@ -32,7 +32,7 @@ use Rattle.tile_rules.specs.Tiles.{columnAt, columnOfSlot, inSheet, numberInSlo
 use Rattle.tile_rules.specs.Tiles.{storedInTiles, storedOrder, tiles}
 use Rattle.head_rules.specs.Geometry.{blocksOf, placeOf, storedAt}
 use Rattle.head_rules.specs.Heads.{colourIn, formIn, formOf, headBytes, headRefusalUpTo, heightIn, ofFormRefusalUpTo, readHeadUpTo, readOfFormUpTo}
-use Rattle.head_rules.specs.Heads.{sizeRefusalUpTo, tiledBytes, widthIn, writeHead}
+use Rattle.head_rules.specs.Heads.{sizeRefusalUpTo, tiledBytes, widthIn, writeHeadUpTo}
 use Rattle.head_rules.specs.Numbers.{groups, raised, readGroups, readNumber}
 use Rattle.sheet_rules.specs.Rows.{blockAt, channel, rowByte, rowBytes, rowOutUpTo, rowRefusalUpTo}
 use Rattle.sheet_rules.specs.Blocks.{blockRead}
@@ -48,7 +48,8 @@ use Rattle.dds_rules.specs.Files.{exportAfterBy, exportLength, exportRefusalBy,
 use Rattle.dds_rules.specs.Files.{importRefusalUpTo, numberedAfter, numberedRefusal, sheetMade, wholeRefusalBy}
 use Rattle.dds_rules.proofs.Attested.{file53, header53, sheet53}
 use Rattle.move_rules.specs.Moving.{moveAfter, moveRefusal, movedTo}
-use Rattle.rinchovek_rules.specs.Promises.{MovesToRows, MovesToTiles, OpensSheet, ReadsBlock, ShowsRow}
+use Rattle.move_rules.specs.Stating.{stateAfter, stateRefusal, statedAs}
+use Rattle.rinchovek_rules.specs.Promises.{MovesToRows, MovesToTiles, OpensSheet, ReadsBlock, ShowsRow, StatesColour}
 use Rattle.rinchovek_rules.specs.Promises.{ExportNeeds, ExportsColour, ExportsDds, ImportNeeds, ImportsColour, ImportsDds, ReadsColourHead}
 
 abbrev zeros : ℕ → List ℕ
@@ -109,7 +110,7 @@ computed : {A : Type 0} {refusal : ℕ} {left : A} → Gives refusal left refusa
 computed = record { answers = refl; leaves = refl }
 
 pub record Calls : Type 0 where
-  pub version : Versions (10000 * 1 + 100 * 7 + 0)
+  pub version : Versions (10000 * 1 + 100 * 8 + 0)
   pub decodes : Decodes block4 (half4 ++ half4)
   pub decodes-reserved : Decodes (zeros 16) (replicate 16 (rgba 0 0 0 0))
   pub unpacks : Unpacks block4 (nines 66) 0 (bytes4 3)
@@ -140,6 +141,7 @@ pub record Calls : Type 0 where
   pub reads-colour-head-not : ReadsColourHead (0x02 ∷ []) (nines 4) 8 (nines 4)
   pub reads-colour-head-not-tiles : ReadsColourHead head2 (nines 4) 8 (nines 4)
   pub writes-head : WritesHead 5 6 (nines 7, 9) 0 (0x01 ∷ 0x05 ∷ 0x06 ∷ zeros 4, 3)
+  pub writes-head-long : WritesHead 5 200 (nines 7, 9) 0 (0x01 ∷ 0x05 ∷ 0xC8 ∷ 0x01 ∷ zeros 3, 4)
   pub writes-head-not : WritesHead 5 16385 (nines 7, 9) 9 (nines 7, 9)
   pub decodes-row : DecodesRow 5 6 1 lower (nines 40) 0 lowerScanlines
   pub decodes-row-not : DecodesRow 5 6 1 lower (nines 41) 11 (nines 41)
@@ -153,6 +155,9 @@ pub record Calls : Type 0 where
   pub moves-to-rows : MovesToRows (inTiles 0) (nines 99) 0 inRows
   pub moves-to-rows-not : MovesToRows inRows (nines 100) 8 (nines 100)
   pub moves-to-rows-not-16 : MovesToRows (inTiles 2) (nines 99) 16 (nines 99)
+  pub states-colour : StatesColour (inTiles 0) 2 0 (inTiles 2)
+  pub states-colour-not : StatesColour (inTiles 1) 3 18 (inTiles 1)
+  pub states-colour-not-rows : StatesColour inRows 2 8 inRows
   pub replaces-in : ReplacesIn small 2 0 bytesGiven6 0 smallReplaced
   pub replaces-in-not : ReplacesIn small 0 2 bytesGiven6 2 small
   pub imports-dds : ImportsDds file53 (nines 35) 0 sheet53
@@ -179,7 +184,7 @@ unfolding padded first over table tableFrom weights weightOf drawn promoted eigh
     recordOf made packed packRefusal fits says blockOf listOf bytesOf replaced after refusal refusalIn lineFits valueFits pFits
     indexFits ownWidth lineGiven put oriented withLine laid turned anchorOf lineRead readRefusal givenAs widthsOf valueAt
     recordByte recordBytes recordOfBytes replacementOf replacementBytes packedBytes bytesRefusal spelt readHeadUpTo headRefusalUpTo colourIn formOf readOfFormUpTo ofFormRefusalUpTo storedAt formIn
-    widthIn heightIn readNumber readGroups raised sizeRefusalUpTo writeHead headBytes groups blockAt channel rowByte rowBytes rowOutUpTo
+    widthIn heightIn readNumber readGroups raised sizeRefusalUpTo writeHeadUpTo headBytes groups blockAt channel rowByte rowBytes rowOutUpTo
     rowRefusalUpTo blockBy blocksOf findRefusalBy placeOf putBlock replacedBy sheetAfterBy sheetRefusalBy draws meansShown channelDistance
     distance drawnWith exactIndex exactRefusal inLine indexCount leastAt nearestIndex nearestRefusal squared withIndex zeroAt
     implies isVisible passes opaque pixelRefusal pixelRead
@@ -187,6 +192,7 @@ unfolding padded first over table tableFrom weights weightOf drawn promoted eigh
     wholeRefusalBy exportRefusalBy fileMadeBy exportAfterBy importLength exportLength formatSays numberedRefusal numberedAfter colourOf colourRefusal
     count kept columnAt columnOfSlot inSheet numberInSlot numberInTiles rowAt rowOfSlot slotIn slotOf slots storedInTiles storedOrder
     tiles tiledBytes blockRead blocksAs byteAs rowOf rowBlocks sheetRowOut sheetRowRefusal moveAfter moveRefusal movedTo
+    stateAfter stateRefusal statedAs
 calls-hold = record {
   version = refl;
   decodes = refl;
@@ -219,6 +225,7 @@ calls-hold = record {
   reads-colour-head-not = computed;
   reads-colour-head-not-tiles = computed;
   writes-head = computed;
+  writes-head-long = computed;
   writes-head-not = computed;
   decodes-row = computed;
   decodes-row-not = computed;
@@ -232,6 +239,9 @@ calls-hold = record {
   moves-to-rows = computed;
   moves-to-rows-not = computed;
   moves-to-rows-not-16 = computed;
+  states-colour = computed;
+  states-colour-not = computed;
+  states-colour-not-rows = computed;
   replaces-in = computed;
   replaces-in-not = computed;
   imports-dds = computed;

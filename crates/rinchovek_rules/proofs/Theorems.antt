@@ -16,11 +16,12 @@ use Rattle.pixel_rules.proofs.Theorems.{pixel-accepted, pixel-of-the-sixteen}
 use Rattle.head_rules.specs.declared.ColourSpace.the-variants.{Unspecified}
 use Rattle.dds_rules.specs.Files.{importAfterUpTo}
 use Rattle.move_rules.specs.Moving.{moveAfter}
+use Rattle.move_rules.specs.Stating.{stateAfter}
 use Rattle.sheet_rules.specs.SheetRows.{sheetRowOut}
 use Rattle.dds_rules.proofs.Theorems.{refused-export-leaves, refused-numbered-leaves}
 use Rattle.rinchovek_rules.specs.Promises.{Decodes, Determined, Gives, Packs, ReadsLine, Replaces, Unpacks, Versions, Writes, DecodesRow}
 use Rattle.rinchovek_rules.specs.Promises.{ReadsHead, ReadsPixel, FindsExact, FindsNearest, ReplacesIn, TellsOpaque, WritesHead}
-use Rattle.rinchovek_rules.specs.Promises.{MovesToRows, MovesToTiles, OpensSheet, ReadsBlock, ShowsRow}
+use Rattle.rinchovek_rules.specs.Promises.{MovesToRows, MovesToTiles, OpensSheet, ReadsBlock, ShowsRow, StatesColour}
 use Rattle.rinchovek_rules.specs.Promises.{ExportNeeds, ExportsColour, ExportsDds, ImportNeeds, ImportsColour, ImportsDds, ReadsColourHead}
 
 one-given : {A : Type 0} (refusal : ℕ) (left : A) → Determined (Gives refusal left)
@@ -84,6 +85,9 @@ determined-sheet-to-tiles sheet before = one-given _ _
 
 pub determined-sheet-to-rows : (sheet before : List ℕ) → Determined (MovesToRows sheet before)
 determined-sheet-to-rows sheet before = one-given _ _
+
+pub determined-sheet-state-colour : (sheet : List ℕ) (number : ℕ) → Determined (StatesColour sheet number)
+determined-sheet-state-colour sheet number = one-given _ _
 
 pub determined-sheet-replace-line : (sheet : List ℕ) (block line : ℕ) (bytes : List ℕ) → Determined (ReplacesIn sheet block line bytes)
 determined-sheet-replace-line sheet block line bytes = one-given _ _
@@ -168,6 +172,10 @@ refused-sheet-to-tiles-leaves sheet before = refused-leaves _ _ before
 pub refused-sheet-to-rows-leaves : (sheet before : List ℕ) → Leaves before (MovesToRows sheet before)
 unfolding moveAfter
 refused-sheet-to-rows-leaves sheet before = refused-leaves _ _ before
+
+pub refused-sheet-state-colour-leaves : (sheet : List ℕ) (number : ℕ) → Leaves sheet (StatesColour sheet number)
+unfolding stateAfter
+refused-sheet-state-colour-leaves sheet number = refused-leaves _ _ sheet
 
 pub refused-sheet-replace-line-leaves : (sheet : List ℕ) (block line : ℕ) (bytes : List ℕ) → Leaves sheet (ReplacesIn sheet block line bytes)
 refused-sheet-replace-line-leaves sheet block line bytes answer after p ne =

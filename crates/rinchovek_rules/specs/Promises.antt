@@ -29,6 +29,7 @@ use Rattle.pixel_rules.specs.Pixels.{pixelRead}
 use Rattle.dds_rules.specs.Files.{exportAfter, exportLength, exportRefusal, headMade, importAfter, importLength, importRefusal, numberedAfter}
 use Rattle.dds_rules.specs.Files.{numberedRefusal, sheetMade}
 use Rattle.move_rules.specs.Moving.{moveAfter, moveRefusal}
+use Rattle.move_rules.specs.Stating.{stateAfter, stateRefusal}
 
 -- this number is answered, and this is left
 pub record Gives {A : Type 0} (refusal : ℕ) (left : A) (answer : ℕ) (after : A) : Type 0 where
@@ -39,9 +40,9 @@ pub record Gives {A : Type 0} (refusal : ℕ) (left : A) (answer : ℕ) (after :
 abbrev pub Writes : {A : Type 0} → ℕ → A → A → ℕ → A → Type 0
 Writes refusal value before = Gives refusal (pick (eqb refusal 0) value before)
 
--- version 1.7.0: major, minor and patch, with two digits for each of the last two
+-- version 1.8.0: major, minor and patch, with two digits for each of the last two
 abbrev pub Versions : ℕ → Type 0
-Versions answer = answer ≡ 10700
+Versions answer = answer ≡ 10800
 
 abbrev pub Decodes : List ℕ → List (List ℕ) → Type 0
 Decodes block after = after ≡ pixels block
@@ -125,6 +126,10 @@ MovesToTiles sheet before = Gives (moveRefusal Tiles sheet (length before)) (mov
 
 abbrev pub MovesToRows : List ℕ → List ℕ → ℕ → List ℕ → Type 0
 MovesToRows sheet before = Gives (moveRefusal Rows sheet (length before)) (moveAfter Rows sheet before)
+
+-- the colour space of a sheet of form 2, stated by its number
+abbrev pub StatesColour : List ℕ → ℕ → ℕ → List ℕ → Type 0
+StatesColour sheet number = Gives (stateRefusal sheet number) (stateAfter sheet number)
 
 abbrev pub ReplacesIn : List ℕ → ℕ → ℕ → List ℕ → ℕ → List ℕ → Type 0
 ReplacesIn sheet block line bytes = Gives (sheetRefusal sheet block line (replacementOf bytes)) (sheetAfter sheet block line (replacementOf bytes))

@@ -3,7 +3,7 @@
 use mathlib.Core.Path.{_≡_, refl}
 use mathlib.Core.List.{List, [], _∷_, _++_, map}
 use Prim.Native.Nat.{ℕ}
-use lib.ListN.{drop, length, replicate}
+use lib.ListN.{drop, length, replicate, take}
 use Rattle.line_rules.specs.declared.Replacement.{Replacement}
 use Rattle.sheet_rules.specs.declared.BlockRead.{BlockRead}
 use Rattle.laws.specs.Refusals.{first}
@@ -104,6 +104,8 @@ rowClaims =
     decode 0 6 2 shade30 (nines 41) 9 (nines 41) ∷
     decode 5 6 2 shade30 (nines 41) 12 (nines 41) ∷
     decode 5 6 1 shade30 (nines 41) 10 (nines 41) ∷
+    decode 5 6 1 (lower ++ (0 ∷ [])) (nines 40) 10 (nines 40) ∷
+    decode 5 6 1 (take 31 lower) (nines 40) 10 (nines 40) ∷
     decode 5 6 1 lower (nines 41) 11 (nines 41) ∷
     []
 
@@ -137,6 +139,8 @@ sheetClaims =
     refuse (0x03 ∷ 0x00 ∷ drop 2 longer) 4 1 8 ∷
     refuse (0x01 ∷ 0x00 ∷ drop 2 longer) 4 1 9 ∷
     refuse longer 4 1 10 ∷
+    refuse longer 2 0 10 ∷
+    refuse (take 66 small) 2 0 10 ∷
     refuse small 4 1 12 ∷
     refuse small 2 1 2 ∷
     replace (tiles3 shade30) 2 0 0 (tiles3 replaced2) ∷

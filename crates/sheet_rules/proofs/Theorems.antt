@@ -23,6 +23,7 @@ use Rattle.bc7_format.specs.Splits.{splitOf}
 use Rattle.head_rules.specs.Geometry.{blocksOf, placeOf}
 use Rattle.head_rules.specs.Heads.{readHead}
 use Rattle.head_rules.specs.Numbers.{Bytes}
+use Rattle.line_rules.specs.declared.Replacement.{Replacement}
 use Rattle.line_rules.specs.Calls.{afterAll, last, seen}
 use Rattle.line_rules.specs.Replace.{after, refusal}
 use Rattle.line_rules.proofs.Draws.{drawn-by-one}
@@ -272,9 +273,9 @@ pub determined-decode-row : (w h row : ℕ) (blocks before : List ℕ) (r s : �
     → DecodesRow w h row blocks before r a → DecodesRow w h row blocks before s b → (r ≡ s) × (a ≡ b)
 determined-decode-row w h row blocks before r s a b p q = (p .0 ∙ sym (q .0), p .1 ∙ sym (q .1))
 
-pub determined-replace-in-sheet : (sheet : List ℕ) (c : SheetCall) (r s : ℕ) (a b : List ℕ)
-    → ReplacesInSheet sheet (c .block) (c .line) (c .given) r a → ReplacesInSheet sheet (c .block) (c .line) (c .given) s b → (r ≡ s) × (a ≡ b)
-determined-replace-in-sheet sheet c r s a b p q = (p .0 ∙ sym (q .0), p .1 ∙ sym (q .1))
+pub determined-replace-in-sheet : (sheet : List ℕ) (block line : ℕ) (new : Replacement) (r s : ℕ) (a b : List ℕ)
+    → ReplacesInSheet sheet block line new r a → ReplacesInSheet sheet block line new s b → (r ≡ s) × (a ≡ b)
+determined-replace-in-sheet sheet block line new r s a b p q = (p .0 ∙ sym (q .0), p .1 ∙ sym (q .1))
 
 -- and where the answer that it admits is not 0, what is left is what was
 pub refused-row-leaves : (w h row : ℕ) (blocks before : List ℕ) (r : ℕ) (a : List ℕ) → DecodesRow w h row blocks before r a → r ≢ 0 → a ≡ before

@@ -3,8 +3,8 @@
 // table of weights stands anywhere in the code; with a literal width and index the compiler folds the division away.
 ghost use mathlib.Core.Path.{_≡_};
 ghost use Prim.Native.Nat.{_*_};
-ghost use Rattle.bcn_format.specs.Drawing.{weightOf};
-ghost use Rattle.weights.specs.Weights.{Weighed, Weight};
+ghost use Rattle.bcn_format.specs.Drawing.{Weighed, weightOf};
+ghost use Rattle.weights.specs.Weights.{Weight};
 
 // Of 64, as the format prints it.
 pub fn weight_64(bits: u32, index: u32) -> u32

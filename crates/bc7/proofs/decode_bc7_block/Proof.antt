@@ -47,54 +47,63 @@ new-requires c κs = search needs
 extract-mode-requires : tie.Need-extract-mode-requires
 extract-mode-requires c κs = search needs
 
-mode-subset-3-requires : tie.Need-mode-subset-3-requires
-mode-subset-3-requires c κs = record { mode = of-three (c .match .keys1) .0; stands = c .before .before .new .ensures .stands }
-
 returns : tie.Need-returns
-returns c = let at = c .before in shows (at .before) _ refl (of-three (at .match .keys1) .1) (c .mode-subset-3 .ensures)
+returns c =
+    let mode = c .before in
+    let new = mode .before in
+    let s = new .before in
+    let begins = new .new .ensures in
+    by-none (s .args .block) (size s) (λ i. byte s i .fits) (new .new .result) (begins .of) (begins .stands) (mode .extract-mode .ensures) refl
+    (c .if1 .taken)
 
-mode-subset-2-requires : tie.Need-mode-subset-2-requires
-mode-subset-2-requires c κs = record { mode = of-two (c .match .keys2) .0; stands = c .before .before .new .ensures .stands }
+mode-subset-3-requires : tie.Need-mode-subset-3-requires
+mode-subset-3-requires c κs = record { mode = of-three (c .match .keys1) .0; stands = c .before .before .before .new .ensures .stands }
 
 returns-2 : tie.Need-returns-2
-returns-2 c = let at = c .before in shows (at .before) _ refl (of-two (at .match .keys2) .1) (c .mode-subset-2 .ensures)
+returns-2 c = let at = c .before in shows (at .before .before) _ refl (of-three (at .match .keys1) .1) (c .mode-subset-3 .ensures)
+
+mode-subset-2-requires : tie.Need-mode-subset-2-requires
+mode-subset-2-requires c κs = record { mode = of-two (c .match .keys2) .0; stands = c .before .before .before .new .ensures .stands }
+
+returns-3 : tie.Need-returns-3
+returns-3 c = let at = c .before in shows (at .before .before) _ refl (of-two (at .match .keys2) .1) (c .mode-subset-2 .ensures)
 
 skip-requires : tie.Need-skip-requires
 skip-requires c κs = search needs
 
 mode-4-requires : tie.Need-mode-4-requires
-mode-4-requires c κs = skipped-to (c .before .before) 5 (c .skip .ensures)
+mode-4-requires c κs = skipped-to (c .before .before .before) 5 (c .skip .ensures)
 
-returns-3 : tie.Need-returns-3
-returns-3 c =
+returns-4 : tie.Need-returns-4
+returns-4 c =
     let at = c .before .before in
-    shows-past (at .before) 4 (at .match .keys3) (omega arith) (c .before .skip .ensures) (c .mode-4 .ensures)
+    shows-past (at .before .before) 4 (at .match .keys3) (omega arith) (c .before .skip .ensures) (c .mode-4 .ensures)
 
 skip-requires-2 : tie.Need-skip-requires-2
 skip-requires-2 c κs = search needs
 
 mode-5-requires : tie.Need-mode-5-requires
-mode-5-requires c κs = skipped-to (c .before .before) 6 (c .skip2 .ensures)
+mode-5-requires c κs = skipped-to (c .before .before .before) 6 (c .skip2 .ensures)
 
-returns-4 : tie.Need-returns-4
-returns-4 c =
+returns-5 : tie.Need-returns-5
+returns-5 c =
     let at = c .before .before in
-    shows-past (at .before) 5 (at .match .keys4) (omega arith) (c .before .skip2 .ensures) (c .mode-5 .ensures)
+    shows-past (at .before .before) 5 (at .match .keys4) (omega arith) (c .before .skip2 .ensures) (c .mode-5 .ensures)
 
 skip-requires-3 : tie.Need-skip-requires-3
 skip-requires-3 c κs = search needs
 
 mode-6-requires : tie.Need-mode-6-requires
-mode-6-requires c κs = skipped-to (c .before .before) 7 (c .skip3 .ensures)
-
-returns-5 : tie.Need-returns-5
-returns-5 c =
-    let at = c .before .before in
-    shows-past (at .before) 6 (at .match .keys5) (omega arith) (c .before .skip3 .ensures) (c .mode-6 .ensures)
+mode-6-requires c κs = skipped-to (c .before .before .before) 7 (c .skip3 .ensures)
 
 returns-6 : tie.Need-returns-6
 returns-6 c =
-    let mode = c .before in
+    let at = c .before .before in
+    shows-past (at .before .before) 6 (at .match .keys5) (omega arith) (c .before .skip3 .ensures) (c .mode-6 .ensures)
+
+returns-7 : tie.Need-returns-7
+returns-7 c =
+    let mode = c .before .before in
     let new = mode .before in
     let s = new .before in
     let begins = new .new .ensures in
@@ -110,17 +119,18 @@ decode-bc7-block-spec =
     (tie.spec
     new-requires
     extract-mode-requires
-    mode-subset-3-requires
     returns
-    mode-subset-2-requires
+    mode-subset-3-requires
     returns-2
+    mode-subset-2-requires
+    returns-3
     skip-requires
     mode-4-requires
-    returns-3
+    returns-4
     skip-requires-2
     mode-5-requires
-    returns-4
+    returns-5
     skip-requires-3
     mode-6-requires
-    returns-5
-    returns-6)
+    returns-6
+    returns-7)

@@ -12,10 +12,13 @@ low-u8-requires : tie.Need-low-u8-requires
 low-u8-requires c κs = search needs
 
 cast-result : tie.Need-cast-result
-cast-result c = record { fits = lt-of-le-of-lt (trailing-le 8 _) (lit< tt) }
+cast-result c = search needs
+
+cast-result-2 : tie.Need-cast-result-2
+cast-result-2 c = record { fits = lt-of-le-of-lt (trailing-le 8 _) (lit< tt) }
 
 returns : tie.Need-returns
-returns c = rw (c .low-u8 .ensures) (trailing-count 8 _)
+returns c = rw (c .before .low-u8 .ensures .same) (trailing-count 8 _)
 
 pub extract-mode-spec : {M : Type 1} → statement M
-extract-mode-spec = tie.close (tie.spec low-u8-requires cast-result returns)
+extract-mode-spec = tie.close (tie.spec low-u8-requires cast-result cast-result-2 returns)

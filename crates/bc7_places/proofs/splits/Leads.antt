@@ -2,28 +2,27 @@
 -- Assumes nothing.
 use mathlib.Core.Path.{_≡_, refl, ap, ap₂, subst, _∙_}
 use mathlib.Core.List.{List}
-use Prim.Native.Nat.{ℕ, zero, suc, _+_, _/_, _%_, _^_, _≤_, _<_}
+use Prim.Native.Nat.{ℕ, zero, suc, _+_, _/_, _%_, _^_, _<_}
 use native.Mathlib.Nat.{add-assoc, add-zero, zero-add}
 use native.Mathlib.Numerals.{add-one}
 use native.Mathlib.Omega.{arith}
-use lib.Dec.{leb, leb→le}
 use lib.Pow.{field as part-of, mod-mod-pow, shr-shr}
 use Rattle.bc7_places.specs.declared.splits.ReadSplit.{ReadSplit}
 use Rattle.bc7_places.specs.declared.modes.ModeRow.{ModeRow}
 use Rattle.bits.specs.declared.stream.BitStream.{BitStream}
 use Rattle.bc7_format.specs.declared.Split.the-variants.{Vector}
-use Rattle.laws.proofs.Tests.{at}
 use Rattle.laws.specs.Digits.{Fit}
 use Rattle.bcn_format.specs.Block.{eights, field, number}
 use Rattle.bc7_format.specs.Fields.{leadEnd}
 use Rattle.bc7_format.specs.Modes.{indexModeBits, kindOfMode, modeRow, partitionBits, rotationBits}
 use Rattle.bc7_format.specs.Splits.{ofKind, splitAt, splitOf}
+use Rattle.bc7_format.proofs.Fields.{groups-128}
 use Rattle.bc7_format.proofs.Modes.{good-64}
 use Rattle.bc7_format.proofs.Opening.{opened-good}
 use Rattle.bits.specs.Stream.{skipped}
 use Rattle.bits.proofs.On.{On, got, on-read, on-skipped}
 use Rattle.bc7_places.specs.Modes.{OfBlock, modeRowOf}
-use Rattle.bc7_places.specs.Splits.{IsLead, splitRead}
+use Rattle.bc7_places.specs.Splits.{IsLead, SplitAhead, splitRead}
 
 -- two bits of rotation, and the index mode above them
 vector : (n a i : ℕ) → Vector (field n a (i + 2) % 4) (field n a (i + 2) / 2 ^ 2) ≡ Vector (field n (a + 0) 2) (field n (a + (0 + 2)) i)
@@ -51,13 +50,8 @@ one-read (suc (suc (suc (suc (suc (suc zero)))))) n a h = refl
 one-read (suc (suc (suc (suc (suc (suc (suc zero))))))) n a h = refl
 one-read (suc (suc (suc (suc (suc (suc (suc (suc m)))))))) n a h = absurd (let z : ⊥ = omega arith in z)
 
--- the read is accepted behind the marker
-lead-fits : (m : ℕ) → m < 8 → m + 1 + (partitionBits m + rotationBits m + indexModeBits m) ≤ 128
-unfolding modeRow
-lead-fits m h = leb→le _ 128 (at 8 (λ m. leb (m + 1 + (partitionBits m + rotationBits m + indexModeBits m)) 128) tt m h)
-
 -- behind the marker
-marker-on : (m : ℕ) {n : ℕ} {b s : BitStream} → On n 0 b → s ≡ skipped b (m + 1) → On n (m + 1) s
+pub marker-on : (m : ℕ) {n : ℕ} {b s : BitStream} → On n 0 b → s ≡ skipped b (m + 1) → On n (m + 1) s
 marker-on m o e = rw e (rw (zero-add (m + 1)) at (on-skipped o (m + 1)))
 
 -- there it is the block's
@@ -74,15 +68,22 @@ module _ (m : ℕ) (low : m < 8) {n : ℕ} {row : ModeRow} {s : BitStream} {r : 
 
   split-is : r .split ≡ splitAt m n
   unfolding bits
-  split-is = rw (er, e, got o bits (lead-fits m low) refl) (one-read m n (m + 1) low ∙ split-parts m n)
+  split-is = rw (er, e, got o bits refl) (one-read m n (m + 1) low ∙ split-parts m n)
 
   split-on : On n (m + 1 + (partitionBits m + rotationBits m + indexModeBits m)) (r .stream)
   unfolding bits
-  split-on = rw (er, e) (on-read o bits (lead-fits m low) refl)
+  split-on = rw (er, e) (on-read o bits refl)
 
 lead-end : (m : ℕ) → m + 1 + (partitionBits m + rotationBits m + indexModeBits m) ≡ leadEnd m
 unfolding leadEnd
 lead-end m = omega arith
+
+-- its bits are there
+pub lead-ahead : {mode : ℕ} {row : ModeRow} {n : ℕ} {s : BitStream} → mode < 8 → row ≡ modeRowOf mode → On n (mode + 1) s → SplitAhead row s
+lead-ahead {mode} low e o = record {
+  of-mode = record { mode = mode; low = low; is = e };
+  inside = rw (e, o .stands) (omega (arith, lead-end mode, groups-128 mode low));
+}
 
 -- THE LEAD OF A BLOCK, read from its start
 module _ (bs : List ℕ) (sixteen : Fit eights bs) {mode : ℕ} {row : ModeRow} (of : OfBlock bs mode row) {b s : BitStream} {r : ReadSplit}

@@ -6,14 +6,13 @@ use native.Mathlib.Omega.{arith}
 use borrow.Author.Needs.{needs}
 use Rattle.laws.proofs.Cases.{pick-less}
 use Rattle.bcn_format.specs.Block.{number}
-use Rattle.bcn_format.specs.Drawing.{drawn, weightOf}
+use Rattle.bcn_format.specs.Drawing.{Weighed, drawn, weightOf}
 use Rattle.bcn_format.proofs.Drawing.{weight-le}
 use Rattle.bcn_format.proofs.Fields.{field-below}
 use Rattle.bc7_format.specs.Fields.{endByte}
 use Rattle.bc7_format.specs.Modes.{endpointCount, indexBits}
 use Rattle.pixel_rules.specs.Plain.{channelIn, indexIn, indexWide, setFor}
 use Rattle.pixel_rules.specs.Strings.{isAnchorIn, subsetIn}
-use Rattle.bc7_plain.specs.Asked.{Weighed}
 use Rattle.bc7_plain.proofs.Rows.{Serves, fits, serves}
 use Rattle.bc7_plain.proofs.channel_of.Statement.{statement}
 use Rattle.bc7_plain.proofs.channel_of.Tie as tie

@@ -1,22 +1,26 @@
 -- The number of the partition.
 -- Assumes nothing.
-use borrow.Author.Needs.{needs}
+use native.Mathlib.Omega.{arith}
 use borrow.Author.Tests.{ne-eqb}
 use Rattle.bc7_subsets.proofs.extract_partition_set_id.Statement.{statement}
 use Rattle.bc7_subsets.proofs.extract_partition_set_id.Tie as tie
 
-consume-bits-requires : tie.Need-consume-bits-requires
-consume-bits-requires c κs = search needs
+take-requires : tie.Need-take-requires
+take-requires c κs =
+    let room = rw (c .if1 .taken) at (c .before .pre .room) in
+    record { narrow = omega arith; inside = omega (arith, room .inside) }
 
 returns : tie.Need-returns
-returns c = rw (c .before .if1 .taken) (c .consume-bits .ensures)
+returns c = rw (c .before .if1 .taken) (c .take .ensures)
 
-consume-bits-requires-2 : tie.Need-consume-bits-requires-2
-consume-bits-requires-2 c κs = search needs
+take-requires-2 : tie.Need-take-requires-2
+take-requires-2 c κs =
+    let room = rw (ne-eqb _ 0 (c .if1 .left)) at (c .before .pre .room) in
+    record { narrow = omega arith; inside = omega (arith, room .inside) }
 
 returns-2 : tie.Need-returns-2
-returns-2 c = rw (ne-eqb _ 0 (c .before .if1 .left)) (c .consume-bits2 .ensures)
+returns-2 c = rw (ne-eqb _ 0 (c .before .if1 .left)) (c .take2 .ensures)
 
 pub extract-partition-set-id-spec : {M : Type 1} → statement M
 extract-partition-set-id-spec =
-    tie.close (tie.spec consume-bits-requires returns consume-bits-requires-2 returns-2)
+    tie.close (tie.spec take-requires returns take-requires-2 returns-2)

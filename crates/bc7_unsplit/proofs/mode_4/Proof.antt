@@ -2,14 +2,9 @@
 -- Assumes nothing.
 use mathlib.Core.Path.{_≡_, refl, ap, ap₂, _∙_}
 use mathlib.Core.List.{List, [], _∷_}
-use Prim.Native.Nat.{ℕ, _+_, _*_, _≤_, _<_}
+use Prim.Native.Nat.{ℕ, _+_, _*_, _<_}
 use native.Mathlib.Omega.{arith}
 use borrow.Author.Needs.{needs}
-use lib.Dec.{lit<}
-use lib.ListN.{getD, take}
-use Rattle.laws.specs.Digits.{total}
-use Rattle.bc7_format.specs.Reads.{decodingReads}
-use Rattle.bc7_format.proofs.ReadsFit.{decoding-fits}
 use lib.Dec.{eqb}
 use Rattle.laws.specs.Tables.{pick, table}
 use Rattle.bcn_format.specs.Block.{field}
@@ -34,12 +29,6 @@ use Rattle.bc7_unsplit.proofs.Laws.{by-set, vector-either, words-apart,
 use Rattle.bc7_unsplit.proofs.mode_4.Statement.{statement}
 use Rattle.bc7_unsplit.proofs.mode_4.Tie as tie
 
-consume-bits-requires : tie.Need-consume-bits-requires
-consume-bits-requires c κs = search needs
-
-consume-bits-requires-2 : tie.Need-consume-bits-requires-2
-consume-bits-requires-2 c κs = search needs
-
 take-requires : tie.Need-take-requires
 take-requires c κs = search needs
 
@@ -52,6 +41,12 @@ take-requires-3 c κs = search needs
 take-requires-4 : tie.Need-take-requires-4
 take-requires-4 c κs = search needs
 
+take-requires-5 : tie.Need-take-requires-5
+take-requires-5 c κs = search needs
+
+take-requires-6 : tie.Need-take-requires-6
+take-requires-6 c κs = search needs
+
 alone-requires : tie.Need-alone-requires
 alone-requires c κs = search needs
 
@@ -59,7 +54,28 @@ new-p1-requires : tie.Need-new-p1-requires
 new-p1-requires c κs = search needs
 
 new-p1-requires-2 : tie.Need-new-p1-requires-2
-new-p1-requires-2 c κs = search needs
+new-p1-requires-2 c κs =
+    let a = c .before .before in
+    let b = a .before in
+    let g = b .before in
+    let r = g .before in
+    let mode = r .before in
+    let rotation = mode .before in
+    record {
+      anchors = search needs;
+      inside =
+          rw (c .new-p1 .ensures)
+          (omega (
+            arith,
+            a .take6 .ensures .stands,
+            b .take5 .ensures .stands,
+            g .take4 .ensures .stands,
+            r .take3 .ensures .stands,
+            mode .take2 .ensures .stands,
+            rotation .take .ensures .stands,
+            rotation .before .pre,
+          ));
+    }
 
 words-2-requires : tie.Need-words-2-requires
 words-2-requires c κs = search needs
@@ -82,18 +98,14 @@ paint-2-and-3-requires c κs =
 cast-swap-channels : tie.Need-cast-swap-channels
 cast-swap-channels c =
     let rotation =
-    c .before .before .before .before .before .before .before .before .before .before .before .before .before .before .consume-bits .ensures in
+    c .before .before .before .before .before .before .before .before .before .before .before .before .before .before .take .ensures in
     record { fits = omega (arith, rotation .small) }
 
 swap-channels-requires : tie.Need-swap-channels-requires
 swap-channels-requires c κs =
     let rotation =
-    c .before .before .before .before .before .before .before .before .before .before .before .before .before .before .consume-bits .ensures in
+    c .before .before .before .before .before .before .before .before .before .before .before .before .before .before .take .ensures in
     omega (arith, rotation .small)
-
--- each read is accepted: it is the k-th of those that decoding makes
-fits : (k : ℕ) → 5 + total (take k (decodingReads 4)) + getD (decodingReads 4) k 0 ≤ 128
-fits k = decoding-fits 4 k (lit< tt)
 
 returns : tie.Need-returns
 unfolding splitAt kindOfMode modeRow endpointCount field valueStart leadEnd
@@ -113,44 +125,44 @@ returns c =
     let n = held (s .args .stream) in
     let small = field-lt n 5 2 in
     let on-rotation : On n 5 (s .args .stream) = record { of = refl; stands = s .pre } in
-    let on-mode = on-read on-rotation 2 (fits 0) (rotation .consume-bits .ensures .same) in
-    let on-r = on-read on-mode 1 (fits 1) (index-mode .consume-bits2 .ensures .same) in
-    let on-g = on-read on-r 10 (fits 2) (r .take .ensures .same) in
-    let on-b = on-read on-g 10 (fits 3) (g .take2 .ensures .same) in
-    let on-a = on-read on-b 10 (fits 4) (b .take3 .ensures .same) in
-    let on-x = on-read on-a 12 (fits 5) (a .take4 .ensures .same) in
+    let on-mode = on-read on-rotation 2 (rotation .take .ensures .same) in
+    let on-r = on-read on-mode 1 (index-mode .take2 .ensures .same) in
+    let on-g = on-read on-r 10 (r .take3 .ensures .same) in
+    let on-b = on-read on-g 10 (g .take4 .ensures .same) in
+    let on-a = on-read on-b 10 (b .take5 .ensures .same) in
+    let on-x = on-read on-a 12 (a .take6 .ensures .same) in
     let e = ends .alone .result in
     let stored : Stored =
     record {
-      r = r .take .result .value;
-      g = g .take2 .result .value;
-      b = b .take3 .result .value;
-      a = a .take4 .result .value;
+      r = r .take3 .result .value;
+      g = g .take4 .result .value;
+      b = b .take5 .result .value;
+      a = a .take6 .result .value;
       p = 0;
     } in
     let shown =
     translucent-shown 4 n {l = 0} {p = 0} refl
     (record {
-      red = got on-r 10 (fits 2) (r .take .ensures .same);
-      green = got on-g 10 (fits 3) (g .take2 .ensures .same);
-      blue = got on-b 10 (fits 4)
-          (b .take3 .ensures .same);
+      red = got on-r 10 (r .take3 .ensures .same);
+      green = got on-g 10 (g .take4 .ensures .same);
+      blue = got on-b 10
+          (b .take5 .ensures .same);
     })
-    refl (got on-a 12 (fits 5) (a .take4 .ensures .same)) refl in
+    refl (got on-a 12 (a .take6 .ensures .same)) refl in
     let end : (k : ℕ) → k < 2 → endpoint e 0 k ≡ four (endByte 4 n (2 * 0 + k)) =
     λ k hk. endpoint-one (withAlpha 5 6 stored) (ends .alone .ensures .each) (ends .alone .ensures .same) k hk
     ∙ four-ext _ _ (λ c hc. shown k c hk hc) in
-    let first-is = got-indexes on-x 2 (0 ∷ []) 31 (fits 6) (x .new-p1 .ensures) in
-    let on-y = on-indexes on-x 2 (0 ∷ []) 31 (fits 6) (x .new-p1 .ensures) in
-    let second-is = got-indexes on-y 3 (0 ∷ []) 47 (fits 7) (y .new-p12 .ensures) in
+    let first-is = got-indexes on-x 2 (0 ∷ []) 31 (x .new-p1 .ensures) in
+    let on-y = on-indexes on-x 2 (0 ∷ []) 31 (x .new-p1 .ensures) in
+    let second-is = got-indexes on-y 3 (0 ∷ []) 47 (y .new-p12 .ensures) in
     let f : ℕ → List ℕ = λ q. between 2 (endpoint e 0 0) (endpoint e 0 1) (part (x .new-p1 .result .indexes .uncompressed) 2 q) in
     let h : ℕ → List ℕ = λ q. between 3 (endpoint e 0 0) (endpoint e 0 1) (part (y .new-p12 .result .indexes .uncompressed) 3 q) in
     c .swap-channels .ensures
-    ∙ ap₂ swapped (got on-rotation 2 (fits 0) (rotation .consume-bits .ensures .same))
+    ∙ ap₂ swapped (got on-rotation 2 (rotation .take .ensures .same))
     (c .before .before .paint-2-and-3 .ensures ∙ words-summed _ e (ends .alone .ensures .one) (first .words-2 .ensures) (third .words-3 .ensures)
     (x .new-p1 .result .indexes .uncompressed) (y .new-p12 .result .indexes .uncompressed)
     ∙ ap (λ (i : ℕ). table 16 (λ q. pick (eqb i 0) (crossed (f q) (h q)) (crossed (h q) (f q))))
-    (got on-mode 1 (fits 1) (index-mode .consume-bits2 .ensures .same)))
+    (got on-mode 1 (index-mode .take2 .ensures .same)))
     ∙ vector-either 4 n (field n 5 2) (field n 7 1) small (split-4 n) (field-lt n 7 1) f h
     (by-set 4 n _ _ small (split-4 n) (end 0 (omega arith)) (end 1 (omega arith)) 0 2 50 (omega arith) refl (omega arith)
     (index-start 4 _ (omega arith)) first-is)
@@ -160,12 +172,12 @@ pub mode-4-spec : {M : Type 1} → statement M
 mode-4-spec =
     tie.close
     (tie.spec
-    consume-bits-requires
-    consume-bits-requires-2
     take-requires
     take-requires-2
     take-requires-3
     take-requires-4
+    take-requires-5
+    take-requires-6
     alone-requires
     new-p1-requires
     new-p1-requires-2

@@ -2,14 +2,9 @@
 -- Assumes nothing.
 use mathlib.Core.Path.{_≡_, refl, ap₂, _∙_}
 use mathlib.Core.List.{List, [], _∷_}
-use Prim.Native.Nat.{ℕ, _+_, _*_, _≤_, _<_}
+use Prim.Native.Nat.{ℕ, _+_, _*_, _<_}
 use native.Mathlib.Omega.{arith}
 use borrow.Author.Needs.{needs}
-use lib.Dec.{lit<}
-use lib.ListN.{getD, take}
-use Rattle.laws.specs.Digits.{total}
-use Rattle.bc7_format.specs.Reads.{decodingReads}
-use Rattle.bc7_format.proofs.ReadsFit.{decoding-fits}
 use Rattle.bcn_format.specs.Block.{field}
 use Rattle.bc7_format.specs.Modes.{endpointCount, kindOfMode, modeRow}
 use Rattle.bc7_format.specs.Splits.{splitAt}
@@ -32,9 +27,6 @@ use Rattle.bc7_unsplit.proofs.Laws.{by-set, paired, vector-either}
 use Rattle.bc7_unsplit.proofs.mode_5.Statement.{statement}
 use Rattle.bc7_unsplit.proofs.mode_5.Tie as tie
 
-consume-bits-requires : tie.Need-consume-bits-requires
-consume-bits-requires c κs = search needs
-
 take-requires : tie.Need-take-requires
 take-requires c κs = search needs
 
@@ -47,6 +39,9 @@ take-requires-3 c κs = search needs
 take-requires-4 : tie.Need-take-requires-4
 take-requires-4 c κs = search needs
 
+take-requires-5 : tie.Need-take-requires-5
+take-requires-5 c κs = search needs
+
 alone-requires : tie.Need-alone-requires
 alone-requires c κs = search needs
 
@@ -54,7 +49,7 @@ new-p1-requires : tie.Need-new-p1-requires
 new-p1-requires c κs = search needs
 
 new-p1-requires-2 : tie.Need-new-p1-requires-2
-new-p1-requires-2 c κs = search needs
+new-p1-requires-2 c κs = record { anchors = search needs; inside = rw (c .new-p1 .ensures) (omega arith) }
 
 palette-2-and-2-requires : tie.Need-palette-2-and-2-requires
 palette-2-and-2-requires c κs = search needs
@@ -68,18 +63,14 @@ paint-4-requires c κs = search needs
 cast-swap-channels : tie.Need-cast-swap-channels
 cast-swap-channels c =
     let rotation =
-    c .before .before .before .before .before .before .before .before .before .before .before .consume-bits .ensures in
+    c .before .before .before .before .before .before .before .before .before .before .before .take .ensures in
     record { fits = omega (arith, rotation .small) }
 
 swap-channels-requires : tie.Need-swap-channels-requires
 swap-channels-requires c κs =
     let rotation =
-    c .before .before .before .before .before .before .before .before .before .before .before .consume-bits .ensures in
+    c .before .before .before .before .before .before .before .before .before .before .before .take .ensures in
     omega (arith, rotation .small)
-
--- each read is accepted: it is the k-th of those that decoding makes
-fits : (k : ℕ) → 6 + total (take k (decodingReads 5)) + getD (decodingReads 5) k 0 ≤ 128
-fits k = decoding-fits 5 k (lit< tt)
 
 returns : tie.Need-returns
 unfolding splitAt kindOfMode modeRow endpointCount field valueStart leadEnd
@@ -98,37 +89,37 @@ returns c =
     let n = held (s .args .stream) in
     let small = field-lt n 6 2 in
     let on-rotation : On n 6 (s .args .stream) = record { of = refl; stands = s .pre } in
-    let on-r = on-read on-rotation 2 (fits 0) (rotation .consume-bits .ensures .same) in
-    let on-g = on-read on-r 14 (fits 1) (r .take .ensures .same) in
-    let on-b = on-read on-g 14 (fits 2) (g .take2 .ensures .same) in
-    let on-a = on-read on-b 14 (fits 3) (b .take3 .ensures .same) in
-    let on-x = on-read on-a 16 (fits 4) (a .take4 .ensures .same) in
+    let on-r = on-read on-rotation 2 (rotation .take .ensures .same) in
+    let on-g = on-read on-r 14 (r .take2 .ensures .same) in
+    let on-b = on-read on-g 14 (g .take3 .ensures .same) in
+    let on-a = on-read on-b 14 (b .take4 .ensures .same) in
+    let on-x = on-read on-a 16 (a .take5 .ensures .same) in
     let e = ends .alone .result in
     let stored : Stored =
     record {
-      r = r .take .result .value;
-      g = g .take2 .result .value;
-      b = b .take3 .result .value;
-      a = a .take4 .result .value;
+      r = r .take2 .result .value;
+      g = g .take3 .result .value;
+      b = b .take4 .result .value;
+      a = a .take5 .result .value;
       p = 0;
     } in
     let shown =
     translucent-shown 5 n {l = 0} {p = 0} refl
     (record {
-      red = got on-r 14 (fits 1) (r .take .ensures .same);
-      green = got on-g 14 (fits 2) (g .take2 .ensures .same);
-      blue = got on-b 14 (fits 3)
-          (b .take3 .ensures .same);
+      red = got on-r 14 (r .take2 .ensures .same);
+      green = got on-g 14 (g .take3 .ensures .same);
+      blue = got on-b 14
+          (b .take4 .ensures .same);
     })
-    refl (got on-a 16 (fits 4) (a .take4 .ensures .same)) refl in
+    refl (got on-a 16 (a .take5 .ensures .same)) refl in
     let end : (k : ℕ) → k < 2 → endpoint e 0 k ≡ four (endByte 5 n (2 * 0 + k)) =
     λ k hk. endpoint-one (withAlpha 7 8 stored) (ends .alone .ensures .each) (ends .alone .ensures .same) k hk
     ∙ four-ext _ _ (λ c hc. shown k c hk hc) in
-    let first = got-indexes on-x 2 (0 ∷ []) 31 (fits 5) (x .new-p1 .ensures) in
-    let on-y = on-indexes on-x 2 (0 ∷ []) 31 (fits 5) (x .new-p1 .ensures) in
-    let second = got-indexes on-y 2 (0 ∷ []) 31 (fits 6) (y .new-p12 .ensures) in
+    let first = got-indexes on-x 2 (0 ∷ []) 31 (x .new-p1 .ensures) in
+    let on-y = on-indexes on-x 2 (0 ∷ []) 31 (x .new-p1 .ensures) in
+    let second = got-indexes on-y 2 (0 ∷ []) 31 (y .new-p12 .ensures) in
     c .swap-channels .ensures
-    ∙ ap₂ swapped (got on-rotation 2 (fits 0) (rotation .consume-bits .ensures .same))
+    ∙ ap₂ swapped (got on-rotation 2 (rotation .take .ensures .same))
     (c .before .before .paint-4 .ensures ∙ ap₂ (λ (k : Keys) (p : List (List ℕ)). painted (keyAt 2 2 k) p) (keys .keys-2 .ensures)
     (palette .palette-2-and-2 .ensures)
     ∙ paired (x .new-p1 .result .indexes .uncompressed) (y .new-p12 .result .indexes .uncompressed) (between 2 (endpoint e 0 0) (endpoint e 0 1)))
@@ -141,11 +132,11 @@ pub mode-5-spec : {M : Type 1} → statement M
 mode-5-spec =
     tie.close
     (tie.spec
-    consume-bits-requires
     take-requires
     take-requires-2
     take-requires-3
     take-requires-4
+    take-requires-5
     alone-requires
     new-p1-requires
     new-p1-requires-2

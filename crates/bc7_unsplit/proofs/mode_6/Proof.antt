@@ -2,14 +2,9 @@
 -- Assumes nothing.
 use mathlib.Core.Path.{_≡_, refl, ap, _∙_}
 use mathlib.Core.List.{[], _∷_}
-use Prim.Native.Nat.{ℕ, _+_, _*_, _≤_, _<_}
+use Prim.Native.Nat.{ℕ, _+_, _*_, _<_}
 use native.Mathlib.Omega.{arith}
 use borrow.Author.Needs.{needs}
-use lib.Dec.{lit<}
-use lib.ListN.{getD, take}
-use Rattle.laws.specs.Digits.{total}
-use Rattle.bc7_format.specs.Reads.{decodingReads}
-use Rattle.bc7_format.proofs.ReadsFit.{decoding-fits}
 use Rattle.laws.specs.Tables.{table}
 use Rattle.bcn_format.specs.Block.{field}
 use Rattle.bc7_format.specs.Modes.{endpointCount, kindOfMode, modeRow}
@@ -52,10 +47,6 @@ alone-p-requires c κs = search needs
 mix-16-requires : tie.Need-mix-16-requires
 mix-16-requires c κs = c .alone-p .ensures .one
 
--- each read is accepted: it is the k-th of those that decoding makes
-fits : (k : ℕ) → 7 + total (take k (decodingReads 6)) + getD (decodingReads 6) k 0 ≤ 128
-fits k = decoding-fits 6 k (lit< tt)
-
 returns : tie.Need-returns
 unfolding splitAt kindOfMode modeRow endpointCount field valueStart pStart leadEnd
 returns c =
@@ -69,27 +60,27 @@ returns c =
     let s = r .before in
     let n = held (s .args .stream) in
     let on-r : On n 7 (s .args .stream) = record { of = refl; stands = s .pre } in
-    let on-g = on-read on-r 14 (fits 0) (r .take .ensures .same) in
-    let on-b = on-read on-g 14 (fits 1) (g .take2 .ensures .same) in
-    let on-a = on-read on-b 14 (fits 2) (b .take3 .ensures .same) in
-    let on-p = on-read on-a 14 (fits 3) (a .take4 .ensures .same) in
-    let on-x = on-read on-p 2 (fits 4) (p .take5 .ensures .same) in
+    let on-g = on-read on-r 14 (r .take .ensures .same) in
+    let on-b = on-read on-g 14 (g .take2 .ensures .same) in
+    let on-a = on-read on-b 14 (b .take3 .ensures .same) in
+    let on-p = on-read on-a 14 (a .take4 .ensures .same) in
+    let on-x = on-read on-p 2 (p .take5 .ensures .same) in
     let shown =
     translucent-p-shown 6 n {l = 0} refl
     (record {
-      red = got on-r 14 (fits 0) (r .take .ensures .same);
-      green = got on-g 14 (fits 1) (g .take2 .ensures .same);
-      blue = got on-b 14 (fits 2)
+      red = got on-r 14 (r .take .ensures .same);
+      green = got on-g 14 (g .take2 .ensures .same);
+      blue = got on-b 14
           (b .take3 .ensures .same);
     })
-    refl (two-ps 6 n 0 refl (got on-p 2 (fits 4) (p .take5 .ensures .same))) refl (got on-a 14 (fits 3) (a .take4 .ensures .same)) in
+    refl (two-ps 6 n 0 refl (got on-p 2 (p .take5 .ensures .same))) refl (got on-a 14 (a .take4 .ensures .same)) in
     let end : (k : ℕ) → k < 2 → endpoint (c .before .alone-p .result) 0 k ≡ four (endByte 6 n (2 * 0 + k)) =
     λ k hk. endpoint-one (withP 7 _) (ends .each) (ends .same) k hk ∙ four-ext _ _ (λ c hc. shown k c hk hc) in
     c .mix-16 .ensures
     ∙ drawn-each 4 _ _ _
     ∙ ap (λ (y : ℕ). painted (part y 4)
     (table 16 (between 4 (endpoint (c .before .alone-p .result) 0 0) (endpoint (c .before .alone-p .result) 0 1))))
-    (got-indexes on-x 4 (0 ∷ []) 63 (fits 5) (x .new-p1 .ensures))
+    (got-indexes on-x 4 (0 ∷ []) 63 (x .new-p1 .ensures))
     ∙ whole-keys 6 n 4 (omega arith) refl (omega arith) refl (one-palette 6 n 4 (end 0 (omega arith)) (end 1 (omega arith)))
 
 pub mode-6-spec : {M : Type 1} → statement M

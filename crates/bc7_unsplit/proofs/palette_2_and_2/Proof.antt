@@ -9,7 +9,7 @@ use borrow.Author.Needs.{needs}
 use Rattle.laws.specs.Tables.{table}
 use Rattle.laws.proofs.Filled.{Filled, filled-all, filled-four, filled-none}
 use Rattle.bcn_format.specs.Painting.{between}
-use Rattle.weights.proofs.Weights.{two-bits}
+use Rattle.bcn_format.proofs.Weighing.{two-bits}
 use Rattle.drawing.specs.declared.colour.Ends.{Ends}
 use Rattle.drawing.specs.Words.{Alone, endpoint, wordBytes}
 use Rattle.bc7_unsplit.specs.Crossing.{kept, keptWord}

@@ -1,7 +1,7 @@
 -- The colours of two indexes.
 -- Assumes nothing.
 use native.Mathlib.Omega.{arith}
-use Rattle.weights.proofs.Weights.{Counted, counted}
+use Rattle.bcn_format.proofs.Weighing.{Counted, counted}
 use Rattle.bc7_unsplit.proofs.Crossing.{first, pair, two-between}
 use Rattle.bc7_unsplit.proofs.shades.Statement.{statement}
 use Rattle.bc7_unsplit.proofs.shades.Tie as tie

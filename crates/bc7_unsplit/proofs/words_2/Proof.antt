@@ -6,7 +6,7 @@ use native.Mathlib.Omega.{arith}
 use borrow.Author.Needs.{needs}
 use Rattle.laws.proofs.Filled.{Filled, filled-all, filled-none, filled-two}
 use Rattle.bcn_format.specs.Painting.{between}
-use Rattle.weights.proofs.Weights.{two-bits}
+use Rattle.bcn_format.proofs.Weighing.{two-bits}
 use Rattle.drawing.specs.Words.{endpoint}
 use Rattle.bc7_unsplit.specs.Crossing.{keptWord}
 use Rattle.bc7_unsplit.proofs.Crossing.{high-kept, low-kept}

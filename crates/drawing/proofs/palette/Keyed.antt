@@ -11,7 +11,7 @@ use Rattle.laws.specs.Tables.{table}
 use Rattle.laws.proofs.Filled.{Filled, filled-all, filled-four, filled-none, filled-two}
 use Rattle.bcn_format.specs.Drawing.{weightOf}
 use Rattle.bcn_format.specs.Painting.{between}
-use Rattle.weights.specs.Weights.{Weighed}
+use Rattle.bcn_format.specs.Drawing.{Weighed}
 use Rattle.drawing.specs.declared.colour.Ends.{Ends}
 use Rattle.drawing.specs.Asked.{Mixable2, Shaded2}
 use Rattle.drawing.specs.Words.{blend, blends, Bytes, endpoint, laned, Lanes, lanesOf, woven}

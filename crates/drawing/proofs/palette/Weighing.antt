@@ -15,7 +15,7 @@ use Rattle.laws.proofs.Part.{Part, part-all, part-none, part-set}
 use Rattle.bcn_format.specs.Drawing.{weightOf}
 use Rattle.bcn_format.proofs.Drawing.{weight-le}
 use Rattle.bcn_format.specs.Indexes.{part}
-use Rattle.weights.proofs.Weights.{computed, computed-weight, four-bits}
+use Rattle.bcn_format.proofs.Weighing.{computed, computed-weight, four-bits}
 
 -- a weight is four times its index, and one more for each four
 weight-is : (i : ℕ) → i < 16 → i * 4 + (i + 2) / 4 % 8 ≡ weightOf 4 i

@@ -8,7 +8,7 @@ use lib.ListN.{getD}
 use Rattle.bcn_format.specs.Drawing.{drawn, weightOf}
 use Rattle.bcn_format.proofs.Drawing.{scaled, weight-le}
 use Rattle.bcn_format.specs.Painting.{four, between}
-use Rattle.weights.specs.Weights.{Weighed}
+use Rattle.bcn_format.specs.Drawing.{Weighed}
 use Rattle.drawing.specs.Colours.{lerped}
 
 module _ (b k : ℕ) (index : Weighed b k) {w : ℕ} (e : w ≡ 4 * weightOf b k) where

@@ -14,7 +14,7 @@ use Rattle.laws.proofs.Cases.{lt-or}
 use Rattle.laws.proofs.Putting.{at-zero, up}
 use Rattle.laws.proofs.Replacing.{across, in-lower, replaced-lt, taken-added, taken-le}
 use Rattle.bcn_format.specs.Block.{field}
-use Rattle.bits.specs.Stream.{held, readOf}
+use Rattle.bits.specs.Stream.{held, taken}
 use Rattle.bits.proofs.On.{got}
 use Rattle.laws.proofs.Words.{shl-keeps}
 use Rattle.line.specs.Fields.{Step, standing}
@@ -126,15 +126,15 @@ module _ (lo hi a c v : ℕ) (hl : lo < 2 ^ 64) (hh : hi < 2 ^ 64) (hv : v < 2 ^
     in-low m = ⊎-elim (λ k. below (omega arith)) (λ k. crossing (omega arith) m) (lt-or (a + c) 65)
 
 -- what is read of a stream that was set to another position
-pub read-at : (s : BitStream) (a c : ℕ) → a + c ≤ 128 → {q : BitStream} {r : Read} → q ≡ standing s a → r ≡ readOf q c
+pub read-at : (s : BitStream) (a c : ℕ) {q : BitStream} {r : Read} → q ≡ standing s a → r ≡ taken q c
     → r .value ≡ (s .high * 2 ^ 64 + s .low) / 2 ^ a % 2 ^ c
 unfolding held field
-read-at s a c h eq er = got (record { of = ap held eq; stands = ap (λ (t : BitStream). t .at) eq }) c h er
+read-at s a c eq er = got (record { of = ap held eq; stands = ap (λ (t : BitStream). t .at) eq }) c er
 
 -- and two values of w bits, read at once
-module _ (s : BitStream) (a w : ℕ) (h : a + 2 * w ≤ 128) {q : BitStream} {r : Read} (eq : q ≡ standing s a) (er : r ≡ readOf q (2 * w)) where
+module _ (s : BitStream) (a w : ℕ) {q : BitStream} {r : Read} (eq : q ≡ standing s a) (er : r ≡ taken q (2 * w)) where
   read-both : r .value ≡ (s .high * 2 ^ 64 + s .low) / 2 ^ a % 2 ^ (w + w)
-  read-both = let e : 2 * w ≡ w + w = omega arith in rw e at (read-at s a (2 * w) h eq er)
+  read-both = let e : 2 * w ≡ w + w = omega arith in rw e at (read-at s a (2 * w) eq er)
 
   pub first-of : r .value % 2 ^ w ≡ field (held s) a w
   unfolding held field

@@ -2,7 +2,7 @@
 -- Assumes nothing.
 use mathlib.Core.Path.{_≡_, ap}
 use mathlib.Core.List.{[]}
-use Prim.Native.Nat.{ℕ, zero, suc, _+_, _-_, _*_, _^_, _≤_, _<_}
+use Prim.Native.Nat.{ℕ, zero, suc, _+_, _-_, _*_, _^_, _<_, _≤_}
 use native.Mathlib.Nat.{lt-of-lt-of-le}
 use native.Mathlib.Omega.{arith}
 use lib.Bits.{bitAnd}
@@ -20,11 +20,11 @@ use Rattle.indexes.proofs.Remove.{size-kind}
 use Rattle.line.specs.Fields.{SetReady, anchorsIn, setAfter, setBefore, sizeIn, standing}
 
 module _ (s : BitStream) (k a : ℕ) (x : LinePart) (mask new : ℕ) where
-  pub before-is : a + sizeIn k x ≤ 128 → {q : BitStream} {r : NewIndexes} → q ≡ standing s a
+  pub before-is : {q : BitStream} {r : NewIndexes} → q ≡ standing s a
       → r ≡ newIndexes (x .index) (anchorsIn k x) q (sizeIn k x) → r .indexes .uncompressed ≡ setBefore (held s) k a x
   unfolding setBefore held
-  before-is h eq er =
-      got-indexes (record { of = ap held eq; stands = ap (λ (t : BitStream). t .at) eq }) (x .index) (anchorsIn k x) (sizeIn k x) h er
+  before-is eq er =
+      got-indexes (record { of = ap held eq; stands = ap (λ (t : BitStream). t .at) eq }) (x .index) (anchorsIn k x) (sizeIn k x) er
 
   module _ {b : ℕ} (e : b ≡ setBefore (held s) k a x) (r : SetReady (held s) k a x mask new) where
     pub after-is : b - bitAnd b mask + new ≡ setAfter (held s) k a x mask new

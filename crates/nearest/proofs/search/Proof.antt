@@ -9,7 +9,7 @@ use borrow.Author.Needs.{needs}
 use lib.Pow.{pow-pos}
 use Rattle.nearest.specs.Trying.{distanceAt}
 use Rattle.nearest_rules.proofs.Least.{Least, least-at, least-kept, least-less, least-one, least-one-alone}
-use Rattle.weights.proofs.Weights.{Counted, counted}
+use Rattle.bcn_format.proofs.Weighing.{Counted, counted}
 use Rattle.nearest.proofs.search.Statement.{statement}
 use Rattle.nearest.proofs.search.Tie as tie
 

@@ -15,7 +15,7 @@ use Rattle.laws.specs.Tables.{pick, table, tableFrom}
 use Rattle.laws.proofs.Filled.{Upto, upto-next}
 use Rattle.laws.proofs.Part.{part-all}
 use Rattle.bcn_format.specs.Indexes.{part}
-use Rattle.bits.specs.Stream.{readOf}
+use Rattle.bits.specs.Stream.{taken}
 use Rattle.record.specs.Reading.{channelOf, endpointsOf, endpointsRead, pRead}
 
 -- the endpoints of four words
@@ -63,15 +63,15 @@ module _ (row : ModeRow) (red green blue alpha : ℕ) where
   values-all e l h = part-all h (λ k lk q. omega arith)
 
 -- four reads, one a channel
-pub endpoints-read : (row : ModeRow) (s : BitStream) {r g b a : Read} {es : List ℕ} → r ≡ readOf s (row .endpoints * row .colour)
-    → g ≡ readOf (r .stream) (row .endpoints * row .colour) → b ≡ readOf (g .stream) (row .endpoints * row .colour)
-    → a ≡ readOf (b .stream) (row .endpoints * row .alpha) → es ≡ endpointsOf row (r .value) (g .value) (b .value) (a .value)
+pub endpoints-read : (row : ModeRow) (s : BitStream) {r g b a : Read} {es : List ℕ} → r ≡ taken s (row .endpoints * row .colour)
+    → g ≡ taken (r .stream) (row .endpoints * row .colour) → b ≡ taken (g .stream) (row .endpoints * row .colour)
+    → a ≡ taken (b .stream) (row .endpoints * row .alpha) → es ≡ endpointsOf row (r .value) (g .value) (b .value) (a .value)
     → record { endpoints = es; stream = a .stream } ≡ endpointsRead row s
 unfolding endpointsRead
 endpoints-read row s er eg eb ea ee = rw (ee, ea, eb, eg, er)
 
 -- six parts of one read
-pub p-read : (row : ModeRow) (s : BitStream) {x : Read} {p0 p1 p2 p3 p4 p5 : ℕ} → x ≡ readOf s (row .p)
+pub p-read : (row : ModeRow) (s : BitStream) {x : Read} {p0 p1 p2 p3 p4 p5 : ℕ} → x ≡ taken s (row .p)
     → p0 ≡ part (x .value) 1 0 → p1 ≡ part (x .value) 1 1 → p2 ≡ part (x .value) 1 2 → p3 ≡ part (x .value) 1 3 → p4 ≡ part (x .value) 1 4
     → p5 ≡ part (x .value) 1 5
     → record { p = p0 ∷ p1 ∷ p2 ∷ p3 ∷ p4 ∷ p5 ∷ []; stream = x .stream } ≡ pRead row s

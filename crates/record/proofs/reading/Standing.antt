@@ -29,28 +29,27 @@ use Rattle.laws.proofs.Cases.{lt-or, pick-less}
 use Rattle.laws.proofs.Joining.{table-same}
 use Rattle.bcn_format.specs.Block.{eights, field, number}
 use Rattle.bc7_format.specs.Modes.{modeOf, alphaBits, channelBits, colourBits, endpointCount, firstBits, indexBits, kindOfMode, pCount}
-use Rattle.bc7_format.specs.Modes.{indexModeBits, partitionBits, rotationBits, secondBits}
+use Rattle.bc7_format.specs.Modes.{secondBits}
 use Rattle.bcn_format.specs.Partitions.{among}
 use Rattle.bc7_format.specs.Places.{atPlace, inside, opened, pos, width, firstFrom, secondFrom}
 use Rattle.bc7_format.specs.Splits.{anchors, kindOf, partition, splitOf}
 use Rattle.bc7_format.proofs.Modes.{by-subset, good-64}
 use Rattle.bc7_format.proofs.Opening.{good-kind, opened-good}
 use Rattle.bc7_format.proofs.Places.{inside-index, inside-pbit, inside-value}
-use Rattle.bc7_format.proofs.ReadsFit.{taking-fits}
 use Rattle.bc7_format.proofs.Starts.{at-field, start}
 use Rattle.bcn_format.specs.Indexes.{Rising, anchorCount, anchorsOfKind, expanded, indexWidths, part}
-use Rattle.indexes.specs.Reading.{newIndexes}
+use Rattle.indexes.specs.Reading.{SetAhead, newIndexes}
 use Rattle.indexes.proofs.Remove.{size-kind}
 use Rattle.bits.specs.declared.stream.Read.{Read}
-use Rattle.bits.specs.Stream.{readOf}
+use Rattle.bits.specs.Stream.{taken}
 use Rattle.bits.proofs.On.{On, field-lt, got, on-read}
 use Rattle.bc7_format.specs.Fields.{leadEnd, valueStart}
-use Rattle.bc7_format.proofs.Fields.{begins, bit-at, first-start, index-at, value-at, valuesEnd}
+use Rattle.bc7_format.proofs.Fields.{begins, bit-at, first-start, groups-128, index-at, value-at, valuesEnd}
 use Rattle.record_rules.specs.Records.{made, recordOf}
 use Rattle.bc7_places.specs.Modes.{OfMode, modeRowOf}
 use Rattle.bc7_places.specs.Splits.{IsLead, anchorsOf}
 use Rattle.bc7_places.proofs.modes.Bounds.{second-bits, small}
-use Rattle.record.specs.Reading.{channelOf, endpointsOf, endpointsRead, pRead, secondRead}
+use Rattle.record.specs.Reading.{EndpointsAhead, PAhead, SecondAhead, channelOf, endpointsOf, endpointsRead, pRead, secondRead}
 use Rattle.bc7_places.proofs.splits.AnchorPixels.{anchors-kind, anchors-rise}
 
 -- a part of a field is a field
@@ -85,26 +84,6 @@ values-end m =
     (sym (mul-assoc 3 k (colourBits m)) ∙ ap (λ (z : ℕ). z * colourBits m) (mul-comm 3 k) ∙ mul-assoc k 3 (colourBits m))
     ∙ ap (λ (z : ℕ). leadEnd m + z) (sym (mul-add k (3 * colourBits m) (alphaBits m)))
 
--- the reads behind the values are accepted: the p bits, the first indexes, the second
-module _ (m : ℕ) (hm : m < 8) where
-  abbrev firstSize : ℕ
-  firstSize = 16 * firstBits m - anchorCount (kindOfMode m)
-
-  second-fits : valuesEnd m + pCount m + firstSize + (16 * secondBits m - 1) ≤ 128
-  unfolding leadEnd
-  second-fits =
-      let x : ℕ = endpointCount m * colourBits m in
-      let y : ℕ = endpointCount m * alphaBits m in
-      let lead : ℕ = partitionBits m + rotationBits m + indexModeBits m in
-      let f : suc m + (0 + firstSize + pCount m + y + x + x + x + lead) + (16 * secondBits m - 1) ≤ 128 = taking-fits m 7 hm in
-      omega (arith, values-end m)
-
-  first-fits : valuesEnd m + pCount m + firstSize ≤ 128
-  first-fits = omega (arith, second-fits)
-
-  p-fits : valuesEnd m + pCount m ≤ 128
-  p-fits = omega (arith, second-fits)
-
 module _ (m : ℕ) (s : Split) (n : ℕ) (hm : m < 8) where
   abbrev at : Place → ℕ
   at x = atPlace m s n x
@@ -113,7 +92,7 @@ module _ (m : ℕ) (s : Split) (n : ℕ) (hm : m < 8) where
   nothing : (x : Place) → T (inside x) → width m (anchors s) x ≡ 0 → at x ≡ 0
   nothing x h e = at-field m s n x h ∙ ap (λ (w : ℕ). n / 2 ^ start m s (pos x) % 2 ^ w) e ∙ mod-one (n / 2 ^ start m s (pos x))
 
-  -- the values: a read for each channel, each of them accepted
+  -- the values: a read for each channel
   module _ {t : BitStream} (o : On n (leadEnd m) t) where
     abbrev x : ℕ
     x = endpointCount m * colourBits m
@@ -122,50 +101,35 @@ module _ (m : ℕ) (s : Split) (n : ℕ) (hm : m < 8) where
     y = endpointCount m * alphaBits m
 
     abbrev reds : Read
-    reds = readOf t x
+    reds = taken t x
 
     abbrev greens : Read
-    greens = readOf (reds .stream) x
+    greens = taken (reds .stream) x
 
     abbrev blues : Read
-    blues = readOf (greens .stream) x
+    blues = taken (greens .stream) x
 
     abbrev alphas : Read
-    alphas = readOf (blues .stream) y
-
-    all-fit : leadEnd m + x + x + x + y ≤ 128
-    unfolding leadEnd
-    all-fit =
-        let f : suc m + (0 + x + x + x + (partitionBits m + rotationBits m + indexModeBits m)) + y ≤ 128 = taking-fits m 4 hm in
-        omega arith
-
-    red-fits : leadEnd m + x ≤ 128
-    red-fits = omega (arith, all-fit)
-
-    green-fits : leadEnd m + x + x ≤ 128
-    green-fits = omega (arith, all-fit)
-
-    blue-fits : leadEnd m + x + x + x ≤ 128
-    blue-fits = omega (arith, all-fit)
+    alphas = taken (blues .stream) y
 
     on-greens : On n (leadEnd m + x) (reds .stream)
-    on-greens = on-read o x red-fits refl
+    on-greens = on-read o x refl
 
     on-blues : On n (leadEnd m + x + x) (greens .stream)
-    on-blues = on-read on-greens x green-fits refl
+    on-blues = on-read on-greens x refl
 
     on-alphas : On n (leadEnd m + x + x + x) (blues .stream)
-    on-alphas = on-read on-blues x blue-fits refl
+    on-alphas = on-read on-blues x refl
 
     channel-word : (c : ℕ) → c < 4
         → channelOf (reds .value) (greens .value) (blues .value) (alphas .value) c ≡ field n (leadEnd m + c * x) (endpointCount m * channelBits m c)
-    channel-word zero h = got o x red-fits refl ∙ ap (λ (a : ℕ). field n a x) (let z : leadEnd m ≡ leadEnd m + 0 * x = omega arith in z)
+    channel-word zero h = got o x refl ∙ ap (λ (a : ℕ). field n a x) (let z : leadEnd m ≡ leadEnd m + 0 * x = omega arith in z)
     channel-word (suc zero) h =
-        got on-greens x green-fits refl ∙ ap (λ (a : ℕ). field n a x) (let z : leadEnd m + x ≡ leadEnd m + 1 * x = omega arith in z)
+        got on-greens x refl ∙ ap (λ (a : ℕ). field n a x) (let z : leadEnd m + x ≡ leadEnd m + 1 * x = omega arith in z)
     channel-word (suc (suc zero)) h =
-        got on-blues x blue-fits refl ∙ ap (λ (a : ℕ). field n a x) (let z : leadEnd m + x + x ≡ leadEnd m + 2 * x = omega arith in z)
+        got on-blues x refl ∙ ap (λ (a : ℕ). field n a x) (let z : leadEnd m + x + x ≡ leadEnd m + 2 * x = omega arith in z)
     channel-word (suc (suc (suc zero))) h =
-        got on-alphas y all-fit refl ∙ ap (λ (a : ℕ). field n a y) (let z : leadEnd m + x + x + x ≡ leadEnd m + 3 * x = omega arith in z)
+        got on-alphas y refl ∙ ap (λ (a : ℕ). field n a y) (let z : leadEnd m + x + x + x ≡ leadEnd m + 3 * x = omega arith in z)
     channel-word (suc (suc (suc (suc c)))) h = absurd (let z : ⊥ = omega arith in z)
 
     value-there : (c e : ℕ) → c < 4 → e < endpointCount m
@@ -197,13 +161,13 @@ module _ (m : ℕ) (s : Split) (n : ℕ) (hm : m < 8) where
 
     pub values-on : On n (valuesEnd m) (endpointsRead (modeRowOf m) t .stream)
     unfolding endpointsRead
-    values-on = subst (λ (a : ℕ). On n a (alphas .stream)) (values-end m) (on-read on-alphas y all-fit refl)
+    values-on = subst (λ (a : ℕ). On n a (alphas .stream)) (values-end m) (on-read on-alphas y refl)
 
   -- the p bits
-  module _ {t : BitStream} (o : On n (valuesEnd m) t) (fits : valuesEnd m + pCount m ≤ 128) where
+  module _ {t : BitStream} (o : On n (valuesEnd m) t) where
     pub ps-stand : pRead (modeRowOf m) t .p ≡ table 6 (λ k. at (PBit k))
     unfolding pRead width
-    ps-stand = table-same 0 6 _ _ (λ k l. ap (λ (x : ℕ). part x 1 k) (got o (pCount m) fits refl) ∙ stands k l)
+    ps-stand = table-same 0 6 _ _ (λ k l. ap (λ (x : ℕ). part x 1 k) (got o (pCount m) refl) ∙ stands k l)
       where
         stands : (k : ℕ) → k < 6 → part (field n (valuesEnd m) (pCount m)) 1 k ≡ at (PBit k)
         stands k h =
@@ -215,16 +179,16 @@ module _ (m : ℕ) (s : Split) (n : ℕ) (hm : m < 8) where
 
     pub ps-on : On n (start m s firstFrom) (pRead (modeRowOf m) t .stream)
     unfolding pRead
-    ps-on = rw (first-start m s hm) (on-read o (pCount m) fits refl)
+    ps-on = rw (first-start m s hm) (on-read o (pCount m) refl)
 
   -- a set of indexes, read whole
   pub set-stands : (a : ℕ) → a < 2 → {an : List ℕ} {t : BitStream} (b : ℕ) → an ≡ anchors s → b ≡ total (indexWidths (indexBits m a) (anchors s))
-      → start m s (firstFrom + (16 * a + 0)) + b ≤ 128 → On n (start m s (firstFrom + (16 * a + 0))) t
+      → On n (start m s (firstFrom + (16 * a + 0))) t
       → table 16 (part (newIndexes (indexBits m a) an t b .indexes .uncompressed) (indexBits m a)) ≡ table 16 (λ q. at (Index a q))
-  set-stands a ha {an} {t} b ea eb fits o =
+  set-stands a ha {an} {t} b ea eb o =
       table-same 0 16 _ _ (λ q l.
       ap₂ (λ (l : List ℕ) (x : ℕ). part (expanded (indexBits m a) l x) (indexBits m a) q) ea
-      (got o b fits refl ∙ ap (field n (start m s (firstFrom + (16 * a + 0)))) eb)
+      (got o b refl ∙ ap (field n (start m s (firstFrom + (16 * a + 0)))) eb)
       ∙ index-at m s a ha n q l)
 
   -- and one that the mode hasn't got
@@ -275,7 +239,7 @@ module _ (bs : List ℕ) (sixteen : Fit eights bs) {m : ℕ} (em : m ≡ modeOf 
           → On n (start m s secondFrom) (set .stream)
       second-on {set = set} o e =
           subst (λ (a : ℕ). On n a (set .stream)) (sym second-start)
-          (rw e (on-read o (16 * row .first - anchorCount (row .kind)) (rw (er, first-start m s hm) (first-fits m hm)) refl))
+          (rw e (on-read o (16 * row .first - anchorCount (row .kind)) refl))
 
       second-stands : {t : BitStream} → On n (start m s secondFrom) t → secondRead row a t ≡ table 16 (λ q. atPlace m s n (Index 1 q))
       unfolding secondRead
@@ -287,9 +251,7 @@ module _ (bs : List ℕ) (sixteen : Fit eights bs) {m : ℕ} (em : m ≡ modeOf 
               ≡ table 16 (λ q. atPlace m s n (Index 1 q))
           two k =
               let e : row .second ≡ secondBits m = ap (λ (r : ModeRow). r .second) er in
-              let fits : start m s secondFrom + (16 * row .second - anchorCount (row .kind)) ≤ 128 =
-              rw (second-start, k, e, er, first-start m s hm) (rw (ap (λ (r : ModeRow). r .kind) (sym er) ∙ k) at (second-fits m hm)) in
-              rw e (set-stands m s n hm 1 (omega arith) _ anchors-are (rw e at (set-size (row .second) (second-bits of-mode k))) (rw e at fits) o)
+              rw e (set-stands m s n hm 1 (omega arith) _ anchors-are (rw e at (set-size (row .second) (second-bits of-mode k))) o)
 
           go : (b : Bool) → eqb (row .kind) 3 ≡ b
               → pick b (table 16 (part (newIndexes (row .second) (anchorsOfKind (row .kind) (a .b) (a .c)) t
@@ -304,9 +266,7 @@ module _ (bs : List ℕ) (sixteen : Fit eights bs) {m : ℕ} (em : m ≡ modeOf 
           ≡ table 16 (λ q. atPlace m s n (Index 0 q))
       first-stands o =
           let e : row .first ≡ firstBits m = ap (λ (r : ModeRow). r .first) er in
-          let fits : start m s firstFrom + (16 * row .first - anchorCount (row .kind)) ≤ 128 = rw (er, first-start m s hm) (first-fits m hm) in
-          rw e (set-stands m s n hm 0 (omega arith) _ anchors-are (rw e at (set-size (row .first) (omega (arith, small of-mode .least))))
-          (rw e at fits) o)
+          rw e (set-stands m s n hm 0 (omega arith) _ anchors-are (rw e at (set-size (row .first) (omega (arith, small of-mode .least)))) o)
 
   -- the reads one after the other
   module _ {h : ReadSplit} (lead : IsLead bs h) where
@@ -316,13 +276,41 @@ module _ (bs : List ℕ) (sixteen : Fit eights bs) {m : ℕ} (em : m ≡ modeOf 
     lead-on : On n (leadEnd m) (h .stream)
     lead-on = subst (λ (m : ℕ). On n (leadEnd m) (h .stream)) (sym em) (lead .stands)
 
+    pub endpoints-ahead : EndpointsAhead row (h .stream)
+    endpoints-ahead = record {
+      of-mode = of-mode;
+      inside = rw (er, lead-on .stands) (omega (arith, values-end m, groups-128 m hm));
+    }
+
     module _ {v : ReadEndpoints} (ev : v ≡ endpointsRead row (h .stream)) where
       values-behind : On n (valuesEnd m) (v .stream)
       values-behind = rw (ev, er) (values-on m (h .split) n hm lead-on)
 
+      pub p-ahead : PAhead row (v .stream)
+      p-ahead = record { of-mode = of-mode; inside = rw (er, values-behind .stands) (omega (arith, groups-128 m hm)) }
+
       module _ {p : ReadP} (ep : p ≡ pRead row (v .stream)) where
         p-behind : On n (start m (h .split) firstFrom) (p .stream)
-        p-behind = rw (ep, er) (ps-on m (h .split) n hm values-behind (p-fits m hm))
+        p-behind = rw (ep, er) (ps-on m (h .split) n hm values-behind)
+
+        pub first-ahead : {a : Anchors} → a ≡ anchorsOf (h .split) → SetAhead (p .stream) (row .kind) (row .first) (a .b) (a .c)
+        first-ahead ea = record {
+          least = omega (arith, small of-mode .least);
+          most = small of-mode .most;
+          rising = rise (lead .split) ea;
+          inside = rw (er, p-behind .stands, first-start m (h .split) hm) (omega (arith, groups-128 m hm));
+        }
+
+        pub second-ahead : {a : Anchors} → a ≡ anchorsOf (h .split) → {set : NewIndexes}
+            → set ≡ newIndexes (row .first) (anchorsOfKind (row .kind) (a .b) (a .c)) (p .stream) (16 * row .first - anchorCount (row .kind))
+            → SecondAhead row a (set .stream)
+        second-ahead ea eset = record {
+          of-mode = of-mode;
+          rising = rise (lead .split) ea;
+          inside = λ k. let kind : kindOfMode m ≡ 3 = ap (λ (r : ModeRow). r .kind) (sym er) ∙ k in
+              rw (second-on (lead .split) ea p-behind eset .stands, second-start (lead .split) ea, first-start m (h .split) hm, er, kind)
+              (omega (arith, rw kind at (groups-128 m hm)));
+        }
 
         pub record-read : {a : Anchors} → a ≡ anchorsOf (h .split) → {set : NewIndexes}
             → set ≡ newIndexes (row .first) (anchorsOfKind (row .kind) (a .b) (a .c)) (p .stream) (16 * row .first - anchorCount (row .kind))
@@ -332,7 +320,7 @@ module _ (bs : List ℕ) (sixteen : Fit eights bs) {m : ℕ} (em : m ≡ modeOf 
         record-read {a} ea {set} eset {first} {second} ef eg =
             let s : Split = h .split in
             let e1 : v .endpoints ≡ table 24 (λ i. atPlace m s n (Value (i % 4) (i / 4))) = rw (ev, er) (values-stand m s n hm lead-on) in
-            let e2 : p .p ≡ table 6 (λ k. atPlace m s n (PBit k)) = rw (ep, er) (ps-stand m s n hm values-behind (p-fits m hm)) in
+            let e2 : p .p ≡ table 6 (λ k. atPlace m s n (PBit k)) = rw (ep, er) (ps-stand m s n hm values-behind) in
             let e3 : first ≡ table 16 (λ q. atPlace m s n (Index 0 q)) = ef ∙ rw eset (first-stands (lead .split) ea p-behind) in
             let e4 : second ≡ table 16 (λ q. atPlace m s n (Index 1 q)) =
             eg ∙ second-stands (lead .split) ea (second-on (lead .split) ea p-behind eset) in

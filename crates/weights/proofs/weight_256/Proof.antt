@@ -4,7 +4,7 @@ use mathlib.Core.Path.{ap}
 use Prim.Native.Nat.{ℕ, _*_}
 use native.Mathlib.Omega.{arith}
 use borrow.Author.Needs.{needs}
-use Rattle.weights.proofs.Weights.{counted}
+use Rattle.bcn_format.proofs.Weighing.{counted}
 use Rattle.weights.proofs.weight_256.Statement.{statement}
 use Rattle.weights.proofs.weight_256.Tie as tie
 

@@ -4,7 +4,7 @@ use mathlib.Core.Path.{ap, _∙_}
 use Prim.Native.Nat.{ℕ, _+_, _-_, _*_, _/_}
 use native.Mathlib.Omega.{arith}
 use Rattle.bcn_format.proofs.Drawing.{weight-le}
-use Rattle.weights.proofs.Weights.{Counted, computed, computed-weight, counted}
+use Rattle.bcn_format.proofs.Weighing.{Counted, computed, computed-weight, counted}
 use Rattle.weights.proofs.weight_64.Statement.{statement}
 use Rattle.weights.proofs.weight_64.Tie as tie
 

@@ -9,7 +9,7 @@ use lib.ListN.{length, getD}
 use Rattle.laws.specs.Digits.{Fit}
 use Rattle.bcn_format.specs.Block.{eights}
 use Rattle.bc7_format.proofs.Subsets.{sixteen-bytes}
-use Rattle.bc7_places.proofs.splits.Leads.{is-lead}
+use Rattle.bc7_places.proofs.splits.Leads.{is-lead, lead-ahead, marker-on}
 use Rattle.bc7_places.proofs.splits.read_lead.Statement.{statement}
 use Rattle.bc7_places.proofs.splits.read_lead.Tie as tie
 
@@ -34,7 +34,7 @@ skip-requires c κs = search needs
 read-split-requires : tie.Need-read-split-requires
 read-split-requires c κs =
     let s = c .before .before in
-    record { mode = s .args .mode; low = s .pre .low; is = s .pre .mode-row-is }
+    lead-ahead (s .pre .low) (s .pre .mode-row-is) (marker-on (s .args .mode) (c .before .new .ensures) (c .skip .ensures))
 
 returns : tie.Need-returns
 returns c =

@@ -9,17 +9,19 @@ use Rattle.bc7_places.proofs.splits.read_split.Statement.{statement}
 use Rattle.bc7_places.proofs.splits.read_split.Tie as tie
 
 add-take : tie.Need-add-take
-add-take c = omega (arith, small (c .before .pre) .split)
+add-take c = omega (arith, small (c .before .pre .of-mode) .split)
 
 add-take-2 : tie.Need-add-take-2
-add-take-2 c = omega (arith, small (c .before .before .pre) .split)
+add-take-2 c = omega (arith, small (c .before .before .pre .of-mode) .split)
 
 take-requires : tie.Need-take-requires
-take-requires c κs = omega (arith, small (c .before .before .pre) .split)
+take-requires c κs =
+    let s = c .before .before in
+    record { narrow = omega (arith, small (s .pre .of-mode) .split); inside = omega (arith, s .pre .inside) }
 
 cast-value : tie.Need-cast-value
 cast-value c =
-    let narrow = small (c .before .before .before .before .before .pre) .split in
+    let narrow = small (c .before .before .before .before .before .pre .of-mode) .split in
     record { fits = lt-of-lt-of-le (c .before .before .take .ensures .small) (pow-mono {j = 8} (omega (arith, narrow))) }
 
 split-of-kind-requires : tie.Need-split-of-kind-requires

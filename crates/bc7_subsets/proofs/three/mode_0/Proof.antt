@@ -1,14 +1,8 @@
 -- Mode 0: three subsets, and a p bit for each endpoint.
 -- Assumes nothing.
-use mathlib.Core.Path.{refl, sym, ap}
-use Prim.Native.Nat.{ℕ, _+_, _≤_}
+use mathlib.Core.Path.{_≡_, refl, sym, ap}
 use native.Mathlib.Omega.{arith}
 use borrow.Author.Needs.{needs}
-use lib.Dec.{lit<}
-use lib.ListN.{getD, take}
-use Rattle.laws.specs.Digits.{total}
-use Rattle.bc7_format.specs.Reads.{decodingReads}
-use Rattle.bc7_format.proofs.ReadsFit.{decoding-fits}
 use Rattle.bc7_format.specs.declared.Split.the-variants.{Three}
 use Rattle.bcn_format.specs.Block.{field}
 use Rattle.bc7_format.specs.Modes.{endpointCount, kindOfMode, modeRow}
@@ -20,18 +14,12 @@ use Rattle.bcn_format.specs.Painting.{solid}
 use Rattle.drawing.specs.Words.{withP}
 use Rattle.bc7_format.proofs.Ends.{opaque-p-shown, two-ps}
 use Rattle.bc7_subsets.proofs.Palettes.{three-palette}
-use Rattle.bc7_subsets.proofs.Laws.{anchored-3, lower, three-keys, upper}
+use Rattle.bc7_subsets.proofs.Laws.{anchored-3, three-keys}
 use Rattle.bc7_subsets.proofs.three.mode_0.Statement.{statement}
 use Rattle.bc7_subsets.proofs.three.mode_0.Tie as tie
 
 extract-partition-set-id-requires : tie.Need-extract-partition-set-id-requires
 extract-partition-set-id-requires c κs = search needs
-
-cast-partition-word-3-3 : tie.Need-cast-partition-word-3-3
-cast-partition-word-3-3 c = record { fits = omega (arith, c .before .extract-partition-set-id .ensures .small) }
-
-partition-word-3-3-requires : tie.Need-partition-word-3-3-requires
-partition-word-3-3-requires c κs = search needs
 
 take-requires : tie.Need-take-requires
 take-requires c κs = search needs
@@ -45,20 +33,83 @@ take-requires-3 c κs = search needs
 take-requires-4 : tie.Need-take-requires-4
 take-requires-4 c κs = search needs
 
+take-requires-5 : tie.Need-take-requires-5
+take-requires-5 c κs = search needs
+
+take-requires-6 : tie.Need-take-requires-6
+take-requires-6 c κs = search needs
+
+-- where the stream stands behind the sixth read of values, and behind the last
+behind-6 : (c : tie.After-take6) → c .take6 .result .stream .at ≡ 53
+behind-6 c = omega arith
+
+take-requires-7 : tie.Need-take-requires-7
+take-requires-7 c κs = search needs
+
+take-requires-8 : tie.Need-take-requires-8
+take-requires-8 c κs = search needs
+
+take-requires-9 : tie.Need-take-requires-9
+take-requires-9 c κs = record { narrow = omega arith; inside = omega (arith, behind-6 (c .before .before)) }
+
+take-requires-10 : tie.Need-take-requires-10
+take-requires-10 c κs = record { narrow = omega arith; inside = omega (arith, behind-6 (c .before .before .before)) }
+
+take-requires-11 : tie.Need-take-requires-11
+take-requires-11 c κs = record { narrow = omega arith; inside = omega (arith, behind-6 (c .before .before .before .before)) }
+
+take-requires-12 : tie.Need-take-requires-12
+take-requires-12 c κs = record { narrow = omega arith; inside = omega (arith, behind-6 (c .before .before .before .before .before)) }
+
+behind : (c : tie.After-take12) → c .take12 .result .stream .at ≡ 83
+behind c = omega (arith, behind-6 (c .before .before .before .before .before .before))
+
+-- the number of the partition
+abbrev number : tie.After-take12 → tie.After-extract-partition-set-id
+number c = c .before .before .before .before .before .before .before .before .before .before .before .before
+
 opaque-p-requires : tie.Need-opaque-p-requires
-opaque-p-requires c κs = search needs
+opaque-p-requires c κs =
+    omega (
+      arith,
+      c .before .before .before .before .before .before .before .before .before .before .before .take .ensures .small,
+      c .before .before .before .before .before .before .before .before .before .before .take2 .ensures .small,
+      c .before .before .before .before .before .before .before .before .take4 .ensures .small,
+      c .before .before .before .before .before .before .before .take5 .ensures .small,
+      c .before .before .before .before .before .take7 .ensures .small,
+      c .before .before .before .before .take8 .ensures .small,
+      c .before .before .take10 .ensures .small,
+      c .before .take11 .ensures .small,
+    )
 
 opaque-p-requires-2 : tie.Need-opaque-p-requires-2
-opaque-p-requires-2 c κs = search needs
+opaque-p-requires-2 c κs =
+    omega (
+      arith,
+      c .before .before .before .before .before .before .before .before .before .before .take3 .ensures .small,
+      c .before .before .before .before .before .before .before .take6 .ensures .small,
+      c .before .before .before .before .take9 .ensures .small,
+      c .before .take12 .ensures .small,
+    )
 
 palette-3-3-requires : tie.Need-palette-3-3-requires
 palette-3-3-requires c κs = search needs
 
+cast-partition-word-3-3 : tie.Need-cast-partition-word-3-3
+cast-partition-word-3-3 c =
+    let id = number (c .before .before .before .before) .extract-partition-set-id .ensures in
+    record { fits = omega (arith, id .small) }
+
+partition-word-3-3-requires : tie.Need-partition-word-3-3-requires
+partition-word-3-3-requires c κs =
+    let id = number (c .before .before .before .before) .extract-partition-set-id .ensures in
+    omega (arith, id .small)
+
 indexes-3-requires : tie.Need-indexes-3-requires
 indexes-3-requires c κs =
-    let set = c .before .before .before .before .before .before .before in
-    let id = set .before .before .extract-partition-set-id .ensures in
-    anchored-3 (omega (arith, id .small)) (omega arith) (omega arith) (set .partition-word-3-3 .ensures)
+    let last = c .before .before .before .before .before in
+    let id = number last .extract-partition-set-id .ensures in
+    anchored-3 (omega (arith, id .small)) (omega arith) (omega arith) (c .partition-word-3-3 .ensures) (omega (arith, behind last))
 
 keys-3-requires : tie.Need-keys-3-requires
 keys-3-requires c κs = search needs
@@ -66,54 +117,66 @@ keys-3-requires c κs = search needs
 paint-3-3-requires : tie.Need-paint-3-3-requires
 paint-3-3-requires c κs = search needs
 
--- each read is accepted: it is the k-th of those that decoding makes
-fits : (k : ℕ) → 1 + total (take k (decodingReads 0)) + getD (decodingReads 0) k 0 ≤ 128
-fits k = decoding-fits 0 k (lit< tt)
-
 returns : tie.Need-returns
 unfolding splitAt kindOfMode modeRow endpointCount field valueStart pStart leadEnd
 returns c =
-    let colours = c .before .before .before in
-    let at-p = colours .before .before .before in
-    let at-b = at-p .before in
-    let at-g = at-b .before in
-    let at-r = at-g .before in
-    let set = at-r .before in
-    let id = set .before .before .extract-partition-set-id .ensures in
-    let s = set .before .before .before in
+    let set = c .before .before .before in
+    let colours = set .before .before in
+    let at-p2 = colours .before .before .before in
+    let at-p1 = at-p2 .before in
+    let at-p0 = at-p1 .before in
+    let at-b2 = at-p0 .before in
+    let at-b1 = at-b2 .before in
+    let at-b0 = at-b1 .before in
+    let at-g2 = at-b0 .before in
+    let at-g1 = at-g2 .before in
+    let at-g0 = at-g1 .before in
+    let at-r2 = at-g0 .before in
+    let at-r1 = at-r2 .before in
+    let at-r0 = at-r1 .before in
+    let at-id = at-r0 .before in
+    let id = at-id .extract-partition-set-id .ensures in
+    let s = at-id .before in
     let n = held (s .args .stream) in
     let start : On n 1 (s .args .stream) = record { of = refl; stands = s .pre } in
-    let on-r = on-read start 4 (fits 0) (id .same) in
-    let r = at-r .take .ensures .same in
-    let on-g = on-read on-r 24 (fits 1) r in
-    let g = at-g .take2 .ensures .same in
-    let on-b = on-read on-g 24 (fits 2) g in
-    let b = at-b .take3 .ensures .same in
-    let on-p = on-read on-b 24 (fits 3) b in
-    let p = at-p .take4 .ensures .same in
-    let on-x = on-read on-p 6 (fits 4) p in
-    let reds = got on-r 24 (fits 1) r in
-    let greens = got on-g 24 (fits 2) g in
-    let blues = got on-b 24 (fits 3) b in
-    let ps = got on-p 6 (fits 4) p in
-    three-keys 0 n 3 (omega arith) refl (omega arith) (omega arith) (omega (arith, id .small)) on-x
-    (ap Three (sym (got start 4 (fits 0) (id .same))))
-    (set .partition-word-3-3 .ensures) (fits 5) (c .before .before .indexes-3 .ensures) (c .before .keys-3 .ensures)
+    let on-r0 = on-read start 4 (id .same) in
+    let r0 = at-r0 .take .ensures .same in
+    let on-r1 = on-read on-r0 8 r0 in
+    let r1 = at-r1 .take2 .ensures .same in
+    let on-r2 = on-read on-r1 8 r1 in
+    let r2 = at-r2 .take3 .ensures .same in
+    let on-g0 = on-read on-r2 8 r2 in
+    let g0 = at-g0 .take4 .ensures .same in
+    let on-g1 = on-read on-g0 8 g0 in
+    let g1 = at-g1 .take5 .ensures .same in
+    let on-g2 = on-read on-g1 8 g1 in
+    let g2 = at-g2 .take6 .ensures .same in
+    let on-b0 = on-read on-g2 8 g2 in
+    let b0 = at-b0 .take7 .ensures .same in
+    let on-b1 = on-read on-b0 8 b0 in
+    let b1 = at-b1 .take8 .ensures .same in
+    let on-b2 = on-read on-b1 8 b1 in
+    let b2 = at-b2 .take9 .ensures .same in
+    let on-p0 = on-read on-b2 8 b2 in
+    let p0 = at-p0 .take10 .ensures .same in
+    let on-p1 = on-read on-p0 2 p0 in
+    let p1 = at-p1 .take11 .ensures .same in
+    let on-p2 = on-read on-p1 2 p1 in
+    let p2 = at-p2 .take12 .ensures .same in
+    let on-x = on-read on-p2 2 p2 in
+    three-keys 0 n 3 (omega arith) refl (omega arith) (omega arith) (omega (arith, id .small)) on-x (ap Three (sym (got start 4 (id .same))))
+    (set .partition-word-3-3 .ensures) (c .before .before .indexes-3 .ensures) (c .before .keys-3 .ensures)
     (three-palette 0 n 3 (λ x. solid (withP 4 x)) _ _ (colours .before .before .opaque-p .ensures)
     (opaque-p-shown 0 n {l = 0} refl
-    (record { red = lower n 5 16 8 reds; green = lower n 29 16 8 greens; blue = lower n 53 16 8 blues })
-    refl (two-ps 0 n 0 refl (lower n 77 4 2 ps)) refl)
+    (record { red = got on-r0 8 r0; green = got on-g0 8 g0; blue = got on-b0 8 b0 })
+    refl (two-ps 0 n 0 refl (got on-p0 2 p0)) refl)
     (opaque-p-shown 0 n {l = 1} refl
-    (record {
-      red = lower n 13 8 8 (upper n 5 16 8 reds);
-      green = lower n 37 8 8 (upper n 29 16 8 greens);
-      blue = lower n 61 8 8 (upper n 53 16 8 blues);
-    })
-    refl (two-ps 0 n 1 refl (lower n 79 2 2 (upper n 77 4 2 ps))) refl)
+    (record { red = got on-r1 8 r1; green = got on-g1 8 g1; blue = got on-b1 8 b1 })
+    refl (two-ps 0 n 1 refl (got on-p1 2 p1)) refl)
     _ _ (colours .before .opaque-p2 .ensures)
     (opaque-p-shown 0 n {l = 2} refl
-    (record { red = upper n 5 8 16 reds; green = upper n 29 8 16 greens; blue = upper n 53 8 16 blues })
-    refl (two-ps 0 n 2 refl (upper n 77 2 4 ps)) refl)
+    (record { red = got on-r2 8 r2; green = got on-g2 8 g2; blue = got on-b2 8 b2 })
+    refl (two-ps 0 n 2 refl (got on-p2 2 p2)) refl)
     (colours .palette-3-3 .ensures))
     (c .paint-3-3 .ensures)
 
@@ -122,15 +185,23 @@ mode-0-spec =
     tie.close
     (tie.spec
     extract-partition-set-id-requires
-    cast-partition-word-3-3
-    partition-word-3-3-requires
     take-requires
     take-requires-2
     take-requires-3
     take-requires-4
+    take-requires-5
+    take-requires-6
+    take-requires-7
+    take-requires-8
+    take-requires-9
+    take-requires-10
+    take-requires-11
+    take-requires-12
     opaque-p-requires
     opaque-p-requires-2
     palette-3-3-requires
+    cast-partition-word-3-3
+    partition-word-3-3-requires
     indexes-3-requires
     keys-3-requires
     paint-3-3-requires

@@ -1,14 +1,8 @@
 -- Mode 2: three subsets, no p bits.
 -- Assumes nothing.
-use mathlib.Core.Path.{refl, sym, ap}
-use Prim.Native.Nat.{ℕ, _+_, _≤_}
+use mathlib.Core.Path.{_≡_, refl, sym, ap}
 use native.Mathlib.Omega.{arith}
 use borrow.Author.Needs.{needs}
-use lib.Dec.{lit<}
-use lib.ListN.{getD, take}
-use Rattle.laws.specs.Digits.{total}
-use Rattle.bc7_format.specs.Reads.{decodingReads}
-use Rattle.bc7_format.proofs.ReadsFit.{decoding-fits}
 use Rattle.bc7_format.specs.declared.Split.the-variants.{Three}
 use Rattle.bcn_format.specs.Block.{field}
 use Rattle.bc7_format.specs.Modes.{endpointCount, kindOfMode, modeRow}
@@ -26,12 +20,6 @@ use Rattle.bc7_subsets.proofs.three.mode_2.Tie as tie
 
 extract-partition-set-id-requires : tie.Need-extract-partition-set-id-requires
 extract-partition-set-id-requires c κs = search needs
-
-cast-partition-word-3-2 : tie.Need-cast-partition-word-3-2
-cast-partition-word-3-2 c = record { fits = omega (arith, c .before .extract-partition-set-id .ensures .small) }
-
-partition-word-3-2-requires : tie.Need-partition-word-3-2-requires
-partition-word-3-2-requires c κs = search needs
 
 take-requires : tie.Need-take-requires
 take-requires c κs = search needs
@@ -51,6 +39,10 @@ take-requires-5 c κs = search needs
 take-requires-6 : tie.Need-take-requires-6
 take-requires-6 c κs = search needs
 
+-- where the stream stands behind the sixth read of values, and behind the last
+behind-6 : (c : tie.After-take6) → c .take6 .result .stream .at ≡ 69
+behind-6 c = omega arith
+
 take-requires-7 : tie.Need-take-requires-7
 take-requires-7 c κs = search needs
 
@@ -58,7 +50,14 @@ take-requires-8 : tie.Need-take-requires-8
 take-requires-8 c κs = search needs
 
 take-requires-9 : tie.Need-take-requires-9
-take-requires-9 c κs = search needs
+take-requires-9 c κs = record { narrow = omega arith; inside = omega (arith, behind-6 (c .before .before)) }
+
+behind : (c : tie.After-take9) → c .take9 .result .stream .at ≡ 99
+behind c = omega (arith, behind-6 (c .before .before .before))
+
+-- the number of the partition
+abbrev number : tie.After-take9 → tie.After-extract-partition-set-id
+number c = c .before .before .before .before .before .before .before .before .before
 
 opaque-requires : tie.Need-opaque-requires
 opaque-requires c κs =
@@ -73,16 +72,32 @@ opaque-requires c κs =
     )
 
 opaque-requires-2 : tie.Need-opaque-requires-2
-opaque-requires-2 c κs = search needs
+opaque-requires-2 c κs =
+    omega (
+      arith,
+      c .before .before .before .before .before .before .before .take3 .ensures .small,
+      c .before .before .before .before .take6 .ensures .small,
+      c .before .take9 .ensures .small,
+    )
 
 palette-3-2-requires : tie.Need-palette-3-2-requires
 palette-3-2-requires c κs = search needs
 
+cast-partition-word-3-2 : tie.Need-cast-partition-word-3-2
+cast-partition-word-3-2 c =
+    let id = number (c .before .before .before .before) .extract-partition-set-id .ensures in
+    record { fits = omega (arith, id .small) }
+
+partition-word-3-2-requires : tie.Need-partition-word-3-2-requires
+partition-word-3-2-requires c κs =
+    let id = number (c .before .before .before .before) .extract-partition-set-id .ensures in
+    omega (arith, id .small)
+
 indexes-3-requires : tie.Need-indexes-3-requires
 indexes-3-requires c κs =
-    let set = c .before .before .before .before .before .before .before .before .before .before .before .before in
-    let id = set .before .before .extract-partition-set-id .ensures in
-    anchored-3 (omega (arith, id .small)) (omega arith) (omega arith) (set .partition-word-3-2 .ensures)
+    let last = c .before .before .before .before .before in
+    let id = number last .extract-partition-set-id .ensures in
+    anchored-3 (omega (arith, id .small)) (omega arith) (omega arith) (c .partition-word-3-2 .ensures) (omega (arith, behind last))
 
 keys-2-requires : tie.Need-keys-2-requires
 keys-2-requires c κs = search needs
@@ -90,14 +105,11 @@ keys-2-requires c κs = search needs
 paint-4-requires : tie.Need-paint-4-requires
 paint-4-requires c κs = search needs
 
--- each read is accepted: it is the k-th of those that decoding makes
-fits : (k : ℕ) → 3 + total (take k (decodingReads 2)) + getD (decodingReads 2) k 0 ≤ 128
-fits k = decoding-fits 2 k (lit< tt)
-
 returns : tie.Need-returns
 unfolding splitAt kindOfMode modeRow endpointCount field valueStart pStart leadEnd
 returns c =
-    let colours = c .before .before .before in
+    let set = c .before .before .before in
+    let colours = set .before .before in
     let at-b2 = colours .before .before .before in
     let at-b1 = at-b2 .before in
     let at-b0 = at-b1 .before in
@@ -107,43 +119,42 @@ returns c =
     let at-r2 = at-g0 .before in
     let at-r1 = at-r2 .before in
     let at-r0 = at-r1 .before in
-    let set = at-r0 .before in
-    let id = set .before .before .extract-partition-set-id .ensures in
-    let s = set .before .before .before in
+    let at-id = at-r0 .before in
+    let id = at-id .extract-partition-set-id .ensures in
+    let s = at-id .before in
     let n = held (s .args .stream) in
     let start : On n 3 (s .args .stream) = record { of = refl; stands = s .pre } in
-    let on-r0 = on-read start 6 (fits 0) (id .same) in
+    let on-r0 = on-read start 6 (id .same) in
     let r0 = at-r0 .take .ensures .same in
-    let on-r1 = on-read on-r0 10 (fits 1) r0 in
+    let on-r1 = on-read on-r0 10 r0 in
     let r1 = at-r1 .take2 .ensures .same in
-    let on-r2 = on-read on-r1 10 (fits 2) r1 in
+    let on-r2 = on-read on-r1 10 r1 in
     let r2 = at-r2 .take3 .ensures .same in
-    let on-g0 = on-read on-r2 10 (fits 3) r2 in
+    let on-g0 = on-read on-r2 10 r2 in
     let g0 = at-g0 .take4 .ensures .same in
-    let on-g1 = on-read on-g0 10 (fits 4) g0 in
+    let on-g1 = on-read on-g0 10 g0 in
     let g1 = at-g1 .take5 .ensures .same in
-    let on-g2 = on-read on-g1 10 (fits 5) g1 in
+    let on-g2 = on-read on-g1 10 g1 in
     let g2 = at-g2 .take6 .ensures .same in
-    let on-b0 = on-read on-g2 10 (fits 6) g2 in
+    let on-b0 = on-read on-g2 10 g2 in
     let b0 = at-b0 .take7 .ensures .same in
-    let on-b1 = on-read on-b0 10 (fits 7) b0 in
+    let on-b1 = on-read on-b0 10 b0 in
     let b1 = at-b1 .take8 .ensures .same in
-    let on-b2 = on-read on-b1 10 (fits 8) b1 in
+    let on-b2 = on-read on-b1 10 b1 in
     let b2 = at-b2 .take9 .ensures .same in
-    let on-x = on-read on-b2 10 (fits 9) b2 in
-    three-keys 2 n 2 (omega arith) refl (omega arith) (omega arith) (omega (arith, id .small)) on-x
-    (ap Three (sym (got start 6 (fits 0) (id .same))))
-    (set .partition-word-3-2 .ensures) (fits 10) (c .before .before .indexes-3 .ensures) (c .before .keys-2 .ensures)
+    let on-x = on-read on-b2 10 b2 in
+    three-keys 2 n 2 (omega arith) refl (omega arith) (omega arith) (omega (arith, id .small)) on-x (ap Three (sym (got start 6 (id .same))))
+    (set .partition-word-3-2 .ensures) (c .before .before .indexes-3 .ensures) (c .before .keys-2 .ensures)
     (three-palette 2 n 2 (λ x. solid (plain 5 x)) _ _ (colours .before .before .opaque .ensures)
     (opaque-shown 2 n {l = 0} {a = 0} {p = 0} refl
-    (record { red = got on-r0 10 (fits 1) r0; green = got on-g0 10 (fits 4) g0; blue = got on-b0 10 (fits 7) b0 })
+    (record { red = got on-r0 10 r0; green = got on-g0 10 g0; blue = got on-b0 10 b0 })
     refl refl)
     (opaque-shown 2 n {l = 1} {a = 0} {p = 0} refl
-    (record { red = got on-r1 10 (fits 2) r1; green = got on-g1 10 (fits 5) g1; blue = got on-b1 10 (fits 8) b1 })
+    (record { red = got on-r1 10 r1; green = got on-g1 10 g1; blue = got on-b1 10 b1 })
     refl refl)
     _ _ (colours .before .opaque2 .ensures)
     (opaque-shown 2 n {l = 2} {a = 0} {p = 0} refl
-    (record { red = got on-r2 10 (fits 3) r2; green = got on-g2 10 (fits 6) g2; blue = got on-b2 10 (fits 9) b2 })
+    (record { red = got on-r2 10 r2; green = got on-g2 10 g2; blue = got on-b2 10 b2 })
     refl refl)
     (colours .palette-3-2 .ensures))
     (c .paint-4 .ensures)
@@ -153,8 +164,6 @@ mode-2-spec =
     tie.close
     (tie.spec
     extract-partition-set-id-requires
-    cast-partition-word-3-2
-    partition-word-3-2-requires
     take-requires
     take-requires-2
     take-requires-3
@@ -167,6 +176,8 @@ mode-2-spec =
     opaque-requires
     opaque-requires-2
     palette-3-2-requires
+    cast-partition-word-3-2
+    partition-word-3-2-requires
     indexes-3-requires
     keys-2-requires
     paint-4-requires

@@ -1,14 +1,9 @@
 -- Mode 1: two subsets, and a p bit for each.
 -- Assumes nothing.
-use mathlib.Core.Path.{refl, sym, ap}
-use Prim.Native.Nat.{ℕ, _+_, _*_, _≤_}
+use mathlib.Core.Path.{_≡_, refl, sym, ap}
+use Prim.Native.Nat.{ℕ, _*_}
 use native.Mathlib.Omega.{arith}
 use borrow.Author.Needs.{needs}
-use lib.Dec.{lit<}
-use lib.ListN.{getD, take}
-use Rattle.laws.specs.Digits.{total}
-use Rattle.bc7_format.specs.Reads.{decodingReads}
-use Rattle.bc7_format.proofs.ReadsFit.{decoding-fits}
 use Rattle.bc7_format.specs.declared.Split.the-variants.{Two}
 use Rattle.bcn_format.specs.Block.{field}
 use Rattle.bc7_format.specs.Modes.{endpointCount, kindOfMode, modeRow}
@@ -26,12 +21,6 @@ use Rattle.bc7_subsets.proofs.two.mode_1.Tie as tie
 
 extract-partition-set-id-requires : tie.Need-extract-partition-set-id-requires
 extract-partition-set-id-requires c κs = search needs
-
-cast-partition-word-2-3 : tie.Need-cast-partition-word-2-3
-cast-partition-word-2-3 c = record { fits = omega (arith, c .before .extract-partition-set-id .ensures .small) }
-
-partition-word-2-3-requires : tie.Need-partition-word-2-3-requires
-partition-word-2-3-requires c κs = search needs
 
 take-requires : tie.Need-take-requires
 take-requires c κs = search needs
@@ -51,17 +40,28 @@ take-requires-5 c κs = search needs
 take-requires-6 : tie.Need-take-requires-6
 take-requires-6 c κs = search needs
 
+-- where the stream stands behind the sixth read of values, and behind the last
+behind-6 : (c : tie.After-take6) → c .take6 .result .stream .at ≡ 80
+behind-6 c = omega arith
+
 take-requires-7 : tie.Need-take-requires-7
 take-requires-7 c κs = search needs
 
 take-requires-8 : tie.Need-take-requires-8
 take-requires-8 c κs = search needs
 
-mul-t17 : tie.Need-mul-t17
-mul-t17 c = search needs
+behind : (c : tie.After-take8) → c .take8 .result .stream .at ≡ 82
+behind c = omega (arith, behind-6 (c .before .before))
 
-mul-t17-2 : tie.Need-mul-t17-2
-mul-t17-2 c = search needs
+-- the number of the partition
+abbrev number : tie.After-take8 → tie.After-extract-partition-set-id
+number c = c .before .before .before .before .before .before .before .before
+
+mul-t16 : tie.Need-mul-t16
+mul-t16 c = search needs
+
+mul-t16-2 : tie.Need-mul-t16-2
+mul-t16-2 c = search needs
 
 opaque-p-requires : tie.Need-opaque-p-requires
 opaque-p-requires c κs =
@@ -80,11 +80,21 @@ opaque-p-requires c κs =
 palette-2-3-requires : tie.Need-palette-2-3-requires
 palette-2-3-requires c κs = search needs
 
+cast-partition-word-2-3 : tie.Need-cast-partition-word-2-3
+cast-partition-word-2-3 c =
+    let id = number (c .before .before .before .before .before) .extract-partition-set-id .ensures in
+    record { fits = omega (arith, id .small) }
+
+partition-word-2-3-requires : tie.Need-partition-word-2-3-requires
+partition-word-2-3-requires c κs =
+    let id = number (c .before .before .before .before .before) .extract-partition-set-id .ensures in
+    omega (arith, id .small)
+
 indexes-2-requires : tie.Need-indexes-2-requires
 indexes-2-requires c κs =
-    let set = c .before .before .before .before .before .before .before .before .before .before .before .before in
-    let id = set .before .before .extract-partition-set-id .ensures in
-    anchored-2 (omega (arith, id .small)) (omega arith) (omega arith) (set .partition-word-2-3 .ensures)
+    let last = c .before .before .before .before .before .before in
+    let id = number last .extract-partition-set-id .ensures in
+    anchored-2 (omega (arith, id .small)) (omega arith) (omega arith) (c .partition-word-2-3 .ensures) (omega (arith, behind last))
 
 keys-3-requires : tie.Need-keys-3-requires
 keys-3-requires c κs = search needs
@@ -92,14 +102,11 @@ keys-3-requires c κs = search needs
 paint-2-3-requires : tie.Need-paint-2-3-requires
 paint-2-3-requires c κs = search needs
 
--- each read is accepted: it is the k-th of those that decoding makes
-fits : (k : ℕ) → 2 + total (take k (decodingReads 1)) + getD (decodingReads 1) k 0 ≤ 128
-fits k = decoding-fits 1 k (lit< tt)
-
 returns : tie.Need-returns
 unfolding splitAt kindOfMode modeRow endpointCount field valueStart pStart leadEnd
 returns c =
-    let colours = c .before .before .before in
+    let set = c .before .before .before in
+    let colours = set .before .before in
     let at-p1 = colours .before .before .before .before in
     let at-p0 = at-p1 .before in
     let at-b1 = at-p0 .before in
@@ -108,37 +115,37 @@ returns c =
     let at-g0 = at-g1 .before in
     let at-r1 = at-g0 .before in
     let at-r0 = at-r1 .before in
-    let set = at-r0 .before in
-    let id = set .before .before .extract-partition-set-id .ensures in
-    let s = set .before .before .before in
+    let at-id = at-r0 .before in
+    let id = at-id .extract-partition-set-id .ensures in
+    let s = at-id .before in
     let n = held (s .args .stream) in
     let start : On n 2 (s .args .stream) = record { of = refl; stands = s .pre } in
-    let on-r0 = on-read start 6 (fits 0) (id .same) in
+    let on-r0 = on-read start 6 (id .same) in
     let r0 = at-r0 .take .ensures .same in
-    let on-r1 = on-read on-r0 12 (fits 1) r0 in
+    let on-r1 = on-read on-r0 12 r0 in
     let r1 = at-r1 .take2 .ensures .same in
-    let on-g0 = on-read on-r1 12 (fits 2) r1 in
+    let on-g0 = on-read on-r1 12 r1 in
     let g0 = at-g0 .take3 .ensures .same in
-    let on-g1 = on-read on-g0 12 (fits 3) g0 in
+    let on-g1 = on-read on-g0 12 g0 in
     let g1 = at-g1 .take4 .ensures .same in
-    let on-b0 = on-read on-g1 12 (fits 4) g1 in
+    let on-b0 = on-read on-g1 12 g1 in
     let b0 = at-b0 .take5 .ensures .same in
-    let on-b1 = on-read on-b0 12 (fits 5) b0 in
+    let on-b1 = on-read on-b0 12 b0 in
     let b1 = at-b1 .take6 .ensures .same in
-    let on-p0 = on-read on-b1 12 (fits 6) b1 in
+    let on-p0 = on-read on-b1 12 b1 in
     let p0 = at-p0 .take7 .ensures .same in
-    let on-p1 = on-read on-p0 1 (fits 7) p0 in
+    let on-p1 = on-read on-p0 1 p0 in
     let p1 = at-p1 .take8 .ensures .same in
-    let on-x = on-read on-p1 1 (fits 8) p1 in
-    two-keys 1 n 3 (omega arith) refl (omega arith) (omega arith) (omega (arith, id .small)) on-x (ap Two (sym (got start 6 (fits 0) (id .same))))
-    (set .partition-word-2-3 .ensures) (fits 9) (c .before .before .indexes-2 .ensures) (c .before .keys-3 .ensures)
+    let on-x = on-read on-p1 1 p1 in
+    two-keys 1 n 3 (omega arith) refl (omega arith) (omega arith) (omega (arith, id .small)) on-x (ap Two (sym (got start 6 (id .same))))
+    (set .partition-word-2-3 .ensures) (c .before .before .indexes-2 .ensures) (c .before .keys-3 .ensures)
     (two-palette 1 n 3 (λ x. solid (withP 6 x)) _ _ (colours .before .opaque-p .ensures)
     (opaque-p-shown 1 n {l = 0} refl
-    (record { red = got on-r0 12 (fits 1) r0; green = got on-g0 12 (fits 3) g0; blue = got on-b0 12 (fits 5) b0 })
-    refl (one-p 1 n 0 refl (ap (λ (v : ℕ). 3 * v) (got on-p0 1 (fits 7) p0))) refl)
+    (record { red = got on-r0 12 r0; green = got on-g0 12 g0; blue = got on-b0 12 b0 })
+    refl (one-p 1 n 0 refl (ap (λ (v : ℕ). 3 * v) (got on-p0 1 p0))) refl)
     (opaque-p-shown 1 n {l = 1} refl
-    (record { red = got on-r1 12 (fits 2) r1; green = got on-g1 12 (fits 4) g1; blue = got on-b1 12 (fits 6) b1 })
-    refl (one-p 1 n 1 refl (ap (λ (v : ℕ). 3 * v) (got on-p1 1 (fits 8) p1))) refl)
+    (record { red = got on-r1 12 r1; green = got on-g1 12 g1; blue = got on-b1 12 b1 })
+    refl (one-p 1 n 1 refl (ap (λ (v : ℕ). 3 * v) (got on-p1 1 p1))) refl)
     (colours .palette-2-3 .ensures))
     (c .paint-2-3 .ensures)
 
@@ -147,8 +154,6 @@ mode-1-spec =
     tie.close
     (tie.spec
     extract-partition-set-id-requires
-    cast-partition-word-2-3
-    partition-word-2-3-requires
     take-requires
     take-requires-2
     take-requires-3
@@ -157,10 +162,12 @@ mode-1-spec =
     take-requires-6
     take-requires-7
     take-requires-8
-    mul-t17
-    mul-t17-2
+    mul-t16
+    mul-t16-2
     opaque-p-requires
     palette-2-3-requires
+    cast-partition-word-2-3
+    partition-word-2-3-requires
     indexes-2-requires
     keys-3-requires
     paint-2-3-requires

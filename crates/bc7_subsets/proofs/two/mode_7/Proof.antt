@@ -1,14 +1,8 @@
 -- Mode 7: two subsets with alpha.
 -- Assumes nothing.
-use mathlib.Core.Path.{refl, sym, ap}
-use Prim.Native.Nat.{ℕ, _+_, _≤_}
+use mathlib.Core.Path.{_≡_, refl, sym, ap}
 use native.Mathlib.Omega.{arith}
 use borrow.Author.Needs.{needs}
-use lib.Dec.{lit<}
-use lib.ListN.{getD, take}
-use Rattle.laws.specs.Digits.{total}
-use Rattle.bc7_format.specs.Reads.{decodingReads}
-use Rattle.bc7_format.proofs.ReadsFit.{decoding-fits}
 use Rattle.bc7_format.specs.declared.Split.the-variants.{Two}
 use Rattle.bcn_format.specs.Block.{field}
 use Rattle.bc7_format.specs.Modes.{endpointCount, kindOfMode, modeRow}
@@ -25,12 +19,6 @@ use Rattle.bc7_subsets.proofs.two.mode_7.Tie as tie
 
 extract-partition-set-id-requires : tie.Need-extract-partition-set-id-requires
 extract-partition-set-id-requires c κs = search needs
-
-cast-partition-word-2-2 : tie.Need-cast-partition-word-2-2
-cast-partition-word-2-2 c = record { fits = omega (arith, c .before .extract-partition-set-id .ensures .small) }
-
-partition-word-2-2-requires : tie.Need-partition-word-2-2-requires
-partition-word-2-2-requires c κs = search needs
 
 take-requires : tie.Need-take-requires
 take-requires c κs = search needs
@@ -50,6 +38,10 @@ take-requires-5 c κs = search needs
 take-requires-6 : tie.Need-take-requires-6
 take-requires-6 c κs = search needs
 
+-- where the stream stands behind the sixth read of values, and behind the last
+behind-6 : (c : tie.After-take6) → c .take6 .result .stream .at ≡ 74
+behind-6 c = omega arith
+
 take-requires-7 : tie.Need-take-requires-7
 take-requires-7 c κs = search needs
 
@@ -57,10 +49,17 @@ take-requires-8 : tie.Need-take-requires-8
 take-requires-8 c κs = search needs
 
 take-requires-9 : tie.Need-take-requires-9
-take-requires-9 c κs = search needs
+take-requires-9 c κs = record { narrow = omega arith; inside = omega (arith, behind-6 (c .before .before)) }
 
 take-requires-10 : tie.Need-take-requires-10
-take-requires-10 c κs = search needs
+take-requires-10 c κs = record { narrow = omega arith; inside = omega (arith, behind-6 (c .before .before .before)) }
+
+behind : (c : tie.After-take10) → c .take10 .result .stream .at ≡ 98
+behind c = omega (arith, behind-6 (c .before .before .before .before))
+
+-- the number of the partition
+abbrev number : tie.After-take10 → tie.After-extract-partition-set-id
+number c = c .before .before .before .before .before .before .before .before .before .before
 
 translucent-p-requires : tie.Need-translucent-p-requires
 translucent-p-requires c κs =
@@ -81,11 +80,21 @@ translucent-p-requires c κs =
 palette-2-2-requires : tie.Need-palette-2-2-requires
 palette-2-2-requires c κs = search needs
 
+cast-partition-word-2-2 : tie.Need-cast-partition-word-2-2
+cast-partition-word-2-2 c =
+    let id = number (c .before .before .before) .extract-partition-set-id .ensures in
+    record { fits = omega (arith, id .small) }
+
+partition-word-2-2-requires : tie.Need-partition-word-2-2-requires
+partition-word-2-2-requires c κs =
+    let id = number (c .before .before .before) .extract-partition-set-id .ensures in
+    omega (arith, id .small)
+
 indexes-2-requires : tie.Need-indexes-2-requires
 indexes-2-requires c κs =
-    let set = c .before .before .before .before .before .before .before .before .before .before .before .before in
-    let id = set .before .before .extract-partition-set-id .ensures in
-    anchored-2 (omega (arith, id .small)) (omega arith) (omega arith) (set .partition-word-2-2 .ensures)
+    let last = c .before .before .before .before in
+    let id = number last .extract-partition-set-id .ensures in
+    anchored-2 (omega (arith, id .small)) (omega arith) (omega arith) (c .partition-word-2-2 .ensures) (omega (arith, behind last))
 
 keys-2-requires : tie.Need-keys-2-requires
 keys-2-requires c κs = search needs
@@ -93,14 +102,11 @@ keys-2-requires c κs = search needs
 paint-2-2-requires : tie.Need-paint-2-2-requires
 paint-2-2-requires c κs = search needs
 
--- each read is accepted: it is the k-th of those that decoding makes
-fits : (k : ℕ) → 8 + total (take k (decodingReads 7)) + getD (decodingReads 7) k 0 ≤ 128
-fits k = decoding-fits 7 k (lit< tt)
-
 returns : tie.Need-returns
 unfolding splitAt kindOfMode modeRow endpointCount field valueStart pStart leadEnd
 returns c =
-    let colours = c .before .before .before in
+    let set = c .before .before .before in
+    let colours = set .before .before in
     let at-p1 = colours .before .before in
     let at-p0 = at-p1 .before in
     let at-a1 = at-p0 .before in
@@ -111,41 +117,41 @@ returns c =
     let at-g0 = at-g1 .before in
     let at-r1 = at-g0 .before in
     let at-r0 = at-r1 .before in
-    let set = at-r0 .before in
-    let id = set .before .before .extract-partition-set-id .ensures in
-    let s = set .before .before .before in
+    let at-id = at-r0 .before in
+    let id = at-id .extract-partition-set-id .ensures in
+    let s = at-id .before in
     let n = held (s .args .stream) in
     let start : On n 8 (s .args .stream) = record { of = refl; stands = s .pre } in
-    let on-r0 = on-read start 6 (fits 0) (id .same) in
+    let on-r0 = on-read start 6 (id .same) in
     let r0 = at-r0 .take .ensures .same in
-    let on-r1 = on-read on-r0 10 (fits 1) r0 in
+    let on-r1 = on-read on-r0 10 r0 in
     let r1 = at-r1 .take2 .ensures .same in
-    let on-g0 = on-read on-r1 10 (fits 2) r1 in
+    let on-g0 = on-read on-r1 10 r1 in
     let g0 = at-g0 .take3 .ensures .same in
-    let on-g1 = on-read on-g0 10 (fits 3) g0 in
+    let on-g1 = on-read on-g0 10 g0 in
     let g1 = at-g1 .take4 .ensures .same in
-    let on-b0 = on-read on-g1 10 (fits 4) g1 in
+    let on-b0 = on-read on-g1 10 g1 in
     let b0 = at-b0 .take5 .ensures .same in
-    let on-b1 = on-read on-b0 10 (fits 5) b0 in
+    let on-b1 = on-read on-b0 10 b0 in
     let b1 = at-b1 .take6 .ensures .same in
-    let on-a0 = on-read on-b1 10 (fits 6) b1 in
+    let on-a0 = on-read on-b1 10 b1 in
     let a0 = at-a0 .take7 .ensures .same in
-    let on-a1 = on-read on-a0 10 (fits 7) a0 in
+    let on-a1 = on-read on-a0 10 a0 in
     let a1 = at-a1 .take8 .ensures .same in
-    let on-p0 = on-read on-a1 10 (fits 8) a1 in
+    let on-p0 = on-read on-a1 10 a1 in
     let p0 = at-p0 .take9 .ensures .same in
-    let on-p1 = on-read on-p0 2 (fits 9) p0 in
+    let on-p1 = on-read on-p0 2 p0 in
     let p1 = at-p1 .take10 .ensures .same in
-    let on-x = on-read on-p1 2 (fits 10) p1 in
-    two-keys 7 n 2 (omega arith) refl (omega arith) (omega arith) (omega (arith, id .small)) on-x (ap Two (sym (got start 6 (fits 0) (id .same))))
-    (set .partition-word-2-2 .ensures) (fits 11) (c .before .before .indexes-2 .ensures) (c .before .keys-2 .ensures)
+    let on-x = on-read on-p1 2 p1 in
+    two-keys 7 n 2 (omega arith) refl (omega arith) (omega arith) (omega (arith, id .small)) on-x (ap Two (sym (got start 6 (id .same))))
+    (set .partition-word-2-2 .ensures) (c .before .before .indexes-2 .ensures) (c .before .keys-2 .ensures)
     (two-palette 7 n 2 (withP 5) _ _ (colours .before .translucent-p .ensures)
     (translucent-p-shown 7 n {l = 0} refl
-    (record { red = got on-r0 10 (fits 1) r0; green = got on-g0 10 (fits 3) g0; blue = got on-b0 10 (fits 5) b0 })
-    refl (two-ps 7 n 0 refl (got on-p0 2 (fits 9) p0)) refl (got on-a0 10 (fits 7) a0))
+    (record { red = got on-r0 10 r0; green = got on-g0 10 g0; blue = got on-b0 10 b0 })
+    refl (two-ps 7 n 0 refl (got on-p0 2 p0)) refl (got on-a0 10 a0))
     (translucent-p-shown 7 n {l = 1} refl
-    (record { red = got on-r1 10 (fits 2) r1; green = got on-g1 10 (fits 4) g1; blue = got on-b1 10 (fits 6) b1 })
-    refl (two-ps 7 n 1 refl (got on-p1 2 (fits 10) p1)) refl (got on-a1 10 (fits 8) a1))
+    (record { red = got on-r1 10 r1; green = got on-g1 10 g1; blue = got on-b1 10 b1 })
+    refl (two-ps 7 n 1 refl (got on-p1 2 p1)) refl (got on-a1 10 a1))
     (colours .palette-2-2 .ensures))
     (c .paint-2-2 .ensures)
 
@@ -154,8 +160,6 @@ mode-7-spec =
     tie.close
     (tie.spec
     extract-partition-set-id-requires
-    cast-partition-word-2-2
-    partition-word-2-2-requires
     take-requires
     take-requires-2
     take-requires-3
@@ -168,6 +172,8 @@ mode-7-spec =
     take-requires-10
     translucent-p-requires
     palette-2-2-requires
+    cast-partition-word-2-2
+    partition-word-2-2-requires
     indexes-2-requires
     keys-2-requires
     paint-2-2-requires

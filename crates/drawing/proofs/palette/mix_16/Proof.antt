@@ -6,7 +6,7 @@ use native.Mathlib.Omega.{arith}
 use borrow.Author.Needs.{needs}
 use Rattle.bcn_format.specs.Indexes.{part}
 use Rattle.bcn_format.specs.Painting.{between}
-use Rattle.weights.proofs.Weights.{four-bits}
+use Rattle.bcn_format.proofs.Weighing.{four-bits}
 use Rattle.drawing.specs.Words.{endpoint}
 use Rattle.drawing.proofs.palette.Keyed.{high-is, low-is}
 use Rattle.drawing.proofs.palette.Weighing.{all-columns, column, Columns, index-16, next-index, no-column, two-weights}

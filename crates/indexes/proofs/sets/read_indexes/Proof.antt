@@ -3,7 +3,6 @@
 use mathlib.Core.Path.{_∙_}
 use native.Mathlib.Omega.{arith}
 use Rattle.indexes.proofs.Remove.{one-kind}
-use borrow.Author.Needs.{needs}
 use Rattle.indexes.proofs.sets.read_indexes.Statement.{statement}
 use Rattle.indexes.proofs.sets.read_indexes.Tie as tie
 
@@ -13,7 +12,10 @@ cast-new-p2 c = omega (arith, c .before .pre .rising .two (c .if1 .taken) .pixel
 new-p2-requires : tie.Need-new-p2-requires
 new-p2-requires c κs =
     let s = c .before in
-    record { least = s .pre .least; most = s .pre .most; fixup = s .pre .rising .two (c .if1 .taken) }
+    record {
+      anchors = record { least = s .pre .least; most = s .pre .most; fixup = s .pre .rising .two (c .if1 .taken) };
+      inside = rw (c .if1 .taken) at (s .pre .inside);
+    }
 
 returns : tie.Need-returns
 returns c = c .new-p2 .ensures ∙ rw (c .before .if1 .taken)
@@ -27,13 +29,21 @@ cast-new-p3-2 c = omega (arith, c .before .before .pre .rising .three (c .if2 .t
 new-p3-requires : tie.Need-new-p3-requires
 new-p3-requires c κs =
     let s = c .before .before in
-    record { least = s .pre .least; most = s .pre .most; fixups = s .pre .rising .three (c .if2 .taken) }
+    record {
+      anchors = record { least = s .pre .least; most = s .pre .most; fixups = s .pre .rising .three (c .if2 .taken) };
+      inside = rw (c .if2 .taken) at (s .pre .inside);
+    }
 
 returns-2 : tie.Need-returns-2
 returns-2 c = c .new-p3 .ensures ∙ rw (c .before .if2 .taken)
 
 new-p1-requires : tie.Need-new-p1-requires
-new-p1-requires c κs = search needs
+new-p1-requires c κs =
+    let s = c .before .before in
+    record {
+      anchors = record { least = s .pre .least; most = s .pre .most };
+      inside = rw (one-kind _ 0 0 (c .before .if1 .left) (c .if2 .left)) at (s .pre .inside);
+    }
 
 returns-3 : tie.Need-returns-3
 returns-3 c =

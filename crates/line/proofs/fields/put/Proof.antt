@@ -11,7 +11,7 @@ standing-at-requires : tie.Need-standing-at-requires
 standing-at-requires c κs = search needs
 
 take-requires : tie.Need-take-requires
-take-requires c κs = c .before .pre .width
+take-requires c κs = record { narrow = c .before .pre .width; inside = rw (c .standing-at .ensures) (c .before .pre .room) }
 
 shl-exchanged : tie.Need-shl-exchanged
 shl-exchanged c = search needs
@@ -23,7 +23,7 @@ exchanged-requires : tie.Need-exchanged-requires
 exchanged-requires c κs =
     let s = c .before .before .before in
     let from = c .before .before in
-    rw (read-at (s .args .s) (s .args .at) (s .args .count) (s .pre .room) (from .standing-at .ensures) (c .before .take .ensures .same))
+    rw (read-at (s .args .s) (s .args .at) (s .args .count) (from .standing-at .ensures) (c .before .take .ensures .same))
     (in-low (s .args .s .low) (s .args .s .high) (s .args .at) (s .args .count) (s .args .value) (search needs) (search needs) (s .pre .fits)
     (omega arith) (s .pre .room) .low)
 
@@ -48,7 +48,7 @@ shr-exchanged-2 c = search needs
 exchanged-requires-2 : tie.Need-exchanged-requires-2
 exchanged-requires-2 c κs =
     let s = c .before .before .before .before in
-    rw (read-at (s .args .s) (s .args .at) (s .args .count) (s .pre .room) (c .before .before .before .standing-at .ensures)
+    rw (read-at (s .args .s) (s .args .at) (s .args .count) (c .before .before .before .standing-at .ensures)
     (c .before .before .take .ensures .same))
     (in-low (s .args .s .low) (s .args .s .high) (s .args .at) (s .args .count) (s .args .value) (search needs) (search needs) (s .pre .fits)
     (omega arith) (s .pre .room) .high)
@@ -58,7 +58,7 @@ unfolding held
 returns c =
     let s = c .before .before .before .before .before in
     let e =
-    read-at (s .args .s) (s .args .at) (s .args .count) (s .pre .room) (c .before .before .before .before .standing-at .ensures)
+    read-at (s .args .s) (s .args .at) (s .args .count) (c .before .before .before .before .standing-at .ensures)
     (c .before .before .before .take .ensures .same) in
     rw (c .before .exchanged .ensures, c .exchanged2 .ensures, e)
     (in-low (s .args .s .low) (s .args .s .high) (s .args .at) (s .args .count) (s .args .value) (search needs) (search needs) (s .pre .fits)
@@ -80,7 +80,7 @@ exchanged-requires-3 : tie.Need-exchanged-requires-3
 exchanged-requires-3 c κs =
     let s = c .before .before .before in
     let from = c .before .before in
-    rw (read-at (s .args .s) (s .args .at) (s .args .count) (s .pre .room) (from .standing-at .ensures) (c .before .take .ensures .same))
+    rw (read-at (s .args .s) (s .args .at) (s .args .count) (from .standing-at .ensures) (c .before .take .ensures .same))
     (in-high (s .args .s .low) (s .args .s .high) (s .args .at) (s .args .count) (s .args .value) (search needs) (search needs) (s .pre .fits)
     (omega arith) (s .pre .room) .high)
 
@@ -89,7 +89,7 @@ unfolding held
 returns-2 c =
     let s = c .before .before .before .before in
     let old = c .before .before in
-    let e = read-at (s .args .s) (s .args .at) (s .args .count) (s .pre .room) (old .before .standing-at .ensures) (old .take .ensures .same) in
+    let e = read-at (s .args .s) (s .args .at) (s .args .count) (old .before .standing-at .ensures) (old .take .ensures .same) in
     rw (c .exchanged3 .ensures, e)
     (in-high (s .args .s .low) (s .args .s .high) (s .args .at) (s .args .count) (s .args .value) (search needs) (search needs) (s .pre .fits)
     (omega arith) (s .pre .room) .whole)

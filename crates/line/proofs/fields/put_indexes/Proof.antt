@@ -20,7 +20,7 @@ before : (c : tie.After-read-indexes)
     (c .before .before .before .args .part)
 before c =
     let s = c .before .before .before in before-is (s .args .s) (s .args .kind) (s .args .at) (s .args .part) (s .args .mask) (s .args .new)
-    (s .pre .room) (c .before .standing-at .ensures) (c .read-indexes .ensures)
+    (c .before .standing-at .ensures) (c .read-indexes .ensures)
 
 standing-at-requires : tie.Need-standing-at-requires
 standing-at-requires c κs = search needs
@@ -32,6 +32,7 @@ read-indexes-requires c κs =
       least = s .pre .least;
       most = s .pre .most;
       rising = s .pre .rising;
+      inside = rw (c .standing-at .ensures) (s .pre .room);
     }
 
 sub-after : tie.Need-sub-after

@@ -20,6 +20,7 @@ read-indexes-requires c κs =
       least = s .pre .least;
       most = s .pre .most;
       rising = s .pre .rising;
+      inside = rw (c .standing-at .ensures) (s .pre .room);
     }
 
 parts-of-requires : tie.Need-parts-of-requires
@@ -35,7 +36,7 @@ returns c =
     let part = s .args .part in
     c .parts-of .ensures
     ∙ rw (
-      before-is (s .args .s) (s .args .kind) (s .args .at) part 0 0 (s .pre .room) (from .standing-at .ensures) (set .read-indexes .ensures),
+      before-is (s .args .s) (s .args .kind) (s .args .at) part 0 0 (from .standing-at .ensures) (set .read-indexes .ensures),
       mask .mask-of .ensures,
     )
 

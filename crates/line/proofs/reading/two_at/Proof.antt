@@ -1,7 +1,7 @@
 -- `reading::two_at` meets its contract.
 -- Assumes nothing.
 use mathlib.Core.Path.{_≡_}
-use Prim.Native.Nat.{_+_, _*_, _≤_}
+use Prim.Native.Nat.{_+_, _*_}
 use native.Mathlib.Nat.{lt-of-lt-of-le, mod-lt}
 use native.Mathlib.Omega.{arith}
 use borrow.Author.Needs.{needs}
@@ -18,7 +18,7 @@ mul-take : tie.Need-mul-take
 mul-take c = search needs
 
 take-requires : tie.Need-take-requires
-take-requires c κs = search needs
+take-requires c κs = record { narrow = omega arith; inside = rw (c .standing-at .ensures) (omega arith) }
 
 shl-t9 : tie.Need-shl-t9
 shl-t9 c = search needs
@@ -48,8 +48,7 @@ returns c =
     let w = s .args .width in
     let at = c .before .standing-at .ensures in
     let r = c .take .ensures .same in
-    let room : s .args .at + 2 * w ≤ 128 = omega arith in
-    rw (one-shl w (omega arith), first-of (s .args .s) (s .args .at) w room at r, second-of (s .args .s) (s .args .at) w room at r)
+    rw (one-shl w (omega arith), first-of (s .args .s) (s .args .at) w at r, second-of (s .args .s) (s .args .at) w at r)
 
 pub two-at-spec : {M : Type 1} → statement M
 two-at-spec =

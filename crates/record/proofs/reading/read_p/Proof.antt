@@ -8,10 +8,10 @@ use Rattle.record.proofs.reading.read_p.Statement.{statement}
 use Rattle.record.proofs.reading.read_p.Tie as tie
 
 cast-take : tie.Need-cast-take
-cast-take c = omega (arith, small (c .before .pre) .p)
+cast-take c = omega (arith, small (c .before .pre .of-mode) .p)
 
 take-requires : tie.Need-take-requires
-take-requires c κs = omega (arith, small (c .before .pre) .p)
+take-requires c κs = record { narrow = omega (arith, small (c .before .pre .of-mode) .p); inside = c .before .pre .inside }
 
 part-of-requires : tie.Need-part-of-requires
 part-of-requires c κs = search needs

@@ -2,7 +2,6 @@
 -- Assumes nothing.
 use mathlib.Core.Path.{_≡_}
 use Prim.Native.Nat.{ℕ}
-use native.Mathlib.Omega.{arith}
 use mir.Syntax.{w8}
 use mir.Val.{Fits}
 use lib.ListN.{getD, length}
@@ -11,7 +10,7 @@ use Rattle.bcn_format.specs.Block.{eights}
 use Rattle.bc7_format.proofs.Subsets.{sixteen-bytes}
 use Rattle.bc7_places.specs.Modes.{OfMode}
 use Rattle.bc7_places.proofs.modes.Bounds.{small}
-use Rattle.record.proofs.reading.Standing.{record-read, rise}
+use Rattle.record.proofs.reading.Standing.{endpoints-ahead, first-ahead, p-ahead, record-read, second-ahead}
 use borrow.Author.Needs.{needs}
 use Rattle.record.proofs.reading.read_record.Statement.{statement}
 use Rattle.record.proofs.reading.read_record.Tie as tie
@@ -32,39 +31,40 @@ read-lead-requires : tie.Need-read-lead-requires
 read-lead-requires c κs = c .pre
 
 read-endpoints-requires : tie.Need-read-endpoints-requires
-read-endpoints-requires c κs = of-mode (c .before)
+read-endpoints-requires c κs =
+    let s = c .before in
+    endpoints-ahead _ (sixteen s) (s .pre .mode-is) (s .pre .low) (s .pre .mode-row-is) (c .read-lead .ensures)
 
 read-p-requires : tie.Need-read-p-requires
-read-p-requires c κs = of-mode (c .before .before .before)
+read-p-requires c κs =
+    let values = c .before in
+    let s = values .before .before in
+    p-ahead _ (sixteen s) (s .pre .mode-is) (s .pre .low) (s .pre .mode-row-is) (values .before .read-lead .ensures)
+    (values .read-endpoints .ensures)
 
 anchors-of-requires : tie.Need-anchors-of-requires
 anchors-of-requires c κs = c .before .before .before .before .read-lead .ensures .few
 
 read-indexes-requires : tie.Need-read-indexes-requires
 read-indexes-requires c κs =
-    let lead = c .before .before .before .before .before in
-    let s = lead .before in
-    let b = small (of-mode s) in
-    record {
-      least = omega (arith, b .least);
-      most = b .most;
-      rising =
-          rise _ (sixteen s) (s .pre .mode-is) (s .pre .low) (s .pre .mode-row-is) (lead .read-lead .ensures .split) (c .anchors-of .ensures);
-    }
+    let bits = c .before .before in
+    let values = bits .before .before in
+    let s = values .before .before in
+    first-ahead _ (sixteen s) (s .pre .mode-is) (s .pre .low) (s .pre .mode-row-is) (values .before .read-lead .ensures)
+    (values .read-endpoints .ensures) (bits .read-p .ensures) (c .anchors-of .ensures)
 
 parts-of-requires : tie.Need-parts-of-requires
 parts-of-requires c κs = small (of-mode (c .before .before .before .before .before .before .before .before)) .most
 
 read-second-requires : tie.Need-read-second-requires
 read-second-requires c κs =
-    let lead = c .before .before .before .before .before .before .before .before in
-    let s = lead .before in
-    record {
-      of-mode = of-mode s;
-      rising =
-          rise _ (sixteen s) (s .pre .mode-is) (s .pre .low) (s .pre .mode-row-is) (lead .read-lead .ensures .split)
-          (c .before .before .before .anchors-of .ensures);
-    }
+    let set = c .before .before in
+    let anchors = set .before in
+    let bits = anchors .before .before in
+    let values = bits .before .before in
+    let s = values .before .before in
+    second-ahead _ (sixteen s) (s .pre .mode-is) (s .pre .low) (s .pre .mode-row-is) (values .before .read-lead .ensures)
+    (values .read-endpoints .ensures) (bits .read-p .ensures) (anchors .anchors-of .ensures) (set .read-indexes .ensures)
 
 returns : tie.Need-returns
 returns c =

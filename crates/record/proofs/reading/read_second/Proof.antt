@@ -18,6 +18,7 @@ read-indexes-requires c κs =
       least = second-bits (s .pre .of-mode) (c .if1 .left);
       most = small (s .pre .of-mode) .second;
       rising = s .pre .rising;
+      inside = s .pre .inside (c .if1 .left);
     }
 
 parts-of-requires : tie.Need-parts-of-requires

@@ -9,8 +9,8 @@ use Rattle.bits.proofs.On.{read-fits, read-short, reads}
 use Rattle.bits.proofs.stream.BitStream.consume_bits_64.Statement.{statement}
 use Rattle.bits.proofs.stream.BitStream.consume_bits_64.Tie as tie
 
-take-requires : tie.Need-take-requires
-take-requires c κs = search needs
+consume-requires : tie.Need-consume-requires
+consume-requires c κs = search needs
 
 returns : tie.Need-returns
 returns c = search needs
@@ -42,7 +42,7 @@ pub consume-bits-64-spec : {M : Type 1} → statement M
 consume-bits-64-spec =
     tie.close
     (tie.spec
-    take-requires
+    consume-requires
     returns
     short-requires
     returns-2

@@ -1,10 +1,12 @@
 -- `writer::BitWriter::finish` meets its contract.
 -- Assumes nothing.
-use mathlib.Core.Path.{refl, sym, _∙_}
+use mathlib.Core.Path.{refl, sym, ap, _∙_}
 use Prim.Native.Nat.{_*_, _-_, _≤_}
 use native.Mathlib.Omega.{arith}
 use Rattle.laws.proofs.Filled.{Filled, filled-all, filled-next, filled-none}
 use Rattle.bcn_format.specs.Block.{field}
+use borrow.Author.Needs.{needs}
+use Rattle.bits.specs.declared.stream.Read.{Read}
 use Rattle.bits.specs.Stream.{held}
 use Rattle.bits.specs.Writer.{written}
 use Rattle.bits.proofs.Puts.{bytes-fields}
@@ -20,14 +22,17 @@ abbrev μ-loop : tie.MeasureT-loop
 loop-holds : tie.Need-loop-holds Inv-loop μ-loop
 loop-holds c = (omega arith, filled-none refl)
 
-cast-t6 : tie.Need-cast-t6 Inv-loop μ-loop
-cast-t6 c = omega arith
+cast-t7 : tie.Need-cast-t7 Inv-loop μ-loop
+cast-t7 c = omega arith
 
-mul-t7 : tie.Need-mul-t7 Inv-loop μ-loop
-mul-t7 c = omega arith
+mul-t8 : tie.Need-mul-t8 Inv-loop μ-loop
+mul-t8 c = omega arith
 
 low-u8-requires : tie.Need-low-u8-requires Inv-loop μ-loop
-low-u8-requires c κs = omega arith
+low-u8-requires c κs = search needs
+
+cast-bytes : tie.Need-cast-bytes Inv-loop μ-loop
+cast-bytes c = search needs
 
 array-write-bytes : tie.Need-array-write-bytes Inv-loop μ-loop
 array-write-bytes c = omega arith
@@ -41,8 +46,11 @@ loop-less c = omega arith
 loop-again : tie.Need-loop-again Inv-loop μ-loop
 unfolding held written
 loop-again c =
-    let l = c .before in
-    (omega arith, filled-next (l .before .loop .i) _ (l .before .loop .inv .1) (l .loop-test .taken) (c .low-u8 .ensures))
+    let l = c .before .before in (
+      omega arith,
+      filled-next (l .before .loop .i) _ (l .before .loop .inv .1) (l .loop-test .taken)
+          (ap (λ (r : Read). r .value) (c .before .low-u8 .ensures .same)),
+    )
 
 returns : tie.Need-returns Inv-loop μ-loop
 returns c = filled-all (c .before .loop .inv .1) (c .loop-test .left) ∙ sym (bytes-fields _)
@@ -54,9 +62,10 @@ finish-spec =
     Inv-loop
     μ-loop
     loop-holds
-    cast-t6
-    mul-t7
+    cast-t7
+    mul-t8
     low-u8-requires
+    cast-bytes
     array-write-bytes
     add-i
     loop-less

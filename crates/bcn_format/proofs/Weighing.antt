@@ -8,8 +8,7 @@ use lib.Dec.{T, eqb, eqb→eq}
 use lib.Pow.{pow-mono}
 use Rattle.laws.specs.Tables.{below}
 use Rattle.laws.proofs.Tests.{at}
-use Rattle.bcn_format.specs.Drawing.{weightOf, weights}
-use Rattle.weights.specs.Weights.{Weighed}
+use Rattle.bcn_format.specs.Drawing.{Weighed, weightOf, weights}
 
 -- the indexes of each width
 pub two-bits : {i : ℕ} → i < 4 → Weighed 2 i
