@@ -17,8 +17,8 @@ use Rattle.head_rules.specs.Heads.{Sized, under}
 use Rattle.head_rules.proofs.Blocks.{few-blocks}
 use Rattle.head_rules.proofs.Theorems.{rows-sized}
 use Rattle.dds_rules.specs.Header.{Entry, arraySize, cubeBit, dimension, ddsMagic, dx10Code, entries, entryAt, fieldIn, format}
-use Rattle.dds_rules.specs.Header.{formatCode, formatOf, formatSize, headerLength, headerNumber, headerSize, height, isTexture, magic, mipCount}
-use Rattle.dds_rules.specs.Header.{misc, numberAt, offset, width}
+use Rattle.dds_rules.specs.Header.{formatCode, formatOf, formatSize, headerLength, headerNumber, headerSize, height, isTexture, magic}
+use Rattle.dds_rules.specs.Header.{mipCount, misc, numberAt, offset, width}
 use Rattle.dds_rules.specs.Files.{exportAfter, exportAfterBy, exportRefusal, fileMade, fileMadeBy, fileRefusalUpTo, headMade, importAfter}
 use Rattle.dds_rules.specs.Files.{importAfterUpTo, importAnswer, importLength, importRefusalUpTo, sheetHead, sheetMade}
 use Rattle.dds_rules.proofs.Making.{format-small}

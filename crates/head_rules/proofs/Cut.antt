@@ -18,8 +18,8 @@ use Rattle.head_rules.specs.declared.Form.{Form}
 use Rattle.head_rules.specs.declared.Form.the-variants.{Rows, Tiles}
 use Rattle.head_rules.specs.declared.Head.{Head}
 use Rattle.head_rules.specs.declared.Number.{Number}
-use Rattle.head_rules.specs.Heads.{IsForm, colourBehind, colourIn, formIn, formNumber, formOf, headRefusalUpTo, headTold, heightIn, ofFormRefusalUpTo}
-use Rattle.head_rules.specs.Heads.{readHeadUpTo, readOfFormUpTo, widthIn}
+use Rattle.head_rules.specs.Heads.{IsForm, colourBehind, colourIn, formIn, formNumber, formOf, headRefusalUpTo, headTold, heightIn}
+use Rattle.head_rules.specs.Heads.{ofFormRefusalUpTo, readHeadUpTo, readOfFormUpTo, widthIn}
 use Rattle.head_rules.specs.Numbers.{found, raised, readGroups, readNumber}
 use Rattle.head_rules.proofs.Heading.{form-back, head-rules, of-form-rules}
 use Rattle.head_rules.proofs.Reading.{every-number, near}
@@ -62,7 +62,8 @@ not-not false e = sym e
 first-cut : (a b : ℕ) (xs ys : List ℕ) → (a ≡ 0 → b ≡ 0 → xs ≡ ys) → first (a ∷ b ∷ xs) ≡ first (a ∷ b ∷ ys)
 first-cut a b xs ys k =
     ⊎-elim (λ ea. ⊎-elim (λ eb. ap (λ (l : List ℕ). first (a ∷ b ∷ l)) (k ea eb))
-    (λ lb. let ne : b ≡ 0 → ⊥ = λ q. omega arith in first-skip a (b ∷ xs) ea ∙ first-here b xs ne ∙ sym (first-skip a (b ∷ ys) ea ∙ first-here b ys ne))
+    (λ lb. let ne : b ≡ 0 → ⊥ = λ q. omega arith in
+    first-skip a (b ∷ xs) ea ∙ first-here b xs ne ∙ sym (first-skip a (b ∷ ys) ea ∙ first-here b ys ne))
     (eq-zero-or-pos b))
     (λ la. let ne : a ≡ 0 → ⊥ = λ q. omega arith in first-here a (b ∷ xs) ne ∙ sym (first-here a (b ∷ ys) ne)) (eq-zero-or-pos a)
 

@@ -22,8 +22,8 @@ use Rattle.laws.proofs.Cases.{lt-or}
 use Rattle.laws.specs.Inverse.{Inverse}
 use Rattle.laws.proofs.Refusals.{Answers, accepted-when, alone, exactly}
 use Rattle.head_rules.specs.Colours.{colourNumber, colourOf}
-use Rattle.head_rules.specs.Heads.{IsForm, ReadsHead, Sized, SizedUpTo, WritesHead, bytesOfHead, colourIn, formIn, formNumber, formOf, headBytes}
-use Rattle.head_rules.specs.Heads.{headIn, headOf, headRefusal, headRules, headSpelt, heightIn, limit, noBytes, oldHead, oldLimit}
+use Rattle.head_rules.specs.Heads.{IsForm, ReadsHead, Sized, SizedUpTo, WritesHead, bytesOfHead, colourIn, formIn, formNumber, formOf}
+use Rattle.head_rules.specs.Heads.{headBytes, headIn, headOf, headRefusal, headRules, headSpelt, heightIn, limit, noBytes, oldHead, oldLimit}
 use Rattle.head_rules.specs.Heads.{ofFormRules, readHead, readOfForm, rowsRules}
 use Rattle.head_rules.specs.Heads.{sizeRefusal, sizeRules, tiledBytes, under, widthIn, writeHead, writeHeadUpTo}
 use Rattle.head_rules.specs.Numbers.{Bytes, found, groups, noNumber, numberBytes, numbersEnd, raised, readGroups, readNumber}

@@ -183,7 +183,8 @@ unfolding padded first over table tableFrom weights weightOf drawn promoted eigh
     lineBits meansStored rotated lineAt shown pixel pixels digits marks strings2 strings3 subset2 subset3 anchors2 anchors3 takenApart
     recordOf made packed packRefusal fits says blockOf listOf bytesOf replaced after refusal refusalIn lineFits valueFits pFits
     indexFits ownWidth lineGiven put oriented withLine laid turned anchorOf lineRead readRefusal givenAs widthsOf valueAt
-    recordByte recordBytes recordOfBytes replacementOf replacementBytes packedBytes bytesRefusal spelt readHeadUpTo headRefusalUpTo colourIn formOf readOfFormUpTo ofFormRefusalUpTo storedAt formIn
+    recordByte recordBytes recordOfBytes replacementOf replacementBytes packedBytes bytesRefusal spelt readHeadUpTo headRefusalUpTo
+    colourIn formOf readOfFormUpTo ofFormRefusalUpTo storedAt formIn
     widthIn heightIn readNumber readGroups raised sizeRefusalUpTo writeHeadUpTo headBytes groups blockAt channel rowByte rowBytes rowOutUpTo
     rowRefusalUpTo blockBy blocksOf findRefusalBy placeOf putBlock replacedBy sheetAfterBy sheetRefusalBy draws meansShown channelDistance
     distance drawnWith exactIndex exactRefusal inLine indexCount leastAt nearestIndex nearestRefusal squared withIndex zeroAt

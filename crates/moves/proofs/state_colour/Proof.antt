@@ -57,7 +57,8 @@ at-hand c =
     let l = c .before .before .before in
     let i = l .before .before in
     let r = i .before .before in
-    ready _ _ (r .read-of-form .ensures) (i .if1 .left) (l .if2 .left ∙ l .before .whole-length .ensures) (c .before .before .colour-refusal .ensures)
+    ready _ _ (r .read-of-form .ensures) (i .if1 .left) (l .if2 .left ∙ l .before .whole-length .ensures)
+    (c .before .before .colour-refusal .ensures)
     (λ k. r .before .before .slice-known .given k .fits) (c .before .if3 .left)
 
 sub-at : tie.Need-sub-at

@@ -22,7 +22,10 @@ whole-length-requires c κs = size-is _ 0 [] (c .before .before .read-head .ensu
 
 returns-2 : tie.Need-returns-2
 returns-2 c =
-    not-drawn _ _ _ (c .before .before .before .before .read-head .ensures) (then (c .before .before .if1 .left) (here (λ q. c .if2 .taken (q ∙ sym (c .before .whole-length .ensures)))))
+    let long = c .before in
+    let told = long .before in
+    let head = told .before .before .read-head in
+    not-drawn _ _ _ (head .ensures) (then (told .if1 .left) (here (λ q. c .if2 .taken (q ∙ sym (long .whole-length .ensures)))))
     (λ z. omega arith)
 
 blocks-across-requires : tie.Need-blocks-across-requires
@@ -30,8 +33,12 @@ blocks-across-requires c κs = size-is _ 0 [] (c .before .before .before .before
 
 returns-3 : tie.Need-returns-3
 returns-3 c =
-    not-drawn _ _ _ (c .before .before .before .before .before .before .read-head .ensures) (then (c .before .before .before .before .if1 .left) (then (c .before .before .if2 .left ∙ c .before .before .before .whole-length .ensures)
-    (here (λ q. omega (arith, c .if3 .taken, c .before .blocks-across .ensures, q))))) (λ z. omega arith)
+    let across = c .before in
+    let whole = across .before in
+    let long = whole .before in
+    let told = long .before in
+    not-drawn _ _ _ (told .before .before .read-head .ensures) (then (told .if1 .left) (then (whole .if2 .left ∙ long .whole-length .ensures)
+    (here (λ q. omega (arith, c .if3 .taken, across .blocks-across .ensures, q))))) (λ z. omega arith)
 
 cast-shown-in : tie.Need-cast-shown-in
 cast-shown-in c = search needs
@@ -43,40 +50,72 @@ cast-out-length : tie.Need-cast-out-length
 cast-out-length c = search needs
 
 out-length-requires : tie.Need-out-length-requires
-out-length-requires c κs = record {
-  wide = size-is _ 0 [] (c .before .before .before .before .before .before .before .before .before .read-head .ensures) (c .before .before .before .before .before .before .before .if1 .left) .within-wide;
-  few = omega (arith, c .before .shown-in .ensures);
-}
+out-length-requires c κs =
+    let told = c .before .before .before .before .before .before .before in
+    let head = told .before .before .read-head in
+    record { wide = size-is _ 0 [] (head .ensures) (told .if1 .left) .within-wide; few = omega (arith, c .before .shown-in .ensures) }
 
 returns-4 : tie.Need-returns-4
 returns-4 c =
-    not-drawn _ _ _ (c .before .before .before .before .before .before .before .before .before .before .before .read-head .ensures) (then (c .before .before .before .before .before .before .before .before .before .if1 .left) (then (c .before .before .before .before .before .before .before .if2 .left ∙ c .before .before .before .before .before .before .before .before .whole-length .ensures)
-    (then (omega (arith, c .before .before .before .before .before .if3 .left, c .before .before .before .before .before .before .blocks-across .ensures))
-    (here (λ q. c .if4 .taken (q ∙ sym (c .before .out-length .ensures ∙ ap (λ (n : ℕ). outLength (c .before .before .before .before .before .before .before .before .before .before .before .read-head .result .width) n) (c .before .before .before .shown-in .ensures)))))))) (λ z. omega arith)
+    let room = c .before in
+    let shown = room .before .before in
+    let inside = shown .before .before in
+    let across = inside .before in
+    let whole = across .before in
+    let long = whole .before in
+    let told = long .before in
+    let head = told .before .before .read-head in
+    not-drawn _ _ _ (head .ensures) (then (told .if1 .left) (then (whole .if2 .left ∙ long .whole-length .ensures)
+    (then (omega (arith, inside .if3 .left, across .blocks-across .ensures)) (here (λ q. c .if4 .taken
+    (q ∙ sym (room .out-length .ensures ∙ ap (λ (n : ℕ). outLength (head .result .width) n) (shown .shown-in .ensures)))))))) (λ z. omega arith)
 
 put-sheet-row-requires : tie.Need-put-sheet-row-requires
-put-sheet-row-requires c κs = record {
-  head = c .before .before .before .before .before .before .before .before .before .before .before .before .read-head .ensures;
-  told = c .before .before .before .before .before .before .before .before .before .before .if1 .left;
-  long = c .before .before .before .before .before .before .before .before .if2 .left ∙ c .before .before .before .before .before .before .before .before .before .whole-length .ensures;
-  inside = omega (arith, c .before .before .before .before .before .before .if3 .left, c .before .before .before .before .before .before .before .blocks-across .ensures);
-  scanlines = omega (arith, c .before .before .before .before .shown-in .ensures);
-  whole = c .before .if4 .left ∙ c .before .before .out-length .ensures;
-}
+put-sheet-row-requires c κs =
+    let fits = c .before in
+    let room = fits .before in
+    let shown = room .before .before in
+    let inside = shown .before .before in
+    let across = inside .before in
+    let whole = across .before in
+    let long = whole .before in
+    let told = long .before in
+    record {
+      head = told .before .before .read-head .ensures;
+      told = told .if1 .left;
+      long = whole .if2 .left ∙ long .whole-length .ensures;
+      inside = omega (arith, inside .if3 .left, across .blocks-across .ensures);
+      scanlines = omega (arith, shown .shown-in .ensures);
+      whole = fits .if4 .left ∙ room .out-length .ensures;
+    }
 
 same-length : tie.Need-same-length
 same-length c = search needs
 
 returns-5 : tie.Need-returns-5
 returns-5 c =
-    is-drawn _ _ _ (c .before .before .before .before .before .before .before .before .before .before .before .before .before .before .before .read-head .ensures) (
-      c .before .before .before .before .before .before .before .before .before .before .before .before .before .if1 .left,
+    let put = c .before .before in
+    let fits = put .before .before in
+    let room = fits .before in
+    let shown = room .before .before in
+    let inside = shown .before .before in
+    let across = inside .before in
+    let whole = across .before in
+    let long = whole .before in
+    let told = long .before in
+    let head = told .before .before .read-head in
+    is-drawn _ _ _ (head .ensures) (
+      told .if1 .left,
       (
-        c .before .before .before .before .before .before .before .before .before .before .before .if2 .left
-            ∙ c .before .before .before .before .before .before .before .before .before .before .before .before .whole-length .ensures,
-        (omega (arith, c .before .before .before .before .before .before .before .before .before .if3 .left, c .before .before .before .before .before .before .before .before .before .before .blocks-across .ensures), (c .before .before .before .before .if4 .left ∙ c .before .before .before .before .before .out-length .ensures ∙ ap (λ (n : ℕ). outLength (c .before .before .before .before .before .before .before .before .before .before .before .before .before .before .before .read-head .result .width) n) (c .before .before .before .before .before .before .before .shown-in .ensures), tt)),
+        whole .if2 .left ∙ long .whole-length .ensures,
+        (
+          omega (arith, inside .if3 .left, across .blocks-across .ensures),
+          (
+            fits .if4 .left ∙ room .out-length .ensures ∙ ap (λ (n : ℕ). outLength (head .result .width) n) (shown .shown-in .ensures),
+            tt,
+          ),
+        ),
       ),
-    ) (c .before .before .before .before .before .before .before .shown-in .ensures) (c .before .before .put-sheet-row .ensures)
+    ) (shown .shown-in .ensures) (put .put-sheet-row .ensures)
 
 pub decode-sheet-row-spec : {M : Type 1} → statement M
 decode-sheet-row-spec =

@@ -21,7 +21,9 @@ use Rattle.sheet.specs.Columns.{SheetRow}
 
 module _ {h : Head} {row scan : ℕ} {s : List ℕ} {room : ℕ} (k : SheetRow h row scan s room) where
   pub size-in : Sized (h .width) (h .height)
-  size-in = subst (λ (x : Head). Sized (x .width) (x .height)) (sym (k .head)) (head-sized s (ap (λ (x : Head). x .refusal) (sym (k .head)) ∙ k .told))
+  size-in =
+      subst (λ (x : Head). Sized (x .width) (x .height)) (sym (k .head))
+      (head-sized s (ap (λ (x : Head). x .refusal) (sym (k .head)) ∙ k .told))
 
   module _ {n : ℕ} (en : n ≡ across (h .width)) where
     number-in : {c : ℕ} → c < n → row * n + c < blocksOf h

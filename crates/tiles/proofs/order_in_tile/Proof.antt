@@ -41,10 +41,12 @@ mul-result : tie.Need-mul-result
 mul-result c = omega (arith, last-fits (c .before .before .before .before .before .args .y) _ _ _ (c .cell-side3 .ensures))
 
 add-result-2 : tie.Need-add-result-2
-add-result-2 c = omega (arith, before-fits (c .before), last-fits (c .before .before .before .before .before .args .y) _ _ _ (c .cell-side3 .ensures))
+add-result-2 c =
+    omega (arith, before-fits (c .before), last-fits (c .before .before .before .before .before .args .y) _ _ _ (c .cell-side3 .ensures))
 
 add-result-3 : tie.Need-add-result-3
-add-result-3 c = omega (arith, before-fits (c .before), last-fits (c .before .before .before .before .before .args .y) _ _ _ (c .cell-side3 .ensures))
+add-result-3 c =
+    omega (arith, before-fits (c .before), last-fits (c .before .before .before .before .before .args .y) _ _ _ (c .cell-side3 .ensures))
 
 returns : tie.Need-returns
 returns c =

@@ -55,7 +55,8 @@ cast-result c = search needs
 add-result : tie.Need-add-result
 add-result c =
     let ahead = c .before in
-    omega (arith, of-sheet (ahead .before .before .before .before .before .pre) (ahead .blocks-ahead .ensures .room), of-slot _ _ (c .interleave .ensures))
+    let start = ahead .before .before .before .before .before in
+    omega (arith, of-sheet (start .pre) (ahead .blocks-ahead .ensures .room), of-slot _ _ (c .interleave .ensures))
 
 returns : tie.Need-returns
 returns c =
@@ -64,7 +65,8 @@ returns c =
     let high = whole-rows .before in
     let whole-columns = high .before in
     let wide = whole-columns .before in
-    stored-whole (wide .before .pre) (ahead .blocks-ahead .ensures .is) (wide .cell-side .ensures) (high .cell-side2 .ensures) (whole-columns .if1 .taken)
+    stored-whole (wide .before .pre) (ahead .blocks-ahead .ensures .is) (wide .cell-side .ensures) (high .cell-side2 .ensures)
+    (whole-columns .if1 .taken)
     (whole-rows .if2 .taken) (c .interleave .ensures)
 
 blocks-ahead-requires-2 : tie.Need-blocks-ahead-requires-2
@@ -94,7 +96,8 @@ returns-2 c =
     let high = c .before in
     let ahead = high .before in
     let wide = ahead .before .before in
-    stored-sum (wide .before .pre) (ahead .blocks-ahead2 .ensures .is) (wide .cell-side .ensures) (high .cell-side3 .ensures) (c .order-in-tile .ensures .is)
+    stored-sum (wide .before .pre) (ahead .blocks-ahead2 .ensures .is) (wide .cell-side .ensures) (high .cell-side3 .ensures)
+    (c .order-in-tile .ensures .is)
 
 pub stored-in-tiles-spec : {M : Type 1} → statement M
 stored-in-tiles-spec =

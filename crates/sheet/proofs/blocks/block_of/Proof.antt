@@ -14,7 +14,8 @@ place-of-requires c κs = c .before .pre .asked
 
 load-requires : tie.Need-load-requires
 load-requires c κs =
-    let a = c .before .before in omega (arith, c .place-of .ensures, a .pre .whole, blocks-within (a .args .head) (a .args .number) (a .pre .asked .number))
+    let a = c .before .before in
+    omega (arith, c .place-of .ensures, a .pre .whole, blocks-within (a .args .head) (a .args .number) (a .pre .asked .number))
 
 returns : tie.Need-returns
 unfolding blockBy

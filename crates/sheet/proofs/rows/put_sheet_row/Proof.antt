@@ -82,10 +82,11 @@ loop-again : tie.Need-loop-again Inv-loop μ-loop
 loop-again c =
     let n = c .before .before .before .before .before .before .before .before .before .before .blocks-across in
     let a = c .before .before .before .before .before .before .before .before .before .before .before .before .before in
+    let decoded = c .before .before .before .before in
     let h : c .before .before .before .before .before .before .before .before .loop .c < n .result = omega arith in (
       omega arith,
-      columns-more _ _ _ _ _ (c .before .before .before .before .decode-bc7-block .ensures
-          ∙ ap pixels (c .before .before .before .before .before .load .ensures ∙ block-in (a .pre) (n .ensures) h (c .before .before .before .before .before .before .place-of .ensures)))
+      columns-more _ _ _ _ _ (decoded .decode-bc7-block .ensures
+          ∙ ap pixels (decoded .before .load .ensures ∙ block-in (a .pre) (n .ensures) h (decoded .before .before .place-of .ensures)))
           (c .before .before .before .before .before .before .before .before .loop .inv .1) (c .before .before .put-block .ensures),
     )
 
@@ -93,7 +94,10 @@ same-length : tie.Need-same-length Inv-loop μ-loop
 same-length c = c .before .loop .inv .1 .long ∙ sym (c .before .before .before .before .before .before .pre .whole)
 
 returns : tie.Need-returns Inv-loop μ-loop
-returns c = columns-all _ _ _ (omega (arith, size-in (c .before .before .before .before .before .before .pre) .wide)) (omega (arith, c .before .before .before .blocks-across .ensures)) (c .before .loop .inv .1)
+returns c =
+    let across = c .before .before .before in
+    columns-all _ _ _ (omega (arith, size-in (across .before .before .before .pre) .wide)) (omega (arith, across .blocks-across .ensures))
+    (c .before .loop .inv .1)
 
 pub put-sheet-row-spec : {M : Type 1} → statement M
 put-sheet-row-spec =
