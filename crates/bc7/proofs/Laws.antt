@@ -19,9 +19,9 @@ use Rattle.bc7_format.proofs.Subsets.{sixteen-bytes}
 use Rattle.bc7_format.proofs.Modes.{mode-le-8}
 use Rattle.bits.specs.Stream.{held}
 use Rattle.bits.specs.declared.stream.BitStream.{BitStream}
-use Rattle.bc7_format.specs.Fields.{directPixels}
+use Rattle.bc7_fields.specs.Fields.{directPixels}
 use Rattle.bc7_format.proofs.Reserved.{nothing-shown}
-use Rattle.bc7_format.proofs.Showing.{pixels-are}
+use Rattle.bc7_fields.proofs.Showing.{pixels-are}
 
 -- the modes with three subsets, those with two, and none of the first eight
 pub of-three : {n : ℕ} → (n ≡ 0) ⊎ (n ≡ 2) → T (among n (0 ∷ 2 ∷ [])) × (n < 8)

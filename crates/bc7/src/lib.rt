@@ -1,4 +1,4 @@
-// One block to sixteen pixels: the port of the Rust's src/decode/bc7.rs, whose modes stand in bc7_unsplit and bc7_subsets. Here the
+// One block to sixteen pixels: the port of the Rust's src/decode/bc7.rs, whose modes stand in bc7_unpartitioned and bc7_subsets. Here the
 // mode is found and its function called.
 ghost use mathlib.Core.Path.{_≡_};
 ghost use Rattle.bcn_format.specs.Block.{field, trailing};
@@ -6,9 +6,9 @@ ghost use Rattle.bits.specs.Stream.{Room, held};
 ghost use Rattle.bc7.specs.Promises.{DecodesBlock};
 use bc7_subsets::three::mode_subset_3;
 use bc7_subsets::two::mode_subset_2;
-use bc7_unsplit::mode_4;
-use bc7_unsplit::mode_5;
-use bc7_unsplit::mode_6;
+use bc7_unpartitioned::mode_4;
+use bc7_unpartitioned::mode_5;
+use bc7_unpartitioned::mode_6;
 use bits::stream::BitStream;
 
 // The sixteen pixels of a block, row by row: red, green, blue, alpha. Any sixteen bytes are a block; a reserved one shows 0 0 0 0.

@@ -1,7 +1,3 @@
-pub mod Fields
-pub mod Showing
-pub mod Ends
-pub mod Pictures
 pub mod Examples
 pub mod Attested
 pub mod Chart
@@ -14,5 +10,4 @@ pub mod Starts
 pub mod Lens
 pub mod Subsets
 pub mod Meaning
-pub mod Direct
 pub mod Theorems

@@ -5,7 +5,7 @@ use mathlib.Core.Bool.{Bool, true, false}
 use mathlib.Core.List.{List, [], _∷_}
 use Prim.Native.Nat.{ℕ, zero, suc, _<_}
 use native.Mathlib.Omega.{arith}
-use lib.Dec.{T, eqb, eqb→eq, ltb, ltb→lt, lit<}
+use lib.Dec.{eqb, eqb→eq, lit<}
 use lib.ListN.{length, getD, replicate}
 use Rattle.bc7_format.specs.declared.Place.{Place}
 use Rattle.bc7_format.specs.declared.Split.{Split}
@@ -16,7 +16,7 @@ use Rattle.laws.proofs.Tests.{at}
 use Rattle.bcn_format.specs.Block.{eights}
 use Rattle.bc7_format.specs.Lines.{lineAt}
 use Rattle.bc7_format.specs.Modes.{kindOfMode, lines, modeRow}
-use Rattle.bcn_format.specs.Partitions.{digits, strings2, strings3, subset2, subset3}
+use Rattle.bcn_format.proofs.Subsets.{subset2-lt, subset3-lt}
 use Rattle.bc7_format.specs.Splits.{isVector, kindOf, partition, subset}
 use Rattle.bc7_format.specs.WellFormed.{WellFormed}
 use Rattle.bc7_format.proofs.Modes.{good-64}
@@ -37,21 +37,11 @@ kind-lines : (m : ℕ) → m < 8 → lines m ≡ getD (1 ∷ 2 ∷ 3 ∷ 2 ∷ [
 unfolding modeRow kindOfMode
 kind-lines m h = eqb→eq _ _ (at 8 (λ m. eqb (lines m) (getD (1 ∷ 2 ∷ 3 ∷ 2 ∷ []) (kindOfMode m) 0)) tt m h)
 
--- a test of each partition and pixel
-two-below : T (below 64 (λ a. below 16 (λ q. ltb (subset2 a q) 2)))
-unfolding digits strings2 subset2
-two-below = tt
-
-three-below : T (below 64 (λ a. below 16 (λ q. ltb (subset3 a q) 3)))
-unfolding digits strings3 subset3
-three-below = tt
-
+-- a subset is below the number of its kind's
 pub subset-below : (s : Split) (q : ℕ) → partition s < 64 → q < 16 → subset s q < getD (1 ∷ 2 ∷ 3 ∷ 2 ∷ []) (kindOf s) 0
 subset-below Whole q ha hq = lit< tt
-subset-below (Two a) q ha hq =
-    ltb→lt (subset2 a q) 2 (at 16 (λ q. ltb (subset2 a q) 2) (at 64 (λ a. below 16 (λ q. ltb (subset2 a q) 2)) two-below a ha) q hq)
-subset-below (Three a) q ha hq =
-    ltb→lt (subset3 a q) 3 (at 16 (λ q. ltb (subset3 a q) 3) (at 64 (λ a. below 16 (λ q. ltb (subset3 a q) 3)) three-below a ha) q hq)
+subset-below (Two a) q ha hq = subset2-lt a q ha hq
+subset-below (Three a) q ha hq = subset3-lt a q ha hq
 subset-below (Vector r i) q ha hq = lit< tt
 
 module _ {m : ℕ} {s : Split} {f : Place → ℕ} (g : WellFormed m s f) where

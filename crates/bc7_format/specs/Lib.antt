@@ -1,6 +1,4 @@
--- The definitions that the decoder's contracts cite.
-pub mod Fields
-pub mod Rotating
+-- The format, page by page.
 pub mod Modes
 pub mod Splits
 pub mod Places

@@ -1,5 +1,4 @@
 -- The definitions that the contracts cite, a page for each module.
-pub mod Modes
 pub mod Splits
 pub mod Places
 pub mod Lines

@@ -6,7 +6,7 @@ use Prim.Native.Nat.{ℕ, _<_}
 use lib.Dec.{eqb}
 use Rattle.bc7_places.specs.declared.lines.LinePart.{LinePart}
 use Rattle.bc7_places.specs.declared.lines.Pixels.{Pixels}
-use Rattle.bc7_places.specs.declared.modes.ModeRow.{ModeRow}
+use Rattle.bc7_modes.specs.declared.ModeRow.{ModeRow}
 use Rattle.bc7_places.specs.declared.splits.Anchors.{Anchors}
 use Rattle.bc7_format.specs.declared.Split.{Split}
 use Rattle.bc7_format.specs.declared.Split.the-variants.{Whole, Two, Three, Vector}

@@ -2,10 +2,10 @@
 -- Assumes nothing.
 use Prim.Native.Nat.{ℕ, _+_, _-_, _*_, _<_, _≤_}
 use lib.Dec.{eqb}
-use Rattle.bc7_places.specs.declared.modes.ModeRow.{ModeRow}
+use Rattle.bc7_modes.specs.declared.ModeRow.{ModeRow}
 use Rattle.bc7_places.specs.declared.places.Fields.{Fields}
 use Rattle.laws.specs.Tables.{pick}
-use Rattle.bc7_places.specs.Modes.{OfMode}
+use Rattle.bc7_modes.specs.Modes.{OfMode}
 
 -- where the fields of line l start, of a number whose values start at a
 unfoldable pub fieldsOf : ModeRow → ℕ → ℕ → ℕ → Fields

@@ -5,7 +5,7 @@ use mathlib.Core.Path.{_≡_}
 use Prim.Native.Nat.{ℕ, _+_, _*_, _/_, _%_, _^_, _<_, _≤_}
 use mathlib.Core.List.{List, [], _∷_}
 use lib.ListN.{getD}
-use Rattle.bc7_places.specs.declared.modes.ModeRow.{ModeRow}
+use Rattle.bc7_modes.specs.declared.ModeRow.{ModeRow}
 use Rattle.bc7_places.specs.declared.splits.Anchors.{Anchors}
 use Rattle.bc7_places.specs.declared.splits.ReadSplit.{ReadSplit}
 use Rattle.bc7_places.specs.declared.splits.Subsets.{Subsets}
@@ -13,11 +13,11 @@ use Rattle.bc7_format.specs.declared.Split.{Split}
 use Rattle.bc7_format.specs.declared.Split.the-variants.{Whole, Two, Three, Vector}
 use Rattle.bits.specs.declared.stream.BitStream.{BitStream}
 use Rattle.bcn_format.specs.Block.{field, number}
-use Rattle.bc7_format.specs.Fields.{leadEnd}
+use Rattle.bc7_fields.specs.Fields.{leadEnd}
 use Rattle.bc7_format.specs.Modes.{modeOf}
 use Rattle.bc7_format.specs.Splits.{anchors, ofKind, partition, splitOf}
 use Rattle.bits.specs.Stream.{On, taken}
-use Rattle.bc7_places.specs.Modes.{OfMode}
+use Rattle.bc7_modes.specs.Modes.{OfMode}
 use Rattle.partitions.specs.Maps.{map2, map3}
 
 -- the anchors as three pixels: pixel 0 again where a split has fewer

@@ -6,7 +6,6 @@ ghost use Rattle.laws.specs.Tables.{pick};
 ghost use Rattle.bc7_format.specs.Splits.{partition as partitionOf};
 ghost use Rattle.bc7_places.specs.Splits.{PixelIn};
 ghost use Rattle.bc7_places.specs.Lines.{OfLine, anchorIn, linePixels, ownPixel, partOf, indexSetIn};
-use crate::modes::ModeRow;
 use crate::splits::Anchors;
 use crate::splits::Subsets;
 use crate::splits::anchors_of;
@@ -14,6 +13,7 @@ use crate::splits::kind_of;
 use crate::splits::subset_of;
 use crate::splits::subsets_of;
 use bc7_format::Split;
+use bc7_modes::ModeRow;
 
 // The pixels of a line: those whose subset is `subset`.
 pub struct Pixels {

@@ -8,13 +8,13 @@ ghost use Rattle.laws.specs.Tables.{pick};
 ghost use Rattle.bcn_format.specs.Partitions.{among};
 ghost use Rattle.bc7_format.specs.Places.{placeAt, width};
 ghost use Rattle.bc7_format.specs.Splits.{leadBits};
-ghost use Rattle.bc7_places.specs.Modes.{IsRow};
+ghost use Rattle.bc7_modes.specs.Modes.{IsRow};
 ghost use Rattle.bc7_places.specs.Places.{FieldsFrom, SetFrom, fieldsOf};
 ghost use Rattle.bc7_places.specs.Splits.{threeOf};
 use crate::lines::index_width;
-use crate::modes::ModeRow;
 use crate::splits::Anchors;
 use bc7_format::Place;
+use bc7_modes::ModeRow;
 
 // Where the groups start in the list of places, which are also those of a record's bytes: the values, the p bits, the first and the
 // second indexes; and how many places there are.

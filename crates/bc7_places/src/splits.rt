@@ -3,10 +3,10 @@
 ghost use mathlib.Core.Path.{_≡_};
 ghost use Prim.Native.Nat.{_<_};
 ghost use Rattle.bc7_format.specs.Splits.{kindOf, partition, rotation, indexMode, ofKind};
-ghost use Rattle.bc7_places.specs.Modes.{OfBlock};
+ghost use Rattle.bc7_modes.specs.Modes.{OfBlock};
 ghost use Rattle.bc7_places.specs.Splits.{IsLead, PixelIn, SplitAhead, anchorsOf, splitRead, subsetIn, subsetsOf};
-use crate::modes::ModeRow;
 use bc7_format::Split;
+use bc7_modes::ModeRow;
 use bits::stream::BitStream;
 use partitions::fixup_index_2;
 use partitions::fixup_indexes_3;

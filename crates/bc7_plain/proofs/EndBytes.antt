@@ -10,7 +10,7 @@ use lib.Pow.{pow-add}
 use Rattle.laws.specs.Tables.{pick}
 use Rattle.bcn_format.specs.Block.{field}
 use Rattle.bcn_format.specs.Drawing.{promoted}
-use Rattle.bc7_format.specs.Fields.{endByte, pStart, valueStart}
+use Rattle.bc7_fields.specs.Fields.{endByte, pStart, valueStart}
 use Rattle.bc7_format.specs.Lines.{eight}
 use Rattle.bc7_format.specs.Modes.{channelBits, pCount}
 

@@ -10,7 +10,7 @@ use borrow.Author.Tests.{ne-eqb}
 use lib.Dec.{T, eqb, eqb→eq, leb, leb→le, ltb, ltb→lt, lt→ltb}
 use Rattle.laws.specs.Tables.{below, both, implies, pick}
 use Rattle.laws.proofs.Tests.{at, both-left, both-right, implied}
-use Rattle.bc7_format.specs.Fields.{leadEnd, pStart, valueStart}
+use Rattle.bc7_fields.specs.Fields.{leadEnd, pStart, valueStart}
 use Rattle.bc7_format.specs.Modes.{alphaBits, channelBits, colourBits, endpointCount, firstBits, indexBits, indexModeBits, modeRow, pCount}
 use Rattle.bc7_format.specs.Modes.{partitionBits, rotationBits, secondBits}
 use Rattle.pixel_rules.specs.Columns.{columnOf, printedRows}

@@ -7,7 +7,7 @@ ghost use Prim.Native.Nat.{_+_, _*_, _<_};
 ghost use Rattle.laws.specs.Tables.{table};
 ghost use Rattle.bcn_format.specs.Block.{field, number};
 ghost use Rattle.bcn_format.specs.Drawing.{Weighed, drawn, promoted, weightOf};
-ghost use Rattle.bc7_format.specs.Fields.{endByte, leadEnd, pStart, valueStart};
+ghost use Rattle.bc7_fields.specs.Fields.{endByte, leadEnd, pStart, valueStart};
 ghost use Rattle.bc7_format.specs.Lines.{rotated};
 ghost use Rattle.bc7_format.specs.Modes.{alphaBits, channelBits, colourBits, endpointCount, indexBits, modeOf};
 ghost use Rattle.pixel_rules.specs.Plain.{channelIn, firstStart, indexIn, plainChannel, setFor, setStart};

@@ -14,7 +14,7 @@ use Rattle.bc7_format.specs.declared.Split.the-variants.{Three, Two}
 use Rattle.laws.specs.Digits.{total}
 use Rattle.bcn_format.specs.Block.{field}
 use Rattle.bc7_format.specs.Modes.{firstBits}
-use Rattle.bcn_format.specs.Partitions.{among, anchors2, anchors3, subset2, subset3}
+use Rattle.bcn_format.specs.Partitions.{among}
 use Rattle.bc7_format.specs.Splits.{anchors, isVector, splitAt, subset}
 use Rattle.bc7_format.proofs.Modes.{or-false}
 use Rattle.bc7_format.proofs.Starts.{index-start, indexStart, start}
@@ -22,14 +22,13 @@ use Rattle.bc7_format.proofs.Subsets.{subset-below}
 use Rattle.bits.specs.declared.stream.BitStream.{BitStream}
 use Rattle.bits.specs.Stream.{taken}
 use Rattle.bits.proofs.On.{On, got}
-use Rattle.bcn_format.specs.Indexes.{OneFixup, TwoFixups, expanded, indexWidths, part}
+use Rattle.bcn_format.specs.Indexes.{expanded, indexWidths, part}
 use Rattle.bcn_format.proofs.Expanding.{size-2, size-3}
-use Rattle.bc7_format.specs.Fields.{directPixels}
-use Rattle.bcn_format.specs.Painting.{painted}
-use Rattle.bc7_format.proofs.Pictures.{Palette, indexes-at, keyed-law}
+use Rattle.bc7_fields.specs.Fields.{directPixels}
+use Rattle.bc7_fields.specs.Painting.{painted}
+use Rattle.bc7_fields.proofs.Pictures.{Palette, indexes-at, keyed-law}
 use Rattle.partitions.specs.Words.{anchorIn2, secondIn3, partitionWord2, partitionWord3, thirdIn3}
-use Rattle.partitions.proofs.Maps.{anchors-in2, anchors-in3}
-use Rattle.partitions.proofs.PartitionWords.{anchor-of2, second-of3, subset-of2, subset-of3, third-of3}
+use Rattle.partitions.proofs.PartitionWords.{Fixes2, Fixes3, Maps, fixes-2, fixes-3, maps-2, maps-3}
 use Rattle.drawing.specs.declared.keys.Keys.{Keys}
 use Rattle.drawing.specs.Keys.{keyAt, keysOf}
 use Rattle.drawing.proofs.keys.KeyWords.{key-at}
@@ -43,49 +42,13 @@ last-of-2 m a b h not-a = eqb→eq m b (or-false (eqb m b) (rw (ne-eqb m a not-a
 pub last-of-3 : (m a b c : ℕ) → T (among m (a ∷ b ∷ c ∷ [])) → m ≢ a → m ≢ b → m ≡ c
 last-of-3 m a b c h not-a = last-of-2 m b c (rw (ne-eqb m a not-a) at h)
 
--- a word that has w bits for the subset of each pixel
-pub record Maps (w : ℕ) (of : ℕ → ℕ) (word : ℕ) : Type 0 where
-  pub at : (q : ℕ) → q < 16 → part word w q ≡ of q
+-- the indexes behind the word of a partition can be read
+module _ {w id set : ℕ} (hid : id < 64) (least : 2 ≤ w) (most : w ≤ 3) where
+  pub anchored-2 : set ≡ partitionWord2 w id → {s : BitStream} → s .at + (16 * w - 2) ≤ 128 → Anchored2 w s set
+  anchored-2 e ahead = let f = fixes-2 hid most (omega arith) e in record { least = least; most = most; fixup = f .fixup; inside = ahead }
 
--- the anchors after pixel 0, in pixel order
-pub record Fixes2 (id a : ℕ) : Type 0 where
-  pub are : anchors2 id ≡ 0 ∷ a ∷ []
-  pub fixup : OneFixup a
-
-pub record Fixes3 (id a b : ℕ) : Type 0 where
-  pub are : anchors3 id ≡ 0 ∷ a ∷ b ∷ []
-  pub fixups : TwoFixups a b
-
--- the word of a partition: its map, and its anchors behind pixel 0
-module _ {w id set : ℕ} (hid : id < 64) (most : w ≤ 3) where
-  module _ (least : 1 ≤ w) (e : set ≡ partitionWord2 w id) where
-    pub maps-2 : Maps w (subset2 id) set
-    unfolding part
-    maps-2 = record { at = λ q hq. rw e (subset-of2 w id hid most least q hq) }
-
-    pub fixes-2 : Fixes2 id (anchorIn2 set)
-    fixes-2 =
-        let a = anchors-in2 id hid in
-        rw (e, anchor-of2 w id hid most least) (record { are = a .are; fixup = a .fixup })
-
-  module _ (least : 2 ≤ w) (e : set ≡ partitionWord3 w id) where
-    pub maps-3 : Maps w (subset3 id) set
-    unfolding part
-    maps-3 = record { at = λ q hq. rw e (subset-of3 w id hid most least q hq) }
-
-    pub fixes-3 : Fixes3 id (secondIn3 set) (thirdIn3 set)
-    fixes-3 =
-        let a = anchors-in3 id hid in
-        rw (e, second-of3 w id hid most least, third-of3 w id hid most least)
-        (record { are = a .are; fixups = a .fixups })
-
-  -- so its indexes can be read
-  module _ (least : 2 ≤ w) where
-    pub anchored-2 : set ≡ partitionWord2 w id → {s : BitStream} → s .at + (16 * w - 2) ≤ 128 → Anchored2 w s set
-    anchored-2 e ahead = let f = fixes-2 (omega arith) e in record { least = least; most = most; fixup = f .fixup; inside = ahead }
-
-    pub anchored-3 : set ≡ partitionWord3 w id → {s : BitStream} → s .at + (16 * w - 3) ≤ 128 → Anchored3 w s set
-    anchored-3 e ahead = let f = fixes-3 least e in record { least = least; most = most; fixups = f .fixups; inside = ahead }
+  pub anchored-3 : set ≡ partitionWord3 w id → {s : BitStream} → s .at + (16 * w - 3) ≤ 128 → Anchored3 w s set
+  anchored-3 e ahead = let f = fixes-3 hid most least e in record { least = least; most = most; fixups = f .fixups; inside = ahead }
 
 -- a mode with subsets: the indexes are read where they start, and pixels looked up by their keys
 module _ (m n b : ℕ) (hm : m < 8) (eb : firstBits m ≡ b) (least : 2 ≤ b) (most : b ≤ 3) {id set : ℕ} (hid : id < 64)

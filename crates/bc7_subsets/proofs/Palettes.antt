@@ -9,16 +9,16 @@ use lib.Dec.{eqb}
 use lib.ListN.{getD}
 use Rattle.laws.specs.Tables.{pick, table}
 use Rattle.laws.proofs.Part.{getD-table}
-use Rattle.bcn_format.specs.Painting.{between, four}
-use Rattle.bc7_format.specs.Fields.{endByte}
-use Rattle.bc7_format.proofs.Ends.{EndsShown}
-use Rattle.bc7_format.proofs.Pictures.{colourBetween, four-ext, Palette}
-use Rattle.drawing.specs.declared.colour.Ends.{Ends}
-use Rattle.drawing.specs.declared.colour.Stored.{Stored}
-use Rattle.drawing.specs.Words.{endpoint, Holds}
-use Rattle.drawing.proofs.colour.Words.{endpoint-of}
-use Rattle.drawing.specs.Colours.{endpoints, keyed}
-use Rattle.drawing.proofs.palette.Keyed.{keyed-at}
+use Rattle.bc7_fields.specs.Painting.{between, four}
+use Rattle.bc7_fields.specs.Fields.{endByte}
+use Rattle.bc7_fields.proofs.Ends.{EndsShown}
+use Rattle.bc7_fields.proofs.Pictures.{colourBetween, four-ext, Palette}
+use Rattle.bc7_drawing.specs.declared.colour.Ends.{Ends}
+use Rattle.bc7_drawing.specs.declared.colour.Stored.{Stored}
+use Rattle.bc7_drawing.specs.Words.{endpoint, Holds}
+use Rattle.bc7_drawing.proofs.colour.Words.{endpoint-of}
+use Rattle.bc7_drawing.specs.Colours.{endpoints, keyed}
+use Rattle.bc7_drawing.proofs.palette.Keyed.{keyed-at}
 
 module _ (m n b : ℕ) where
   ends-shown : (g : Stored → ℕ → ℕ → ℕ) (x y : Stored) {e : Ends} → Holds (λ l. g (pick (eqb l 0) x y)) e → (l j : ℕ) → l < 2

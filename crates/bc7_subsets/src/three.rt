@@ -6,20 +6,20 @@ ghost use mathlib.Core.List.{[], _∷_};
 ghost use Prim.Native.Nat.{_-_, _*_};
 ghost use Rattle.bcn_format.specs.Indexes.{expanded};
 ghost use Rattle.bits.specs.Stream.{held, taken};
-ghost use Rattle.bc7_format.specs.Fields.{directPixels};
+ghost use Rattle.bc7_fields.specs.Fields.{directPixels};
 ghost use Rattle.partitions.specs.Words.{secondIn3, thirdIn3};
 ghost use Rattle.bc7_subsets.specs.Asked.{Anchored3, AtMarker};
 use crate::extract_partition_set_id;
+use bc7_drawing::colour::Stored;
+use bc7_drawing::colour::opaque;
+use bc7_drawing::colour::opaque_p;
+use bc7_drawing::painting::paint_3_2;
+use bc7_drawing::painting::paint_3_3;
+use bc7_drawing::palette::palette_3_2;
+use bc7_drawing::palette::palette_3_3;
 use bits::stream::BitStream;
-use drawing::colour::Stored;
-use drawing::colour::opaque;
-use drawing::colour::opaque_p;
 use drawing::keys::keys_2;
 use drawing::keys::keys_3;
-use drawing::keys::paint_3_3;
-use drawing::keys::paint_4;
-use drawing::palette::palette_3_2;
-use drawing::palette::palette_3_3;
 use indexes::Indexes;
 use partitions::words::partition_word_3_2;
 use partitions::words::partition_word_3_3;
@@ -146,5 +146,5 @@ fn mode_2(stream: BitStream) -> [[u8; 4]; 16]
     let colours = palette_3_2(opaque(first, second, 5), opaque(third, none, 5));
     let set = partition_word_3_2(id.value as u8);
     let x = indexes_3(2, b2.stream, set);
-    paint_4(colours, keys_2(x, 2, set))
+    paint_3_2(colours, keys_2(x, 2, set))
 }

@@ -5,6 +5,8 @@ pub mod Printed
 pub mod Drawing
 pub mod Weighing
 pub mod Anchors
+pub mod Subsets
+pub mod Storing
 pub mod Trailing
 pub mod Theorems
 pub mod Attested

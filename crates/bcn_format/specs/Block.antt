@@ -1,11 +1,11 @@
--- A block of sixteen bytes as a number, as a list of 128 bits, and its mode.
+-- A block of sixteen bytes: as a number, as a list of 128 bits, and among other bytes.
 -- Assumes nothing.
 use Prim.Native.Nat.{ℕ, zero, suc, _+_, _*_, _/_, _%_, _^_}
 use mathlib.Core.List.{List, [], _∷_, _++_}
 use lib.Dec.{eqb}
-use lib.ListN.{replicate}
+use lib.ListN.{drop, getD, replicate, take}
 use Rattle.laws.specs.Digits.{join, split}
-use Rattle.laws.specs.Tables.{pick}
+use Rattle.laws.specs.Tables.{over, pick}
 
 -- the widths of sixteen bytes: `Fit eights bs` says that bs is a block
 abbrev pub eights : List ℕ
@@ -40,3 +40,10 @@ field n s w = n / 2 ^ s % 2 ^ w
 unfoldable pub trailing : ℕ → ℕ → ℕ
 trailing zero b = 0
 trailing (suc k) b = pick (eqb (b % 2) 0) (suc (trailing k (b / 2))) 0
+
+-- the block that stands at a place of a list of bytes, and the list with a block stored there
+unfoldable pub blockAt : List ℕ → ℕ → List ℕ
+blockAt s at = take 16 (drop at s)
+
+unfoldable pub putBlock : List ℕ → ℕ → List ℕ → List ℕ
+putBlock s at block = over s at 16 (λ j. getD block j 0)

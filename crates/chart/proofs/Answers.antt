@@ -1,20 +1,19 @@
 -- The answer from a text that was written into zeros, and which answer it is.
 -- Assumes nothing.
 use mathlib.Core.Path.{_≡_, sym, ap, ap₂, _∙_}
-use mathlib.Core.List.{List, _++_, append-nil}
+use mathlib.Core.List.{List}
 use mathlib.Core.Logic.{_≢_}
 use Prim.Native.Nat.{ℕ, _≤_}
-use native.Mathlib.Nat.{le-refl}
 use native.Mathlib.Omega.{arith}
 use borrow.Author.Tests.{eq-eqb, ne-eqb}
-use lib.ListN.{length, drop, drop-of-length-le, replicate, take}
-use lib.Seq.{take-all}
+use lib.ListN.{length, replicate}
 use Rattle.bc7_format.specs.declared.Split.{Split}
 use Rattle.laws.specs.Digits.{Fit}
 use Rattle.laws.specs.Padding.{padded}
 use Rattle.laws.specs.Refusals.{first}
 use Rattle.laws.proofs.Padding.{stored-zeros}
-use Rattle.bcn_format.specs.Block.{eights}
+use Rattle.bcn_format.specs.Block.{blockAt, eights}
+use Rattle.bcn_format.proofs.Storing.{whole-block}
 use Rattle.bc7_format.specs.Modes.{modeOf}
 use Rattle.bc7_format.specs.Places.{placeCount}
 use Rattle.bc7_format.specs.Splits.{splitOf}
@@ -33,17 +32,15 @@ answered r {t} {out} {n} p =
     ap₂ (λ (o : List ℕ) (k : ℕ). (o, k)) (w .bytes) (w .ends) ∙ stored-zeros textRoom t (omega (arith, w .ends, p .within)) in
     record { is = ap (λ (p : List ℕ × ℕ). record { refusal = r; length = p .1; text = p .0 }) told; within = p .within }
 
--- sixteen bytes copied over a block
-pub copied : (s zeros : List ℕ) → length s ≡ 16 → length zeros ≡ 16 → take (length s) s ++ drop (length s) zeros ≡ s
-copied s zeros h z =
-    rw (take-all (length s) s (le-refl (length s)), drop-of-length-le zeros {i = length s} (omega arith)) (append-nil s)
-
 -- where there are not sixteen bytes
 pub says-10 : (bs : List ℕ) → length bs ≢ 16 → Charts bs (charted 10 (refusedText 10))
 says-10 bs n = let e = not-sixteen bs n in sym (ap₂ charted e (refused-prints-only bs 9 e))
 
 -- where there are, and make a block with its mode
-module _ (bs : List ℕ) (l : length bs ≡ 16) {block : List ℕ} {mode : ℕ} (eb : block ≡ bs) (em : mode ≡ modeOf block) where
+module _ (bs : List ℕ) (l : length bs ≡ 16) {block : List ℕ} {mode : ℕ} (taken : block ≡ blockAt bs 0) (em : mode ≡ modeOf block) where
+  eb : block ≡ bs
+  eb = taken ∙ whole-block bs l
+
   mode-is : mode ≡ modeOf bs
   mode-is = em ∙ ap modeOf eb
 

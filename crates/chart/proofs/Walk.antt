@@ -14,7 +14,7 @@ use Rattle.bc7_format.specs.Splits.{partition}
 use Rattle.bc7_format.proofs.Starts.{start-next}
 use Rattle.bc7_places.specs.declared.splits.Anchors.{Anchors}
 use Rattle.bc7_places.specs.Splits.{anchorsOf, threeOf}
-use Rattle.bc7_places.proofs.modes.Bounds.{low-partition}
+use Rattle.bc7_modes.proofs.Bounds.{low-partition}
 use Rattle.bc7_places.proofs.places.Widths.{three-wide}
 use Rattle.text.specs.Puts.{Puts}
 use Rattle.chart_rules.specs.Charts.{fieldText, placesText, textMost, textRoom}

@@ -6,11 +6,11 @@ use mathlib.Core.List.{List}
 use lib.Dec.{T}
 use Rattle.bc7_format.specs.declared.Place.{Place}
 use Rattle.bc7_format.specs.declared.Split.{Split}
-use Rattle.bc7_places.specs.declared.modes.ModeRow.{ModeRow}
+use Rattle.bc7_modes.specs.declared.ModeRow.{ModeRow}
 use Rattle.bc7_format.specs.Modes.{kindOfMode, modeOf, partitionBits}
 use Rattle.bc7_format.specs.Places.{inside}
 use Rattle.bc7_format.specs.Splits.{kindOf, partition}
-use Rattle.bc7_places.specs.Modes.{IsRow}
+use Rattle.bc7_modes.specs.Modes.{IsRow}
 use Rattle.chart_rules.specs.Charts.{textRoom}
 
 -- of a word: that it is one of so many, and that the output has room for the longest

@@ -12,14 +12,15 @@ ghost use Rattle.chart_rules.specs.Charts.{Answers, ChartsWithin, charted, fiel
 ghost use Rattle.chart.specs.Asked.{BlockMode, FieldAsked, NameAsked, OneOf, PlacesAsked};
 use bc7_format::Place;
 use bc7_format::Split;
-use bc7_places::modes::ModeRow;
-use bc7_places::modes::mode_of;
-use bc7_places::modes::mode_row;
+use bc7_modes::ModeRow;
+use bc7_modes::mode_of;
+use bc7_modes::mode_row;
 use bc7_places::places::PLACES;
 use bc7_places::places::place_at;
 use bc7_places::places::width_of;
 use bc7_places::splits::anchors_of;
 use bc7_places::splits::read_lead;
+use block_bytes::load;
 use chart_rules::Chart;
 use text::put;
 use text::put_few;
@@ -154,16 +155,6 @@ fn accepted(block: [u8; 16], mode: u8) -> Chart
     }
 }
 
-// Sixteen bytes as a block.
-fn whole(input: &[u8]) -> [u8; 16]
-    requires { ⌜ length (now input) ≡ 16 ⌝ }
-    ensures { λ r. ⌜ r ≡ now (input .entry) ⌝ }
-{
-    let mut block = [0u8; 16];
-    bytes::copy(input, &mut block);
-    block
-}
-
 // How many bytes a program reads of its input: one more than a block has tells that there are too many.
 pub fn wanted() -> usize
     ensures { λ r. ⌜ r ≡ wantedBytes ⌝ }
@@ -178,7 +169,7 @@ pub fn chart(input: &[u8]) -> Chart
     if input.len() != 16 {
         return refused(10);
     }
-    let block = whole(input);
+    let block = load(input, 0);
     let mode = mode_of(block);
     if mode == 8 {
         return refused(1);

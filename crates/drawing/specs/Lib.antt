@@ -1,5 +1,3 @@
--- The definitions that the contracts cite, beside those of `bcn_format`.
-pub mod Words
+-- The definitions that the contracts cite.
 pub mod Asked
 pub mod Keys
-pub mod Colours

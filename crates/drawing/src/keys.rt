@@ -1,5 +1,5 @@
-// The index of a pixel and its subset as one key, and painting by keys: a key is the place of the pixel's colour among all colours
-// of the block. The Rust takes subset and index apart pixel by pixel; here eight keys are made at once.
+// The index of a pixel and its subset as one key: the place of the pixel's colour among all colours of the block. The Rust takes subset
+// and index apart pixel by pixel; here eight keys are made at once.
 //     x            | x15 | x14 | .. | x3 | x2 | x1 | x0 |     sixteen indexes of w bits
 //     mask         |  0  | 1 1 | .. | 0  | 1 1| 0  | 1 1|     every other field
 //     x & mask     |    x14    | .. |    x2   |    x0   |     eight in 2 w bits each: there is room above each index
@@ -9,9 +9,8 @@
 ghost use mathlib.Core.Path.{_≡_};
 ghost use Prim.Native.Nat.{_+_, _*_, _^_, _≤_};
 ghost use lib.Bits.{bitAnd};
-ghost use Rattle.bcn_format.specs.Painting.{painted};
 ghost use Rattle.drawing.specs.Asked.{IsKey, Key, Moved};
-ghost use Rattle.drawing.specs.Keys.{keysOf, keyAt};
+ghost use Rattle.drawing.specs.Keys.{keysOf};
 
 // Those of the eight even and of the eight odd pixels.
 pub struct Keys {
@@ -24,8 +23,8 @@ const EVEN_2: u64 = 0x3333_3333;
 
 const EVEN_3: u64 = 0x0000_1C71_C71C_71C7;
 
-// The fields of the mask, indexes above subsets.
-fn above(x: u64, map: u64, mask: u64, shift: u32) -> u64
+// Eight keys, those of the fields that the mask takes: indexes above subsets.
+fn eight_keys(x: u64, map: u64, mask: u64, shift: u32) -> u64
     requires { ⌜ Moved mask shift ⌝ }
     ensures { λ r. ⌜ r ≡ bitAnd x mask * 2 ^ shift + bitAnd map mask ⌝ }
 {
@@ -38,8 +37,8 @@ pub fn keys_2(x: u64, shift: u32, map: u64) -> Keys
     ensures { λ r. ⌜ r ≡ keysOf 2 shift x map ⌝ }
 {
     Keys {
-        even: above(x, map, EVEN_2, shift),
-        odd: above(x >> 2, map >> 2, EVEN_2, shift),
+        even: eight_keys(x, map, EVEN_2, shift),
+        odd: eight_keys(x >> 2, map >> 2, EVEN_2, shift),
     }
 }
 
@@ -49,63 +48,15 @@ pub fn keys_3(x: u64, shift: u32, map: u64) -> Keys
     ensures { λ r. ⌜ r ≡ keysOf 3 shift x map ⌝ }
 {
     Keys {
-        even: above(x, map, EVEN_3, shift),
-        odd: above(x >> 3, map >> 3, EVEN_3, shift),
+        even: eight_keys(x, map, EVEN_3, shift),
+        odd: eight_keys(x >> 3, map >> 3, EVEN_3, shift),
     }
 }
 
 // Key i of a word that has `step` bits for each, of which there are `many` different ones, a power of two: so the rest is a mask.
-fn key_of(keys: u64, step: u32, i: usize, many: u64) -> usize
+pub fn key_of(keys: u64, step: u32, i: usize, many: u64) -> usize
     requires { ⌜ Key step i many ⌝ }
     ensures { λ r. ⌜ IsKey keys step i many r ⌝ }
 {
     ((keys >> ((i as u32) * step)) % many) as usize
-}
-
-// Two subsets, indexes of 2 bits.
-pub fn paint_2_2(p: [[u8; 4]; 8], keys: Keys) -> [[u8; 4]; 16]
-    ensures { λ r. ⌜ r ≡ painted (keyAt 2 1 keys) p ⌝ }
-{
-    let mut output = [[0u8; 4]; 16];
-    for i in 0..8usize {
-        output[2 * i] = p[key_of(keys.even, 4, i, 8)];
-        output[2 * i + 1] = p[key_of(keys.odd, 4, i, 8)];
-    }
-    output
-}
-
-// Two subsets, indexes of 3 bits.
-pub fn paint_2_3(p: [[u8; 4]; 16], keys: Keys) -> [[u8; 4]; 16]
-    ensures { λ r. ⌜ r ≡ painted (keyAt 3 1 keys) p ⌝ }
-{
-    let mut output = [[0u8; 4]; 16];
-    for i in 0..8usize {
-        output[2 * i] = p[key_of(keys.even, 6, i, 16)];
-        output[2 * i + 1] = p[key_of(keys.odd, 6, i, 16)];
-    }
-    output
-}
-
-// Three subsets, indexes of 2 bits; and vector and scalar with 2 bits each.
-pub fn paint_4(p: [[u8; 4]; 16], keys: Keys) -> [[u8; 4]; 16]
-    ensures { λ r. ⌜ r ≡ painted (keyAt 2 2 keys) p ⌝ }
-{
-    let mut output = [[0u8; 4]; 16];
-    for i in 0..8usize {
-        output[2 * i] = p[key_of(keys.even, 4, i, 16)];
-        output[2 * i + 1] = p[key_of(keys.odd, 4, i, 16)];
-    }
-    output
-}
-
-// Three subsets, indexes of 3 bits.
-pub fn paint_3_3(p: [[u8; 4]; 32], keys: Keys) -> [[u8; 4]; 16]
-    ensures { λ r. ⌜ r ≡ painted (keyAt 3 2 keys) p ⌝ }
-{
-    let mut output = [[0u8; 4]; 16];
-    for i in 0..8usize {
-        output[2 * i] = p[key_of(keys.even, 6, i, 32)];
-        output[2 * i + 1] = p[key_of(keys.odd, 6, i, 32)];
-    }
-    output
 }

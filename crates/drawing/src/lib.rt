@@ -1,5 +1,2 @@
-// Drawing: endpoints as colours, palettes of the colours between them, and pixels looked up in a palette by their keys. Nothing here knows a
-// format.
-pub mod colour;
+// Drawing, as far as any block format draws: the keys by which pixels are looked up in a palette. What a palette holds is its format's.
 pub mod keys;
-pub mod palette;

@@ -11,7 +11,7 @@ use Rattle.line.specs.declared.Opened.{Opened}
 use Rattle.line_rules.specs.declared.Replacement.{Replacement}
 use Rattle.laws.specs.Refusals.{first}
 use Rattle.bc7_places.specs.declared.splits.ReadSplit.{ReadSplit}
-use Rattle.bc7_places.specs.declared.modes.ModeRow.{ModeRow}
+use Rattle.bc7_modes.specs.declared.ModeRow.{ModeRow}
 use Rattle.bc7_places.specs.declared.lines.LinePart.{LinePart}
 use Rattle.laws.specs.Digits.{Fit}
 use Rattle.bcn_format.specs.Block.{eights, number}
@@ -20,7 +20,7 @@ use Rattle.bc7_format.specs.Places.{opened}
 use Rattle.bc7_format.specs.Splits.{splitOf}
 use Rattle.bc7_format.specs.WellFormed.{WellFormed}
 use Rattle.bc7_format.proofs.Opening.{opened-good}
-use Rattle.bc7_places.specs.Modes.{modeRowOf}
+use Rattle.bc7_modes.specs.Modes.{modeRowOf}
 use Rattle.bc7_places.specs.Splits.{IsLead}
 use Rattle.bc7_places.specs.Lines.{OfLine, partOf}
 use Rattle.line.proofs.parts.Parts.{IsPart, is-part}

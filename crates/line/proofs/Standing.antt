@@ -14,7 +14,7 @@ use Rattle.bc7_format.specs.declared.Place.{Place}
 use Rattle.bits.specs.declared.stream.BitStream.{BitStream}
 use Rattle.bc7_places.specs.declared.places.Fields.{Fields}
 use Rattle.bc7_places.specs.declared.lines.LinePart.{LinePart}
-use Rattle.bc7_places.specs.declared.modes.ModeRow.{ModeRow}
+use Rattle.bc7_modes.specs.declared.ModeRow.{ModeRow}
 use Rattle.bc7_format.specs.declared.Split.{Split}
 use Rattle.laws.specs.Tables.{pick, table, tableFrom}
 use Rattle.laws.proofs.Joining.{table-same}
@@ -29,8 +29,8 @@ use Rattle.bc7_format.proofs.Places.{inside-index}
 use Rattle.bc7_format.proofs.Starts.{start}
 use Rattle.bits.specs.Stream.{held}
 use Rattle.bcn_format.specs.Indexes.{part}
-use Rattle.bc7_format.specs.Fields.{leadEnd}
-use Rattle.bc7_places.specs.Modes.{modeRowOf}
+use Rattle.bc7_fields.specs.Fields.{leadEnd}
+use Rattle.bc7_modes.specs.Modes.{modeRowOf}
 use Rattle.line_rules.specs.Read.{givenAs, widthsOf}
 use Rattle.line_rules.specs.Replace.{ownWidth}
 use Rattle.line_rules.proofs.Own.{own-none, own-some}

@@ -15,7 +15,7 @@ use Rattle.bits.specs.declared.stream.BitStream.{BitStream}
 use Rattle.bc7_places.specs.declared.lines.LinePart.{LinePart}
 use Rattle.line.specs.declared.parts.StoredLine.{StoredLine}
 use Rattle.line_rules.specs.declared.Replacement.{Replacement}
-use Rattle.bc7_places.specs.declared.modes.ModeRow.{ModeRow}
+use Rattle.bc7_modes.specs.declared.ModeRow.{ModeRow}
 use Rattle.bc7_format.specs.declared.Split.{Split}
 use Rattle.laws.specs.Digits.{Fit, join}
 use Rattle.laws.specs.Refusals.{Given, here, then}
@@ -30,7 +30,7 @@ use Rattle.bc7_format.specs.Splits.{splitOf}
 use Rattle.bc7_format.proofs.Reserved.{reserved-mode, zero-byte}
 use Rattle.bits.specs.Stream.{held}
 use Rattle.bcn_format.specs.Indexes.{indexWidths}
-use Rattle.bc7_places.specs.Modes.{modeRowOf}
+use Rattle.bc7_modes.specs.Modes.{modeRowOf}
 use Rattle.line_rules.specs.Acceptable.{Within, callRules}
 use Rattle.line_rules.specs.Replace.{after, callOf, lineGiven, refusal, refusalIn, replaced, replacedAs}
 use Rattle.line_rules.proofs.Accepting.{on-block, second}

@@ -8,9 +8,9 @@ use Rattle.bc7_format.specs.Modes.{lines, modeOf}
 use Rattle.bcn_format.specs.Block.{number}
 use Rattle.bc7_format.specs.Splits.{splitOf}
 use Rattle.bits.specs.Stream.{held}
-use Rattle.bc7_format.specs.Fields.{leadEnd}
-use Rattle.bc7_places.specs.declared.modes.ModeRow.{ModeRow}
-use Rattle.bc7_places.specs.Modes.{OfBlock, modeRowOf}
+use Rattle.bc7_fields.specs.Fields.{leadEnd}
+use Rattle.bc7_modes.specs.declared.ModeRow.{ModeRow}
+use Rattle.bc7_modes.specs.Modes.{OfBlock, modeRowOf}
 use Rattle.bc7_places.specs.Lines.{partOf}
 
 -- a line that the mode of a block has

@@ -8,12 +8,12 @@ use Rattle.line.specs.declared.reading.PerEndpoint.{PerEndpoint}
 use Rattle.bits.specs.declared.stream.BitStream.{BitStream}
 use Rattle.bc7_places.specs.declared.lines.LinePart.{LinePart}
 use Rattle.line_rules.specs.declared.Replacement.{Replacement}
-use Rattle.bc7_places.specs.declared.modes.ModeRow.{ModeRow}
+use Rattle.bc7_modes.specs.declared.ModeRow.{ModeRow}
 use Rattle.laws.specs.Tables.{pick, table}
 use Rattle.bcn_format.specs.Block.{field}
 use Rattle.bits.specs.Stream.{held}
 use Rattle.bcn_format.specs.Indexes.{Rising, part}
-use Rattle.bc7_places.specs.Modes.{OfMode}
+use Rattle.bc7_modes.specs.Modes.{OfMode}
 use Rattle.line.specs.Parts.{maskOf}
 use Rattle.bc7_places.specs.Lines.{ownPixel}
 use Rattle.line.specs.Fields.{fieldsAt, setBefore, sizeIn}

@@ -8,9 +8,9 @@ ghost use Rattle.line.specs.Reading.{PBitsThere, PairThere, PartSmall, R
 use crate::fields::standing_at;
 use crate::parts::at_own;
 use crate::parts::mask_of;
+use bc7_modes::ModeRow;
 use bc7_places::lines::LinePart;
 use bc7_places::lines::Pixels;
-use bc7_places::modes::ModeRow;
 use bc7_places::places::fields_of;
 use bits::stream::BitStream;
 use indexes::sets::parts_of;

@@ -8,7 +8,7 @@ use Rattle.laws.specs.Padding.{Written}
 use Rattle.laws.proofs.Padding.{written-none, written-then}
 use Rattle.head_rules.specs.declared.Head.{Head}
 use Rattle.head_rules.specs.Geometry.{numberAt}
-use Rattle.sheet_rules.specs.Rows.{blockAt}
+use Rattle.bcn_format.specs.Block.{blockAt}
 use Rattle.listing_rules.specs.Listing.{blockListed, blocksText}
 
 -- the texts of the first blocks, and of one more

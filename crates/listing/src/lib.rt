@@ -20,13 +20,13 @@ ghost use Rattle.listing.specs.Promised.{GoesOnReady, ListsSheet, Spares
 use crate::texts::block_text;
 use crate::texts::sheet_text;
 use bc7::decode_bc7_block;
-use bc7_places::modes::mode_of;
+use bc7_modes::mode_of;
+use block_bytes::load;
 use head_rules::Head;
 use head_rules::HeadReader;
 use listing_rules::Machine;
 use listing_rules::Phase;
 use opacity::is_opaque_in;
-use sheet::blocks::load;
 use sheet_head::geometry::blocks_across;
 use sheet_head::geometry::blocks_of;
 use sheet_head::geometry::number_at;

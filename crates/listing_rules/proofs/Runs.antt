@@ -17,7 +17,7 @@ use Rattle.head_rules.specs.Geometry.{numberAt}
 use Rattle.head_rules.specs.Heads.{readHead}
 use Rattle.laws.specs.Text.{refusedText}
 use Rattle.listing_rules.specs.Text.{sheetText}
-use Rattle.sheet_rules.specs.Rows.{blockAt}
+use Rattle.bcn_format.specs.Block.{blockAt}
 use Rattle.listing_rules.specs.Listing.{blockListed, blocksListing, blocksText, listed, listing, listingBy}
 use Rattle.listing_rules.specs.Machine.{InBlocks, mostInRun, runOf}
 

@@ -14,7 +14,7 @@ use Rattle.head_rules.specs.Heads.{readHead}
 use Rattle.laws.specs.Text.{refusedText}
 use Rattle.listing_rules.specs.Text.{blockText, sheetText}
 use Rattle.opacity_rules.specs.Opacity.{opaqueIn}
-use Rattle.sheet_rules.specs.Rows.{blockAt}
+use Rattle.bcn_format.specs.Block.{blockAt}
 
 -- the text of a block of a sheet
 unfoldable pub blockListed : Head → ℕ → List ℕ → List ℕ

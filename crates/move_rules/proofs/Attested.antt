@@ -16,7 +16,7 @@ use Rattle.head_rules.specs.Heads.{colourIn, formIn, formOf, headBytes, headRef
 use Rattle.head_rules.specs.Heads.{sizeRefusalUpTo, tiledBytes, widthIn}
 use Rattle.head_rules.specs.Numbers.{groups, raised, readGroups, readNumber}
 use Rattle.sheet_rules.specs.Pictures.{blocksAs, byteAs}
-use Rattle.sheet_rules.specs.Rows.{blockAt}
+use Rattle.bcn_format.specs.Block.{blockAt}
 use Rattle.sheet_rules.specs.Sheets.{blockBy}
 use Rattle.move_rules.specs.Moving.{moveAfter, moveRefusal, movedTo}
 

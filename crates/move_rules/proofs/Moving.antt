@@ -23,7 +23,7 @@ use Rattle.head_rules.specs.Heads.{bytesOfHead, headSpelt, readHead, readOfForm
 use Rattle.head_rules.specs.Numbers.{Bytes}
 use Rattle.head_rules.proofs.Theorems.{head-long, head-one-form, head-sized, of-form-is, of-form-when, spelt-read-back}
 use Rattle.sheet_rules.specs.Pictures.{blocksAs}
-use Rattle.sheet_rules.specs.Rows.{blockAt}
+use Rattle.bcn_format.specs.Block.{blockAt}
 use Rattle.sheet_rules.specs.Sheets.{blockBy}
 use Rattle.sheet_rules.proofs.Pictures.{all-as-stored, all-long, all-same, block-in-all}
 use Rattle.move_rules.specs.Moving.{headInForm, moveAfter, moveRefusal, movedTo, other}

@@ -23,7 +23,7 @@ use Rattle.head_rules.specs.Numbers.{Bytes, groups, numberBytes}
 use Rattle.head_rules.proofs.Colours.{colour-test, number-back}
 use Rattle.head_rules.proofs.Theorems.{head-long, head-one-form, head-sized, of-form-answers, of-form-is, spelt-read-back}
 use Rattle.sheet_rules.specs.Pictures.{allBlocks, picture}
-use Rattle.sheet_rules.specs.Rows.{blockAt}
+use Rattle.bcn_format.specs.Block.{blockAt}
 use Rattle.sheet_rules.specs.Sheets.{blockBy, blockIn}
 use Rattle.sheet_rules.proofs.Pictures.{all-same}
 use Rattle.move_rules.specs.Stating.{StatesColour, stateAfter, stateBehindHead, stateRefusal, stateRules, statedAs}

@@ -24,7 +24,7 @@ use Rattle.sheet_rules.specs.Calls.{WholeSheet}
 use Rattle.sheet_rules.specs.Pictures.{blocksAs, byteAs}
 use Rattle.sheet_rules.specs.Sheets.{blockBy}
 use Rattle.sheet_rules.proofs.Pictures.{all-long}
-use Rattle.sheet_rules.proofs.Storing.{block-get}
+use Rattle.bcn_format.proofs.Storing.{block-get}
 use Rattle.move_rules.specs.Moving.{headInForm, movedTo}
 use Rattle.move_rules.proofs.Moving.{head-moved, long-moved}
 

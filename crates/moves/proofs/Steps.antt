@@ -16,8 +16,8 @@ use Rattle.head_rules.specs.Heads.{Sized}
 use Rattle.head_rules.proofs.Blocks.{few-blocks}
 use Rattle.head_rules.proofs.Orders.{form-order}
 use Rattle.sheet_rules.specs.Pictures.{blocksAs, byteAs}
-use Rattle.sheet_rules.specs.Rows.{blockAt}
-use Rattle.sheet_rules.specs.Sheets.{blockBy, putBlock}
+use Rattle.bcn_format.specs.Block.{blockAt, putBlock}
+use Rattle.sheet_rules.specs.Sheets.{blockBy}
 use Rattle.sheet_rules.proofs.Pictures.{number-back, number-lt, stored-back, stored-lt}
 use Rattle.tiles.specs.Parts.{Numbered}
 use Rattle.moves.specs.Rooms.{Stores}

@@ -7,7 +7,7 @@ ghost use Rattle.opacity.specs.Drawn.{InSheet, alphaPasses, opaqueDrawn}
 ghost use Rattle.opacity_rules.specs.Opacity.{opaqueIn};
 ghost use Rattle.opacity_rules.specs.Promises.{TellsOpaque};
 use bc7::decode_bc7_block;
-use bc7_places::modes::mode_of;
+use bc7_modes::mode_of;
 use head_rules::Head;
 use sheet_head::geometry::blocks_across;
 use sheet_head::geometry::shown_in;

@@ -11,10 +11,11 @@ use lib.Pow.{high, low, pow-add, pow-mono}
 use Rattle.laws.specs.Digits.{Fit, join, more, none, split, total}
 use Rattle.laws.proofs.Digits.{join-lt, split-join}
 use Rattle.laws.proofs.Rows.{split-mod}
-use Rattle.bcn_format.specs.Partitions.{digits, marks, strings2, strings3, subset2, subset3}
+use Rattle.bcn_format.specs.Indexes.{OneFixup, TwoFixups, part}
+use Rattle.bcn_format.specs.Partitions.{anchors2, anchors3, digits, marks, strings2, strings3, subset2, subset3}
 use Rattle.partitions.specs.Maps.{map2, map3}
-use Rattle.partitions.specs.Words.{partitionWord2, partitionWord3, partitionWord}
-use Rattle.partitions.proofs.Maps.{anchors-in3, fit2, fit3, marks2, marks3, shareOf}
+use Rattle.partitions.specs.Words.{anchorIn2, partitionWord, partitionWord2, partitionWord3, secondIn3, thirdIn3}
+use Rattle.partitions.proofs.Maps.{anchors-in2, anchors-in3, fit2, fit3, marks2, marks3, shareOf}
 
 wider : (n b w : ℕ) {vs : List ℕ} → b ≤ w → Fit (replicate n b) vs → Fit (replicate n w) vs
 wider zero b w h none = none
@@ -79,3 +80,39 @@ module _ (w a : ℕ) (h : a < 64) (most : w ≤ 3) where
 
     pub third-of3 : partitionWord3 w a / 2 ^ 52 ≡ map3 a .«fixup_index_3»
     third-of3 = omega (arith, both, anchors-in3 a h)
+
+-- a word that has w bits for the subset of each pixel
+pub record Maps (w : ℕ) (of : ℕ → ℕ) (word : ℕ) : Type 0 where
+  pub at : (q : ℕ) → q < 16 → part word w q ≡ of q
+
+-- the anchors after pixel 0, in pixel order
+pub record Fixes2 (id a : ℕ) : Type 0 where
+  pub are : anchors2 id ≡ 0 ∷ a ∷ []
+  pub fixup : OneFixup a
+
+pub record Fixes3 (id a b : ℕ) : Type 0 where
+  pub are : anchors3 id ≡ 0 ∷ a ∷ b ∷ []
+  pub fixups : TwoFixups a b
+
+-- the word of a partition: its map, and its anchors behind pixel 0
+module _ {w id set : ℕ} (hid : id < 64) (most : w ≤ 3) where
+  module _ (least : 1 ≤ w) (e : set ≡ partitionWord2 w id) where
+    pub maps-2 : Maps w (subset2 id) set
+    unfolding part
+    maps-2 = record { at = λ q hq. rw e (subset-of2 w id hid most least q hq) }
+
+    pub fixes-2 : Fixes2 id (anchorIn2 set)
+    fixes-2 =
+        let a = anchors-in2 id hid in
+        rw (e, anchor-of2 w id hid most least) (record { are = a .are; fixup = a .fixup })
+
+  module _ (least : 2 ≤ w) (e : set ≡ partitionWord3 w id) where
+    pub maps-3 : Maps w (subset3 id) set
+    unfolding part
+    maps-3 = record { at = λ q hq. rw e (subset-of3 w id hid most least q hq) }
+
+    pub fixes-3 : Fixes3 id (secondIn3 set) (thirdIn3 set)
+    fixes-3 =
+        let a = anchors-in3 id hid in
+        rw (e, second-of3 w id hid most least, third-of3 w id hid most least)
+        (record { are = a .are; fixups = a .fixups })

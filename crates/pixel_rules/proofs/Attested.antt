@@ -11,7 +11,7 @@ use Rattle.laws.proofs.Tests.{eqb-of}
 use Rattle.bcn_format.specs.Block.{field, number, trailing}
 use Rattle.bcn_format.specs.Drawing.{drawn, promoted, weightOf, weights}
 use Rattle.bcn_format.specs.Partitions.{anchors2, anchors3, digits, marks, strings2, strings3, subset2, subset3}
-use Rattle.bc7_format.specs.Fields.{endByte, leadEnd, pStart, valueStart}
+use Rattle.bc7_fields.specs.Fields.{endByte, leadEnd, pStart, valueStart}
 use Rattle.bc7_format.specs.Lines.{eight, has, indexPlace, indexSetOf, lineAt, lineBits, lineOf, meansStored, own}
 use Rattle.bc7_format.specs.Lines.{pPlace, pixel, rotated, shown, valuePlace}
 use Rattle.bc7_format.specs.Modes.{endpointCount, kindOfMode, modeOf, modeRow}

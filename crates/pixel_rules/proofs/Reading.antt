@@ -18,14 +18,14 @@ use Rattle.laws.proofs.Rows.{take-table}
 use Rattle.bcn_format.specs.Block.{eights, field, number}
 use Rattle.bcn_format.specs.Drawing.{drawn, weightOf}
 use Rattle.bcn_format.proofs.Fields.{field-lt}
-use Rattle.bc7_format.specs.Fields.{direct, directPixels, endByte}
+use Rattle.bc7_fields.specs.Fields.{direct, directPixels, endByte}
 use Rattle.bc7_format.specs.Lines.{indexSetOf, lineAt, pixel, pixels, rotated}
 use Rattle.bc7_format.specs.Modes.{endpointCount, indexBits, indexModeBits, kindOfMode, modeOf, modeRow, partitionBits, rotationBits}
 use Rattle.bc7_format.specs.Places.{atPlace, firstFrom, placeAt, placeCount, pos, width, widths}
 use Rattle.bc7_format.specs.Splits.{anchors, kindOf, ofKind, partition, rotation, splitAt, subset}
-use Rattle.bc7_format.proofs.Fields.{begins, first-start}
+use Rattle.bc7_fields.proofs.Fields.{begins, first-start}
 use Rattle.bc7_format.proofs.Places.{inside-index, placeAt-pos}
-use Rattle.bc7_format.proofs.Showing.{pixels-are}
+use Rattle.bc7_fields.proofs.Showing.{pixels-are}
 use Rattle.bc7_format.proofs.Starts.{at-field, start, start-room}
 use Rattle.bc7_format.proofs.Theorems.{widths-sum-to-128}
 use Rattle.pixel_rules.specs.Columns.{columnOf, printedRows, subsetCount}

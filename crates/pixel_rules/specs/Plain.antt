@@ -7,7 +7,7 @@ use lib.Dec.{eqb}
 use Rattle.laws.specs.Tables.{pick}
 use Rattle.bcn_format.specs.Block.{field, number}
 use Rattle.bcn_format.specs.Drawing.{drawn, weightOf}
-use Rattle.bc7_format.specs.Fields.{endByte, leadEnd}
+use Rattle.bc7_fields.specs.Fields.{endByte, leadEnd}
 use Rattle.bc7_format.specs.Lines.{rotated}
 use Rattle.bc7_format.specs.Modes.{alphaBits, colourBits, endpointCount, firstBits, indexBits, indexModeBits, modeOf}
 use Rattle.bc7_format.specs.Modes.{pCount, partitionBits, rotationBits}

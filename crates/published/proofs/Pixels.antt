@@ -26,9 +26,9 @@ use Rattle.bcn_format.proofs.Theorems.{drawn-by-256, weight-is-four-times}
 use Rattle.bcn_format.proofs.Fields.{field-lt}
 use Rattle.bcn_format.specs.Indexes.{expanded, indexWidths, part}
 use Rattle.bcn_format.proofs.Expanding.{size-1}
-use Rattle.bc7_format.specs.Fields.{endByte, pStart, valueStart}
-use Rattle.bcn_format.specs.Painting.{four}
-use Rattle.bc7_format.proofs.Pictures.{indexes-at}
+use Rattle.bc7_fields.specs.Fields.{endByte, pStart, valueStart}
+use Rattle.bc7_fields.specs.Painting.{four}
+use Rattle.bc7_fields.proofs.Pictures.{indexes-at}
 use Rattle.published.specs.Asserts.{Interpolate2Or3, InterpolateColors, InterpolateColorsAlpha, Mixed}
 use Rattle.published.specs.BcnUtil.{get-index}
 use Rattle.published.specs.Machine.{sub}

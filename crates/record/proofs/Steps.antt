@@ -8,7 +8,7 @@ use Prim.Native.Nat.{_≤_}
 use native.Mathlib.Omega.{arith}
 use mathlib.Core.Bool.{true, false}
 use Rattle.record_rules.specs.declared.Record.{Record}
-use Rattle.bc7_places.specs.declared.modes.ModeRow.{ModeRow}
+use Rattle.bc7_modes.specs.declared.ModeRow.{ModeRow}
 use Rattle.laws.proofs.Tests.{no-both}
 use Rattle.bc7_format.specs.Places.{blockOf}
 use Rattle.bc7_format.specs.Splits.{anchors}

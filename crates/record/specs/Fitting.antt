@@ -8,14 +8,14 @@ use lib.Dec.{eqb, ltb}
 use lib.ListN.{getD}
 use Rattle.record_rules.specs.declared.Record.{Record}
 use Rattle.bc7_places.specs.declared.splits.Anchors.{Anchors}
-use Rattle.bc7_places.specs.declared.modes.ModeRow.{ModeRow}
+use Rattle.bc7_modes.specs.declared.ModeRow.{ModeRow}
 use Rattle.bc7_format.specs.declared.Split.{Split}
 use Rattle.laws.specs.Tables.{both, pick}
 use Rattle.bc7_format.specs.Modes.{kindOfMode}
 use Rattle.bc7_format.specs.Splits.{anchors, indexMode, kindOf, partition, rotation}
 use Rattle.record_rules.specs.Answers.{Within}
 use Rattle.record_rules.specs.Records.{fits, says}
-use Rattle.bc7_places.specs.Modes.{OfMode, modeRowOf}
+use Rattle.bc7_modes.specs.Modes.{OfMode, modeRowOf}
 use Rattle.bc7_places.specs.Splits.{ArePixels, anchorsOf}
 
 -- does what a split has fit the row's widths

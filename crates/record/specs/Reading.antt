@@ -8,13 +8,13 @@ use lib.ListN.{getD, replicate}
 use Rattle.record.specs.declared.reading.ReadEndpoints.{ReadEndpoints}
 use Rattle.record.specs.declared.reading.ReadP.{ReadP}
 use Rattle.bc7_places.specs.declared.splits.Anchors.{Anchors}
-use Rattle.bc7_places.specs.declared.modes.ModeRow.{ModeRow}
+use Rattle.bc7_modes.specs.declared.ModeRow.{ModeRow}
 use Rattle.bits.specs.declared.stream.BitStream.{BitStream}
 use Rattle.laws.specs.Tables.{pick, table}
 use Rattle.bcn_format.specs.Indexes.{anchorCount, anchorsOfKind, part, Rising}
 use Rattle.indexes.specs.Reading.{newIndexes}
 use Rattle.bits.specs.Stream.{taken}
-use Rattle.bc7_places.specs.Modes.{OfMode}
+use Rattle.bc7_modes.specs.Modes.{OfMode}
 
 -- the endpoints of four words, one a channel: value e of a channel is part e of its word, and 0 where the mode has no endpoint e
 abbrev pub channelOf : ℕ → ℕ → ℕ → ℕ → ℕ → ℕ

@@ -6,7 +6,7 @@ use lib.Dec.{T}
 use lib.ListN.{getD}
 use Rattle.bc7_format.specs.declared.Place.{Place}
 use Rattle.record_rules.specs.declared.Record.{Record}
-use Rattle.bc7_places.specs.declared.modes.ModeRow.{ModeRow}
+use Rattle.bc7_modes.specs.declared.ModeRow.{ModeRow}
 use Rattle.bits.specs.declared.writer.BitWriter.{BitWriter}
 use Rattle.laws.specs.Digits.{join, total, Fit}
 use Rattle.laws.specs.Tables.{table}
@@ -15,7 +15,7 @@ use Rattle.bc7_format.specs.Places.{inside, placeAt, width, firstFrom, valuesFr
 use Rattle.bc7_format.specs.Splits.{anchors, kindOf}
 use Rattle.bits.specs.Writer.{writerOf, written}
 use Rattle.record_rules.specs.Records.{says}
-use Rattle.bc7_places.specs.Modes.{modeRowOf}
+use Rattle.bc7_modes.specs.Modes.{modeRowOf}
 use mathlib.Core.List.{List}
 use Rattle.bc7_places.specs.declared.splits.Anchors.{Anchors}
 use Rattle.bcn_format.specs.Indexes.{Rising, anchorCount, anchorsOfKind, indexWidths}

@@ -10,7 +10,7 @@ ghost use Rattle.bits.specs.Writer.{pushed};
 ghost use Rattle.record_rules.specs.Records.{says};
 ghost use Rattle.record.specs.Writing.{ChannelFits, ChannelNext, IndexesNext, Next, PBitsFit, Packable, PackableWith, SetNext};
 ghost use Rattle.record.specs.Writing.{storedSet, upto};
-use bc7_places::modes::ModeRow;
+use bc7_modes::ModeRow;
 use bc7_places::splits::Anchors;
 use bc7_places::splits::index_mode_of;
 use bc7_places::splits::partition_of;

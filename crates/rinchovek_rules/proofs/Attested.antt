@@ -7,7 +7,7 @@ use lib.ListN.{replicate, set}
 use Rattle.laws.specs.Padding.{padded}
 use Rattle.laws.specs.Refusals.{first}
 use Rattle.laws.specs.Tables.{implies, over, table, tableFrom}
-use Rattle.bcn_format.specs.Block.{bytesOf, number, trailing}
+use Rattle.bcn_format.specs.Block.{blockAt, bytesOf, number, putBlock, trailing}
 use Rattle.bc7_format.specs.Modes.{modeOf, endpointCount, kindOfMode, modeRow}
 use Rattle.bcn_format.specs.Drawing.{drawn, promoted, weightOf, weights}
 use Rattle.bc7_format.specs.Lines.{anchorOf, draws, eight, indexSetOf, has, indexPlace, laid, lineAt, lineBits, lineOf, meansShown, meansStored, own}
@@ -34,11 +34,11 @@ use Rattle.head_rules.specs.Geometry.{blocksOf, placeOf, storedAt}
 use Rattle.head_rules.specs.Heads.{colourIn, formIn, formOf, headBytes, headRefusalUpTo, heightIn, ofFormRefusalUpTo, readHeadUpTo, readOfFormUpTo}
 use Rattle.head_rules.specs.Heads.{sizeRefusalUpTo, tiledBytes, widthIn, writeHeadUpTo}
 use Rattle.head_rules.specs.Numbers.{groups, raised, readGroups, readNumber}
-use Rattle.sheet_rules.specs.Rows.{blockAt, channel, rowByte, rowBytes, rowOutUpTo, rowRefusalUpTo}
+use Rattle.sheet_rules.specs.Rows.{channel, rowByte, rowBytes, rowOutUpTo, rowRefusalUpTo}
 use Rattle.sheet_rules.specs.Blocks.{blockRead}
 use Rattle.sheet_rules.specs.Pictures.{blocksAs, byteAs, rowOf}
 use Rattle.sheet_rules.specs.SheetRows.{rowBlocks, sheetRowOut, sheetRowRefusal}
-use Rattle.sheet_rules.specs.Sheets.{blockBy, findRefusalBy, putBlock, replacedBy, sheetAfterBy, sheetRefusalBy}
+use Rattle.sheet_rules.specs.Sheets.{blockBy, findRefusalBy, replacedBy, sheetAfterBy, sheetRefusalBy}
 use Rattle.sheet_rules.proofs.Attested.{lower, lowerScanlines, small, smallReplaced}
 use Rattle.rinchovek_rules.specs.Promises.{Decodes, Gives, Packs, ReadsLine, Replaces, Unpacks, Versions, DecodesRow, ReadsHead, ReplacesIn}
 use Rattle.rinchovek_rules.specs.Promises.{FindsExact, FindsNearest, ReadsPixel, TellsOpaque, WritesHead}

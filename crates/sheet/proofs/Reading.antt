@@ -8,7 +8,7 @@ use lib.ListN.{replicate}
 use Rattle.sheet.specs.declared.blocks.Found.{Found}
 use Rattle.sheet_rules.specs.declared.BlockRead.{BlockRead}
 use Rattle.sheet_rules.specs.Blocks.{blockRead}
-use Rattle.sheet_rules.specs.Rows.{blockAt}
+use Rattle.bcn_format.specs.Block.{blockAt}
 use Rattle.sheet_rules.specs.Sheets.{blockBy}
 use Rattle.sheet_rules.proofs.Blocks.{block-accepted, block-refused}
 use Rattle.sheet.specs.Found.{findBlock}

@@ -9,8 +9,8 @@ use Rattle.line_rules.specs.declared.Replaced.{Replaced}
 use Rattle.laws.specs.Refusals.{here, then}
 use Rattle.laws.proofs.Refusals.{exactly, handed-last}
 use Rattle.line_rules.specs.Replace.{replaced}
-use Rattle.sheet_rules.specs.Rows.{blockAt}
-use Rattle.sheet_rules.specs.Sheets.{blockBy, putBlock, replacedIn, replacedBy, sheetAfter, sheetRefusal}
+use Rattle.bcn_format.specs.Block.{blockAt, putBlock}
+use Rattle.sheet_rules.specs.Sheets.{blockBy, replacedIn, replacedBy, sheetAfter, sheetRefusal}
 use Rattle.sheet_rules.proofs.Replacing.{accepted-is, handing, refused-is}
 use Rattle.sheet.specs.Found.{findBlock}
 use Rattle.sheet.proofs.blocks.Finding.{at-is, refusal-is, told}

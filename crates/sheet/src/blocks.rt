@@ -1,34 +1,13 @@
-// Blocks of a sheet: found by their number, loaded and stored. Where a block stands in a sheet is found by one function,
-// `find_block`.
+// Blocks of a sheet, found by their number. Where a block stands in a sheet is found by one function, `find_block`.
 ghost use mathlib.Core.Path.{_≡_};
-ghost use Prim.Native.Nat.{_+_, _≤_};
 ghost use lib.ListN.{length};
-ghost use Rattle.sheet_rules.specs.Rows.{blockAt};
-ghost use Rattle.sheet_rules.specs.Sheets.{blockBy, putBlock};
+ghost use Rattle.sheet_rules.specs.Sheets.{blockBy};
 ghost use Rattle.sheet.specs.Found.{BlockThere, findBlock, foundAt};
+use block_bytes::load;
 use head_rules::Head;
 use sheet_head::geometry::blocks_of;
 use sheet_head::geometry::place_of;
 use sheet_head::geometry::whole_length;
-
-// The block at a place.
-pub fn load(s: &[u8], at: usize) -> [u8; 16]
-    requires { ⌜ at + 16 ≤ length (now s) ⌝ }
-    ensures { λ r. ⌜ r ≡ blockAt (now (s .entry)) at ⌝ }
-{
-    let mut block = [0u8; 16];
-    let end = at + 16;
-    bytes::copy(&s[at..end], &mut block);
-    block
-}
-
-// A block to a place.
-pub fn store(s: &mut [u8], at: usize, block: [u8; 16])
-    requires { ⌜ at + 16 ≤ length (now s) ⌝ }
-    ensures { λ _. ⌜ now (s .exit) ≡ putBlock (now (s .entry)) at block ⌝ }
-{
-    bytes::copy(&block, &mut s[at..]);
-}
 
 // The place of a block, or why it has none.
 pub struct Found {

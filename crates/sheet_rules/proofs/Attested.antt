@@ -8,7 +8,7 @@ use Rattle.line_rules.specs.declared.Replacement.{Replacement}
 use Rattle.sheet_rules.specs.declared.BlockRead.{BlockRead}
 use Rattle.laws.specs.Refusals.{first}
 use Rattle.laws.specs.Tables.{over, table, tableFrom}
-use Rattle.bcn_format.specs.Block.{bytesOf, number, trailing}
+use Rattle.bcn_format.specs.Block.{blockAt, bytesOf, number, putBlock, trailing}
 use Rattle.bc7_format.specs.Modes.{modeOf, endpointCount, kindOfMode, modeRow}
 use Rattle.bcn_format.specs.Drawing.{drawn, promoted, weightOf, weights}
 use Rattle.bc7_format.specs.Lines.{eight, anchorOf, indexSetOf, has, indexPlace, laid, lineAt, lineBits, lineOf, meansStored, own, pPlace, pixel}
@@ -27,8 +27,8 @@ use Rattle.sheet_rules.specs.Blocks.{blockRead}
 use Rattle.sheet_rules.specs.Pictures.{blocksAs, byteAs, picture, pictureByte, rowOf}
 use Rattle.sheet_rules.specs.SheetRows as whole
 use Rattle.sheet_rules.specs.SheetRows.{sheetRowOut, sheetRowRefusal}
-use Rattle.sheet_rules.specs.Rows.{blockAt, channel, rowByte, rowBytes, rowOut, rowOutUpTo, rowRefusal, rowRefusalUpTo}
-use Rattle.sheet_rules.specs.Sheets.{blockIn, blockBy, findRefusalBy, putBlock, replacedBy, sheetAfter, sheetAfterBy, sheetRefusal}
+use Rattle.sheet_rules.specs.Rows.{channel, rowByte, rowBytes, rowOut, rowOutUpTo, rowRefusal, rowRefusalUpTo}
+use Rattle.sheet_rules.specs.Sheets.{blockIn, blockBy, findRefusalBy, replacedBy, sheetAfter, sheetAfterBy, sheetRefusal}
 use Rattle.sheet_rules.specs.Sheets.{sheetRefusalBy}
 
 -- blocks of mode 6: red from 0 to 120, blue 7, alpha 127, and a green of 10, 20, 30 or 40; p 0 and 0; pixel q has index q

@@ -19,7 +19,7 @@ use Rattle.laws.proofs.Refusals.{Answers, accepted-when, answers, exactly, hand
 use Rattle.laws.specs.Calls as calls
 use Rattle.laws.proofs.calls.Parts.{Parts, part-run}
 use Rattle.laws.proofs.calls.Trading.{run-good}
-use Rattle.bcn_format.specs.Block.{eights}
+use Rattle.bcn_format.specs.Block.{blockAt, eights, putBlock}
 use Rattle.bc7_format.proofs.Subsets.{sixteen-bytes}
 use Rattle.head_rules.specs.Geometry.{blocksOf, numberAt, placeOf}
 use Rattle.head_rules.specs.Heads.{readHead}
@@ -32,12 +32,11 @@ use Rattle.line_rules.proofs.Accepting.{on-block}
 use Rattle.line_rules.proofs.Blocks.{after-sixteen}
 use Rattle.line_rules.proofs.Theorems.{refused-same}
 use Rattle.sheet_rules.specs.Calls.{SheetCall, WholeSheet, callsOn, onBlock, refusalOn, sheetWith, sheetWithAll}
-use Rattle.sheet_rules.specs.Rows.{blockAt}
-use Rattle.sheet_rules.specs.Sheets.{blockIn, blockBy, putBlock, replacedIn, replacedBy, sheetRefusal, sheetRefusalBy, sheetRules}
+use Rattle.sheet_rules.specs.Sheets.{blockIn, blockBy, replacedIn, replacedBy, sheetRefusal, sheetRefusalBy, sheetRules}
 use Rattle.sheet_rules.proofs.Finding.{finding-in-words, room}
 use Rattle.sheet_rules.proofs.Replacing.{accepted-is, refused-is, replacing}
-use Rattle.sheet_rules.proofs.Storing.{block-get, block-long, head-kept, other-block, put-inside, put-long, put-outside}
-use Rattle.sheet_rules.proofs.Storing.{put-same, same-block}
+use Rattle.sheet_rules.proofs.Storing.{head-kept}
+use Rattle.bcn_format.proofs.Storing.{block-get, block-long, other-block, put-inside, put-long, put-outside, put-same, same-block}
 
 -- the bytes of a block
 eight-at-most : (i : ℕ) → getD eights i 0 ≤ 8

@@ -11,7 +11,7 @@ use Rattle.head_rules.specs.Geometry.{blocksOf, numberAt, placeOf}
 use Rattle.head_rules.specs.Heads.{headRules, readHead}
 use Rattle.head_rules.proofs.Orders.{blocks-within, each-place}
 use Rattle.head_rules.proofs.Theorems.{head-answers}
-use Rattle.sheet_rules.specs.Rows.{blockAt}
+use Rattle.bcn_format.specs.Block.{blockAt}
 use Rattle.sheet_rules.specs.Sheets.{behindHead, blockBy, blockIn, findRefusal, findRefusalBy, findRules}
 
 pub finding : (s : List ℕ) (b : ℕ) → Answers (findRefusal s b) (findRules (readHead s) s b)

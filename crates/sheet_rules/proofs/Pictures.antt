@@ -22,10 +22,11 @@ use Rattle.head_rules.proofs.Orders.{blocks-within, each-place, form-order}
 use Rattle.laws.proofs.Refusals.{accepted-when}
 use Rattle.sheet_rules.specs.Calls.{WholeSheet}
 use Rattle.sheet_rules.specs.Pictures.{allBlocks, blockShowing, blocksAs, byteAs, decodedRows, picture, pictureByte, pixelIn, rowOf}
-use Rattle.sheet_rules.specs.Rows.{blockAt, channel, rowByte, rowBytes, rowOut, rowRefusal}
+use Rattle.bcn_format.specs.Block.{blockAt}
+use Rattle.sheet_rules.specs.Rows.{channel, rowByte, rowBytes, rowOut, rowRefusal}
 use Rattle.sheet_rules.specs.Sheets.{blockIn, blockBy}
 use Rattle.sheet_rules.proofs.Refusing.{drawn, row-rules}
-use Rattle.sheet_rules.proofs.Storing.{block-get, block-long}
+use Rattle.bcn_format.proofs.Storing.{block-get, block-long}
 
 -- a part of a part is a part of the whole
 part-get : (s : List ℕ) (at n i : ℕ) → i < n → getD (take n (drop at s)) i 0 ≡ getD s (at + i) 0

@@ -9,7 +9,8 @@ use Rattle.laws.specs.Refusals.{handed}
 use Rattle.laws.proofs.Refusals.{Answers, answers, by-answer, none, rule, rules}
 use Rattle.head_rules.specs.Geometry.{placeOf}
 use Rattle.head_rules.specs.Heads.{readHead}
-use Rattle.sheet_rules.specs.Sheets.{findRefusal, findRules, putBlock, replacedIn, sheetAfter, sheetAfterBy, sheetRefusal, sheetRefusalBy}
+use Rattle.bcn_format.specs.Block.{putBlock}
+use Rattle.sheet_rules.specs.Sheets.{findRefusal, findRules, replacedIn, sheetAfter, sheetAfterBy, sheetRefusal, sheetRefusalBy}
 use Rattle.sheet_rules.proofs.Finding.{finding}
 
 module _ (s : List ℕ) (b l : ℕ) (new : Replacement) where

@@ -21,7 +21,8 @@ use Rattle.head_rules.specs.Geometry.{across, blocksOf, rowLength, sideShown, w
 use Rattle.head_rules.specs.Heads.{Sized, readHead}
 use Rattle.head_rules.proofs.Theorems.{head-answers, head-sized}
 use Rattle.sheet_rules.specs.Pictures.{allBlocks, rowOf}
-use Rattle.sheet_rules.specs.Rows.{blockAt, rowBytes, rowOut, rowOutUpTo, rowRefusal, rowRules}
+use Rattle.bcn_format.specs.Block.{blockAt}
+use Rattle.sheet_rules.specs.Rows.{rowBytes, rowOut, rowOutUpTo, rowRefusal, rowRules}
 use Rattle.sheet_rules.specs.SheetRows.{DecodesSheetRow, rowBehindHead, rowBlocks, rowRoom, sheetRowOut, sheetRowRefusal, sheetRowRules}
 use Rattle.sheet_rules.specs.Sheets.{blockIn}
 use Rattle.sheet_rules.proofs.Pictures.{all-long, block-in-all, block-of-part}

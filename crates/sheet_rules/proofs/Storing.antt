@@ -1,72 +1,17 @@
--- What a block that was stored changes, and what not.
+-- A block that was stored leaves the head as it was.
 -- Assumes nothing.
 use mathlib.Core.Path.{_≡_, _∙_, ap, sym}
-use mathlib.Core.Logic.{_⊎_, inl, inr, ⊎-elim}
 use mathlib.Core.List.{List, _++_}
-use Prim.Native.Nat.{ℕ, _+_, _-_, _*_, _<_, _≤_}
-use native.Mathlib.Omega.{arith}
-use lib.ListN.{length, getD, take, drop, length-take, length-drop, take-append-drop}
-use lib.Seq.{getD-take, getD-drop, ext-getD, take-at}
+use Prim.Native.Nat.{ℕ}
+use lib.ListN.{getD, take, drop, take-append-drop}
+use lib.Seq.{take-at}
 use Rattle.head_rules.specs.Geometry.{placeOf}
-use Rattle.laws.proofs.Cases.{lt-or}
-use Rattle.laws.proofs.Over.{length-over, over-in, over-out, take-over}
+use Rattle.laws.proofs.Over.{take-over}
 use Rattle.head_rules.specs.Heads.{bytesOfHead, readHead}
 use Rattle.head_rules.specs.Numbers.{Bytes}
 use Rattle.head_rules.proofs.Orders.{blocks-behind-head}
 use Rattle.head_rules.proofs.Theorems.{head-again, head-long, head-one-form}
-use Rattle.sheet_rules.specs.Rows.{blockAt}
-use Rattle.sheet_rules.specs.Sheets.{putBlock}
-
-module _ (s : List ℕ) (at : ℕ) (block : List ℕ) where
-  pub put-long : length (putBlock s at block) ≡ length s
-  unfolding putBlock
-  put-long = length-over s at 16 (λ j. getD block j 0)
-
-  pub put-inside : (j : ℕ) → at + 16 ≤ length s → j < 16 → getD (putBlock s at block) (at + j) 0 ≡ getD block j 0
-  unfolding putBlock
-  put-inside j h l = over-in s at 16 (λ j. getD block j 0) 0 j h l
-
-  pub put-outside : (k : ℕ) → ((at ≤ k) × (k < at + 16) → ⊥) → getD (putBlock s at block) k 0 ≡ getD s k 0
-  unfolding putBlock
-  put-outside k h = over-out s at 16 (λ j. getD block j 0) 0 k h
-
--- what is read of a block
-pub block-get : (s : List ℕ) (at j : ℕ) → j < 16 → getD (blockAt s at) j 0 ≡ getD s (at + j) 0
-unfolding blockAt
-block-get s at j h = getD-take 16 (drop at s) j 0 h ∙ getD-drop at s j 0
-
-pub block-long : (s : List ℕ) (at : ℕ) → at + 16 ≤ length s → length (blockAt s at) ≡ 16
-unfolding blockAt
-block-long s at h = simp (length-take, length-drop) (omega arith)
-
-pub same-block : (s : List ℕ) (at : ℕ) (block : List ℕ) → length block ≡ 16 → at + 16 ≤ length s → blockAt (putBlock s at block) at ≡ block
-same-block s at block e h =
-    let long = block-long (putBlock s at block) at (omega (arith, put-long s at block)) in
-    ext-getD 0 (blockAt (putBlock s at block) at) block (long ∙ sym e) (λ j l.
-    let l' : j < 16 = omega (arith, long) in block-get (putBlock s at block) at j l' ∙ put-inside s at block j h l')
-
-pub other-block : (s : List ℕ) (at other : ℕ) (block : List ℕ) → at + 16 ≤ length s → other + 16 ≤ length s → (at + 16 ≤ other) ⊎ (other + 16 ≤ at)
-    → blockAt (putBlock s at block) other ≡ blockAt s other
-other-block s at other block h g apart =
-    let long = block-long (putBlock s at block) other (omega (arith, put-long s at block)) in
-    ext-getD 0 (blockAt (putBlock s at block) other) (blockAt s other) (long ∙ sym (block-long s other g)) (λ j l.
-    let l' : j < 16 = omega (arith, long) in
-    block-get (putBlock s at block) other j l' ∙ put-outside s at block (other + j)
-    (λ w. ⊎-elim (λ a. omega (arith, w .0, w .1)) (λ a. omega (arith, w .0, w .1)) apart)
-    ∙ sym (block-get s other j l'))
-
--- a block stored where it stands
-pub put-same : (s : List ℕ) (at : ℕ) → at + 16 ≤ length s → putBlock s at (blockAt s at) ≡ s
-put-same s at h =
-    ext-getD 0 (putBlock s at (blockAt s at)) s (put-long s at (blockAt s at)) (λ k l.
-    ⊎-elim (λ p. put-outside s at (blockAt s at) k (λ w. omega (arith, w .0)))
-    (λ p. ⊎-elim (λ q. stored-again k p q) (λ q. put-outside s at (blockAt s at) k (λ w. omega (arith, w .1))) (lt-or k (at + 16))) (lt-or k at))
-  where
-    stored-again : (k : ℕ) → at ≤ k → k < at + 16 → getD (putBlock s at (blockAt s at)) k 0 ≡ getD s k 0
-    stored-again k p q =
-        let e : at + (k - at) ≡ k = omega arith in
-        ap (λ (m : ℕ). getD (putBlock s at (blockAt s at)) m 0) (sym e) ∙ put-inside s at (blockAt s at) (k - at) h (omega arith)
-        ∙ block-get s at (k - at) (omega arith) ∙ ap (λ (m : ℕ). getD s m 0) e
+use Rattle.bcn_format.specs.Block.{putBlock}
 
 -- the head stays: no byte of it is a block's
 module _ (s : List ℕ) (bytes : Bytes s) (told : readHead s .refusal ≡ 0) where

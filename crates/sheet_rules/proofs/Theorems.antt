@@ -35,7 +35,7 @@ use Rattle.sheet_rules.proofs.Calling.{Same, all-block, all-kept, answe
 use Rattle.sheet_rules.proofs.Calling.{same-on, sixteen, unchanged, whole-or, with-kept, with-named, with-other}
 use Rattle.sheet_rules.proofs.Refusing.{row-rules, undrawn}
 use Rattle.sheet_rules.proofs.Replacing.{accepted-is}
-use Rattle.sheet_rules.proofs.Storing.{put-long, put-outside}
+use Rattle.bcn_format.proofs.Storing.{put-long, put-outside}
 
 -- whatever the sheet and the call: the length stays, and every byte that isn't one of the named block's sixteen
 pub others-stay : (s : List ℕ) (c : SheetCall) → (length (sheetWith s c) ≡ length s)

@@ -10,7 +10,8 @@ use Rattle.head_rules.specs.declared.Form.the-variants.{Rows}
 use Rattle.head_rules.specs.declared.Head.{Head}
 use Rattle.head_rules.specs.Geometry.{across, blocksOf, numberBy}
 use Rattle.head_rules.specs.Heads.{readHead}
-use Rattle.sheet_rules.specs.Rows.{blockAt, channel, rowOut}
+use Rattle.bcn_format.specs.Block.{blockAt}
+use Rattle.sheet_rules.specs.Rows.{channel, rowOut}
 use Rattle.sheet_rules.specs.Sheets.{blockBy}
 
 -- THE BLOCKS OF A SHEET IN THE ORDER OF A FORM: the bytes of all blocks of the sheet s, whose head is h, as form f stores them, in

@@ -5,16 +5,13 @@ use mathlib.Core.Path.{_≡_}
 use mathlib.Core.Bool.{not}
 use mathlib.Core.List.{List, [], _∷_}
 use lib.Dec.{eqb, leb}
-use lib.ListN.{length, getD, take, drop}
+use lib.ListN.{length, getD}
 use Rattle.laws.specs.Refusals.{Rule, first, refuse, unless}
 use Rattle.laws.specs.Tables.{pick, table}
+use Rattle.bcn_format.specs.Block.{blockAt}
 use Rattle.bc7_format.specs.Lines.{pixels}
 use Rattle.head_rules.specs.Geometry.{across, outLength, rowLength, sideShown}
 use Rattle.head_rules.specs.Heads.{Sized, limit, sizeRefusalUpTo}
-
--- the block at a place of a list of bytes
-unfoldable pub blockAt : List ℕ → ℕ → List ℕ
-blockAt s at = take 16 (drop at s)
 
 -- channel c of pixel q
 unfoldable pub channel : List (List ℕ) → ℕ → ℕ → ℕ

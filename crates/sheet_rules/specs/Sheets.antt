@@ -5,17 +5,17 @@ use mathlib.Core.Path.{_≡_}
 use mathlib.Core.Bool.{not}
 use mathlib.Core.List.{List, [], _∷_, _++_}
 use lib.Dec.{eqb, leb}
-use lib.ListN.{length, getD}
+use lib.ListN.{length}
 use Rattle.line_rules.specs.declared.Replacement.{Replacement}
 use Rattle.line_rules.specs.declared.Replaced.{Replaced}
 use Rattle.head_rules.specs.Geometry.{blocksOf, placeOf, wholeLength}
 use Rattle.head_rules.specs.declared.Head.{Head}
 use Rattle.laws.specs.Refusals.{Rule, first, handed, refuse, unless}
-use Rattle.laws.specs.Tables.{over, pick}
+use Rattle.laws.specs.Tables.{pick}
 use Rattle.head_rules.specs.Heads.{headRules, readHead}
 use Rattle.line_rules.specs.Acceptable.{callRules}
 use Rattle.line_rules.specs.Replace.{callOf, replaced}
-use Rattle.sheet_rules.specs.Rows.{blockAt}
+use Rattle.bcn_format.specs.Block.{blockAt, putBlock}
 
 -- Each of these goes by a head: h is what was read of the sheet's own, by whatever limit.
 
@@ -46,10 +46,6 @@ replacedBy h s b l new = replaced (blockBy h s b) l new
 
 abbrev pub replacedIn : List ℕ → ℕ → ℕ → Replacement → Replaced
 replacedIn s b l new = replacedBy (readHead s) s b l new
-
--- the sixteen bytes from a place on are now those of a block
-unfoldable pub putBlock : List ℕ → ℕ → List ℕ → List ℕ
-putBlock s at block = over s at 16 (λ j. getD block j 0)
 
 -- the head's refusal, 10, 12, then as for a block
 unfoldable pub sheetRefusalBy : Head → List ℕ → ℕ → ℕ → Replacement → ℕ

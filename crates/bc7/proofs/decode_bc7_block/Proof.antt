@@ -12,7 +12,7 @@ use Rattle.bc7_format.specs.Lines.{pixels}
 use Rattle.bits.specs.declared.stream.BitStream.{BitStream}
 use Rattle.bits.specs.Stream.{held, skipped}
 use Rattle.bits.proofs.On.{held-skipped}
-use Rattle.bc7_format.specs.Fields.{directPixels}
+use Rattle.bc7_fields.specs.Fields.{directPixels}
 use Rattle.bc7.proofs.Laws.{by-mode, by-none, eight, mode-8, of-three, of-two}
 use Rattle.bc7.proofs.decode_bc7_block.Statement.{statement}
 use Rattle.bc7.proofs.decode_bc7_block.Tie as tie

@@ -11,7 +11,7 @@ use lib.ListN.{getD}
 use Rattle.bc7_format.specs.declared.Place.{Place}
 use Rattle.bc7_format.specs.declared.Split.{Split}
 use Rattle.bc7_format.specs.declared.Split.the-variants.{Whole, Two, Three, Vector}
-use Rattle.bc7_places.specs.declared.modes.ModeRow.{ModeRow}
+use Rattle.bc7_modes.specs.declared.ModeRow.{ModeRow}
 use Rattle.laws.specs.Tables.{pick}
 use Rattle.bc7_format.specs.Lines.{anchorOf, indexSetOf, lineBits}
 use Rattle.bc7_format.specs.Modes.{kindOfMode, lines, alphaBits, channelBits, colourBits}
@@ -21,7 +21,7 @@ use Rattle.bc7_format.proofs.Modes.{good-64, good-index-mode}
 use Rattle.bc7_format.proofs.Opening.{good-kind}
 use Rattle.bc7_format.proofs.Subsets.{good-lines}
 use Rattle.bc7_places.specs.Lines.{OfLine, anchorIn, linePixels, partOf, indexSetIn, ownPixel}
-use Rattle.bc7_places.specs.Modes.{modeRowOf}
+use Rattle.bc7_modes.specs.Modes.{modeRowOf}
 use Rattle.bc7_places.specs.Splits.{anchorsOf}
 use Rattle.bc7_places.proofs.lines.Maps.{anchor-is, own-pixel}
 use Rattle.bc7_places.proofs.splits.VectorKind.{vector-kind, vector-mode}

@@ -6,10 +6,10 @@ use Prim.Native.Nat.{ℕ, _*_, _≤_, _<_}
 use native.Mathlib.Nat.{le-trans, mul-le-mul-left, mul-le-mul-right}
 use native.Mathlib.Omega.{arith}
 use lib.Dec.{eqb}
-use Rattle.bc7_places.specs.declared.modes.ModeRow.{ModeRow}
+use Rattle.bc7_modes.specs.declared.ModeRow.{ModeRow}
 use Rattle.laws.specs.Tables.{pick}
-use Rattle.bc7_places.specs.Modes.{OfMode}
-use Rattle.bc7_places.proofs.modes.Bounds.{small}
+use Rattle.bc7_modes.specs.Modes.{OfMode}
+use Rattle.bc7_modes.proofs.Bounds.{small}
 
 pub record Room (row : ModeRow) (pair : ℕ) : Type 0 where
   pub ends : row .endpoints ≤ 6

@@ -25,9 +25,9 @@ use Rattle.bc7_format.proofs.Modes.{good-index-mode, good-vector}
 use Rattle.bc7_format.proofs.Starts.{start}
 use Rattle.bcn_format.specs.Indexes.{indexWidth, indexWidths}
 use Rattle.bcn_format.proofs.Expanding.{size-1}
-use Rattle.bc7_format.specs.Fields.{leadEnd}
-use Rattle.bc7_format.proofs.Fields.{begins}
-use Rattle.bc7_places.specs.Modes.{modeRowOf}
+use Rattle.bc7_fields.specs.Fields.{leadEnd}
+use Rattle.bc7_fields.proofs.Fields.{begins}
+use Rattle.bc7_modes.specs.Modes.{modeRowOf}
 use Rattle.bc7_places.proofs.splits.VectorKind.{vector-mode}
 use Rattle.bc7_places.specs.Places.{fieldsOf}
 

@@ -8,20 +8,20 @@ use native.Mathlib.Numerals.{add-one}
 use native.Mathlib.Omega.{arith}
 use lib.Pow.{field as part-of, mod-mod-pow, shr-shr}
 use Rattle.bc7_places.specs.declared.splits.ReadSplit.{ReadSplit}
-use Rattle.bc7_places.specs.declared.modes.ModeRow.{ModeRow}
+use Rattle.bc7_modes.specs.declared.ModeRow.{ModeRow}
 use Rattle.bits.specs.declared.stream.BitStream.{BitStream}
 use Rattle.bc7_format.specs.declared.Split.the-variants.{Vector}
 use Rattle.laws.specs.Digits.{Fit}
 use Rattle.bcn_format.specs.Block.{eights, field, number}
-use Rattle.bc7_format.specs.Fields.{leadEnd}
+use Rattle.bc7_fields.specs.Fields.{leadEnd}
 use Rattle.bc7_format.specs.Modes.{indexModeBits, kindOfMode, modeRow, partitionBits, rotationBits}
 use Rattle.bc7_format.specs.Splits.{ofKind, splitAt, splitOf}
-use Rattle.bc7_format.proofs.Fields.{groups-128}
+use Rattle.bc7_fields.proofs.Fields.{groups-128}
 use Rattle.bc7_format.proofs.Modes.{good-64}
 use Rattle.bc7_format.proofs.Opening.{opened-good}
 use Rattle.bits.specs.Stream.{skipped}
 use Rattle.bits.proofs.On.{On, got, on-read, on-skipped}
-use Rattle.bc7_places.specs.Modes.{OfBlock, modeRowOf}
+use Rattle.bc7_modes.specs.Modes.{OfBlock, modeRowOf}
 use Rattle.bc7_places.specs.Splits.{IsLead, SplitAhead, splitRead}
 
 -- two bits of rotation, and the index mode above them

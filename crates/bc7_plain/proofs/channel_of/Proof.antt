@@ -9,7 +9,7 @@ use Rattle.bcn_format.specs.Block.{number}
 use Rattle.bcn_format.specs.Drawing.{Weighed, drawn, weightOf}
 use Rattle.bcn_format.proofs.Drawing.{weight-le}
 use Rattle.bcn_format.proofs.Fields.{field-below}
-use Rattle.bc7_format.specs.Fields.{endByte}
+use Rattle.bc7_fields.specs.Fields.{endByte}
 use Rattle.bc7_format.specs.Modes.{endpointCount, indexBits}
 use Rattle.pixel_rules.specs.Plain.{channelIn, indexIn, indexWide, setFor}
 use Rattle.pixel_rules.specs.Strings.{isAnchorIn, subsetIn}

@@ -9,7 +9,7 @@ use borrow.Author.Tests.{eq-eqb, eqb-true}
 use Rattle.bcn_format.specs.Block.{field, number}
 use Rattle.bcn_format.specs.Drawing.{promoted}
 use Rattle.bcn_format.proofs.Fields.{field-below, field-lt}
-use Rattle.bc7_format.specs.Fields.{pStart, valueStart}
+use Rattle.bc7_fields.specs.Fields.{pStart, valueStart}
 use Rattle.bc7_format.specs.Modes.{channelBits, pCount}
 use Rattle.bc7_plain.proofs.EndBytes.{bit-below, none-stored, plain-value, value-with-p}
 use Rattle.pixel_rules.proofs.Rows.{row, same-flag}

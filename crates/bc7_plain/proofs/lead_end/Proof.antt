@@ -5,7 +5,7 @@ use Prim.Native.Nat.{ℕ, _+_, _≤_}
 use native.Mathlib.Numerals.{add-one}
 use borrow.Author.Needs.{needs}
 use native.Mathlib.Omega.{arith}
-use Rattle.bc7_format.specs.Fields.{leadEnd}
+use Rattle.bc7_fields.specs.Fields.{leadEnd}
 use Rattle.pixel_rules.proofs.Rows.{row}
 use Rattle.bc7_plain.proofs.Rows.{fits}
 use Rattle.bc7_plain.proofs.lead_end.Statement.{statement}

@@ -7,7 +7,7 @@ use borrow.Author.Needs.{needs}
 use borrow.Author.Tests.{eq-eqb, ne-eqb}
 use lib.Dec.{eqb}
 use Rattle.laws.specs.Tables.{pick}
-use Rattle.bc7_format.specs.Fields.{pStart}
+use Rattle.bc7_fields.specs.Fields.{pStart}
 use Rattle.pixel_rules.proofs.Rows.{row, same-flag}
 use Rattle.bc7_plain.proofs.p_start.Statement.{statement}
 use Rattle.bc7_plain.proofs.p_start.Tie as tie

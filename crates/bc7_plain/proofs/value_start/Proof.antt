@@ -4,7 +4,7 @@ use mathlib.Core.Path.{ap, ap₂, _∙_}
 use Prim.Native.Nat.{ℕ, _+_, _*_, _≤_, _<_}
 use native.Mathlib.Omega.{arith}
 use borrow.Author.Needs.{needs}
-use Rattle.bc7_format.specs.Fields.{valueStart}
+use Rattle.bc7_fields.specs.Fields.{valueStart}
 use Rattle.pixel_rules.proofs.Rows.{row}
 use Rattle.bc7_plain.proofs.Rows.{fits, product}
 use Rattle.bc7_plain.proofs.value_start.Statement.{statement}

@@ -4,7 +4,7 @@ use mathlib.Core.Path.{_≡_, ap₂, sym, subst, _∙_}
 use Prim.Native.Nat.{ℕ, _+_, _*_, _≤_}
 use native.Mathlib.Omega.{arith}
 use borrow.Author.Needs.{needs}
-use Rattle.bc7_format.specs.Fields.{leadEnd}
+use Rattle.bc7_fields.specs.Fields.{leadEnd}
 use Rattle.bc7_format.specs.Modes.{alphaBits, colourBits, endpointCount}
 use Rattle.pixel_rules.proofs.Rows.{row}
 use Rattle.bc7_plain.proofs.Rows.{fits, product}

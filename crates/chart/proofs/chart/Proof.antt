@@ -16,8 +16,8 @@ returns c =
     let told = c .refused .ensures in
     record { is = told .is ∙ says-10 _ (c .before .if1 .taken); within = told .within }
 
-whole-requires : tie.Need-whole-requires
-whole-requires c κs = search needs
+load-requires : tie.Need-load-requires
+load-requires c κs = search needs
 
 mode-of-requires : tie.Need-mode-of-requires
 mode-of-requires c κs = search needs
@@ -31,14 +31,14 @@ returns-2 c =
     let block = mode .before in
     let told = c .refused2 .ensures in
     record {
-      is = told .is ∙ says-1 _ (block .before .if1 .left) (block .whole .ensures) (mode .mode-of .ensures) (c .before .if2 .taken);
+      is = told .is ∙ says-1 _ (block .before .if1 .left) (block .load .ensures) (mode .mode-of .ensures) (c .before .if2 .taken);
       within = told .within;
     }
 
 accepted-requires : tie.Need-accepted-requires
 accepted-requires c κs =
     let mode = c .before in
-    record { is = mode .mode-of .ensures; low = omega (arith, c .if2 .left, mode .mode-of .ensures, mode-le-8 (mode .before .whole .result)) }
+    record { is = mode .mode-of .ensures; low = omega (arith, c .if2 .left, mode .mode-of .ensures, mode-le-8 (mode .before .load .result)) }
 
 returns-3 : tie.Need-returns-3
 returns-3 c =
@@ -46,7 +46,7 @@ returns-3 c =
     let block = mode .before in
     let told = c .accepted .ensures in
     record {
-      is = told .is ∙ says-fields _ (block .before .if1 .left) (block .whole .ensures) (mode .mode-of .ensures) (c .before .if2 .left);
+      is = told .is ∙ says-fields _ (block .before .if1 .left) (block .load .ensures) (mode .mode-of .ensures) (c .before .if2 .left);
       within = told .within;
     }
 
@@ -56,7 +56,7 @@ chart-spec =
     (tie.spec
     refused-requires
     returns
-    whole-requires
+    load-requires
     mode-of-requires
     refused-requires-2
     returns-2

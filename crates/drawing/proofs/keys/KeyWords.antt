@@ -2,7 +2,6 @@
 -- Assumes nothing.
 use mathlib.Core.Path.{_≡_, refl, sym, ap, ap₂, _∙_}
 use mathlib.Core.Bool.{Bool}
-use mathlib.Core.List.{List, []}
 use Prim.Native.Nat.{ℕ, zero, suc, _+_, _-_, _*_, _/_, _%_, _^_, _≤_, _<_}
 use native.Mathlib.Nat.{lt-of-lt-of-le, mod-eq-of-lt, mod-lt}
 use native.Mathlib.Omega.{arith}
@@ -10,13 +9,11 @@ use borrow.Author.Tests.{eq-eqb, ne-eqb}
 use lib.Arith.{digits-lt}
 use lib.Bits.{bitAnd}
 use lib.Dec.{eqb}
-use lib.ListN.{getD, set}
 use lib.Pow.{mod-mod-pow, pow-add, pow-mono, pow-pos, shr-shr}
 use Rattle.laws.specs.Digits.{evenly}
 use Rattle.laws.specs.Tables.{pick}
 use Rattle.laws.proofs.Evenly.{evenly-linear, evenly-mask, evenly-part, evenly-same}
 use Rattle.bcn_format.specs.Indexes.{part}
-use Rattle.bcn_format.proofs.Making.{Made, made-two}
 use Rattle.drawing.specs.declared.keys.Keys.{Keys}
 use Rattle.drawing.specs.Keys.{everyOther, keyAt, keyOf, keysOf}
 
@@ -38,28 +35,20 @@ keys-word w s x map o =
     ap₂ (λ (y z : ℕ). y * 2 ^ s + z) (every-other w o x) (every-other w o map)
     ∙ evenly-linear 8 (2 * w) (2 ^ s) (λ i. part x w (2 * i + o)) (λ i. part map w (2 * i + o))
 
--- painting: the colour of each pixel, looked up in a palette by its key, two pixels at a time
-abbrev pub colourOf : ℕ → ℕ → Keys → List (List ℕ) → ℕ → List ℕ
-colourOf w s keys p q = getD p (keyAt w s keys q) []
-
-module _ (w s : ℕ) (keys : Keys) (p : List (List ℕ)) (i : ℕ) where
-  even : keyAt w s keys (2 * i) ≡ keys .even / 2 ^ (i * (2 * w)) % 2 ^ (w + s)
+-- the key of a pixel is looked up in the word of the even ones or of the odd
+module _ (w s : ℕ) (keys : Keys) (i : ℕ) where
+  pub even : keyAt w s keys (2 * i) ≡ keys .even / 2 ^ (i * (2 * w)) % 2 ^ (w + s)
   unfolding keyAt
   even =
       let e : 2 * i % 2 ≡ 0 = omega arith in
       let half : 2 * i / 2 ≡ i = omega arith in
       rw (eq-eqb (2 * i % 2) 0 e, half)
 
-  odd : keyAt w s keys (2 * i + 1) ≡ keys .odd / 2 ^ (i * (2 * w)) % 2 ^ (w + s)
+  pub odd : keyAt w s keys (2 * i + 1) ≡ keys .odd / 2 ^ (i * (2 * w)) % 2 ^ (w + s)
   unfolding keyAt
   odd =
       let half : (2 * i + 1) / 2 ≡ i = omega arith in
       rw (ne-eqb ((2 * i + 1) % 2) 0 (λ z. omega arith), half)
-
-  pub two-more : {k l : ℕ} {output : List (List ℕ)} → Made (colourOf w s keys p) (2 * i) output → i < 8
-      → k ≡ keys .even / 2 ^ (i * (2 * w)) % 2 ^ (w + s) → l ≡ keys .odd / 2 ^ (i * (2 * w)) % 2 ^ (w + s)
-      → Made (colourOf w s keys p) (2 * (i + 1)) (set (set output (2 * i) (getD p k [])) (2 * i + 1) (getD p l []))
-  two-more made h ek el = made-two made h (ap (λ (k : ℕ). getD p k []) (ek ∙ sym even)) (ap (λ (k : ℕ). getD p k []) (el ∙ sym odd))
 
 -- where every subset is below 2 ^ s, that is the key that was made
 module _ (w s x map : ℕ) (room : s ≤ w) (small : (q : ℕ) → q < 16 → part map w q < 2 ^ s) where

@@ -30,7 +30,7 @@ use Rattle.bc7_format.proofs.Starts.{start}
 use Rattle.bcn_format.specs.Indexes.{Rising, anchorCount, expanded, indexWidth, indexWidths, part}
 use Rattle.bcn_format.proofs.Expanding.{part-expanded}
 use Rattle.indexes.proofs.Remove.{size-kind}
-use Rattle.bc7_format.proofs.Fields.{index-at}
+use Rattle.bc7_fields.proofs.Fields.{index-at}
 use Rattle.bc7_places.proofs.splits.AnchorPixels.{anchors-kind, anchors-low, anchors-rise}
 use Rattle.line_rules.specs.Replace.{ownWidth}
 use Rattle.line_rules.proofs.Own.{own-none, own-some}

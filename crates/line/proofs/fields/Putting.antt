@@ -34,7 +34,7 @@ use Rattle.bc7_format.proofs.Opening.{good-total}
 use Rattle.bc7_format.proofs.Places.{inside-index, inside-pbit, inside-value, length-widths, list-at, list-ext, placeAt-pos, pos-lt, pos-one}
 use Rattle.bc7_format.proofs.Starts.{start, start-next}
 use Rattle.bcn_format.specs.Indexes.{indexWidth, indexWidths}
-use Rattle.bc7_format.proofs.Fields.{begins}
+use Rattle.bc7_fields.proofs.Fields.{begins}
 use Rattle.line_rules.specs.Acceptable.{OwnWidths}
 use Rattle.line_rules.specs.Replace.{ownWidth}
 use Rattle.line_rules.proofs.Own.{has-width}

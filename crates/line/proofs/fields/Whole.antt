@@ -17,7 +17,7 @@ use Rattle.bits.specs.declared.stream.BitStream.{BitStream}
 use Rattle.bc7_places.specs.declared.places.Fields.{Fields}
 use Rattle.bc7_places.specs.declared.lines.LinePart.{LinePart}
 use Rattle.line.specs.declared.parts.StoredLine.{StoredLine}
-use Rattle.bc7_places.specs.declared.modes.ModeRow.{ModeRow}
+use Rattle.bc7_modes.specs.declared.ModeRow.{ModeRow}
 use Rattle.bc7_format.specs.declared.Split.{Split}
 use Rattle.laws.specs.Digits.{replacedAt, total}
 use Rattle.laws.specs.Tables.{pick}
@@ -36,9 +36,9 @@ use Rattle.bc7_format.proofs.Places.{inside-index}
 use Rattle.bc7_format.proofs.Starts.{start, start-le}
 use Rattle.bits.specs.Stream.{held}
 use Rattle.bcn_format.specs.Indexes.{indexWidth, indexWidths}
-use Rattle.bc7_format.specs.Fields.{leadEnd}
-use Rattle.bc7_format.proofs.Fields.{begins}
-use Rattle.bc7_places.specs.Modes.{modeRowOf}
+use Rattle.bc7_fields.specs.Fields.{leadEnd}
+use Rattle.bc7_fields.proofs.Fields.{begins}
+use Rattle.bc7_modes.specs.Modes.{modeRowOf}
 use Rattle.line_rules.specs.Acceptable.{Acceptable}
 use Rattle.line_rules.specs.Replace.{oriented, put, refusalIn, topSet}
 use Rattle.line_rules.proofs.Accepting.{accepted-is}

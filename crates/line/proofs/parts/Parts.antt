@@ -8,7 +8,7 @@ use lib.Dec.{eqb}
 use Rattle.bc7_format.specs.declared.Place.{Place}
 use Rattle.bc7_format.specs.declared.Split.{Split}
 use Rattle.bc7_places.specs.declared.lines.LinePart.{LinePart}
-use Rattle.bc7_places.specs.declared.modes.ModeRow.{ModeRow}
+use Rattle.bc7_modes.specs.declared.ModeRow.{ModeRow}
 use Rattle.laws.specs.Tables.{pick}
 use Rattle.bc7_format.specs.Lines.{anchorOf, indexSetOf, indexPlace, lineBits, pPlace, valuePlace}
 use Rattle.bc7_format.specs.Modes.{kindOfMode, lines, pCount}
@@ -19,8 +19,8 @@ use Rattle.line_rules.specs.Acceptable.{OwnWidths}
 use Rattle.line_rules.specs.Replace.{ownWidth}
 use Rattle.line_rules.proofs.OwnWidths.{own-widths}
 use Rattle.bc7_places.specs.Splits.{anchorsOf}
-use Rattle.bc7_places.specs.Modes.{modeRowOf}
-use Rattle.bc7_places.proofs.modes.Bounds.{small}
+use Rattle.bc7_modes.specs.Modes.{modeRowOf}
+use Rattle.bc7_modes.proofs.Bounds.{small}
 use Rattle.bc7_places.specs.Lines.{ownPixel, partOf}
 use Rattle.bc7_places.proofs.lines.Parts.{anchored, bits-is, index-widths, sets, value-widths}
 use Rattle.bc7_places.proofs.splits.SubsetMaps.{map-bits}

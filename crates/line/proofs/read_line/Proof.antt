@@ -12,7 +12,7 @@ use Rattle.bcn_format.specs.Block.{eights}
 use Rattle.bc7_format.specs.Modes.{modeOf, lines}
 use Rattle.bc7_format.proofs.Subsets.{sixteen-bytes}
 use Rattle.bc7_format.proofs.Modes.{mode-le-8}
-use Rattle.bc7_places.specs.Modes.{modeRowOf}
+use Rattle.bc7_modes.specs.Modes.{modeRowOf}
 use Rattle.line.proofs.Opening.{read-0, read-1, read-2, ready-part, ready-read}
 use Rattle.line.proofs.read_line.Statement.{statement}
 use Rattle.line.proofs.read_line.Tie as tie

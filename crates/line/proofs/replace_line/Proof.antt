@@ -18,7 +18,7 @@ use Rattle.bc7_format.specs.Modes.{modeOf, lines}
 use Rattle.bc7_format.specs.Splits.{splitOf}
 use Rattle.bc7_format.proofs.Subsets.{sixteen-bytes}
 use Rattle.bc7_format.proofs.Modes.{mode-le-8}
-use Rattle.bc7_places.specs.Modes.{modeRowOf}
+use Rattle.bc7_modes.specs.Modes.{modeRowOf}
 use Rattle.line_rules.specs.Replace.{replacedAs}
 use Rattle.line.specs.Parts.{partsFit}
 use Rattle.line.proofs.parts.Parts.{IsPart}

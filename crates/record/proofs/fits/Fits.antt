@@ -12,7 +12,7 @@ use lib.Pow.{pow-lt}
 use Rattle.bc7_format.specs.declared.Place.the-variants.{Lead, Value, PBit, Index}
 use Rattle.record_rules.specs.declared.Record.{Record}
 use Rattle.bc7_places.specs.declared.splits.Anchors.{Anchors}
-use Rattle.bc7_places.specs.declared.modes.ModeRow.{ModeRow}
+use Rattle.bc7_modes.specs.declared.ModeRow.{ModeRow}
 use Rattle.laws.specs.Digits.{join, split}
 use Rattle.laws.specs.Tables.{below, both, pick, table, tableFrom}
 use Rattle.laws.proofs.Digits.{split-join}
@@ -31,8 +31,8 @@ use Rattle.record_rules.specs.Answers.{TopsZero, Within}
 use Rattle.record_rules.specs.Records.{fits, says}
 use Rattle.record_rules.proofs.Answering.{zero-tops-stored, fits-at, fits-of, stored-zero-tops}
 use Rattle.bc7_places.specs.Splits.{ArePixels, anchorsOf, threeOf}
-use Rattle.bc7_places.specs.Modes.{modeRowOf}
-use Rattle.bc7_places.proofs.modes.Bounds.{low-partition}
+use Rattle.bc7_modes.specs.Modes.{modeRowOf}
+use Rattle.bc7_modes.proofs.Bounds.{low-partition}
 use Rattle.bc7_places.proofs.splits.AnchorPixels.{three-are, anchors-low}
 use Rattle.record.specs.Fitting.{Full, splitFits, storedFit, topsZero, valueBits}
 use Rattle.bc7_places.proofs.fits.Bytes.{one-width}

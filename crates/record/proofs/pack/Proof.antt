@@ -8,7 +8,7 @@ use Rattle.laws.proofs.Tests.{no-both}
 use Rattle.bc7_format.specs.Modes.{kindOfMode}
 use Rattle.bc7_format.specs.Splits.{kindOf}
 use Rattle.record_rules.proofs.Answering.{fits-at, fits-of, refused-as}
-use Rattle.bc7_places.specs.declared.modes.ModeRow.{ModeRow}
+use Rattle.bc7_modes.specs.declared.ModeRow.{ModeRow}
 use Rattle.record.specs.Fitting.{Full}
 use Rattle.record.proofs.fits.Fits.{part-64}
 use Rattle.record.proofs.Steps.{packs, tops-set, written}

@@ -19,7 +19,7 @@ use Rattle.record.specs.declared.reading.ReadEndpoints.{ReadEndpoints}
 use Rattle.record.specs.declared.reading.ReadP.{ReadP}
 use Rattle.bc7_places.specs.declared.splits.ReadSplit.{ReadSplit}
 use Rattle.bc7_places.specs.declared.splits.Anchors.{Anchors}
-use Rattle.bc7_places.specs.declared.modes.ModeRow.{ModeRow}
+use Rattle.bc7_modes.specs.declared.ModeRow.{ModeRow}
 use Rattle.indexes.specs.declared.NewIndexes.{NewIndexes}
 use Rattle.bits.specs.declared.stream.BitStream.{BitStream}
 use Rattle.bc7_format.specs.declared.Split.{Split}
@@ -43,12 +43,12 @@ use Rattle.indexes.proofs.Remove.{size-kind}
 use Rattle.bits.specs.declared.stream.Read.{Read}
 use Rattle.bits.specs.Stream.{taken}
 use Rattle.bits.proofs.On.{On, field-lt, got, on-read}
-use Rattle.bc7_format.specs.Fields.{leadEnd, valueStart}
-use Rattle.bc7_format.proofs.Fields.{begins, bit-at, first-start, groups-128, index-at, value-at, valuesEnd}
+use Rattle.bc7_fields.specs.Fields.{leadEnd, valueStart}
+use Rattle.bc7_fields.proofs.Fields.{begins, bit-at, first-start, groups-128, index-at, value-at, valuesEnd}
 use Rattle.record_rules.specs.Records.{made, recordOf}
-use Rattle.bc7_places.specs.Modes.{OfMode, modeRowOf}
+use Rattle.bc7_modes.specs.Modes.{OfMode, modeRowOf}
 use Rattle.bc7_places.specs.Splits.{IsLead, anchorsOf}
-use Rattle.bc7_places.proofs.modes.Bounds.{second-bits, small}
+use Rattle.bc7_modes.proofs.Bounds.{second-bits, small}
 use Rattle.record.specs.Reading.{EndpointsAhead, PAhead, SecondAhead, channelOf, endpointsOf, endpointsRead, pRead, secondRead}
 use Rattle.bc7_places.proofs.splits.AnchorPixels.{anchors-kind, anchors-rise}
 

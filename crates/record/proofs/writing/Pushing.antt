@@ -13,7 +13,7 @@ use lib.ListN.{getD, length}
 use Rattle.bc7_format.specs.declared.Place.the-variants.{Lead, Value, PBit, Index}
 use Rattle.record_rules.specs.declared.Record.{Record}
 use Rattle.bc7_places.specs.declared.splits.Anchors.{Anchors}
-use Rattle.bc7_places.specs.declared.modes.ModeRow.{ModeRow}
+use Rattle.bc7_modes.specs.declared.ModeRow.{ModeRow}
 use Rattle.bits.specs.declared.writer.BitWriter.{BitWriter}
 use Rattle.laws.specs.Digits.{Fit, join, evenly, total}
 use Rattle.laws.specs.Tables.{pick, table}
@@ -37,9 +37,9 @@ use Rattle.bits.specs.Writer.{Pushable, pushed, writerOf, written}
 use Rattle.bits.proofs.Puts.{pushes-ask, pushes-more, pushes-none, pushes-written, written-of}
 use Rattle.laws.proofs.Words.{one-shl}
 use Rattle.record_rules.specs.Records.{says}
-use Rattle.bc7_places.specs.Modes.{OfMode}
+use Rattle.bc7_modes.specs.Modes.{OfMode}
 use Rattle.bc7_places.specs.Splits.{ArePixels, anchorsOf}
-use Rattle.bc7_places.proofs.modes.Bounds.{low-partition, small}
+use Rattle.bc7_modes.proofs.Bounds.{low-partition, small}
 use Rattle.record.specs.Writing.{Packable, said, upto, wide}
 use Rattle.bc7_places.proofs.splits.AnchorPixels.{anchors-kind, anchors-low, anchors-rise}
 

@@ -11,7 +11,8 @@ use Rattle.laws.specs.Tables.{table}
 use Rattle.laws.proofs.Part.{Part, part-all, part-none, part-table}
 use Rattle.bc7_format.specs.Lines.{pixels}
 use Rattle.head_rules.specs.Geometry.{across}
-use Rattle.sheet_rules.specs.Rows.{blockAt, channel, rowByte, rowBytes}
+use Rattle.bcn_format.specs.Block.{blockAt}
+use Rattle.sheet_rules.specs.Rows.{channel, rowByte, rowBytes}
 use Rattle.sheet.specs.Columns.{columnByte, scanlineByte, withColumn}
 use Rattle.sheet.proofs.output.Columns.{byte-in, byte-out}
 

@@ -13,7 +13,7 @@ use Rattle.head_rules.proofs.Blocks.{few-blocks}
 use Rattle.head_rules.proofs.Orders.{blocks-within}
 use Rattle.head_rules.proofs.Theorems.{head-sized}
 use Rattle.sheet_head.specs.Asked.{BlockAsked}
-use Rattle.sheet_rules.specs.Rows.{blockAt}
+use Rattle.bcn_format.specs.Block.{blockAt}
 use Rattle.sheet_rules.specs.Sheets.{blockBy, blockIn}
 use Rattle.sheet_rules.specs.SheetRows.{rowBlocks}
 use Rattle.sheet_rules.proofs.SheetRows.{row-block}

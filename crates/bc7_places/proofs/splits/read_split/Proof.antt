@@ -3,7 +3,7 @@
 use native.Mathlib.Nat.{lt-of-lt-of-le}
 use native.Mathlib.Omega.{arith}
 use lib.Pow.{pow-mono}
-use Rattle.bc7_places.proofs.modes.Bounds.{small}
+use Rattle.bc7_modes.proofs.Bounds.{small}
 use borrow.Author.Needs.{needs}
 use Rattle.bc7_places.proofs.splits.read_split.Statement.{statement}
 use Rattle.bc7_places.proofs.splits.read_split.Tie as tie

@@ -9,10 +9,10 @@ use Rattle.bc7_format.specs.Modes.{endpointCount, kindOfMode, modeRow}
 use Rattle.bc7_format.specs.Splits.{splitAt}
 use Rattle.bits.specs.Stream.{held}
 use Rattle.bits.proofs.On.{On, got, on-read}
-use Rattle.bc7_format.specs.Fields.{leadEnd, pStart, valueStart}
-use Rattle.bcn_format.specs.Painting.{solid}
-use Rattle.drawing.specs.Words.{plain}
-use Rattle.bc7_format.proofs.Ends.{opaque-shown}
+use Rattle.bc7_fields.specs.Fields.{leadEnd, pStart, valueStart}
+use Rattle.bc7_fields.specs.Painting.{solid}
+use Rattle.bc7_drawing.specs.Words.{plain}
+use Rattle.bc7_fields.proofs.Ends.{opaque-shown}
 use Rattle.bc7_subsets.proofs.Palettes.{three-palette}
 use Rattle.bc7_subsets.proofs.Laws.{anchored-3, three-keys}
 use Rattle.bc7_subsets.proofs.three.mode_2.Statement.{statement}
@@ -102,8 +102,8 @@ indexes-3-requires c κs =
 keys-2-requires : tie.Need-keys-2-requires
 keys-2-requires c κs = search needs
 
-paint-4-requires : tie.Need-paint-4-requires
-paint-4-requires c κs = search needs
+paint-3-2-requires : tie.Need-paint-3-2-requires
+paint-3-2-requires c κs = search needs
 
 returns : tie.Need-returns
 unfolding splitAt kindOfMode modeRow endpointCount field valueStart pStart leadEnd
@@ -157,7 +157,7 @@ returns c =
     (record { red = got on-r2 10 r2; green = got on-g2 10 g2; blue = got on-b2 10 b2 })
     refl refl)
     (colours .palette-3-2 .ensures))
-    (c .paint-4 .ensures)
+    (c .paint-3-2 .ensures)
 
 pub mode-2-spec : {M : Type 1} → statement M
 mode-2-spec =
@@ -180,5 +180,5 @@ mode-2-spec =
     partition-word-3-2-requires
     indexes-3-requires
     keys-2-requires
-    paint-4-requires
+    paint-3-2-requires
     returns)

@@ -9,9 +9,9 @@ use Rattle.bc7_format.specs.Modes.{endpointCount, kindOfMode, modeRow}
 use Rattle.bc7_format.specs.Splits.{splitAt}
 use Rattle.bits.specs.Stream.{held}
 use Rattle.bits.proofs.On.{On, got, on-read}
-use Rattle.bc7_format.specs.Fields.{leadEnd, pStart, valueStart}
-use Rattle.drawing.specs.Words.{withP}
-use Rattle.bc7_format.proofs.Ends.{translucent-p-shown, two-ps}
+use Rattle.bc7_fields.specs.Fields.{leadEnd, pStart, valueStart}
+use Rattle.bc7_drawing.specs.Words.{withP}
+use Rattle.bc7_fields.proofs.Ends.{translucent-p-shown, two-ps}
 use Rattle.bc7_subsets.proofs.Palettes.{two-palette}
 use Rattle.bc7_subsets.proofs.Laws.{anchored-2, two-keys}
 use Rattle.bc7_subsets.proofs.two.mode_7.Statement.{statement}

@@ -3,7 +3,7 @@
 use mathlib.Core.Path.{_≡_, ap, _∙_}
 use native.Mathlib.Omega.{arith}
 use borrow.Author.Needs.{needs}
-use Rattle.bc7_format.specs.Fields.{directPixels}
+use Rattle.bc7_fields.specs.Fields.{directPixels}
 use Rattle.bits.proofs.On.{held-skipped}
 use Rattle.bc7_subsets.proofs.Laws.{last-of-3}
 use Rattle.bc7_subsets.proofs.two.mode_subset_2.Statement.{statement}

@@ -1,7 +1,7 @@
 -- One key of a word.
 -- Assumes nothing.
 use mathlib.Core.Path.{refl}
-use native.Mathlib.Nat.{mod-lt, mul-le-mul-right}
+use native.Mathlib.Nat.{mod-lt}
 use native.Mathlib.Omega.{arith}
 use borrow.Author.Needs.{needs}
 use Rattle.drawing.proofs.keys.key_of.Statement.{statement}
@@ -11,13 +11,13 @@ cast-result : tie.Need-cast-result
 cast-result c = search needs
 
 mul-result : tie.Need-mul-result
-mul-result c = omega (arith, mul-le-mul-right {m = c .args .i} {n = 7} (c .args .step) (omega arith))
+mul-result c = omega (arith, c .pre .inside)
 
 cast-result-2 : tie.Need-cast-result-2
-cast-result-2 c = omega (arith, mul-le-mul-right {m = c .args .i} {n = 7} (c .args .step) (omega arith))
+cast-result-2 c = omega (arith, c .pre .inside)
 
 shr-result : tie.Need-shr-result
-shr-result c = omega (arith, mul-le-mul-right {m = c .args .i} {n = 7} (c .args .step) (omega arith))
+shr-result c = omega (arith, c .pre .inside)
 
 rem-result : tie.Need-rem-result
 rem-result c = search needs

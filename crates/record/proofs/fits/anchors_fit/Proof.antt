@@ -3,8 +3,8 @@
 use mathlib.Core.Path.{_∙_, sym}
 use native.Mathlib.Omega.{arith}
 use borrow.Author.Tests.{not-false, not-true}
-use Rattle.bc7_places.specs.Modes.{OfMode}
-use Rattle.bc7_places.proofs.modes.Bounds.{second-bits, small}
+use Rattle.bc7_modes.specs.Modes.{OfMode}
+use Rattle.bc7_modes.proofs.Bounds.{second-bits, small}
 use Rattle.record.proofs.fits.Fits.{first-not, first-only, pixels, second-decides}
 use Rattle.record.proofs.fits.anchors_fit.Statement.{statement}
 use Rattle.record.proofs.fits.anchors_fit.Tie as tie

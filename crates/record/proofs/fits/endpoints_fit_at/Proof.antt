@@ -5,7 +5,7 @@ use mir.Syntax.{w8}
 use mir.Val.{Fits}
 use lib.ListN.{getD}
 use native.Mathlib.Omega.{arith}
-use Rattle.bc7_places.proofs.modes.Bounds.{small}
+use Rattle.bc7_modes.proofs.Bounds.{small}
 use Rattle.record.proofs.fits.Fits.{pair-has, pair-none}
 use borrow.Author.Needs.{needs}
 use Rattle.record.proofs.fits.endpoints_fit_at.Statement.{statement}

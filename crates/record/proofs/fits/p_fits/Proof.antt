@@ -11,7 +11,7 @@ use lib.Dec.{ltb}
 use lib.ListN.{getD}
 use Rattle.laws.specs.Tables.{below, pick}
 use Rattle.laws.proofs.Scan.{scan-fails, scan-more}
-use Rattle.bc7_places.specs.declared.modes.ModeRow.{ModeRow}
+use Rattle.bc7_modes.specs.declared.ModeRow.{ModeRow}
 use Rattle.record.proofs.fits.p_fits.Statement.{statement}
 use Rattle.record.proofs.fits.p_fits.Tie as tie
 

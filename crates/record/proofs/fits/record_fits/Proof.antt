@@ -3,8 +3,8 @@
 use mathlib.Core.Path.{_∙_, sym}
 use native.Mathlib.Omega.{arith}
 use borrow.Author.Tests.{not-false, not-true}
-use Rattle.bc7_places.specs.Modes.{OfMode}
-use Rattle.bc7_places.proofs.modes.Bounds.{small}
+use Rattle.bc7_modes.specs.Modes.{OfMode}
+use Rattle.bc7_modes.proofs.Bounds.{small}
 use Rattle.record.proofs.fits.Fits.{first-from, last-decides, one-fails, ps-from, split-from, values-from}
 use borrow.Author.Needs.{needs}
 use Rattle.record.proofs.fits.record_fits.Statement.{statement}

@@ -6,7 +6,7 @@ use borrow.Author.Tests.{not-false, not-true}
 use Prim.Native.Nat.{_^_}
 use lib.Dec.{ltb}
 use Rattle.bc7_format.specs.Splits.{partition, rotation}
-use Rattle.bc7_places.proofs.modes.Bounds.{small}
+use Rattle.bc7_modes.proofs.Bounds.{small}
 use Rattle.laws.proofs.Tests.{first-fails, first-holds}
 use borrow.Author.Needs.{needs}
 use Rattle.record.proofs.fits.split_fits.Statement.{statement}

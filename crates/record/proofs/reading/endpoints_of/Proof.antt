@@ -2,7 +2,7 @@
 -- Assumes nothing.
 use Prim.Native.Nat.{_-_, _≤_}
 use native.Mathlib.Omega.{arith}
-use Rattle.bc7_places.proofs.modes.Bounds.{small}
+use Rattle.bc7_modes.proofs.Bounds.{small}
 use Rattle.record.proofs.reading.Groups.{Values, values-all, values-next, values-none}
 use Rattle.record.proofs.reading.endpoints_of.Statement.{statement}
 use Rattle.record.proofs.reading.endpoints_of.Tie as tie

@@ -2,7 +2,7 @@
 -- Assumes nothing.
 use native.Mathlib.Omega.{arith}
 use borrow.Author.Needs.{needs}
-use Rattle.bc7_places.proofs.modes.Bounds.{small}
+use Rattle.bc7_modes.proofs.Bounds.{small}
 use Rattle.record.proofs.reading.Groups.{endpoints-read}
 use Rattle.record.proofs.reading.read_endpoints.Statement.{statement}
 use Rattle.record.proofs.reading.read_endpoints.Tie as tie

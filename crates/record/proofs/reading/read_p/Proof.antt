@@ -1,7 +1,7 @@
 -- `reading::read_p` meets its contract.
 -- Assumes nothing.
 use native.Mathlib.Omega.{arith}
-use Rattle.bc7_places.proofs.modes.Bounds.{small}
+use Rattle.bc7_modes.proofs.Bounds.{small}
 use Rattle.record.proofs.reading.Groups.{p-read}
 use borrow.Author.Needs.{needs}
 use Rattle.record.proofs.reading.read_p.Statement.{statement}

@@ -8,8 +8,8 @@ use lib.ListN.{getD, length}
 use Rattle.laws.specs.Digits.{Fit}
 use Rattle.bcn_format.specs.Block.{eights}
 use Rattle.bc7_format.proofs.Subsets.{sixteen-bytes}
-use Rattle.bc7_places.specs.Modes.{OfMode}
-use Rattle.bc7_places.proofs.modes.Bounds.{small}
+use Rattle.bc7_modes.specs.Modes.{OfMode}
+use Rattle.bc7_modes.proofs.Bounds.{small}
 use Rattle.record.proofs.reading.Standing.{endpoints-ahead, first-ahead, p-ahead, record-read, second-ahead}
 use borrow.Author.Needs.{needs}
 use Rattle.record.proofs.reading.read_record.Statement.{statement}

@@ -2,7 +2,7 @@
 -- Assumes nothing.
 use mathlib.Core.Path.{_∙_}
 use borrow.Author.Tests.{eq-eqb, ne-eqb}
-use Rattle.bc7_places.proofs.modes.Bounds.{second-bits, small}
+use Rattle.bc7_modes.proofs.Bounds.{second-bits, small}
 use Rattle.record.specs.Reading.{secondRead}
 use Rattle.record.proofs.reading.read_second.Statement.{statement}
 use Rattle.record.proofs.reading.read_second.Tie as tie

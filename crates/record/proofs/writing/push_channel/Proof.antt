@@ -1,7 +1,7 @@
 -- `writing::push_channel` meets its contract.
 -- Assumes nothing.
 use native.Mathlib.Omega.{arith}
-use Rattle.bc7_places.proofs.modes.Bounds.{small}
+use Rattle.bc7_modes.proofs.Bounds.{small}
 use Rattle.record.proofs.writing.Pushing.{channel-asks, channel-bits, channel-fits, channel-next, of-mode}
 use Rattle.record.proofs.writing.push_channel.Statement.{statement}
 use Rattle.record.proofs.writing.push_channel.Tie as tie

@@ -5,8 +5,8 @@ use Prim.Native.Nat.{_<_}
 use native.Mathlib.Omega.{arith}
 use lib.ListN.{length}
 use Rattle.record_rules.specs.Records.{says}
-use Rattle.bc7_places.specs.declared.modes.ModeRow.{ModeRow}
-use Rattle.bc7_places.proofs.modes.Bounds.{second-bits, small}
+use Rattle.bc7_modes.specs.declared.ModeRow.{ModeRow}
+use Rattle.bc7_modes.proofs.Bounds.{second-bits, small}
 use Rattle.record.specs.Writing.{upto}
 use Rattle.record.proofs.writing.Pushing.{of-mode, pixels, rise, second-none, set-asks, set-fits, set-next, set-none}
 use borrow.Author.Needs.{needs}

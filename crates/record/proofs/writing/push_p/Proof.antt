@@ -1,7 +1,7 @@
 -- `writing::push_p` meets its contract.
 -- Assumes nothing.
 use native.Mathlib.Omega.{arith}
-use Rattle.bc7_places.proofs.modes.Bounds.{small}
+use Rattle.bc7_modes.proofs.Bounds.{small}
 use Rattle.record.proofs.writing.Pushing.{bits-ask, bits-fit, bits-next, of-mode}
 use Rattle.record.proofs.writing.push_p.Statement.{statement}
 use Rattle.record.proofs.writing.push_p.Tie as tie

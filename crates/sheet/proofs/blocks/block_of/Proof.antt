@@ -3,7 +3,7 @@
 use mathlib.Core.Path.{_∙_, ap}
 use native.Mathlib.Omega.{arith}
 use Rattle.head_rules.proofs.Orders.{blocks-within}
-use Rattle.sheet_rules.specs.Rows.{blockAt}
+use Rattle.bcn_format.specs.Block.{blockAt}
 use Rattle.sheet_rules.specs.Sheets.{blockBy}
 use borrow.Author.Needs.{needs}
 use Rattle.sheet.proofs.blocks.block_of.Statement.{statement}

@@ -1,0 +1,1 @@
+-- The definitions that the contracts cite are those of `bcn_format`.
