@@ -13,18 +13,19 @@ use Rattle.head_rules.specs.declared.ColourSpace.{ColourSpace}
 use Rattle.head_rules.specs.declared.Head.{Head}
 use Rattle.head_rules.specs.Geometry.{blocksOf, wholeLength}
 use Rattle.head_rules.specs.declared.Form.the-variants.{Rows}
-use Rattle.head_rules.specs.Heads.{Sized, headOf, limit}
+use Rattle.head_rules.specs.Heads.{Sized, headAs, headOf}
 use Rattle.head_rules.proofs.Blocks.{few-blocks}
-use Rattle.head_rules.proofs.Heading.{refusal-is, refused}
-use Rattle.head_rules.proofs.Theorems.{of-form-answers, of-form-refused, rows-sized}
+use Rattle.head_rules.specs.Whole.{Whole, wholeRefusal}
+use Rattle.head_rules.proofs.Heading.{head-told}
+use Rattle.head_rules.proofs.Whole.{of-form-sized, whole-number, whole-told}
 use Rattle.laws.specs.Refusals.{Given, accepted, first, here, refuse, then}
 use Rattle.laws.specs.Tables.{pick}
 use Rattle.laws.proofs.Refusals.{exactly}
 use Rattle.dds_rules.specs.Files.{exportAfterBy, exportHead, exportLength, exportRefusalBy, fileLength, fileMade, fileRefusal, fileRules}
-use Rattle.dds_rules.specs.Files.{headAs, headMade, importAfterUpTo, importAnswer, importHead, importLength, importRefusal, importRefusalUpTo}
-use Rattle.dds_rules.specs.Files.{lengthAs, sheetHead, sheetMade, wholeRefusal}
+use Rattle.dds_rules.specs.Files.{headMade, importAfterUpTo, importAnswer, importHead, importLength, importRefusal, importRefusalUpTo}
+use Rattle.dds_rules.specs.Files.{lengthAs, sheetHead, sheetMade}
 use Rattle.dds_rules.specs.Promises.{Exports, Imports}
-use Rattle.dds_rules.proofs.Refusing.{Taken, Whole, file-rules, head-told, room-rules, taken, taken-so, whole, whole-handed, whole-so}
+use Rattle.dds_rules.proofs.Refusing.{Taken, file-rules, room-rules, taken, taken-so}
 use Rattle.dds_rules.proofs.Making.{head-short}
 
 -- WHAT THE READERS ANSWER
@@ -36,32 +37,6 @@ pub a-file : (dds : List ℕ) → Taken dds → headMade dds ≡ importHead dds
 unfolding importHead
 a-file dds t = rw (eq-eqb (fileRefusal dds) 0 (taken-so dds t))
 
--- a sheet's head is x
-module _ (s : List ℕ) {x : Head} (is : x ≡ sheetHead s) where
-  pub no-sheet : x .refusal ≢ 0 → x ≡ exportHead s
-  unfolding exportHead
-  no-sheet n =
-      let r = sheetHead s .refusal in
-      let ne : r ≢ 0 = λ z. n (ap (λ (h : Head). h .refusal) is ∙ z) in
-      is ∙ sym (of-form-refused Rows s r (of-form-answers Rows s .given) ne) ∙ sym (rw (exactly (whole-handed s) r .1 (here ne), ne-eqb r 0 ne))
-
-  pub sheet-sized : x .refusal ≡ 0 → Sized (x .width) (x .height)
-  sheet-sized z = rw is (rows-sized s (sym (ap (λ (h : Head). h .refusal) is) ∙ z))
-
-  pub not-whole : x .refusal ≡ 0 → length s ≢ wholeLength x → headOf 10 0 0 0 ≡ exportHead s
-  unfolding exportHead
-  not-whole z ne =
-      rw (exactly (whole-handed s) 10 .1 (then (sym (ap (λ (h : Head). h .refusal) is) ∙ z)
-      (here (λ l. ne (l ∙ ap (λ (h : Head). h .start + 16 * blocksOf h) (sym is))))))
-
-  pub a-sheet : x .refusal ≡ 0 → length s ≡ wholeLength x → x ≡ exportHead s
-  unfolding exportHead
-  a-sheet z l =
-      is ∙ sym (rw (eq-eqb (wholeRefusal s) 0 (whole-so s (record {
-        told = sym (ap (λ (h : Head). h .refusal) is) ∙ z;
-        long = l ∙ ap (λ (h : Head). h .start + 16 * blocksOf h) is;
-      }))))
-
 -- WHAT A HEAD SAYS THAT WAS READ: the number, and where it is 0 the head
 module _ (dds : List ℕ) {x : Head} (e : x ≡ importHead dds) where
   pub file-told : (x .refusal ≡ fileRefusal dds) × (fileRefusal dds ≡ 0 → x ≡ headMade dds)
@@ -69,9 +44,8 @@ module _ (dds : List ℕ) {x : Head} (e : x ≡ importHead dds) where
   file-told = head-told (fileRefusal dds) (headMade dds) (λ z. refl) e
 
 module _ (s : List ℕ) {x : Head} (e : x ≡ exportHead s) where
-  pub sheet-told : (x .refusal ≡ wholeRefusal s) × (wholeRefusal s ≡ 0 → x ≡ sheetHead s)
-  unfolding exportHead
-  sheet-told = head-told (wholeRefusal s) (sheetHead s) (λ z. whole s z .told) e
+  pub sheet-told : x .refusal ≡ wholeRefusal (sheetHead s) s
+  sheet-told = whole-number (sheetHead s) s e
 
 -- WHAT A CALL ANSWERS: what was told before, or 11, or 0 with what is made
 module _ (r needed : ℕ) (made out : List ℕ) where
@@ -129,24 +103,24 @@ module _ (dds out : List ℕ) {x : Head} (e : x ≡ importHead dds) where
       (answered (sym (p .0) ∙ sym told), p .1)
 
 module _ (s : List ℕ) {x : Head} (e : x ≡ exportHead s) where
-  pub export-taken : x .refusal ≡ 0 → Whole s × (x ≡ sheetHead s)
-  export-taken z = let q = sym (sheet-told s e .0) ∙ z in (whole s q, sheet-told s e .1 q)
+  pub export-taken : x .refusal ≡ 0 → Whole (sheetHead s) s × (x ≡ sheetHead s)
+  export-taken = whole-told (sheetHead s) s e
 
 module _ (s : List ℕ) (c : ColourSpace) (out : List ℕ) {x : Head} (e : x ≡ exportHead s) where
   pub export-refused : x .refusal ≢ 0 → Exports s c out (x .refusal) out
   unfolding exportRefusalBy exportAfterBy
-  export-refused ne = before-11 (wholeRefusal s) (fileLength (sheetHead s)) (fileMade s c) out (sheet-told s e .0) ne
+  export-refused ne = before-11 (wholeRefusal (sheetHead s) s) (fileLength (sheetHead s)) (fileMade s c) out (sheet-told s e) ne
 
   pub export-11 : x .refusal ≡ 0 → length out ≢ fileLength x → Exports s c out 11 out
   unfolding exportRefusalBy exportAfterBy
   export-11 z ne =
-      eleven (wholeRefusal s) (fileLength (sheetHead s)) (fileMade s c) out (sym (sheet-told s e .0) ∙ z)
+      eleven (wholeRefusal (sheetHead s) s) (fileLength (sheetHead s)) (fileMade s c) out (sym (sheet-told s e) ∙ z)
       (λ l. ne (l ∙ ap fileLength (sym (export-taken s e z .1))))
 
   pub export-done : x .refusal ≡ 0 → length out ≡ fileLength x → {after : List ℕ} → after ≡ fileMade s c → Exports s c out 0 after
   unfolding exportRefusalBy exportAfterBy
   export-done z l =
-      done (wholeRefusal s) (fileLength (sheetHead s)) (fileMade s c) out (sym (sheet-told s e .0) ∙ z) (l ∙ ap fileLength (export-taken s e z .1))
+      done (wholeRefusal (sheetHead s) s) (fileLength (sheetHead s)) (fileMade s c) out (sym (sheet-told s e) ∙ z) (l ∙ ap fileLength (export-taken s e z .1))
 
 -- WHAT A CALL FOR THE LENGTH ANSWERS
 module _ (r needed : ℕ) where
@@ -179,16 +153,16 @@ module _ (dds : List ℕ) {x : Head} (e : x ≡ importHead dds) where
 module _ (s : List ℕ) {x : Head} (e : x ≡ exportHead s) where
   pub export-length-refused : x .refusal ≢ 0 → record { refusal = x .refusal; length = 0 } ≡ exportLength s
   unfolding exportLength
-  export-length-refused ne = length-refused (wholeRefusal s) (fileLength (sheetHead s)) (sheet-told s e .0) ne
+  export-length-refused ne = length-refused (wholeRefusal (sheetHead s) s) (fileLength (sheetHead s)) (sheet-told s e) ne
 
   module _ (z : x .refusal ≡ 0) where
     pub export-sized : Sized (x .width) (x .height)
-    export-sized = sheet-sized s (export-taken s e z .1) z
+    export-sized = of-form-sized Rows s (export-taken s e z .1) z
 
     pub export-length-is : {n : ℕ} → n ≡ fileLength x → record { refusal = 0; length = n } ≡ exportLength s
     unfolding exportLength
     export-length-is l =
-        length-is (wholeRefusal s) (fileLength (sheetHead s)) (sym (sheet-told s e .0) ∙ z) (l ∙ ap fileLength (export-taken s e z .1))
+        length-is (wholeRefusal (sheetHead s) s) (fileLength (sheetHead s)) (sym (sheet-told s e) ∙ z) (l ∙ ap fileLength (export-taken s e z .1))
 
 -- a length fits 32 bits
 pub blocks-fit : (x : Head) → Sized (x .width) (x .height) → 16 * blocksOf x < 2 ^ 31

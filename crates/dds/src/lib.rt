@@ -22,6 +22,7 @@ use sheet_head::geometry::blocks_of;
 use sheet_head::geometry::whole_length;
 use sheet_head::read_of_form;
 use sheet_head::reader::no_head;
+use sheet_head::whole;
 use sheet_head::write_head;
 
 // The bytes of a header, and the 37 numbers of four bytes that they are.
@@ -178,14 +179,7 @@ fn read_file(dds: &[u8]) -> Head
 fn read_sheet(sheet: &[u8]) -> Head
     ensures { λ r. ⌜ r ≡ exportHead (now (sheet .entry)) ⌝ }
 {
-    let head = read_of_form(Form::Rows, sheet);
-    if head.refusal != 0 {
-        return head;
-    }
-    if sheet.len() != whole_length(head) {
-        return no_head(10);
-    }
-    head
+    whole(read_of_form(Form::Rows, sheet), sheet)
 }
 
 // The 37 numbers of the header that export writes, in their order.

@@ -17,6 +17,7 @@ use Rattle.head_rules.specs.Heads.{readOfFormUpTo, sizeRefusalUpTo, widthIn}
 use Rattle.head_rules.specs.Numbers.{groups, raised, readGroups, readNumber}
 use Rattle.laws.specs.Digits.{evenly}
 use Rattle.laws.specs.Refusals.{first}
+use Rattle.head_rules.specs.Whole.{wholeHead, wholeRefusal}
 use Rattle.laws.specs.Tables.{table, tableFrom}
 use Rattle.dds_rules.specs.Header.{alphaMask, arraySize, bitCount, blueMask, canonicalHeader, caps, caps2, caps3, caps4, depth}
 use Rattle.dds_rules.specs.Header.{dimension, entries, format, formatCode, formatFlags, formatOf, formatSays, formatSize, greenMask}
@@ -25,7 +26,7 @@ use Rattle.dds_rules.specs.Header.{numberAt, offset, redMask, reserved, 
 use Rattle.dds_rules.specs.Files.{exportAfter, exportAfterBy, exportHead, exportLength, exportRefusal, exportRefusalBy, fileMadeBy}
 use Rattle.dds_rules.specs.Files.{fileRefusalUpTo, headMade, importAfter, importAfterUpTo}
 use Rattle.dds_rules.specs.Files.{importAnswer, importHead, importLength, importRefusal, importRefusalUpTo, numberedAfter, numberedRefusal}
-use Rattle.dds_rules.specs.Files.{said, sheetMade, wholeRefusalBy}
+use Rattle.dds_rules.specs.Files.{said, sheetMade}
 
 abbrev zeros : ℕ → List ℕ
 zeros n = replicate n 0
@@ -252,7 +253,7 @@ pub record Files : Type 0 where
 
 pub files-hold : Files
 unfolding evenly table tableFrom first numberAt entries headerNumber canonicalHeader isTexture headMade sheetMade fileRefusalUpTo importRefusalUpTo
-    importAfterUpTo wholeRefusalBy exportRefusalBy fileMadeBy exportAfterBy importLength exportLength importHead exportHead blocksOf
+    importAfterUpTo wholeRefusal exportRefusalBy fileMadeBy exportAfterBy importLength exportLength importHead wholeHead blocksOf
     sizeRefusalUpTo headBytes groups readOfFormUpTo ofFormRefusalUpTo colourIn formOf readHeadUpTo headRefusalUpTo formIn widthIn heightIn
     readNumber readGroups raised formatSays importAnswer numberedRefusal numberedAfter colourOf colourRefusal
 files-hold = record {

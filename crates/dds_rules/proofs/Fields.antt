@@ -15,6 +15,7 @@ use Rattle.head_rules.specs.declared.Head.{Head}
 use Rattle.head_rules.specs.Geometry.{blocksOf}
 use Rattle.head_rules.specs.Heads.{Sized, under}
 use Rattle.head_rules.proofs.Blocks.{few-blocks}
+use Rattle.head_rules.proofs.Whole.{whole-when}
 use Rattle.head_rules.proofs.Theorems.{rows-sized}
 use Rattle.dds_rules.specs.Header.{Entry, arraySize, cubeBit, dimension, ddsMagic, dx10Code, entries, entryAt, fieldIn, format}
 use Rattle.dds_rules.specs.Header.{formatCode, formatOf, formatSize, headerLength, headerNumber, headerSize, height, isTexture, magic}
@@ -23,7 +24,7 @@ use Rattle.dds_rules.specs.Files.{exportAfter, exportAfterBy, exportRefu
 use Rattle.dds_rules.specs.Files.{importAfterUpTo, importAnswer, importLength, importRefusalUpTo, sheetHead, sheetMade}
 use Rattle.dds_rules.proofs.Making.{format-small}
 use Rattle.dds_rules.proofs.Numbers.{number-back}
-use Rattle.dds_rules.proofs.Refusing.{exported-when, whole}
+use Rattle.dds_rules.proofs.Refusing.{exported-when}
 
 -- entries that four bytes hold
 abbrev AllSmall : List Entry → Type 0
@@ -43,7 +44,7 @@ module _ (s : List ℕ) (c : ColourSpace) (out : List ℕ) (e : exportRefusal s 
   head = under c (sheetHead s)
 
   size : Sized (head .width) (head .height)
-  size = rows-sized s (whole s (exported-when s (length out) .0 e .0) .told)
+  size = rows-sized s (whole-when (sheetHead s) s .0 (exported-when s (length out) .0 e .0) .told)
 
   few : blocksOf head < 2 ^ 25
   unfolding blocksOf

@@ -14,14 +14,15 @@ use Rattle.head_rules.specs.declared.Form.the-variants.{Rows, Tiles}
 use Rattle.head_rules.specs.declared.Head.{Head}
 use Rattle.head_rules.specs.Colours.{colourOf}
 use Rattle.head_rules.specs.Geometry.{wholeLength}
-use Rattle.head_rules.specs.Heads.{SizedUpTo, formIn, formNumber, headOf, limit, oldHead, oldLimit, readHead}
+use Rattle.head_rules.specs.Heads.{SizedUpTo, formIn, formNumber, headAs, headOf, limit, oldHead, oldLimit, readHead}
+use Rattle.head_rules.specs.Whole.{wholeRefusal}
 use Rattle.head_rules.proofs.Heading.{size-0, size-9}
 use Rattle.head_rules.proofs.Limits.{wider}
 use Rattle.head_rules.proofs.Theorems.{old-console-knows-no-tiles, old-console-refuses, stored-rows-keep}
 use Rattle.dds_rules.specs.Header.{fieldIn, height, isTexture, width}
 use Rattle.dds_rules.specs.Files.{exportAfter, exportAfterBy, exportRefusal, exportRefusalBy, fileRefusalUpTo, importAfter, importAfterUpTo}
-use Rattle.dds_rules.specs.Files.{exportLength, fileLength, headAs, headMade, importAnswer, importLength, importRefusal, importRefusalUpTo}
-use Rattle.dds_rules.specs.Files.{lengthAs, numberedAfter, numberedRefusal, wholeRefusalBy}
+use Rattle.dds_rules.specs.Files.{exportLength, fileLength, headMade, importAnswer, importLength, importRefusal, importRefusalUpTo}
+use Rattle.dds_rules.specs.Files.{lengthAs, numberedAfter, numberedRefusal}
 use Rattle.dds_rules.proofs.Numbered.{numbered-export}
 
 module _ (dds out : List ℕ) where
@@ -68,24 +69,24 @@ module _ (s : List ℕ) (c : ColourSpace) (out : List ℕ) where
   pub old-console-exports-nothing : readHead s .refusal ≡ 0 → readHead s .form ≡ Rows
       → (oldLimit < readHead s .width) ⊎ (oldLimit < readHead s .height)
       → (exportRefusalBy (oldHead s) s (length out) ≡ 9) × (exportAfterBy (oldHead s) c s out ≡ out)
-  unfolding exportAfterBy exportRefusalBy wholeRefusalBy first
+  unfolding exportAfterBy exportRefusalBy wholeRefusal first
   old-console-exports-nothing e f above = rw (old-console-refuses s e f above) (refl, refl)
 
   pub old-console-exports-no-tiles : formIn s .value ≡ formNumber Tiles
       → (exportRefusalBy (oldHead s) s (length out) ≡ 8) × (exportAfterBy (oldHead s) c s out ≡ out)
-  unfolding exportAfterBy exportRefusalBy wholeRefusalBy first
+  unfolding exportAfterBy exportRefusalBy wholeRefusal first
   old-console-exports-no-tiles e = rw (old-console-knows-no-tiles s e) (refl, refl)
 
 -- the length that export needs, and export under a number, which for a number that is a colour space's is export
 module _ (s : List ℕ) where
-  pub stored-export-lengths : oldHead s .refusal ≡ 0 → exportLength s ≡ lengthAs (wholeRefusalBy (oldHead s) s) (fileLength (oldHead s))
+  pub stored-export-lengths : oldHead s .refusal ≡ 0 → exportLength s ≡ lengthAs (wholeRefusal (oldHead s) s) (fileLength (oldHead s))
   unfolding exportLength
-  stored-export-lengths e = ap (λ (h : Head). lengthAs (wholeRefusalBy h s) (fileLength h)) (stored-rows-keep s e)
+  stored-export-lengths e = ap (λ (h : Head). lengthAs (wholeRefusal h s) (fileLength h)) (stored-rows-keep s e)
 
   pub old-console-needs-nothing : readHead s .refusal ≡ 0 → readHead s .form ≡ Rows
       → (oldLimit < readHead s .width) ⊎ (oldLimit < readHead s .height)
-      → lengthAs (wholeRefusalBy (oldHead s) s) (fileLength (oldHead s)) ≡ lengthAs 9 0
-  unfolding wholeRefusalBy first
+      → lengthAs (wholeRefusal (oldHead s) s) (fileLength (oldHead s)) ≡ lengthAs 9 0
+  unfolding wholeRefusal first
   old-console-needs-nothing e f above = rw (old-console-refuses s e f above)
 
   pub stored-sheets-export-numbered : oldHead s .refusal ≡ 0 → (n : ℕ) → n ≤ 2 → (out : List ℕ)

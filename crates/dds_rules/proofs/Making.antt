@@ -15,12 +15,13 @@ use Rattle.head_rules.specs.declared.Form.{Form}
 use Rattle.head_rules.specs.declared.Form.the-variants.{Rows}
 use Rattle.head_rules.specs.Heads.{Sized, headBytes, headIn, headOf, readHead, under}
 use Rattle.head_rules.specs.Numbers.{Bytes}
+use Rattle.head_rules.specs.Whole.{Whole}
 use Rattle.head_rules.proofs.Theorems.{head-read-back, of-form-is, rows-one-form, rows-read-back, rows-sized}
 use Rattle.head_rules.proofs.Writing.{few, one-byte}
 use Rattle.dds_rules.specs.Header.{Texture, canonicalHeader, entries, fieldIn, format, formatOf, formatSays, headerLength, headerNumber}
 use Rattle.dds_rules.specs.Header.{height, width}
 use Rattle.dds_rules.specs.Files.{fileLength, fileMade, fileMadeBy, headMade, said, sheetHead, sheetMade}
-use Rattle.dds_rules.proofs.Refusing.{Taken, Whole}
+use Rattle.dds_rules.proofs.Refusing.{Taken}
 use Rattle.dds_rules.proofs.Numbers.{header-long, number-back}
 
 -- a head has seven bytes at the most
@@ -68,7 +69,7 @@ module _ (dds : List ℕ) where
   sheet-long l = length-append (headBytes wide high) (drop headerLength dds) ∙ omega (arith, l, length-drop headerLength dds)
 
   -- so it is a whole sheet
-  pub sheet-whole : Taken dds → Whole (sheetMade dds)
+  pub sheet-whole : Taken dds → Whole (sheetHead (sheetMade dds)) (sheetMade dds)
   unfolding headMade blocksOf
   sheet-whole t = record {
     told = ap (λ (x : Head). x .refusal) (sheet-head (t .size));
@@ -84,7 +85,7 @@ module _ (dds : List ℕ) where
       ∙ ap (λ (l : List ℕ). canonicalHeader (under c (headMade dds)) ++ l) sheet-blocks
 
 -- THE FILE OF A SHEET
-module _ (s : List ℕ) (y : Bytes s) (w : Whole s) (c : ColourSpace) where
+module _ (s : List ℕ) (y : Bytes s) (w : Whole (sheetHead s) s) (c : ColourSpace) where
   abbrev head : Head
   head = sheetHead s
 

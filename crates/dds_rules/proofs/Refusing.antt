@@ -1,39 +1,26 @@
 -- When a file and a sheet are refused, and what is known of those that are not.
 -- Assumes nothing.
-use mathlib.Core.Path.{_≡_, _∙_, ap, sym}
+use mathlib.Core.Path.{_≡_}
 use mathlib.Core.Logic.{_↔_, ⊎-elim}
 use mathlib.Core.Bool.{not}
 use mathlib.Core.List.{List, [], _∷_}
 use Prim.Native.Nat.{ℕ, _<_}
-use native.Mathlib.Decide.{ℕ-discrete}
 use native.Mathlib.Omega.{arith}
-use borrow.Author.Tests.{eq-eqb, ne-eqb}
 use lib.Dec.{eqb, lit<}
 use lib.ListN.{length}
-use Rattle.head_rules.specs.declared.Head.{Head}
 use Rattle.head_rules.specs.Geometry.{wholeLength}
-use Rattle.head_rules.specs.Heads.{Sized, headOf, limit}
+use Rattle.head_rules.specs.Heads.{Sized, limit}
+use Rattle.head_rules.specs.Whole.{wholeRefusal}
 use Rattle.head_rules.proofs.Heading.{size-test}
 use Rattle.head_rules.proofs.Theorems.{rows-answers}
+use Rattle.head_rules.proofs.Whole.{whole-rules}
 use Rattle.laws.specs.Refusals.{Given, Rule, accepted, first, handed, here, refuse, then, unless}
 use Rattle.laws.proofs.Refusals.{Answers, accepted-when, answers, by-answer, by-not-eqb, exactly, none, rule, rules}
 use Rattle.dds_rules.specs.Header.{Another, Texture, fieldIn, height, width}
 use Rattle.dds_rules.specs.Files.{exportRefusal, exportRefusalBy, exportRules, fileLength, fileRefusal, fileRefusalUpTo, fileRules, headMade}
 use Rattle.dds_rules.specs.Files.{importRefusal, importRefusalUpTo, importRules}
-use Rattle.dds_rules.specs.Files.{headAs, sheetHead, wholeRefusal, wholeRefusalBy, wholeRules}
+use Rattle.dds_rules.specs.Files.{sheetHead, wholeRules}
 use Rattle.dds_rules.proofs.Textures.{not-both, texture-test, whether}
-
--- what a head says that was answered: the number, and where it is 0 the head
-module _ (r : ℕ) (h : Head) (same : r ≡ 0 → h .refusal ≡ 0) {x : Head} (e : x ≡ headAs r h) where
-  abbrev Told : Type 0
-  Told = (x .refusal ≡ r) × (r ≡ 0 → x ≡ h)
-
-  pub head-told : Told
-  head-told = go (ℕ-discrete r 0)
-    where
-      go : Dec (r ≡ 0) → Told
-      go (yes z) = let k : x ≡ h = e ∙ rw (eq-eqb r 0 z) in (ap (λ (y : Head). y .refusal) k ∙ same z ∙ sym z, λ q. k)
-      go (no n) = let k : x ≡ headOf r 0 0 0 = e ∙ rw (ne-eqb r 0 n) in (ap (λ (y : Head). y .refusal) k, λ q. absurd (n q))
 
 -- each test and its rule
 pub file-rules : (dds : List ℕ) → Answers (fileRefusal dds) (fileRules dds)
@@ -46,24 +33,18 @@ pub import-rules : (dds : List ℕ) (room : ℕ) → Answers (importRefusal dds 
 unfolding importRefusalUpTo
 import-rules dds room = answers (rules (file-rules dds) λ m. rule (by-not-eqb tt room (wholeLength (headMade dds))) λ r. none)
 
-pub whole-rules : (s : List ℕ) → Answers (wholeRefusal s) (wholeRules s)
-unfolding wholeRefusalBy
-whole-rules s = answers (rules (rows-answers s) λ m. rule (by-not-eqb tt (length s) (wholeLength (sheetHead s))) λ l. none)
+pub sheet-rules : (s : List ℕ) → Answers (wholeRefusal (sheetHead s) s) (wholeRules s)
+sheet-rules s = whole-rules (sheetHead s) s (rows-answers s)
 
 pub export-rules : (s : List ℕ) (room : ℕ) → Answers (exportRefusal s room) (exportRules s room)
 unfolding exportRefusalBy
-export-rules s room = answers (rules (whole-rules s) λ m. rule (by-not-eqb tt room (fileLength (sheetHead s))) λ r. none)
-
--- the same with the head's refusal as it was answered
-pub whole-handed : (s : List ℕ) → Answers (wholeRefusal s) (handed (sheetHead s .refusal) ∷ unless 10 (length s ≡ wholeLength (sheetHead s)) ∷ [])
-unfolding wholeRefusalBy
-whole-handed s = answers (rule by-answer λ h. rule (by-not-eqb tt (length s) (wholeLength (sheetHead s))) λ l. none)
+export-rules s room = answers (rules (sheet-rules s) λ m. rule (by-not-eqb tt room (fileLength (sheetHead s))) λ r. none)
 
 -- 11 stands behind whatever was answered before
 pub room-rules : (r needed room : ℕ) → Answers (first (r ∷ refuse 11 (not (eqb room needed)) ∷ [])) (handed r ∷ unless 11 (room ≡ needed) ∷ [])
 room-rules r needed room = answers (rule by-answer λ z. rule (by-not-eqb tt room needed) λ l. none)
 
--- what an accepted file and an accepted sheet are
+-- what an accepted file is
 pub record Taken (dds : List ℕ) : Type 0 where
   pub texture : Texture dds
   pub size : Sized (fieldIn dds width) (fieldIn dds height)
@@ -75,16 +56,6 @@ taken dds e = let (t, (z, (l, u))) = file-rules dds .met e in record { texture =
 pub taken-so : (dds : List ℕ) → Taken dds → fileRefusal dds ≡ 0
 taken-so dds t = accepted-when (file-rules dds) .1 (t .texture, (t .size, (t .long, tt)))
 
-pub record Whole (s : List ℕ) : Type 0 where
-  pub told : sheetHead s .refusal ≡ 0
-  pub long : length s ≡ wholeLength (sheetHead s)
-
-pub whole : (s : List ℕ) → wholeRefusal s ≡ 0 → Whole s
-whole s e = let (t, (l, u)) = whole-handed s .met e in record { told = t; long = l }
-
-pub whole-so : (s : List ℕ) → Whole s → wholeRefusal s ≡ 0
-whole-so s w = accepted-when (whole-handed s) .1 (w .told, (w .long, tt))
-
 -- both calls with room: accepted, with an output as long as needed
 module _ (dds : List ℕ) (room : ℕ) where
   pub imported-when : (importRefusal dds room ≡ 0) ↔ (fileRefusal dds ≡ 0) × (room ≡ wholeLength (headMade dds))
@@ -94,10 +65,10 @@ module _ (dds : List ℕ) (room : ℕ) where
       (λ e. (a .0 e .0, a .0 e .1 .0), λ m. a .1 (m .0, (m .1, tt)))
 
 module _ (s : List ℕ) (room : ℕ) where
-  pub exported-when : (exportRefusal s room ≡ 0) ↔ (wholeRefusal s ≡ 0) × (room ≡ fileLength (sheetHead s))
+  pub exported-when : (exportRefusal s room ≡ 0) ↔ (wholeRefusal (sheetHead s) s ≡ 0) × (room ≡ fileLength (sheetHead s))
   unfolding exportRefusalBy
   exported-when =
-      let a = accepted-when (room-rules (wholeRefusal s) (fileLength (sheetHead s)) room) in
+      let a = accepted-when (room-rules (wholeRefusal (sheetHead s) s) (fileLength (sheetHead s)) room) in
       (λ e. (a .0 e .0, a .0 e .1 .0), λ m. a .1 (m .0, (m .1, tt)))
 
 -- no rule behind the first gives 15

@@ -15,6 +15,8 @@ use Rattle.head_rules.specs.declared.Head.{Head}
 use Rattle.head_rules.specs.Geometry.{blocksOf, placeOf, storedAt}
 use Rattle.head_rules.specs.Heads.{headOf, readHead, under}
 use Rattle.head_rules.specs.Numbers.{Bytes}
+use Rattle.head_rules.proofs.Heading.{head-told}
+use Rattle.head_rules.proofs.Whole.{whole-when}
 use Rattle.laws.specs.Refusals.{Given}
 use Rattle.laws.proofs.Refusals.{answer-0, exactly}
 use Rattle.dds_rules.specs.Header.{Another, canonicalHeader, headerLength}
@@ -24,9 +26,8 @@ use Rattle.dds_rules.specs.Files.{importAfter, importAfterUpTo, importAn
 use Rattle.dds_rules.specs.Files.{numberedRefusal, numberedRules, said, sheetHead, sheetMade, wholeRules}
 use Rattle.dds_rules.specs.Promises.{ExportNeeds, Exports, ExportsNumbered, ImportNeeds, Imports}
 use Rattle.dds_rules.proofs.Numbered.{numbered-rules}
-use Rattle.dds_rules.proofs.Refusing.{export-rules, exported-when, fifteen, file-rules, head-told, import-rules, imported-when, taken}
-use Rattle.dds_rules.proofs.Refusing.{taken-so, whole}
-use Rattle.dds_rules.proofs.Refusing.{whole-rules, whole-so}
+use Rattle.dds_rules.proofs.Refusing.{export-rules, exported-when, fifteen, file-rules, import-rules, imported-when, sheet-rules}
+use Rattle.dds_rules.proofs.Refusing.{taken, taken-so}
 use Rattle.dds_rules.proofs.Making.{file-again, file-taken, head-again, sheet-again, sheet-blocks, sheet-head, sheet-read}
 use Rattle.dds_rules.proofs.Making.{sheet-whole}
 
@@ -59,19 +60,19 @@ module _ (s : List ℕ) (y : Bytes s) (c : ColourSpace) (out back : List ℕ) (e
   again : importRefusal (fileMade s c) (length back) ≡ 0
   unfolding blocksOf
   again =
-      let w = whole s (exported-when s (length out) .0 e .0) in
+      let w = whole-when (sheetHead s) s .0 (exported-when s (length out) .0 e .0) in
       imported-when (fileMade s c) (length back) .1
       (taken-so (fileMade s c) (file-taken s y w c), l ∙ w .long ∙ ap (λ (h : Head). h .start + 16 * blocksOf h) (sym (head-again s y w c)))
 
   pub import-exported : (importRefusal (exportAfter s c out) (length back) ≡ 0) × (importAfter (exportAfter s c out) back ≡ s)
   import-exported =
-      let w = whole s (exported-when s (length out) .0 e .0) in
+      let w = whole-when (sheetHead s) s .0 (exported-when s (length out) .0 e .0) in
       rw (exported-is s c out e) (again, imported-is (fileMade s c) back again ∙ sheet-again s y w c)
 
   -- and import answers its head, with the colour space that was given; but unspecified comes back as linear
   pub head-exported : importAnswer (exportAfter s c out) (length back) ≡ under (said c) (sheetHead s)
   head-exported =
-      let w = whole s (exported-when s (length out) .0 e .0) in
+      let w = whole-when (sheetHead s) s .0 (exported-when s (length out) .0 e .0) in
       rw (exported-is s c out e) (import-answers-head (fileMade s c) (length back) again ∙ head-again s y w c)
 
 pub colour-comes-back : (c : ColourSpace) → c ≢ Unspecified → said c ≡ c
@@ -90,7 +91,7 @@ unfolding blocksOf
 export-imported dds out c back e l =
     let t = taken dds (imported-when dds (length out) .0 e .0) in
     let again : exportRefusal (sheetMade dds) (length back) ≡ 0 = exported-when (sheetMade dds) (length back) .1
-    (whole-so (sheetMade dds) (sheet-whole dds t), l ∙ t .long ∙ ap fileLength (sym (sheet-head dds (t .size)))) in
+    (whole-when (sheetHead (sheetMade dds)) (sheetMade dds) .1 (sheet-whole dds t), l ∙ t .long ∙ ap fileLength (sym (sheet-head dds (t .size)))) in
     rw (imported-is dds out e) (again, exported-is (sheetMade dds) c back again ∙ file-again dds (t .size) c)
 
 -- so byte for byte the file itself, where its header was as export writes it and the colour space is the one that import answered
@@ -138,7 +139,7 @@ import-length-refused-when dds = exactly (file-rules dds)
 
 pub export-length-refused-when : (s : List ℕ) (n : ℕ) → (exportLength s .refusal ≡ n) ↔ Given (wholeRules s) n
 unfolding exportLength
-export-length-refused-when s = exactly (whole-rules s)
+export-length-refused-when s = exactly (sheet-rules s)
 
 -- and an output is taken exactly when it has the length that they answer
 pub import-length-serves : (dds : List ℕ) (room : ℕ)

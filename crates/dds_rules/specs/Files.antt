@@ -13,8 +13,9 @@ use Rattle.head_rules.specs.declared.Head.{Head}
 use Rattle.head_rules.specs.Colours.{colourOf, colourRefusal}
 use Rattle.head_rules.specs.Geometry.{blocksOf, wholeLength}
 use Rattle.head_rules.specs.declared.Form.the-variants.{Rows}
-use Rattle.head_rules.specs.Heads.{Sized, formIn, formNumber, headBytes, headOf, heightIn, limit, readOfForm, rowsRules, sizeRefusal}
+use Rattle.head_rules.specs.Heads.{Sized, formIn, formNumber, headAs, headBytes, headOf, heightIn, limit, readOfForm, rowsRules, sizeRefusal}
 use Rattle.head_rules.specs.Heads.{sizeRefusalUpTo, under, widthIn}
+use Rattle.head_rules.specs.Whole.{wholeHead, wholeRefusal, wholeRule}
 use Rattle.laws.specs.Refusals.{Rule, first, handed, refuse, unless}
 use Rattle.laws.specs.Tables.{pick}
 use Rattle.dds_rules.specs.Header.{Texture, canonicalHeader, fieldIn, format, formatSays, headerLength, height, isTexture, width}
@@ -22,10 +23,6 @@ use Rattle.dds_rules.specs.Header.{Texture, canonicalHeader, fieldIn, fo
 -- the bytes of a DDS file with the blocks of a sheet whose head is h
 abbrev pub fileLength : Head → ℕ
 fileLength h = headerLength + 16 * blocksOf h
-
--- a head, or the refusal and zeros
-abbrev pub headAs : ℕ → Head → Head
-headAs r h = pick (eqb r 0) h (headOf r 0 0 0)
 
 -- IMPORT. The head that a file makes: the file's sides, the first block behind the bytes that writing them gives, and the colour space that
 -- the format says
@@ -73,14 +70,8 @@ sheetHead s = readOfForm Rows s
 
 -- under a colour space, of a sheet whose head was read as h, by whatever limit. 7, 8, 9 of the head, then 10, whatever the output;
 -- then 11, by the output's length
-unfoldable pub wholeRefusalBy : Head → List ℕ → ℕ
-wholeRefusalBy h s = first (h .refusal ∷ refuse 10 (not (eqb (length s) (wholeLength h))) ∷ [])
-
-abbrev pub wholeRefusal : List ℕ → ℕ
-wholeRefusal s = wholeRefusalBy (sheetHead s) s
-
 unfoldable pub exportRefusalBy : Head → List ℕ → ℕ → ℕ
-exportRefusalBy h s room = first (wholeRefusalBy h s ∷ refuse 11 (not (eqb room (fileLength h))) ∷ [])
+exportRefusalBy h s room = first (wholeRefusal h s ∷ refuse 11 (not (eqb room (fileLength h))) ∷ [])
 
 abbrev pub exportRefusal : List ℕ → ℕ → ℕ
 exportRefusal s room = exportRefusalBy (sheetHead s) s room
@@ -130,14 +121,14 @@ unfoldable pub importLength : List ℕ → Length
 importLength dds = lengthAs (fileRefusal dds) (wholeLength (headMade dds))
 
 unfoldable pub exportLength : List ℕ → Length
-exportLength s = lengthAs (wholeRefusal s) (fileLength (sheetHead s))
+exportLength s = lengthAs (wholeRefusal (sheetHead s) s) (fileLength (sheetHead s))
 
 -- what is known of a file and of a sheet before the output is looked at
 unfoldable pub importHead : List ℕ → Head
 importHead dds = headAs (fileRefusal dds) (headMade dds)
 
-unfoldable pub exportHead : List ℕ → Head
-exportHead s = headAs (wholeRefusal s) (sheetHead s)
+abbrev pub exportHead : List ℕ → Head
+exportHead s = wholeHead (sheetHead s) s
 
 -- THE RULES IN WORDS
 abbrev pub fileRules : List ℕ → List Rule
@@ -151,7 +142,7 @@ abbrev pub importRules : List ℕ → ℕ → List Rule
 importRules dds room = fileRules dds ++ (unless 11 (room ≡ wholeLength (headMade dds)) ∷ [])
 
 abbrev pub wholeRules : List ℕ → List Rule
-wholeRules s = rowsRules s ++ (unless 10 (length s ≡ wholeLength (sheetHead s)) ∷ [])
+wholeRules s = rowsRules s ++ (wholeRule (sheetHead s) s ∷ [])
 
 abbrev pub exportRules : List ℕ → ℕ → List Rule
 exportRules s room = wholeRules s ++ (unless 11 (room ≡ fileLength (sheetHead s)) ∷ [])
@@ -164,6 +155,6 @@ numberedRules s n room =
     handed (heightIn s .refusal) ∷
     unless 18 (n ≤ 2) ∷
     unless 9 (Sized (widthIn s .value) (heightIn s .value)) ∷
-    unless 10 (length s ≡ wholeLength (sheetHead s)) ∷
+    wholeRule (sheetHead s) s ∷
     unless 11 (room ≡ fileLength (sheetHead s)) ∷
     []

@@ -9,6 +9,7 @@ use Rattle.head_rules.specs.declared.ColourSpace.the-variants.{Unspecifi
 use Rattle.head_rules.specs.declared.Head.{Head}
 use Rattle.head_rules.specs.declared.Form.the-variants.{Rows, Tiles}
 use Rattle.head_rules.specs.declared.HeadBytes.{HeadBytes}
+use lib.ListN.{replicate}
 use Rattle.laws.specs.Padding.{padded}
 use Rattle.laws.specs.Refusals.{first}
 use Rattle.head_rules.specs.Colours.{colourNumber, colourOf, colourRefusal}
@@ -21,6 +22,7 @@ use Rattle.tile_rules.specs.Tiles.{columnAt, columnOfSlot, inSheet, mostAcross,
 use Rattle.head_rules.specs.Geometry.{across, blocksOf, outLength, placeOf, rowLength, sideShown, storedAt, wholeLength}
 use Rattle.head_rules.specs.Reader.{Reading, atForm, byteTaken, colourTaken, formTaken, groupTaken, lastTaken, readBy, sizeTaken}
 use Rattle.head_rules.specs.Numbers.{groups, numberBytes, raised, readGroups, readNumber}
+use Rattle.head_rules.specs.Whole.{wholeHead, wholeRefusal}
 
 -- what was read: the number and the place behind it; or nothing
 abbrev number : ℕ → ℕ → Number
@@ -51,6 +53,13 @@ reading h rest = record { head = h; rest = rest }
 -- a head that was written
 abbrev written : ℕ → List ℕ → ℕ → HeadBytes
 written r bs n = record { refusal = r; bytes = bs; count = n }
+
+-- sheets of 5 by 9 pixels, six blocks, of either form: a head, and so many bytes behind it
+abbrev inRows : ℕ → List ℕ
+inRows n = 0x01 ∷ 0x05 ∷ 0x09 ∷ replicate n 0
+
+abbrev inTiles : ℕ → List ℕ
+inTiles n = 0x02 ∷ 0x05 ∷ 0x09 ∷ 0x02 ∷ replicate n 0
 
 pub record Heads : Type 0 where
   pub numbers-written : map numberBytes (0 ∷ 127 ∷ 128 ∷ 16383 ∷ 16384 ∷ 2097151 ∷ [])
@@ -113,11 +122,19 @@ pub record Heads : Type 0 where
   -- 3 by 2 blocks, in rows and in tiles: 0 1 3 4 2 5 is the stored order
   pub blocks-in-rows : map (placeOf (head 12 8 3)) (0 ∷ 1 ∷ 2 ∷ 3 ∷ 4 ∷ 5 ∷ []) ≡ 3 ∷ 19 ∷ 35 ∷ 51 ∷ 67 ∷ 83 ∷ []
   pub blocks-in-tiles : map (placeOf (tiled Unspecified 12 8 4)) (0 ∷ 1 ∷ 3 ∷ 4 ∷ 2 ∷ 5 ∷ []) ≡ 4 ∷ 20 ∷ 36 ∷ 52 ∷ 68 ∷ 84 ∷ []
+  -- a whole sheet, a byte less, a byte more; then a head that is refused, whatever stands behind it
+  pub whole-sheets : map (λ (s : List ℕ). wholeHead (readHead s) s)
+      (inRows 96 ∷ inRows 95 ∷ inRows 97 ∷ inTiles 96 ∷ inTiles 95 ∷ inTiles 97 ∷ (0x01 ∷ 0x05 ∷ []) ∷ (0x01 ∷ 0x00 ∷ 0x09 ∷ 0x60 ∷ []) ∷ [])
+      ≡ head 5 9 3 ∷ noHead 10 ∷ noHead 10 ∷ tiled Srgb 5 9 4 ∷ noHead 10 ∷ noHead 10 ∷ noHead 7 ∷ noHead 9 ∷ []
+  -- read by who takes form 1 alone
+  pub whole-in-rows : map (λ (s : List ℕ). wholeRefusal (readOfForm Rows s) s) (inRows 96 ∷ inRows 95 ∷ inRows 97 ∷ inTiles 96 ∷ inTiles 95 ∷ [])
+      ≡ 0 ∷ 10 ∷ 10 ∷ 8 ∷ 8 ∷ []
 
 pub heads-hold : Heads
 unfolding groups readGroups readNumber raised readHeadUpTo headRefusalUpTo formIn widthIn heightIn colourIn first sizeRefusalUpTo writeHeadUpTo
     headBytes tiledBytes padded formTaken sizeTaken colourTaken lastTaken groupTaken readBy blocksOf placeOf colourOf colourRefusal formOf
-    readOfFormUpTo ofFormRefusalUpTo storedAt storedInTiles count slotOf slotIn inSheet columnAt columnOfSlot rowAt rowOfSlot tiles
+    readOfFormUpTo ofFormRefusalUpTo storedAt storedInTiles count slotOf slotIn inSheet columnAt columnOfSlot rowAt rowOfSlot tiles wholeHead
+    wholeRefusal
 heads-hold = record {
   numbers-written = refl;
   numbers-read = refl;
@@ -142,4 +159,6 @@ heads-hold = record {
   blocks-placed = refl;
   blocks-in-rows = refl;
   blocks-in-tiles = refl;
+  whole-sheets = refl;
+  whole-in-rows = refl;
 }

@@ -5,8 +5,7 @@ use mathlib.Core.Logic.{_≢_, inl, inr, ⊎-elim}
 use mathlib.Core.Bool.{true, not}
 use mathlib.Core.List.{List, [], _∷_}
 use Prim.Native.Nat.{ℕ}
-use native.Mathlib.Nat.{eq-zero-or-pos}
-use native.Mathlib.Omega.{arith}
+use native.Mathlib.Decide.{ℕ-discrete}
 use borrow.Author.Tests.{eq-eqb, eqb-true, le-leb, leb-true, ne-eqb}
 use lib.Dec.{eqb, leb}
 use Rattle.head_rules.specs.declared.Head.{Head}
@@ -18,9 +17,21 @@ use Rattle.laws.proofs.First.{first-last, first-skip}
 use Rattle.laws.proofs.Refusals.{Answers, Decided, answers, by-answer, by-not, by-not-eqb, decided-is, decided-not, decided-so, exactly, none, rule}
 use Rattle.laws.proofs.Refusals.{rules}
 use Rattle.laws.proofs.Tests.{both-true}
-use Rattle.head_rules.specs.Heads.{IsForm, SizedUpTo, formIn, formNumber, formOf, headOf, headRefusalUpTo, headRulesUpTo, headTold}
+use Rattle.head_rules.specs.Heads.{IsForm, SizedUpTo, formIn, formNumber, formOf, headAs, headOf, headRefusalUpTo, headRulesUpTo, headTold}
 use Rattle.head_rules.specs.Heads.{ofFormRefusalUpTo, ofFormRulesUpTo, readHeadUpTo, readOfFormUpTo, sideUpTo, sizeRefusalUpTo}
 use Rattle.head_rules.proofs.Colours.{colour-test}
+
+-- what a head says that was answered: the number, and where it is 0 the head
+module _ (r : ℕ) (h : Head) (same : r ≡ 0 → h .refusal ≡ 0) {x : Head} (e : x ≡ headAs r h) where
+  abbrev Said : Type 0
+  Said = (x .refusal ≡ r) × (r ≡ 0 → x ≡ h)
+
+  pub head-told : Said
+  head-told = go (ℕ-discrete r 0)
+    where
+      go : Dec (r ≡ 0) → Said
+      go (yes z) = let k : x ≡ h = e ∙ rw (eq-eqb r 0 z) in (ap (λ (y : Head). y .refusal) k ∙ same z ∙ sym z, λ q. k)
+      go (no n) = let k : x ≡ headOf r 0 0 0 = e ∙ rw (ne-eqb r 0 n) in (ap (λ (y : Head). y .refusal) k, λ q. absurd (n q))
 
 -- refusal 9
 module _ (top w h : ℕ) where
@@ -89,10 +100,8 @@ module _ (top : ℕ) (s : List ℕ) where
   accepted e = rw (eq-eqb (headRefusalUpTo top s) 0 e)
 
   pub refusal-is : (readHeadUpTo top s) .refusal ≡ headRefusalUpTo top s
-  refusal-is =
-      ⊎-elim (λ z. sym (ap (λ (h : Head). h .refusal) (accepted z)) ∙ sym z)
-      (λ p. sym (ap (λ (h : Head). h .refusal) (refused (headRefusalUpTo top s) refl (λ q. omega arith))))
-      (eq-zero-or-pos (headRefusalUpTo top s))
+  unfolding readHeadUpTo
+  refusal-is = head-told (headRefusalUpTo top s) (headTold s) (λ z. refl) refl .0
 
 -- one form only: the form is looked at first, and where it is f's the rest is as for any head
 module _ (top : ℕ) (f : Form) (s : List ℕ) where
@@ -120,8 +129,5 @@ module _ (top : ℕ) (f : Form) (s : List ℕ) where
       )
 
   pub of-form-number : readOfFormUpTo top f s .refusal ≡ ofFormRefusalUpTo top f s
-  of-form-number =
-      ⊎-elim (λ z. sym (ap (λ (h : Head). h .refusal) (of-form-told z)) ∙ sym z)
-      (λ p. let ne : ofFormRefusalUpTo top f s ≢ 0 = λ q. omega arith in
-      sym (ap (λ (h : Head). h .refusal) (of-form-not (ofFormRefusalUpTo top f s) (of-form-rules .given) ne)))
-      (eq-zero-or-pos (ofFormRefusalUpTo top f s))
+  unfolding readOfFormUpTo
+  of-form-number = head-told (ofFormRefusalUpTo top f s) (headTold s) (λ z. refl) refl .0

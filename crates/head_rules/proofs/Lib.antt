@@ -9,3 +9,4 @@ pub mod Heading
 pub mod Limits
 pub mod Bytewise
 pub mod Theorems
+pub mod Whole

@@ -127,9 +127,13 @@ under c h = headIn (h .form) c (h .refusal) (h .width) (h .height) (h .start)
 abbrev pub headTold : List ℕ → Head
 headTold s = headIn (formOf (formIn s .value)) (colourOf (colourIn s .value)) 0 (widthIn s .value) (heightIn s .value) (colourIn s .next)
 
+-- a head, or the refusal and zeros
+abbrev pub headAs : ℕ → Head → Head
+headAs r h = pick (eqb r 0) h (headOf r 0 0 0)
+
 -- reading a head of either form, where the largest side is `top`
 unfoldable pub readHeadUpTo : ℕ → List ℕ → Head
-readHeadUpTo top s = pick (eqb (headRefusalUpTo top s) 0) (headTold s) (headOf (headRefusalUpTo top s) 0 0 0)
+readHeadUpTo top s = headAs (headRefusalUpTo top s) (headTold s)
 
 abbrev pub readHead : List ℕ → Head
 readHead s = readHeadUpTo limit s
@@ -142,7 +146,7 @@ abbrev pub ofFormRefusal : Form → List ℕ → ℕ
 ofFormRefusal f s = ofFormRefusalUpTo limit f s
 
 unfoldable pub readOfFormUpTo : ℕ → Form → List ℕ → Head
-readOfFormUpTo top f s = pick (eqb (ofFormRefusalUpTo top f s) 0) (headTold s) (headOf (ofFormRefusalUpTo top f s) 0 0 0)
+readOfFormUpTo top f s = headAs (ofFormRefusalUpTo top f s) (headTold s)
 
 abbrev pub readOfForm : Form → List ℕ → Head
 readOfForm f s = readOfFormUpTo limit f s

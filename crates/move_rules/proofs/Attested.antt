@@ -15,6 +15,7 @@ use Rattle.head_rules.specs.Geometry.{blocksOf, placeOf, storedAt}
 use Rattle.head_rules.specs.Heads.{colourIn, formIn, formOf, headBytes, headRefusalUpTo, heightIn, ofFormRefusalUpTo, readHeadUpTo, readOfFormUpTo}
 use Rattle.head_rules.specs.Heads.{sizeRefusalUpTo, tiledBytes, widthIn}
 use Rattle.head_rules.specs.Numbers.{groups, raised, readGroups, readNumber}
+use Rattle.head_rules.specs.Whole.{wholeRefusal}
 use Rattle.sheet_rules.specs.Pictures.{blocksAs, byteAs}
 use Rattle.bcn_format.specs.Block.{blockAt}
 use Rattle.sheet_rules.specs.Sheets.{blockBy}
@@ -49,7 +50,7 @@ pub record Moves : Type 0 where
   pub refused-leaves : moveAfter Rows (inTiles 2) (replicate 99 9) ≡ replicate 99 9
 
 pub moves-hold : Moves
-unfolding moveAfter moveRefusal movedTo readOfFormUpTo ofFormRefusalUpTo first groups readGroups readNumber raised readHeadUpTo headRefusalUpTo
+unfolding moveAfter moveRefusal movedTo readOfFormUpTo ofFormRefusalUpTo wholeRefusal first groups readGroups readNumber raised readHeadUpTo headRefusalUpTo
     formIn widthIn heightIn colourIn sizeRefusalUpTo headBytes tiledBytes blocksOf colourOf colourRefusal formOf storedInTiles count slotOf
     slotIn inSheet columnAt columnOfSlot rowAt rowOfSlot tiles blocksAs byteAs blockBy blockAt placeOf storedAt table tableFrom
     numberInTiles storedOrder kept numberInSlot slots

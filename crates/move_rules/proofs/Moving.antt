@@ -21,7 +21,9 @@ use Rattle.head_rules.specs.Colours.{colourNumber}
 use Rattle.head_rules.specs.Geometry.{across, blocksOf, placeOf, storedAt, storedBy, wholeLength}
 use Rattle.head_rules.specs.Heads.{bytesOfHead, headSpelt, readHead, readOfForm}
 use Rattle.head_rules.specs.Numbers.{Bytes}
+use Rattle.head_rules.specs.Whole.{wholeRefusal}
 use Rattle.head_rules.proofs.Theorems.{head-long, head-one-form, head-sized, of-form-is, of-form-when, spelt-read-back}
+use Rattle.head_rules.proofs.Whole.{whole-when}
 use Rattle.sheet_rules.specs.Pictures.{blocksAs}
 use Rattle.bcn_format.specs.Block.{blockAt}
 use Rattle.sheet_rules.specs.Sheets.{blockBy}
@@ -41,22 +43,16 @@ unstated Srgb e = absurd (let q : ⊥ = omega (arith, e) in q)
 stated-test : (c : ColourSpace) → Decided (refuse 16 (not (eqb (colourNumber c) 0))) 16 (c ≡ Unspecified)
 stated-test c = by-not tt (eqb (colourNumber c) 0) (λ e. unstated c (eqb-true _ 0 e)) (λ e. rw e)
 
--- the rules by a head h that was read, as the code looks at them
-abbrev pub byHead : Form → Head → List ℕ → ℕ → List Rule
-byHead f h s room =
-    handed (h .refusal) ∷
-    unless 10 (length s ≡ wholeLength h) ∷
-    unless 11 (room ≡ wholeLength (headInForm f h)) ∷
-    unless 16 (h .«colour_space» ≡ Unspecified) ∷
-    []
+-- the rules of a whole sheet whose head is h, as the code looks at them
+abbrev pub behindWhole : Form → Head → ℕ → List Rule
+behindWhole f h room = unless 11 (room ≡ wholeLength (headInForm f h)) ∷ unless 16 (h .«colour_space» ≡ Unspecified) ∷ []
 
 module _ (f : Form) (s : List ℕ) (room : ℕ) where
-  pub handing : Answers (moveRefusal f s room) (byHead f (readOfForm (other f) s) s room)
+  pub handing : Answers (moveRefusal f s room) (handed (wholeRefusal (readOfForm (other f) s) s) ∷ behindWhole f (readOfForm (other f) s) room)
   unfolding moveRefusal
   handing =
       let h = readOfForm (other f) s in
-      answers (rule by-answer λ m. rule (by-not-eqb tt (length s) (wholeLength h)) λ l. rule
-      (by-not-eqb tt room (wholeLength (headInForm f h))) λ r. rule (stated-test (h .«colour_space»)) λ c. none)
+      answers (rule by-answer λ w. rule (by-not-eqb tt room (wholeLength (headInForm f h))) λ r. rule (stated-test (h .«colour_space»)) λ c. none)
 
   -- what an accepted move has
   pub record Movable : Type 0 where
@@ -69,20 +65,30 @@ module _ (f : Form) (s : List ℕ) (room : ℕ) where
 
   pub movable : moveRefusal f s room ≡ 0 → Movable
   movable e =
-      let (z, (l, (r, (c, u)))) = handing .met e in
-      let (q, k) = of-form-is (other f) s z in
+      let (w, (r, (c, u))) = handing .met e in
+      let z = whole-when (readOfForm (other f) s) s .0 w in
+      let (q, k) = of-form-is (other f) s (z .told) in
       record {
         same = q;
-        told = ap (λ (h : Head). h .refusal) (sym q) ∙ z;
+        told = ap (λ (h : Head). h .refusal) (sym q) ∙ z .told;
         form-is = k;
-        long = subst (λ (h : Head). length s ≡ wholeLength h) q l;
+        long = subst (λ (h : Head). length s ≡ wholeLength h) q (z .long);
         space = subst (λ (h : Head). room ≡ wholeLength (headInForm f h)) q r;
         unstated-head = subst (λ (h : Head). h .«colour_space» ≡ Unspecified) q c;
       }
 
   pub accepts : Movable → moveRefusal f s room ≡ 0
-  accepts m = accepted-when handing .1
-      (rw (m .same) (m .told), (rw (m .same) (m .long), (rw (m .same) (m .space), (rw (m .same) (m .unstated-head), tt))))
+  accepts m = accepted-when handing .1 (
+    rw (m .same) (whole-when (readHead s) s .1 (record { told = m .told; long = m .long })),
+    (
+      rw (m .same) (m .space),
+      (
+        rw (m .same)
+            (m .unstated-head),
+        tt,
+      ),
+    ),
+  )
 
 -- the output of an accepted move, and of a refused one
 module _ (f : Form) (s out : List ℕ) where

@@ -10,6 +10,7 @@ use Rattle.head_rules.specs.Geometry.{blocksOf}
 use Rattle.head_rules.specs.Heads.{colourIn, formIn, formOf, headRefusalUpTo, heightIn, ofFormRefusalUpTo, readHeadUpTo, readOfFormUpTo}
 use Rattle.head_rules.specs.Heads.{sizeRefusalUpTo, tiledBytes, widthIn}
 use Rattle.head_rules.specs.Numbers.{groups, raised, readGroups, readNumber}
+use Rattle.head_rules.specs.Whole.{wholeRefusal}
 use Rattle.move_rules.specs.Stating.{stateAfter, stateRefusal, statedAs}
 
 -- 128 pixels by 1, which is 80 01 and 01, so 32 blocks: the colour space is byte 4
@@ -28,6 +29,6 @@ pub record States : Type 0 where
   pub refused-leaves : stateAfter (sheet 1) 258 ∷ stateAfter (longer (sheet 1)) 2 ∷ [] ≡ sheet 1 ∷ longer (sheet 1) ∷ []
 
 pub states-hold : States
-unfolding stateAfter stateRefusal statedAs readOfFormUpTo ofFormRefusalUpTo first groups readGroups readNumber raised readHeadUpTo headRefusalUpTo
+unfolding stateAfter stateRefusal statedAs readOfFormUpTo ofFormRefusalUpTo wholeRefusal first groups readGroups readNumber raised readHeadUpTo headRefusalUpTo
     formIn widthIn heightIn colourIn sizeRefusalUpTo tiledBytes blocksOf colourOf colourRefusal formOf
 states-hold = record { stated = refl; stated-anew = refl; answers = refl; numbers = refl; refused-leaves = refl }

@@ -9,8 +9,8 @@ use native.Mathlib.Omega.{arith}
 use borrow.Author.Tests.{ne-eqb}
 use lib.ListN.{length, set, take, drop, length-append}
 use lib.Seq.{drop-append-seam, drop-drop, set-at}
-use Rattle.laws.specs.Refusals.{Given, handed}
-use Rattle.laws.proofs.Refusals.{Answers, answers, by-answer, by-not-eqb, exactly, none, rule, rules}
+use Rattle.laws.specs.Refusals.{Given, handed, unless}
+use Rattle.laws.proofs.Refusals.{Answers, answers, by-answer, exactly, none, rule, rules}
 use Rattle.head_rules.specs.declared.ColourSpace.{ColourSpace}
 use Rattle.head_rules.specs.declared.ColourSpace.the-variants.{Unspecified, Linear, Srgb}
 use Rattle.head_rules.specs.declared.Form.{Form}
@@ -20,26 +20,26 @@ use Rattle.head_rules.specs.Colours.{colourNumber, colourOf}
 use Rattle.head_rules.specs.Geometry.{placeOf, storedAt, wholeLength}
 use Rattle.head_rules.specs.Heads.{bytesOfHead, formNumber, headIn, headSpelt, readHead, readOfForm, tiledBytes, under}
 use Rattle.head_rules.specs.Numbers.{Bytes, groups, numberBytes}
+use Rattle.head_rules.specs.Whole.{wholeRefusal}
 use Rattle.head_rules.proofs.Colours.{colour-test, number-back}
 use Rattle.head_rules.proofs.Theorems.{head-long, head-one-form, head-sized, of-form-answers, of-form-is, spelt-read-back}
+use Rattle.head_rules.proofs.Whole.{whole-rules, whole-when}
 use Rattle.sheet_rules.specs.Pictures.{allBlocks, picture}
 use Rattle.bcn_format.specs.Block.{blockAt}
 use Rattle.sheet_rules.specs.Sheets.{blockBy, blockIn}
 use Rattle.sheet_rules.proofs.Pictures.{all-same}
-use Rattle.move_rules.specs.Stating.{StatesColour, stateAfter, stateBehindHead, stateRefusal, stateRules, statedAs}
+use Rattle.move_rules.specs.Stating.{StatesColour, stateAfter, stateRefusal, stateRules, statedAs}
 
 module _ (s : List ℕ) (n : ℕ) where
   -- each refusal number is given exactly when `stateRules` says
   pub state-refused-when : (k : ℕ) → (stateRefusal s n ≡ k) ↔ Given (stateRules s n) k
   unfolding stateRefusal
   state-refused-when =
-      exactly (answers (rules (of-form-answers Tiles s) λ m. rule (by-not-eqb tt (length s) (wholeLength (readOfForm Tiles s))) λ l. rule
-      (colour-test n) λ c. none))
+      exactly (answers (rules (whole-rules (readOfForm Tiles s) s (of-form-answers Tiles s)) λ w. rule (colour-test n) λ c. none))
 
-  pub handing : Answers (stateRefusal s n) (handed (readOfForm Tiles s .refusal) ∷ stateBehindHead (readOfForm Tiles s) s n)
+  pub handing : Answers (stateRefusal s n) (handed (wholeRefusal (readOfForm Tiles s) s) ∷ unless 18 (n ≤ 2) ∷ [])
   unfolding stateRefusal
-  handing =
-      answers (rule by-answer λ m. rule (by-not-eqb tt (length s) (wholeLength (readOfForm Tiles s))) λ l. rule (colour-test n) λ c. none)
+  handing = answers (rule by-answer λ w. rule (colour-test n) λ c. none)
 
   -- what an accepted call has
   pub record Statable : Type 0 where
@@ -51,13 +51,14 @@ module _ (s : List ℕ) (n : ℕ) where
 
   pub statable : stateRefusal s n ≡ 0 → Statable
   statable e =
-      let (z, (l, (k, u))) = handing .met e in
-      let (q, f) = of-form-is Tiles s z in
+      let (w, (k, u)) = handing .met e in
+      let z = whole-when (readOfForm Tiles s) s .0 w in
+      let (q, f) = of-form-is Tiles s (z .told) in
       record {
-        told = ap (λ (h : Head). h .refusal) (sym q) ∙ z;
+        told = ap (λ (h : Head). h .refusal) (sym q) ∙ z .told;
         same = q;
         form-is = f;
-        long = subst (λ (h : Head). length s ≡ wholeLength h) q l;
+        long = subst (λ (h : Head). length s ≡ wholeLength h) q (z .long);
         small = k;
       }
 

@@ -29,8 +29,9 @@ use Rattle.sheet_rules.specs.Pictures.{allBlocks, picture, rowOf}
 use Rattle.sheet_rules.specs.Rows.{rowOut, rowRefusal}
 use Rattle.sheet_rules.specs.SheetRows.{rowBlocks, sheetRowOut, sheetRowRefusal}
 use Rattle.sheet_rules.specs.Sheets.{blockBy, blockIn, findRefusal, sheetAfter, sheetRefusal}
-use Rattle.sheet_rules.proofs.Calling.{all-block, answered-as-block, beyond}
+use Rattle.sheet_rules.proofs.Calling.{acting}
 use Rattle.sheet_rules.proofs.Finding.{finding}
+use Rattle.sheet_rules.proofs.OnBlocks.{all-block, answered-as-block, beyond}
 use Rattle.sheet_rules.proofs.Pictures.{all-same}
 use Rattle.sheet_rules.proofs.SheetRows.{equals-the-first}
 use Rattle.move_rules.specs.Moving.{MovesTo, headInForm, moveAfter, moveRefusal, moveRules, movedTo, other}
@@ -188,9 +189,9 @@ module _ (f : Form) (s out : List ℕ) (y : Bytes s) (e : moveRefusal f s (lengt
 
   same-call : (c : SheetCall) → refusalOn t c ≡ refusalOn s c
   same-call c = ⊎-elim
-      (λ l. answered-as-block t whole-there c (rw as-many l) ∙ ap (λ (x : List ℕ). refusal x (onBlock c)) (same-block (c .block) l)
-      ∙ sym (answered-as-block s whole c l))
-      (λ l. beyond t whole-there c (rw as-many l) ∙ sym (beyond s whole c l))
+      (λ l. answered-as-block acting t whole-there c (rw as-many l) ∙ ap (λ (x : List ℕ). refusal x (onBlock c)) (same-block (c .block) l)
+      ∙ sym (answered-as-block acting s whole c l))
+      (λ l. beyond acting t whole-there c (rw as-many l) ∙ sym (beyond acting s whole c l))
       (lt-or (c .block) (blocksOf (readHead s)))
 
   pub same-answer : (b l : ℕ) (new : Replacement) → sheetRefusal t b l new ≡ sheetRefusal s b l new
@@ -198,7 +199,8 @@ module _ (f : Form) (s out : List ℕ) (y : Bytes s) (e : moveRefusal f s (lengt
 
   pub same-after-all : (cs : List SheetCall) (b : ℕ) → b < blocksOf (readHead s) → blockIn (sheetWithAll t cs) b ≡ blockIn (sheetWithAll s cs) b
   same-after-all cs b l =
-      all-block cs t whole-there b (rw as-many l) ∙ ap (λ (x : List ℕ). afterAll x (callsOn b cs)) (same-block b l) ∙ sym (all-block cs s whole b l)
+      all-block acting cs t whole-there b (rw as-many l) ∙ ap (λ (x : List ℕ). afterAll x (callsOn b cs)) (same-block b l)
+      ∙ sym (all-block acting cs s whole b l)
 
   pub same-after : (a l : ℕ) (new : Replacement) (b : ℕ) → b < blocksOf (readHead s)
       → blockIn (sheetAfter t a l new) b ≡ blockIn (sheetAfter s a l new) b

@@ -6,20 +6,21 @@ use mathlib.Core.Bool.{not}
 use mathlib.Core.List.{List, [], _∷_, _++_}
 use Prim.Native.Nat.{ℕ}
 use lib.Dec.{eqb}
-use lib.ListN.{length}
 use Rattle.laws.specs.Refusals.{Given, Rule, accepted, here, refuse, then}
 use Rattle.laws.proofs.First.{first-none, first-skip}
-use Rattle.laws.proofs.Refusals.{Answers, Decided, Tests, accepted-when, answers, by-not-eqb, none, rule, rules}
+use Rattle.laws.proofs.Refusals.{Answers, Decided, Met, Tests, accepted-when, answers, by-not-eqb, none, rule, rules}
 use Rattle.head_rules.specs.declared.Form.{Form}
 use Rattle.head_rules.specs.declared.Form.the-variants.{Rows, Tiles}
 use Rattle.head_rules.specs.declared.Head.{Head}
 use Rattle.head_rules.specs.Colours.{colourNumber}
 use Rattle.head_rules.specs.Geometry.{wholeLength}
 use Rattle.head_rules.specs.Heads.{colourIn, limit, ofFormRules, readHead, readOfForm}
+use Rattle.head_rules.specs.Whole.{wholeRefusal, wholeRule}
 use Rattle.head_rules.proofs.Colours.{number-back}
 use Rattle.head_rules.proofs.Heading.{accepted as accepted-head, refusal-is}
 use Rattle.head_rules.proofs.Theorems.{form-1-unspecified, of-form-answers, of-form-is, parts, rows-answers}
-use Rattle.move_rules.specs.Moving.{headInForm, lengthRules, moveRefusal, moveRules, tilesRules}
+use Rattle.head_rules.proofs.Whole.{whole-rules-as, whole-when}
+use Rattle.move_rules.specs.Moving.{headInForm, moveRefusal, moveRules, tilesRules}
 
 -- of form 2 the form is looked at once
 module _ (s : List ℕ) where
@@ -46,11 +47,18 @@ module _ (s : List ℕ) where
 never : {r : ℕ} → r ≡ 0 → Tests (r ∷ []) []
 never {r} e = record { answers = record { given = rw (first-skip r [] e ∙ first-none) accepted; met = λ z. tt } }
 
-lengths : (f : Form) (s : List ℕ) (room : ℕ) {h : Head} → h ≡ readHead s → {ts : List ℕ} {qs : List Rule} → Tests ts qs
-    → Tests (refuse 10 (not (eqb (length s) (wholeLength h))) ∷ refuse 11 (not (eqb room (wholeLength (headInForm f h)))) ∷ ts)
-    (lengthRules f s room ++ qs)
-lengths f s room q t =
-    rw q (rule (by-not-eqb tt (length s) (wholeLength (readHead s))) λ l. rule (by-not-eqb tt room (wholeLength (headInForm f (readHead s)))) λ r. t)
+eleven : (f : Form) (s : List ℕ) (room : ℕ) {h : Head} → h ≡ readHead s
+    → Decided (refuse 11 (not (eqb room (wholeLength (headInForm f h))))) 11 (room ≡ wholeLength (headInForm f (readHead s)))
+eleven f s room q = rw q (by-not-eqb tt room (wholeLength (headInForm f (readHead s))))
+
+-- 10, of the head that any reader reads alike
+ten : (f : Form) (s : List ℕ) {rs : List Rule} → Answers (readOfForm f s .refusal) rs
+    → Answers (wholeRefusal (readOfForm f s) s) (rs ++ (wholeRule (readHead s) s ∷ []))
+ten f s = whole-rules-as (readOfForm f s) s (readHead s) (λ z. of-form-is f s z .0)
+
+told : (f : Form) (s : List ℕ) {rs : List Rule} → Answers (readOfForm f s .refusal) rs → Met (rs ++ (wholeRule (readHead s) s ∷ []))
+    → readOfForm f s .refusal ≡ 0
+told f s a m = whole-when (readOfForm f s) s .0 (accepted-when (ten f s a) .1 m) .told
 
 -- form 1 says no colour space, so that 16 is not given; of form 2 it is looked at by its number
 module _ (s : List ℕ) where
@@ -65,9 +73,9 @@ module _ (s : List ℕ) where
 
 pub moving-in-words : (f : Form) (s : List ℕ) (room : ℕ) → Answers (moveRefusal f s room) (moveRules f s room)
 unfolding moveRefusal
-moving-in-words Tiles s room = answers (rules (rows-answers s) λ m.
-    let z = accepted-when (rows-answers s) .1 m in
-    lengths Tiles s room (of-form-is Rows s z .0) (never (no-sixteen s z)))
-moving-in-words Rows s room = answers (rules (tiles-answers s) λ m.
-    let z = accepted-when (tiles-answers s) .1 m in
-    lengths Rows s room (of-form-is Tiles s z .0) (rule (sixteen s z) λ c. none))
+moving-in-words Tiles s room = answers (rules (ten Rows s (rows-answers s)) λ m.
+    let z = told Rows s (rows-answers s) m in
+    rule (eleven Tiles s room (of-form-is Rows s z .0)) λ r. never (no-sixteen s z))
+moving-in-words Rows s room = answers (rules (ten Tiles s (tiles-answers s)) λ m.
+    let z = told Tiles s (tiles-answers s) m in
+    rule (eleven Rows s room (of-form-is Tiles s z .0)) λ r. rule (sixteen s z) λ c. none)

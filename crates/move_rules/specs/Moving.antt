@@ -16,6 +16,7 @@ use Rattle.head_rules.specs.Colours.{colourNumber}
 use Rattle.head_rules.specs.Geometry.{wholeLength}
 use Rattle.head_rules.specs.Heads.{Sized, bytesOfHead, colourIn, formIn, formNumber, headIn, headSpelt, heightIn, readHead, readOfForm, rowsRules}
 use Rattle.head_rules.specs.Heads.{widthIn}
+use Rattle.head_rules.specs.Whole.{wholeRefusal, wholeRule}
 use Rattle.sheet_rules.specs.Pictures.{blocksAs}
 
 -- a move to a form takes a sheet of the other
@@ -36,8 +37,7 @@ unfoldable pub moveRefusal : Form → List ℕ → ℕ → ℕ
 moveRefusal f s room =
     let h = readOfForm (other f) s in
     first
-    (h .refusal
-    ∷ refuse 10 (not (eqb (length s) (wholeLength h)))
+    (wholeRefusal h s
     ∷ refuse 11 (not (eqb room (wholeLength (headInForm f h))))
     ∷ refuse 16 (not (eqb (colourNumber (h .«colour_space»)) 0))
     ∷ [])
@@ -57,7 +57,7 @@ tilesRules s =
 
 -- 10 unless the sheet is as long as its head says, 11 unless the output is as long as that sheet in form f
 abbrev pub lengthRules : Form → List ℕ → ℕ → List Rule
-lengthRules f s room = unless 10 (length s ≡ wholeLength (readHead s)) ∷ unless 11 (room ≡ wholeLength (headInForm f (readHead s))) ∷ []
+lengthRules f s room = wholeRule (readHead s) s ∷ unless 11 (room ≡ wholeLength (headInForm f (readHead s))) ∷ []
 
 -- back to form 1 last 16, unless the number is 0: the colour space is not stated
 abbrev pub moveRules : Form → List ℕ → ℕ → List Rule

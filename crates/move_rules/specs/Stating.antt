@@ -2,27 +2,26 @@
 -- Assumes nothing.
 use Prim.Native.Nat.{ℕ, _≤_}
 use mathlib.Core.Path.{_≡_}
-use mathlib.Core.Bool.{not}
 use mathlib.Core.List.{List, [], _∷_, _++_}
 use lib.Dec.{eqb}
-use lib.ListN.{length, drop}
-use Rattle.laws.specs.Refusals.{Rule, first, refuse, unless}
+use lib.ListN.{drop}
+use Rattle.laws.specs.Refusals.{Rule, first, unless}
 use Rattle.laws.specs.Tables.{pick}
 use Rattle.head_rules.specs.declared.Form.the-variants.{Tiles}
 use Rattle.head_rules.specs.declared.Head.{Head}
 use Rattle.head_rules.specs.Colours.{colourOf, colourRefusal}
-use Rattle.head_rules.specs.Geometry.{wholeLength}
 use Rattle.head_rules.specs.Heads.{bytesOfHead, ofFormRules, readOfForm, under}
+use Rattle.head_rules.specs.Whole.{wholeRefusal, wholeRule}
 
 -- the head's, with 8 for a sheet of form 1; 10; then 18 for the number n that is given
 unfoldable pub stateRefusal : List ℕ → ℕ → ℕ
 stateRefusal s n =
     let h = readOfForm Tiles s in
-    first (h .refusal ∷ refuse 10 (not (eqb (length s) (wholeLength h))) ∷ colourRefusal n ∷ [])
+    first (wholeRefusal h s ∷ colourRefusal n ∷ [])
 
 -- in words, for a sheet whose head was read as h
 abbrev pub stateBehindHead : Head → List ℕ → ℕ → List Rule
-stateBehindHead h s n = unless 10 (length s ≡ wholeLength h) ∷ unless 18 (n ≤ 2) ∷ []
+stateBehindHead h s n = wholeRule h s ∷ unless 18 (n ≤ 2) ∷ []
 
 abbrev pub stateRules : List ℕ → ℕ → List Rule
 stateRules s n = ofFormRules Tiles s ++ stateBehindHead (readOfForm Tiles s) s n

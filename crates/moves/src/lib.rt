@@ -18,8 +18,8 @@ use sheet_head::colours::colour_refusal;
 use sheet_head::colours::number_of;
 use sheet_head::geometry::blocks_across;
 use sheet_head::geometry::blocks_of;
-use sheet_head::geometry::whole_length;
 use sheet_head::read_of_form;
+use sheet_head::whole;
 use sheet_head::write_form;
 
 // Which of the stored blocks of a form a block is. The columns and rows are found once for all blocks: `place_of` would find them
@@ -85,12 +85,9 @@ fn lay(form: Form, head: Head, sheet: &[u8], out: &mut [u8])
 fn move_to(form: Form, sheet: &[u8], out: &mut [u8]) -> u8
     ensures { λ r. ⌜ MovesTo form (now (sheet .entry)) (now (out .entry)) r (now (out .exit)) ⌝ }
 {
-    let head = read_of_form(other(form), sheet);
+    let head = whole(read_of_form(other(form), sheet), sheet);
     if head.refusal != 0 {
         return head.refusal;
-    }
-    if sheet.len() != whole_length(head) {
-        return 10;
     }
     if out.len() != length_as(form, head) {
         return 11;
@@ -120,12 +117,9 @@ pub fn to_rows(sheet: &[u8], out: &mut [u8]) -> u8
 pub fn state_colour(sheet: &mut [u8], number: u32) -> u8
     ensures { λ r. ⌜ StatesColour (now (sheet .entry)) number r (now (sheet .exit)) ⌝ }
 {
-    let head = read_of_form(Form::Tiles, sheet);
+    let head = whole(read_of_form(Form::Tiles, sheet), sheet);
     if head.refusal != 0 {
         return head.refusal;
-    }
-    if sheet.len() != whole_length(head) {
-        return 10;
     }
     let refusal = colour_refusal(number);
     if refusal != 0 {

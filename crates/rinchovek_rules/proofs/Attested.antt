@@ -34,6 +34,8 @@ use Rattle.head_rules.specs.Geometry.{blocksOf, placeOf, storedAt}
 use Rattle.head_rules.specs.Heads.{colourIn, formIn, formOf, headBytes, headRefusalUpTo, heightIn, ofFormRefusalUpTo, readHeadUpTo, readOfFormUpTo}
 use Rattle.head_rules.specs.Heads.{sizeRefusalUpTo, tiledBytes, widthIn, writeHeadUpTo}
 use Rattle.head_rules.specs.Numbers.{groups, raised, readGroups, readNumber}
+use Rattle.bcn_format.specs.Block.{blockAt}
+use Rattle.head_rules.specs.Whole.{wholeRefusal}
 use Rattle.sheet_rules.specs.Rows.{channel, rowByte, rowBytes, rowOutUpTo, rowRefusalUpTo}
 use Rattle.sheet_rules.specs.Blocks.{blockRead}
 use Rattle.sheet_rules.specs.Pictures.{blocksAs, byteAs, rowOf}
@@ -45,7 +47,7 @@ use Rattle.rinchovek_rules.specs.Promises.{FindsExact, FindsNearest, Rea
 use Rattle.laws.specs.Digits.{evenly}
 use Rattle.dds_rules.specs.Header.{canonicalHeader, entries, formatSays, headerNumber, isTexture, numberAt}
 use Rattle.dds_rules.specs.Files.{exportAfterBy, exportLength, exportRefusalBy, fileMadeBy, fileRefusalUpTo, headMade, importAfterUpTo, importLength}
-use Rattle.dds_rules.specs.Files.{importRefusalUpTo, numberedAfter, numberedRefusal, sheetMade, wholeRefusalBy}
+use Rattle.dds_rules.specs.Files.{importRefusalUpTo, numberedAfter, numberedRefusal, sheetMade}
 use Rattle.dds_rules.proofs.Attested.{file53, header53, sheet53}
 use Rattle.move_rules.specs.Moving.{moveAfter, moveRefusal, movedTo}
 use Rattle.move_rules.specs.Stating.{stateAfter, stateRefusal, statedAs}
@@ -186,11 +188,11 @@ unfolding padded first over table tableFrom weights weightOf drawn promoted eigh
     recordByte recordBytes recordOfBytes replacementOf replacementBytes packedBytes bytesRefusal spelt readHeadUpTo headRefusalUpTo
     colourIn formOf readOfFormUpTo ofFormRefusalUpTo storedAt formIn
     widthIn heightIn readNumber readGroups raised sizeRefusalUpTo writeHeadUpTo headBytes groups blockAt channel rowByte rowBytes rowOutUpTo
-    rowRefusalUpTo blockBy blocksOf findRefusalBy placeOf putBlock replacedBy sheetAfterBy sheetRefusalBy draws meansShown channelDistance
+    rowRefusalUpTo blockBy blocksOf findRefusalBy wholeRefusal placeOf putBlock replacedBy sheetAfterBy sheetRefusalBy draws meansShown channelDistance
     distance drawnWith exactIndex exactRefusal inLine indexCount leastAt nearestIndex nearestRefusal squared withIndex zeroAt
     implies isVisible passes opaque pixelRefusal pixelRead
     evenly numberAt entries headerNumber canonicalHeader isTexture headMade sheetMade fileRefusalUpTo importRefusalUpTo importAfterUpTo
-    wholeRefusalBy exportRefusalBy fileMadeBy exportAfterBy importLength exportLength formatSays numberedRefusal numberedAfter colourOf colourRefusal
+    exportRefusalBy fileMadeBy exportAfterBy importLength exportLength formatSays numberedRefusal numberedAfter colourOf colourRefusal
     count kept columnAt columnOfSlot inSheet numberInSlot numberInTiles rowAt rowOfSlot slotIn slotOf slots storedInTiles storedOrder
     tiles tiledBytes blockRead blocksAs byteAs rowOf rowBlocks sheetRowOut sheetRowRefusal moveAfter moveRefusal movedTo
     stateAfter stateRefusal statedAs

@@ -7,7 +7,8 @@ use block_bytes::load;
 use head_rules::Head;
 use sheet_head::geometry::blocks_of;
 use sheet_head::geometry::place_of;
-use sheet_head::geometry::whole_length;
+use sheet_head::read_head;
+use sheet_head::whole;
 
 // The place of a block, or why it has none.
 pub struct Found {
@@ -28,12 +29,9 @@ fn not_found(refusal: u8) -> Found
 pub fn find_block(sheet: &[u8], block: u32) -> Found
     ensures { λ r. ⌜ r ≡ findBlock (now (sheet .entry)) block ⌝ }
 {
-    let head = sheet_head::read_head(sheet);
+    let head = whole(read_head(sheet), sheet);
     if head.refusal != 0 {
         return not_found(head.refusal);
-    }
-    if sheet.len() != whole_length(head) {
-        return not_found(10);
     }
     if block >= blocks_of(head) {
         return not_found(12);

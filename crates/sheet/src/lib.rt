@@ -13,7 +13,8 @@ use block_bytes::store;
 use sheet_head::geometry::blocks_across;
 use sheet_head::geometry::out_length;
 use sheet_head::geometry::shown_in;
-use sheet_head::geometry::whole_length;
+use sheet_head::read_head;
+use sheet_head::whole;
 use sheet_rules::BlockRead;
 
 pub mod blocks;
@@ -41,12 +42,9 @@ pub fn decode_row(width: u32, height: u32, row: u32, blocks: &[u8], out: &mut [u
 pub fn decode_sheet_row(sheet: &[u8], row: u32, out: &mut [u8]) -> u8
     ensures { λ r. ⌜ DecodesSheetRow (now (sheet .entry)) row (now (out .entry)) r (now (out .exit)) ⌝ }
 {
-    let head = sheet_head::read_head(sheet);
+    let head = whole(read_head(sheet), sheet);
     if head.refusal != 0 {
         return head.refusal;
-    }
-    if sheet.len() != whole_length(head) {
-        return 10;
     }
     if row >= blocks_across(head.height) {
         return 12;

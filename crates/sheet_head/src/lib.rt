@@ -5,7 +5,9 @@ ghost use Prim.Native.Nat.{_≤_, _<_};
 ghost use lib.ListN.{drop};
 ghost use Rattle.head_rules.specs.Numbers.{found, noNumber, numberBytes, numbersEnd, raised, readGroups, readNumber};
 ghost use Rattle.head_rules.specs.Heads.{ReadsHead, Sized, WritesHead, formNumber, noBytes, readOfForm, sizeRefusal, withBytes, writeForm};
+ghost use Rattle.head_rules.specs.Whole.{wholeHead};
 ghost use Rattle.sheet_head.specs.Promised.{Pushes, TakesNumber};
+use crate::geometry::whole_length;
 use crate::reader::has_ended;
 use crate::reader::no_head;
 use crate::reader::refused_with;
@@ -177,6 +179,21 @@ pub fn read_of_form(form: Form, sheet: &[u8]) -> Head
         return no_head(8);
     }
     read_head(sheet)
+}
+
+// The head of a sheet that is there whole, with every block that its head says and no byte more; or the first refusal that applies: the
+// head's, 10. `head` is what was read of that sheet.
+pub fn whole(head: Head, sheet: &[u8]) -> Head
+    requires { ⌜ (head .refusal ≡ 0 → Sized (head .width) (head .height)) ⌝ }
+    ensures { λ r. ⌜ r ≡ wholeHead head (now (sheet .entry)) ⌝ }
+{
+    if head.refusal != 0 {
+        return no_head(head.refusal);
+    }
+    if sheet.len() != whole_length(head) {
+        return no_head(10);
+    }
+    head
 }
 
 fn no_bytes(refusal: u8) -> HeadBytes

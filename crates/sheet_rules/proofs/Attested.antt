@@ -22,6 +22,7 @@ use Rattle.head_rules.specs.Geometry.{across, blocksOf, placeOf, sideShown, sto
 use Rattle.head_rules.specs.Heads.{colourIn, formIn, formOf, headOf, headRefusalUpTo, heightIn, ofFormRefusalUpTo, oldHead, readHeadUpTo}
 use Rattle.head_rules.specs.Heads.{readOfFormUpTo, sizeRefusalUpTo, widthIn}
 use Rattle.head_rules.specs.Numbers.{raised, readGroups, readNumber}
+use Rattle.head_rules.specs.Whole.{wholeRefusal}
 use Rattle.line_rules.specs.Replace.{after, indexFits, lineFits, lineGiven, oriented, ownWidth, pFits, put, refusal, refusalIn, replaced, valueFits}
 use Rattle.sheet_rules.specs.Blocks.{blockRead}
 use Rattle.sheet_rules.specs.Pictures.{blocksAs, byteAs, picture, pictureByte, rowOf}
@@ -224,7 +225,7 @@ pub record Sheets : Type 0 where
 pub sheets-hold : Sheets
 unfolding over table tableFrom weights weightOf drawn promoted eight modeRow kindOfMode endpointCount placeAt pos width widths trailing number modeOf
     splitAt splitOf atPlace opened has valuePlace pPlace indexSetOf indexPlace own lineOf lineBits meansStored rotated lineAt shown pixel pixels
-    picture pictureByte blockAt channel rowByte rowBytes rowOutUpTo rowRefusalUpTo blockBy blocksOf findRefusalBy placeOf putBlock
+    picture pictureByte blockAt channel rowByte rowBytes rowOutUpTo rowRefusalUpTo blockBy blocksOf findRefusalBy wholeRefusal placeOf putBlock
     replacedBy sheetAfterBy sheetRefusalBy first sizeRefusalUpTo readHeadUpTo headRefusalUpTo formIn widthIn heightIn readNumber
     readGroups raised replaced after refusal refusalIn lineFits valueFits pFits indexFits ownWidth lineGiven put oriented withLine laid
     turned anchorOf blockOf listOf bytesOf colourIn formOf colourOf colourRefusal storedAt storedInTiles count slotOf slotIn inSheet columnAt
@@ -256,7 +257,7 @@ pub record Before : Type 0 where
 
 pub before-holds : Before
 unfolding over table tableFrom modeRow kindOfMode endpointCount placeAt pos width widths trailing number modeOf splitAt splitOf atPlace opened has
-    valuePlace pPlace indexSetOf indexPlace own lineOf lineBits lineAt blockAt blockBy blocksOf findRefusalBy placeOf putBlock replacedBy
+    valuePlace pPlace indexSetOf indexPlace own lineOf lineBits lineAt blockAt blockBy blocksOf findRefusalBy wholeRefusal placeOf putBlock replacedBy
     sheetAfterBy sheetRefusalBy first sizeRefusalUpTo readHeadUpTo headRefusalUpTo readOfFormUpTo ofFormRefusalUpTo formIn widthIn heightIn
     readNumber readGroups raised replaced after refusal refusalIn lineFits valueFits pFits indexFits ownWidth lineGiven put oriented withLine laid
     turned anchorOf blockOf listOf bytesOf colourIn formOf colourOf colourRefusal storedAt meansStored

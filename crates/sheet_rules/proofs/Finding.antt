@@ -1,30 +1,37 @@
 -- When a block is found, and where.
 -- Assumes nothing.
 use mathlib.Core.Path.{_≡_, _∙_, ap, sym}
-use mathlib.Core.List.{List, _++_}
+use mathlib.Core.List.{List, [], _∷_, _++_}
 use Prim.Native.Nat.{ℕ, _+_, _*_, _<_, _≤_}
 use native.Mathlib.Omega.{arith}
 use lib.ListN.{length, take, drop}
 use lib.Seq.{drop-drop}
-use Rattle.laws.proofs.Refusals.{Answers, answers, by-answer, by-leb, by-not-eqb, none, rule, rules}
+use Rattle.laws.specs.Refusals.{handed, unless}
+use Rattle.laws.proofs.Refusals.{Answers, answers, by-answer, by-leb, none, rule, rules}
 use Rattle.head_rules.specs.Geometry.{blocksOf, numberAt, placeOf}
 use Rattle.head_rules.specs.Heads.{headRules, readHead}
+use Rattle.head_rules.specs.Whole.{wholeRefusal}
 use Rattle.head_rules.proofs.Orders.{blocks-within, each-place}
 use Rattle.head_rules.proofs.Theorems.{head-answers}
 use Rattle.bcn_format.specs.Block.{blockAt}
+use Rattle.head_rules.proofs.Whole.{whole-handed, whole-rules}
 use Rattle.sheet_rules.specs.Sheets.{behindHead, blockBy, blockIn, findRefusal, findRefusalBy, findRules}
 
 pub finding : (s : List ℕ) (b : ℕ) → Answers (findRefusal s b) (findRules (readHead s) s b)
 unfolding findRefusalBy
-finding s b = answers (rule by-answer λ h. rule (by-not-eqb tt (length s)
-    (readHead s .start + 16 * blocksOf (readHead s))) λ l. rule (by-leb tt (blocksOf (readHead s)) b) λ n. none)
+finding s b = answers (rules (whole-handed (readHead s) s) λ w. rule (by-leb tt (blocksOf (readHead s)) b) λ n. none)
 
 -- the same down to the numbers of the head
 pub finding-in-words : (s : List ℕ) (b : ℕ)
     → Answers (findRefusal s b) (headRules s ++ behindHead (readHead s) s b)
 unfolding findRefusalBy
-finding-in-words s b = answers (rules (head-answers s) λ h. rule (by-not-eqb tt (length s)
-    (readHead s .start + 16 * blocksOf (readHead s))) λ l. rule (by-leb tt (blocksOf (readHead s)) b) λ n. none)
+finding-in-words s b = answers (rules (whole-rules (readHead s) s (head-answers s)) λ w. rule (by-leb tt (blocksOf (readHead s)) b) λ n. none)
+
+-- and of a sheet whose wholeness was answered
+pub finding-handed : (s : List ℕ) (b : ℕ)
+    → Answers (findRefusal s b) (handed (wholeRefusal (readHead s) s) ∷ unless 12 (b < blocksOf (readHead s)) ∷ [])
+unfolding findRefusalBy
+finding-handed s b = answers (rule by-answer λ w. rule (by-leb tt (blocksOf (readHead s)) b) λ n. none)
 
 -- what a block that is found has
 pub record Inside (s : List ℕ) (b : ℕ) : Type 0 where

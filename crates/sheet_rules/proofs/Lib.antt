@@ -7,5 +7,6 @@ pub mod Replacing
 pub mod Pictures
 pub mod SheetRows
 pub mod Storing
+pub mod OnBlocks
 pub mod Calling
 pub mod Theorems

@@ -12,6 +12,7 @@ use Rattle.head_rules.specs.declared.Form.the-variants.{Rows, Tiles}
 use Rattle.head_rules.specs.declared.Head.{Head}
 use Rattle.line_rules.specs.declared.Replacement.{Replacement}
 use Rattle.head_rules.specs.Heads.{SizedUpTo, formIn, formNumber, limit, oldHead, oldLimit, readHead}
+use Rattle.head_rules.specs.Whole.{wholeRefusal}
 use Rattle.head_rules.proofs.Heading.{size-0, size-9}
 use Rattle.head_rules.proofs.Limits.{wider}
 use Rattle.head_rules.proofs.Theorems.{old-console-knows-no-tiles, old-console-refuses, old-head-empty, stored-heads-keep}
@@ -28,12 +29,12 @@ module _ (s : List ℕ) (b l : ℕ) (new : Replacement) where
   pub old-console-corrects-nothing : readHead s .refusal ≡ 0 → readHead s .form ≡ Rows
       → (oldLimit < readHead s .width) ⊎ (oldLimit < readHead s .height)
       → (sheetRefusalBy (oldHead s) s b l new ≡ 9) × (sheetAfterBy (oldHead s) s b l new ≡ s)
-  unfolding sheetAfterBy sheetRefusalBy findRefusalBy first
+  unfolding sheetAfterBy sheetRefusalBy findRefusalBy wholeRefusal first
   old-console-corrects-nothing e f above = rw (old-console-refuses s e f above) (refl, refl)
 
   pub old-console-corrects-no-tiles : formIn s .value ≡ formNumber Tiles
       → (sheetRefusalBy (oldHead s) s b l new ≡ 8) × (sheetAfterBy (oldHead s) s b l new ≡ s)
-  unfolding sheetAfterBy sheetRefusalBy findRefusalBy first
+  unfolding sheetAfterBy sheetRefusalBy findRefusalBy wholeRefusal first
   old-console-corrects-no-tiles e = rw (old-console-knows-no-tiles s e) (refl, refl)
 
 module _ (w h row : ℕ) (blocks out : List ℕ) where

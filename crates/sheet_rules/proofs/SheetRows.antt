@@ -19,11 +19,13 @@ use Rattle.laws.proofs.Refusals.{Answers, answer-0, answers, by-answer, by-leb,
 use Rattle.head_rules.specs.declared.Form.the-variants.{Rows}
 use Rattle.head_rules.specs.Geometry.{across, blocksOf, rowLength, sideShown, wholeLength}
 use Rattle.head_rules.specs.Heads.{Sized, readHead}
+use Rattle.head_rules.specs.Whole.{wholeRefusal}
 use Rattle.head_rules.proofs.Theorems.{head-answers, head-sized}
+use Rattle.head_rules.proofs.Whole.{whole-rules, whole-when}
 use Rattle.sheet_rules.specs.Pictures.{allBlocks, rowOf}
 use Rattle.bcn_format.specs.Block.{blockAt}
 use Rattle.sheet_rules.specs.Rows.{rowBytes, rowOut, rowOutUpTo, rowRefusal, rowRules}
-use Rattle.sheet_rules.specs.SheetRows.{DecodesSheetRow, rowBehindHead, rowBlocks, rowRoom, sheetRowOut, sheetRowRefusal, sheetRowRules}
+use Rattle.sheet_rules.specs.SheetRows.{DecodesSheetRow, rowBehindWhole, rowBlocks, rowRoom, sheetRowOut, sheetRowRefusal, sheetRowRules}
 use Rattle.sheet_rules.specs.Sheets.{blockIn}
 use Rattle.sheet_rules.proofs.Pictures.{all-long, block-in-all, block-of-part}
 use Rattle.sheet_rules.proofs.Refusing.{row-rules}
@@ -31,13 +33,13 @@ use Rattle.sheet_rules.proofs.Refusing.{row-rules}
 module _ (s : List ℕ) (row room : ℕ) where
   in-words : Answers (sheetRowRefusal s row room) (sheetRowRules s row room)
   unfolding sheetRowRefusal
-  in-words = answers (rules (head-answers s) λ m. rule (by-not-eqb tt (length s) (wholeLength (readHead s))) λ l. rule
-      (by-leb tt (across (readHead s .height)) row) λ b. rule (by-not-eqb tt room (rowRoom (readHead s) row)) λ r. none)
+  in-words = answers (rules (whole-rules (readHead s) s (head-answers s)) λ w. rule (by-leb tt (across (readHead s .height)) row) λ b. rule
+      (by-not-eqb tt room (rowRoom (readHead s) row)) λ r. none)
 
-  pub handing : Answers (sheetRowRefusal s row room) (handed (readHead s .refusal) ∷ rowBehindHead (readHead s) s row room)
+  pub handing : Answers (sheetRowRefusal s row room) (handed (wholeRefusal (readHead s) s) ∷ rowBehindWhole (readHead s) row room)
   unfolding sheetRowRefusal
-  handing = answers (rule by-answer λ m. rule (by-not-eqb tt (length s) (wholeLength (readHead s))) λ l. rule
-      (by-leb tt (across (readHead s .height)) row) λ b. rule (by-not-eqb tt room (rowRoom (readHead s) row)) λ r. none)
+  handing = answers (rule by-answer λ w. rule (by-leb tt (across (readHead s .height)) row) λ b. rule
+      (by-not-eqb tt room (rowRoom (readHead s) row)) λ r. none)
 
   -- each refusal number is given exactly when the request says (`sheetRowRules` has the words)
   pub sheet-row-refused-when : (n : ℕ) → (sheetRowRefusal s row room ≡ n) ↔ Given (sheetRowRules s row room) n
@@ -90,13 +92,16 @@ module _ (s : List ℕ) (told : readHead s .refusal ≡ 0) (whole : length s ≡
   high = readHead s .height
 
   same-answer : sheetRowRefusal s row (length out) ≡ rowRefusal wide high row (length (rowBlocks s row)) (length out)
-  same-answer = ⊎-elim inside (λ l. both 12 (then told (then whole (here (λ q. omega (arith, q, l))))) (then size (here (λ q. omega (arith, q, l)))))
+  same-answer = ⊎-elim inside (λ l. both 12 (then fits (here (λ q. omega (arith, q, l)))) (then size (here (λ q. omega (arith, q, l)))))
       (lt-or row (across high))
     where
+      fits : wholeRefusal (readHead s) s ≡ 0
+      fits = whole-when (readHead s) s .1 (record { told = told; long = whole })
+
       size : Sized wide high
       size = head-sized s told
 
-      both : (n : ℕ) → Given (handed (readHead s .refusal) ∷ rowBehindHead (readHead s) s row (length out)) n
+      both : (n : ℕ) → Given (handed (wholeRefusal (readHead s) s) ∷ rowBehindWhole (readHead s) row (length out)) n
           → Given (rowRules wide high row (length (rowBlocks s row)) (length out)) n
           → sheetRowRefusal s row (length out) ≡ rowRefusal wide high row (length (rowBlocks s row)) (length out)
       both n a b =
@@ -110,8 +115,8 @@ module _ (s : List ℕ) (told : readHead s .refusal ≡ 0) (whole : length s ≡
 
           room : Dec (length out ≡ rowRoom (readHead s) row)
               → sheetRowRefusal s row (length out) ≡ rowRefusal wide high row (length (rowBlocks s row)) (length out)
-          room (yes r) = both 0 (then told (then whole (then l (then r accepted)))) (then size (then l (then long (then r accepted))))
-          room (no n) = both 11 (then told (then whole (then l (here n)))) (then size (then l (then long (here n))))
+          room (yes r) = both 0 (then fits (then l (then r accepted))) (then size (then l (then long (then r accepted))))
+          room (no n) = both 11 (then fits (then l (here n))) (then size (then l (then long (here n))))
 
   pub equals-the-first : (sheetRowRefusal s row (length out) ≡ rowRefusal wide high row (length (rowBlocks s row)) (length out))
       × (sheetRowOut s row out ≡ rowOut wide high row (rowBlocks s row) out)

@@ -7,7 +7,6 @@ use mathlib.Core.Logic.{_⊎_, inl, inr, ⊎-elim, _≢_, _↔_}
 use mathlib.Core.Bool.{true, false}
 use mathlib.Core.List.{List, [], _∷_, _++_}
 use Prim.Native.Nat.{ℕ, _+_, _<_, _≤_}
-use native.Mathlib.Nat.{eq-zero-or-pos}
 use native.Mathlib.Decide.{ℕ-discrete}
 use native.Mathlib.Omega.{arith}
 use lib.ListN.{length, getD}
@@ -31,28 +30,15 @@ use Rattle.line_rules.proofs.Theorems.{accepted-draws, last-call-is-seen, other
 use Rattle.sheet_rules.specs.Calls.{SheetCall, WholeSheet, callsOn, onBlock, refusalOn, sheetWith, sheetWithAll}
 use Rattle.sheet_rules.specs.Rows.{DecodesRow, rowRefusal, rowRules}
 use Rattle.sheet_rules.specs.Sheets.{ReplacesInSheet, blockIn, sheetRules}
-use Rattle.sheet_rules.proofs.Calling.{Same, all-block, all-kept, answered-as-block, beyond, in-words, none-changes, parts, same-here}
-use Rattle.sheet_rules.proofs.Calling.{same-on, sixteen, unchanged, whole-or, with-kept, with-named, with-other}
+use Rattle.sheet_rules.proofs.OnBlocks.{Same, all-block, all-kept, answered-as-block, beyond, none-changes, others-stay as acted-others-stay}
+use Rattle.sheet_rules.proofs.OnBlocks.{parts, same-here, same-on, sixteen, whole-or, with-kept, with-named, with-other}
+use Rattle.sheet_rules.proofs.Calling.{acting, in-words, unchanged}
 use Rattle.sheet_rules.proofs.Refusing.{row-rules, undrawn}
-use Rattle.sheet_rules.proofs.Replacing.{accepted-is}
-use Rattle.bcn_format.proofs.Storing.{put-long, put-outside}
 
 -- whatever the sheet and the call: the length stays, and every byte that isn't one of the named block's sixteen
 pub others-stay : (s : List ℕ) (c : SheetCall) → (length (sheetWith s c) ≡ length s)
     × ((k : ℕ) → ((placeOf (readHead s) (c .block) ≤ k) × (k < placeOf (readHead s) (c .block) + 16) → ⊥) → getD (sheetWith s c) k 0 ≡ getD s k 0)
-others-stay s c = ⊎-elim taken (λ p. left (λ q. omega arith)) (eq-zero-or-pos (refusalOn s c))
-  where
-    taken : refusalOn s c ≡ 0 → (length (sheetWith s c) ≡ length s)
-        × ((k : ℕ) → ((placeOf (readHead s) (c .block) ≤ k) × (k < placeOf (readHead s) (c .block) + 16) → ⊥)
-        → getD (sheetWith s c) k 0 ≡ getD s k 0)
-    taken e =
-        let p = accepted-is s (c .block) (c .line) (c .given) e in
-        (ap length p ∙ put-long s _ _, λ k n. ap (λ (t : List ℕ). getD t k 0) p ∙ put-outside s _ _ k n)
-
-    left : refusalOn s c ≢ 0 → (length (sheetWith s c) ≡ length s)
-        × ((k : ℕ) → ((placeOf (readHead s) (c .block) ≤ k) × (k < placeOf (readHead s) (c .block) + 16) → ⊥)
-        → getD (sheetWith s c) k 0 ≡ getD s k 0)
-    left ne = let p = unchanged s c ne in (ap length p, λ k n. ap (λ (t : List ℕ). getD t k 0) p)
+others-stay = acted-others-stay acting
 
 -- each refusal number of a row is given exactly when document 01 says (`rowRules` has the words)
 pub row-refused-when : (w h row given room n : ℕ) → (rowRefusal w h row given room ≡ n) ↔ Given (rowRules w h row given room) n
@@ -78,11 +64,11 @@ pub record Replaces (s : List ℕ) (c : SheetCall) : Type 0 where
 
 pub replaces-the-block : (s : List ℕ) → WholeSheet s → (c : SheetCall) → c .block < blocksOf (readHead s) → Replaces s c
 replaces-the-block s z c l = record {
-  answer = answered-as-block s z c l;
-  named = with-named s z c (c .block) l refl;
-  others = with-other s z c;
-  head = with-kept s z c .head;
-  whole = with-kept s z c .whole;
+  answer = answered-as-block acting s z c l;
+  named = with-named acting s z c (c .block) l refl;
+  others = with-other acting s z c;
+  head = with-kept acting s z c .head;
+  whole = with-kept acting s z c .whole;
 }
 
 -- a call leaves every block its mode and its split, and every channel that its line doesn't draw in the block it names
@@ -93,19 +79,19 @@ module _ (s : List ℕ) (z : WholeSheet s) (c : SheetCall) (b : ℕ) (l : b < bl
       go : Dec (c .block ≡ b) → (modeOf (blockIn (sheetWith s c) b) ≡ modeOf (blockIn s b))
           × (splitOf (blockIn (sheetWith s c) b) ≡ splitOf (blockIn s b))
       go (yes e) =
-          let p = with-named s z c b l e in
+          let p = with-named acting s z c b l e in
           let k = others-keep (blockIn s b) (sixteen s z b l) (onBlock c) in
           (ap modeOf p ∙ k .mode, ap splitOf p ∙ k .split)
-      go (no n) = let p = with-other s z c b l n in (ap modeOf p, ap splitOf p)
+      go (no n) = let p = with-other acting s z c b l n in (ap modeOf p, ap splitOf p)
 
   undrawn-stays : (q ch : ℕ) → (c .block ≡ b → draws (modeOf (blockIn s b)) (splitOf (blockIn s b)) (c .line) q ch ≡ false)
       → pixel (blockIn (sheetWith s c) b) q ch ≡ pixel (blockIn s b) q ch
   undrawn-stays q ch d = go (ℕ-discrete (c .block) b)
     where
       go : Dec (c .block ≡ b) → pixel (blockIn (sheetWith s c) b) q ch ≡ pixel (blockIn s b) q ch
-      go (yes e) = ap (λ (x : List ℕ). pixel x q ch) (with-named s z c b l e) ∙ others-keep (blockIn s b) (sixteen s z b l)
+      go (yes e) = ap (λ (x : List ℕ). pixel x q ch) (with-named acting s z c b l e) ∙ others-keep (blockIn s b) (sixteen s z b l)
           (onBlock c) .channels q ch (d e)
-      go (no n) = ap (λ (x : List ℕ). pixel x q ch) (with-other s z c b l n)
+      go (no n) = ap (λ (x : List ℕ). pixel x q ch) (with-other acting s z c b l n)
 
 -- after an accepted call, whatever the line draws in the named block is what was given; every other channel of it stays
 module _ (s : List ℕ) (z : WholeSheet s) (c : SheetCall) (l : c .block < blocksOf (readHead s)) where
@@ -114,8 +100,8 @@ module _ (s : List ℕ) (z : WholeSheet s) (c : SheetCall) (l : c .block < block
       → pixel (blockIn (sheetWith s c) (c .block)) q ch ≡ meansShown (modeOf (blockIn s (c .block))) (splitOf (blockIn s (c .block))) (c .line)
       (onBlock c .given) q ch
   sheet-accepted-draws q ch hq hc e d =
-      ap (λ (b : List ℕ). pixel b q ch) (with-named s z c (c .block) l refl)
-      ∙ accepted-draws (blockIn s (c .block)) (sixteen s z (c .block) l) (onBlock c) q ch hq hc (sym (answered-as-block s z c l) ∙ e) d
+      ap (λ (b : List ℕ). pixel b q ch) (with-named acting s z c (c .block) l refl)
+      ∙ accepted-draws (blockIn s (c .block)) (sixteen s z (c .block) l) (onBlock c) q ch hq hc (sym (answered-as-block acting s z c l) ∙ e) d
 
   pub sheet-others-keep : (q ch : ℕ) → draws (modeOf (blockIn s (c .block))) (splitOf (blockIn s (c .block))) (c .line) q ch ≡ false
       → pixel (blockIn (sheetWith s c) (c .block)) q ch ≡ pixel (blockIn s (c .block)) q ch
@@ -127,28 +113,29 @@ pub record ByBlock (s : List ℕ) (cs : List SheetCall) : Type 0 where
   pub block : (b : ℕ) → b < blocksOf (readHead s) → blockIn (sheetWithAll s cs) b ≡ afterAll (blockIn s b) (callsOn b cs)
 
 pub calls-by-block : (s : List ℕ) → WholeSheet s → (cs : List SheetCall) → ByBlock s cs
-calls-by-block s z cs = record { head = all-kept cs s z .head; block = all-block cs s z }
+calls-by-block s z cs = record { head = all-kept acting cs s z .head; block = all-block acting cs s z }
 
 -- what a call is answered doesn't depend on the calls before it
 answer-in : (s : List ℕ) → WholeSheet s → (cs : List SheetCall) (d : SheetCall) → refusalOn (sheetWithAll s cs) d ≡ refusalOn s d
 answer-in s z cs d =
-    let k = all-kept cs s z in
+    let k = all-kept acting cs s z in
     ⊎-elim (λ l. let l' : d .block < blocksOf (readHead (sheetWithAll s cs)) = rw (k .head) l in
-    answered-as-block (sheetWithAll s cs) (k .whole) d l' ∙ ap (λ (b : List ℕ). refusal b (onBlock d)) (all-block cs s z (d .block) l)
+    answered-as-block acting (sheetWithAll s cs) (k .whole) d l' ∙ ap (λ (b : List ℕ). refusal b (onBlock d)) (all-block acting cs s z (d .block) l)
     ∙ same-answer (blockIn s (d .block)) (blockIn s (d .block)) (sixteen s z (d .block) l) refl refl (callsOn (d .block) cs) (onBlock d)
-    ∙ sym (answered-as-block s z d l))
-    (λ l. beyond (sheetWithAll s cs) (k .whole) d (rw (k .head) l) ∙ sym (beyond s z d l)) (lt-or (d .block) (blocksOf (readHead s)))
+    ∙ sym (answered-as-block acting s z d l))
+    (λ l. beyond acting (sheetWithAll s cs) (k .whole) d (rw (k .head) l) ∙ sym (beyond acting s z d l)) (lt-or (d .block) (blocksOf (readHead s)))
 
 pub sheet-same-answer : (s : List ℕ) → Bytes s → (cs : List SheetCall) (d : SheetCall) → refusalOn (sheetWithAll s cs) d ≡ refusalOn s d
-sheet-same-answer s y cs d = ⊎-elim (λ z. answer-in s z cs d) (λ never. ap (λ (t : List ℕ). refusalOn t d) (none-changes s never cs)) (whole-or s y)
+sheet-same-answer s y cs d =
+    ⊎-elim (λ z. answer-in s z cs d) (λ never. ap (λ (t : List ℕ). refusalOn t d) (none-changes acting s never cs)) (whole-or acting s y)
 
 -- two lists of calls that leave every block alike leave the same sheet
 alike : (s : List ℕ) → Bytes s → (cs ds : List SheetCall) → ((z : WholeSheet s) (b : ℕ) → b < blocksOf (readHead s) → afterAll (blockIn s b)
     (callsOn b cs) ≡ afterAll (blockIn s b) (callsOn b ds))
     → sheetWithAll s cs ≡ sheetWithAll s ds
 alike s y cs ds e =
-    ⊎-elim (λ z. parts-alike (parts s z) cs ds s (same-here z) (e z)) (λ never. none-changes s never cs ∙ sym (none-changes s never ds))
-    (whole-or s y)
+    ⊎-elim (λ z. parts-alike (parts acting s z) cs ds s (same-here z) (e z))
+    (λ never. none-changes acting s never cs ∙ sym (none-changes acting s never ds)) (whole-or acting s y)
 
 -- two neighbouring calls on different blocks, or on different lines of one block: the same answers in either order, equal bytes, and
 -- either order shows the same: what each accepted call means, wherever its line draws in its block, and elsewhere what was there
@@ -183,8 +170,11 @@ two-calls s c d = refl
 -- an accepted call names a block of a whole sheet
 accepted-in : (s : List ℕ) → Bytes s → (c : SheetCall) → refusalOn s c ≡ 0 → WholeSheet s × (c .block < blocksOf (readHead s))
 accepted-in s y c e =
-    ⊎-elim (λ z. (z, ⊎-elim (λ l. l) (λ l. absurd (let q : ⊥ = omega (arith, e, beyond s z c l) in q)) (lt-or (c .block) (blocksOf (readHead s)))))
-    (λ never. absurd (never c e)) (whole-or s y)
+    ⊎-elim (λ z. (z, ⊎-elim (λ l. l) (λ l. absurd (out z l)) (lt-or (c .block) (blocksOf (readHead s)))))
+    (λ never. absurd (never c e)) (whole-or acting s y)
+  where
+    out : WholeSheet s → blocksOf (readHead s) ≤ c .block → ⊥
+    out z l = omega (arith, e, beyond acting s z c l)
 
 module _ (s : List ℕ) (y : Bytes s) (c d : SheetCall) where
   -- a call after it on another block or line leaves what it draws
@@ -194,7 +184,7 @@ module _ (s : List ℕ) (y : Bytes s) (c d : SheetCall) where
       (c .line) (onBlock c .given) q ch
   seen-through apart q ch hq hc e dr =
       let w = accepted-in s y c e in
-      let k = with-kept s (w .0) c in
+      let k = with-kept acting s (w .0) c in
       let m = mode-stays s (w .0) c (c .block) (w .1) in
       undrawn-stays (sheetWith s c) (k .whole) d (c .block) (rw (k .head) (w .1)) q ch
       (λ same. rw (m .0, m .1) (drawn-by-one _ _ (c .line) (d .line) q ch (⊎-elim (λ n. absurd (n (sym same))) (λ n. n) apart) dr))
@@ -206,15 +196,17 @@ module _ (s : List ℕ) (y : Bytes s) (c d : SheetCall) where
       → pixel (blockIn (sheetWith (sheetWith s c) d) b) q ch ≡ pixel (blockIn s b) q ch
   undrawn-stays-twice b q ch l nc nd =
       ⊎-elim (λ z.
-      let k = with-kept s z c in
+      let k = with-kept acting s z c in
       let m = mode-stays s z c b l in
       undrawn-stays (sheetWith s c) (k .whole) d b (rw (k .head) l) q ch (λ e. rw (m .0, m .1) (nd e)) ∙ undrawn-stays s z c b l q ch nc)
-      (λ never. ap (λ (t : List ℕ). pixel (blockIn t b) q ch) (sym (two-calls s c d) ∙ none-changes s never (c ∷ d ∷ []))) (whole-or s y)
+      (λ never. ap (λ (t : List ℕ). pixel (blockIn t b) q ch) (sym (two-calls s c d) ∙ none-changes acting s never (c ∷ d ∷ [])))
+      (whole-or acting s y)
 
   bytes-traded : Apart c d → sheetWith (sheetWith s c) d ≡ sheetWith (sheetWith s d) c
   bytes-traded apart =
-      ⊎-elim (λ z. trade (parts s z) c d s (same-here z) (λ b l e f. on-lines z b l (⊎-elim (λ n. absurd (n (e ∙ sym f))) (λ n. n) apart)))
-      (λ never. sym (two-calls s c d) ∙ none-changes s never (c ∷ d ∷ []) ∙ sym (none-changes s never (d ∷ c ∷ [])) ∙ two-calls s d c) (whole-or s y)
+      ⊎-elim (λ z. trade (parts acting s z) c d s (same-here z) (λ b l e f. on-lines z b l (⊎-elim (λ n. absurd (n (e ∙ sym f))) (λ n. n) apart)))
+      (λ never. sym (two-calls s c d) ∙ none-changes acting s never (c ∷ d ∷ []) ∙ sym (none-changes acting s never (d ∷ c ∷ [])) ∙ two-calls s d c)
+      (whole-or acting s y)
     where
       on-lines : (z : WholeSheet s) (b : ℕ) → b < blocksOf (readHead s) → c .line ≢ d .line
           → after (after (blockIn s b) (onBlock c)) (onBlock d) ≡ after (after (blockIn s b) (onBlock d)) (onBlock c)
@@ -236,7 +228,7 @@ sheet-trade-places s y c d apart = record {
 -- answered as if it were alone
 sheet-trading : (s : List ℕ) → WholeSheet s → Trade sheetWith refusalOn (Same s) Apart
 sheet-trading s z = record {
-  good = λ t c k. same-on k (with-kept t (k .whole) c);
+  good = λ t c k. same-on k (with-kept acting t (k .whole) c);
   bytes = λ t c d k a. bytes-traded t (k .whole .bytes) c d a;
   unseen = λ t c d k a. sheet-trade-places t (k .whole .bytes) c d a .second;
 }

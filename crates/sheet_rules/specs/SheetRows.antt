@@ -9,8 +9,9 @@ use lib.ListN.{length}
 use Rattle.laws.specs.Refusals.{Rule, first, refuse, unless}
 use Rattle.laws.specs.Tables.{pick}
 use Rattle.head_rules.specs.declared.Head.{Head}
-use Rattle.head_rules.specs.Geometry.{across, outLength, sideShown, wholeLength}
+use Rattle.head_rules.specs.Geometry.{across, outLength, sideShown}
 use Rattle.head_rules.specs.Heads.{headRules, readHead}
+use Rattle.head_rules.specs.Whole.{wholeRefusal, wholeRule}
 use Rattle.sheet_rules.specs.Pictures.{allBlocks, rowOf}
 use Rattle.sheet_rules.specs.Rows.{rowBytes}
 
@@ -27,19 +28,17 @@ unfoldable pub sheetRowRefusal : List ℕ → ℕ → ℕ → ℕ
 sheetRowRefusal s row room =
     let h = readHead s in
     first
-    (h .refusal
-    ∷ refuse 10 (not (eqb (length s) (wholeLength h)))
+    (wholeRefusal h s
     ∷ refuse 12 (leb (across (h .height)) row)
     ∷ refuse 11 (not (eqb room (rowRoom h row)))
     ∷ [])
 
--- in words, for a sheet whose head was read as h
-abbrev pub rowBehindHead : Head → List ℕ → ℕ → ℕ → List Rule
-rowBehindHead h s row room =
-    unless 10 (length s ≡ wholeLength h) ∷ unless 12 (row < across (h .height)) ∷ unless 11 (room ≡ rowRoom h row) ∷ []
+-- in words, of a whole sheet whose head was read as h
+abbrev pub rowBehindWhole : Head → ℕ → ℕ → List Rule
+rowBehindWhole h row room = unless 12 (row < across (h .height)) ∷ unless 11 (room ≡ rowRoom h row) ∷ []
 
 abbrev pub sheetRowRules : List ℕ → ℕ → ℕ → List Rule
-sheetRowRules s row room = headRules s ++ rowBehindHead (readHead s) s row room
+sheetRowRules s row room = headRules s ++ wholeRule (readHead s) s ∷ rowBehindWhole (readHead s) row room
 
 -- the output afterwards
 unfoldable pub sheetRowOut : List ℕ → ℕ → List ℕ → List ℕ

@@ -2,17 +2,17 @@
 -- Assumes nothing.
 use Prim.Native.Nat.{ℕ, _<_}
 use mathlib.Core.Path.{_≡_}
-use mathlib.Core.Bool.{not}
 use mathlib.Core.List.{List, [], _∷_, _++_}
 use lib.Dec.{eqb, leb}
-use lib.ListN.{length}
+use lib.ListN.{getD}
 use Rattle.line_rules.specs.declared.Replacement.{Replacement}
 use Rattle.line_rules.specs.declared.Replaced.{Replaced}
-use Rattle.head_rules.specs.Geometry.{blocksOf, placeOf, wholeLength}
+use Rattle.head_rules.specs.Geometry.{blocksOf, placeOf}
 use Rattle.head_rules.specs.declared.Head.{Head}
 use Rattle.laws.specs.Refusals.{Rule, first, handed, refuse, unless}
 use Rattle.laws.specs.Tables.{pick}
 use Rattle.head_rules.specs.Heads.{headRules, readHead}
+use Rattle.head_rules.specs.Whole.{wholeRefusal, wholeRule}
 use Rattle.line_rules.specs.Acceptable.{callRules}
 use Rattle.line_rules.specs.Replace.{callOf, replaced}
 use Rattle.bcn_format.specs.Block.{blockAt, putBlock}
@@ -28,14 +28,14 @@ blockIn s b = blockBy (readHead s) s b
 
 -- the head's refusal, then 10, then 12
 unfoldable pub findRefusalBy : Head → List ℕ → ℕ → ℕ
-findRefusalBy h s b = first (h .refusal ∷ refuse 10 (not (eqb (length s) (wholeLength h))) ∷ refuse 12 (leb (blocksOf h) b) ∷ [])
+findRefusalBy h s b = first (wholeRefusal h s ∷ refuse 12 (leb (blocksOf h) b) ∷ [])
 
 abbrev pub findRefusal : List ℕ → ℕ → ℕ
 findRefusal s b = findRefusalBy (readHead s) s b
 
 -- in words, for a sheet whose head was read as h
 abbrev pub behindHead : Head → List ℕ → ℕ → List Rule
-behindHead h s b = unless 10 (length s ≡ wholeLength h) ∷ unless 12 (b < blocksOf h) ∷ []
+behindHead h s b = wholeRule h s ∷ unless 12 (b < blocksOf h) ∷ []
 
 abbrev pub findRules : Head → List ℕ → ℕ → List Rule
 findRules h s b = handed (h .refusal) ∷ behindHead h s b

@@ -1,22 +1,23 @@
 -- The ways of `find_block`, and what its answer says.
 -- Assumes nothing.
-use mathlib.Core.Path.{_≡_, refl, _∙_, ap, sym}
+use mathlib.Core.Path.{_≡_, refl, _∙_, ap, sym, subst}
 use mathlib.Core.Logic.{_≢_, ⊎-elim}
 use mathlib.Core.List.{List}
-use Prim.Native.Nat.{ℕ, _+_, _≤_}
+use Prim.Native.Nat.{ℕ, _+_, _<_, _≤_}
 use native.Mathlib.Nat.{eq-zero-or-pos}
 use native.Mathlib.Omega.{arith}
 use lib.ListN.{length}
 use borrow.Author.Tests.{eq-eqb, ne-eqb}
 use Rattle.sheet.specs.declared.blocks.Found.{Found}
-use Rattle.head_rules.specs.Geometry.{placeOf}
+use Rattle.head_rules.specs.Geometry.{blocksOf, placeOf}
 use Rattle.head_rules.specs.declared.Head.{Head}
-use Rattle.laws.specs.Refusals.{Given}
-use Rattle.laws.proofs.Refusals.{Met, accepted-when, exactly}
+use Rattle.laws.specs.Refusals.{here, then}
+use Rattle.laws.proofs.Refusals.{accepted-when, exactly}
 use Rattle.head_rules.specs.Heads.{Sized, readHead}
-use Rattle.head_rules.proofs.Theorems.{head-sized}
-use Rattle.sheet_rules.specs.Sheets.{findRefusal, findRules}
-use Rattle.sheet_rules.proofs.Finding.{finding, inside, room}
+use Rattle.head_rules.specs.Whole.{wholeHead, wholeRefusal}
+use Rattle.head_rules.proofs.Whole.{read-sized, whole-number, whole-told}
+use Rattle.sheet_rules.specs.Sheets.{findRefusal}
+use Rattle.sheet_rules.proofs.Finding.{finding-handed, inside, room}
 use Rattle.sheet.specs.Found.{findBlock, foundAt}
 
 module _ (s : List ℕ) (b : ℕ) where
@@ -28,16 +29,31 @@ module _ (s : List ℕ) (b : ℕ) where
   unfolding findBlock
   one e = rw (eq-eqb (findRefusal s b) 0 e)
 
-  -- the ways of `find_block`
-  module _ {h : Head} (eh : h ≡ readHead s) where
-    pub not-found : {n : ℕ} → Given (findRules h s b) n → n ≢ 0 → foundAt n 0 ≡ findBlock s b
-    not-found {n} g ne = none (exactly (finding s b) n .1 (rw eh at g)) ne
+  -- the ways of `find_block`: x is the head of the sheet, if it is whole
+  module _ {x : Head} (ex : x ≡ wholeHead (readHead s) s) where
+    pub not-whole : x .refusal ≢ 0 → foundAt (x .refusal) 0 ≡ findBlock s b
+    not-whole ne =
+        let e = whole-number (readHead s) s ex in none (exactly (finding-handed s b) _ .1 (here (λ z. ne (e ∙ z))) ∙ sym e) ne
 
-    pub block-found : Met (findRules h s b) → foundAt 0 (placeOf h b) ≡ findBlock s b
-    block-found m = rw eh (one (accepted-when (finding s b) .1 (rw eh at m)))
+    module _ (z : x .refusal ≡ 0) where
+      fits : wholeRefusal (readHead s) s ≡ 0
+      fits = sym (whole-number (readHead s) s ex) ∙ z
 
-    pub size-is : h .refusal ≡ 0 → Sized (h .width) (h .height)
-    size-is a = rw eh (head-sized s (rw eh at a))
+      head-is : x ≡ readHead s
+      head-is = whole-told (readHead s) s ex z .1
+
+      pub size-is : Sized (x .width) (x .height)
+      size-is = read-sized s head-is z
+
+      pub no-such : (b < blocksOf x → ⊥) → foundAt 12 0 ≡ findBlock s b
+      no-such n =
+          none (exactly (finding-handed s b) 12 .1 (then fits (here (λ l. n (subst (λ (h : Head). b < blocksOf h) (sym head-is) l)))))
+          (λ q. omega arith)
+
+      pub block-found : b < blocksOf x → foundAt 0 (placeOf x b) ≡ findBlock s b
+      block-found l =
+          ap (λ (h : Head). foundAt 0 (placeOf h b)) head-is
+          ∙ one (accepted-when (finding-handed s b) .1 (fits, (subst (λ (h : Head). b < blocksOf h) head-is l, tt)))
 
 -- what `find_block` answered
 module _ (s : List ℕ) (b : ℕ) {f : Found} (ef : f ≡ findBlock s b) where
