@@ -1,16 +1,16 @@
 -- WHAT HOLDS THE DEFINITIONS OF IMPORT AND EXPORT: a sheet of 5 by 3 pixels and its file, byte by byte from Microsoft's guide and document
 -- 02; each field changed; each refusal together with those that come after it.
 -- Assumes nothing.
-use mathlib.Core.Path.{_≡_, refl}
+use mathlib.Core.Path.{_≡_, refl, ap}
 use mathlib.Core.List.{List, [], _∷_, _++_, map}
 use Prim.Native.Nat.{ℕ, _*_}
-use lib.ListN.{drop, replicate, set, take}
+use lib.ListN.{drop, getD, replicate, set, take}
 use lib.Seq.{sets}
 use Rattle.head_rules.specs.declared.ColourSpace.{ColourSpace}
 use Rattle.head_rules.specs.declared.ColourSpace.the-variants.{Unspecified, Linear, Srgb}
 use Rattle.head_rules.specs.declared.Form.the-variants.{Rows}
 use Rattle.head_rules.specs.declared.Head.{Head}
-use Rattle.head_rules.specs.Colours.{colourOf, colourRefusal}
+use Rattle.head_rules.specs.Colours.{colourNumber, colourOf, colourRefusal}
 use Rattle.head_rules.specs.Geometry.{blocksOf}
 use Rattle.head_rules.specs.Heads.{colourIn, formIn, formOf, headBytes, headRefusalUpTo, heightIn, ofFormRefusalUpTo, oldHead, readHeadUpTo}
 use Rattle.head_rules.specs.Heads.{readOfFormUpTo, sizeRefusalUpTo, widthIn}
@@ -19,6 +19,8 @@ use Rattle.laws.specs.Digits.{evenly}
 use Rattle.laws.specs.Refusals.{first}
 use Rattle.head_rules.specs.Whole.{wholeHead, wholeRefusal}
 use Rattle.laws.specs.Tables.{table, tableFrom}
+use Rattle.laws.proofs.Tests.{eqb-of}
+use Rattle.dds_rules.specs.declared.Length.{Length}
 use Rattle.dds_rules.specs.Header.{alphaMask, arraySize, bitCount, blueMask, canonicalHeader, caps, caps2, caps3, caps4, depth}
 use Rattle.dds_rules.specs.Header.{dimension, entries, format, formatCode, formatFlags, formatOf, formatSays, formatSize, greenMask}
 use Rattle.dds_rules.specs.Header.{headerFlags, headerNumber, headerSize, height, isTexture, linearSize, magic, mipCount, misc, misc2}
@@ -26,7 +28,8 @@ use Rattle.dds_rules.specs.Header.{numberAt, offset, redMask, reserved, 
 use Rattle.dds_rules.specs.Files.{exportAfter, exportAfterBy, exportHead, exportLength, exportRefusal, exportRefusalBy, fileMadeBy}
 use Rattle.dds_rules.specs.Files.{fileRefusalUpTo, headMade, importAfter, importAfterUpTo}
 use Rattle.dds_rules.specs.Files.{importAnswer, importHead, importLength, importRefusal, importRefusalUpTo, numberedAfter, numberedRefusal}
-use Rattle.dds_rules.specs.Files.{said, sheetMade}
+use Rattle.dds_rules.specs.Files.{said, sheetMade, wholeRefusalBy}
+use Rattle.dds_rules.specs.Promises.{ExportNeeds, Exports, ExportsNumbered, ImportNeeds, Imports}
 
 abbrev zeros : ℕ → List ℕ
 zeros n = replicate n 0
@@ -39,6 +42,10 @@ head c w h start = record { refusal = 0; form = Rows; width = w; height = h; sta
 
 abbrev noHead : ℕ → Head
 noHead r = record { refusal = r; form = Rows; width = 0; height = 0; start = 0; «colour_space» = Unspecified }
+
+-- a height beside a refusal
+abbrev refusedBeside : ℕ → ℕ → Head
+refusedBeside r h = record { refusal = r; form = Rows; width = 0; height = h; start = 0; «colour_space» = Unspecified }
 
 abbrev three : List ColourSpace
 three = Unspecified ∷ Linear ∷ Srgb ∷ []
@@ -75,6 +82,10 @@ tiled53 = 0x02 ∷ 0x05 ∷ 0x03 ∷ 0x00 ∷ blocks
 
 abbrev pub file53 : List ℕ
 file53 = header53 ++ blocks
+
+-- the larger sheet as a file: a height of 1 and a width of 1001 hex
+abbrev largerFile : List ℕ
+largerFile = sets header53 12 (small 1 ++ (0x01 ∷ 0x10 ∷ 0x00 ∷ 0x00 ∷ [])) ++ replicate 16400 0
 
 -- a byte of the file changed
 abbrev but : ℕ → ℕ → List ℕ
@@ -242,7 +253,12 @@ pub record Files : Type 0 where
       ≡ head Linear 5 3 3 ∷ head Srgb 5 3 3 ∷ head Unspecified 5 3 3 ∷ noHead 15 ∷ noHead 7 ∷ []
   pub import-answers : map (λ c. importRefusal (c .given) (c .room)) imports ≡ map (λ c. c .answer) imports
   pub export-answers : map (λ c. exportRefusal (c .given) (c .room)) exports ≡ map (λ c. c .answer) exports
-  -- by a console of before: 4,097 by 1, and form 2
+  -- the larger map by every call; and by a console of before, which takes neither it nor form 2
+  pub larger-taken : importRefusal largerFile 16404 ∷ exportRefusal larger 16548 ∷ numberedRefusal larger 2 16548 ∷ [] ≡ 0 ∷ 0 ∷ 0 ∷ []
+  pub larger-answered : importAnswer largerFile 16404 ≡ head Linear 4097 1 4
+  pub larger-imported : take 5 (importAfter largerFile (nines 16404)) ≡ 0x01 ∷ 0x81 ∷ 0x20 ∷ 0x01 ∷ 0 ∷ []
+  pub larger-lengths : importLength largerFile ∷ exportLength larger ∷ []
+      ≡ record { refusal = 0; length = 16404 } ∷ record { refusal = 0; length = 16548 } ∷ []
   pub not-exported-before : map (λ (s : List ℕ). exportRefusalBy (oldHead s) s 180) (sheet53 ∷ larger ∷ tiled53 ∷ []) ≡ 0 ∷ 9 ∷ 8 ∷ []
   pub left-before : map (λ (s : List ℕ). exportAfterBy (oldHead s) Unspecified s (nines 180)) (sheet53 ∷ larger ∷ tiled53 ∷ [])
       ≡ file53 ∷ nines 180 ∷ nines 180 ∷ []
@@ -273,8 +289,83 @@ files-hold = record {
   heads = refl;
   import-answers = refl;
   export-answers = refl;
+  larger-taken = refl;
+  larger-answered = refl;
+  larger-imported = refl;
+  larger-lengths = refl;
   not-exported-before = refl;
   left-before = refl;
   numbered-answers = refl;
   lengths = refl;
+}
+
+-- THE PROMISES: of each call an accepted answer, a refused one, and answers and bytes that it does not admit: the sides exchanged, another
+-- colour space, another refusal, a head or a length beside one, another last byte, an output that a refused call touched
+abbrev needs : ℕ → ℕ → Length
+needs r n = record { refusal = r; length = n }
+
+pub record Promised : Type 0 where
+  pub imports-file : Imports file53 (nines 35) (head Linear 5 3 3) sheet53
+  pub imports-file-not : Imports file53 (nines 34) (noHead 11) (nines 34)
+  pub no-other-side : Imports file53 (nines 35) (head Linear 3 5 3) sheet53 → ⊥
+  pub no-other-colours : Imports file53 (nines 35) (head Srgb 5 3 3) sheet53 → ⊥
+  pub no-other-block : Imports file53 (nines 35) (head Linear 5 3 3) (set sheet53 34 9) → ⊥
+  pub no-head-refused : Imports file53 (nines 34) (head Linear 5 3 3) (nines 34) → ⊥
+  pub no-sides-refused : Imports file53 (nines 34) (refusedBeside 11 3) (nines 34) → ⊥
+  pub no-sheet-refused : Imports file53 (nines 34) (noHead 11) (set (nines 34) 33 32) → ⊥
+  pub exports-sheet : Exports sheet53 Srgb (nines 180) 0 (but 128 99)
+  pub exports-sheet-not : Exports sheet53 Srgb (nines 181) 11 (nines 181)
+  pub no-other-format : Exports sheet53 Srgb (nines 180) 0 file53 → ⊥
+  pub no-other-number : Exports sheet53 Srgb (nines 180) 11 (but 128 99) → ⊥
+  pub no-file-refused : Exports sheet53 Srgb (nines 181) 11 (set (nines 181) 180 32) → ⊥
+  pub exports-numbered : ExportsNumbered sheet53 2 (nines 180) 0 (but 128 99)
+  pub exports-numbered-not : ExportsNumbered sheet53 3 (nines 180) 18 (nines 180)
+  pub no-format-of-another : ExportsNumbered sheet53 2 (nines 180) 0 file53 → ⊥
+  pub no-number-let-through : ExportsNumbered sheet53 3 (nines 180) 0 (nines 180) → ⊥
+  pub no-file-numbered : ExportsNumbered sheet53 3 (nines 180) 18 (set (nines 180) 179 32) → ⊥
+  pub import-needs : ImportNeeds file53 (needs 0 35)
+  pub import-needs-not : ImportNeeds header53 (needs 10 0)
+  pub no-length-of-the-file : ImportNeeds file53 (needs 0 180) → ⊥
+  pub no-length-refused : ImportNeeds header53 (needs 10 35) → ⊥
+  pub no-length-let-through : ImportNeeds header53 (needs 0 0) → ⊥
+  pub export-needs : ExportNeeds sheet53 (needs 0 180)
+  pub export-needs-not : ExportNeeds [] (needs 7 0)
+  pub no-length-of-the-sheet : ExportNeeds sheet53 (needs 0 35) → ⊥
+  pub no-length-of-nothing : ExportNeeds [] (needs 7 148) → ⊥
+  pub no-nothing-let-through : ExportNeeds [] (needs 0 0) → ⊥
+
+pub promises-hold : Promised
+unfolding evenly table tableFrom first numberAt entries headerNumber canonicalHeader isTexture headMade sheetMade fileRefusalUpTo importRefusalUpTo
+    importAfterUpTo wholeRefusalBy exportRefusalBy fileMadeBy exportAfterBy importLength exportLength blocksOf sizeRefusalUpTo headBytes groups
+    readOfFormUpTo ofFormRefusalUpTo colourIn formOf readHeadUpTo headRefusalUpTo formIn widthIn heightIn readNumber readGroups raised formatSays
+    importAnswer numberedRefusal numberedAfter colourOf colourRefusal
+promises-hold = record {
+  imports-file = (refl, refl);
+  imports-file-not = (refl, refl);
+  no-other-side = λ e. eqb-of _ _ (ap (λ (h : Head). h .width) (e .0));
+  no-other-colours = λ e. eqb-of _ _ (ap (λ (h : Head). colourNumber (h .«colour_space»)) (e .0));
+  no-other-block = λ e. eqb-of _ _ (ap (λ (l : List ℕ). getD l 34 0) (e .1));
+  no-head-refused = λ e. eqb-of _ _ (ap (λ (h : Head). h .refusal) (e .0));
+  no-sides-refused = λ e. eqb-of _ _ (ap (λ (h : Head). h .height) (e .0));
+  no-sheet-refused = λ e. eqb-of _ _ (ap (λ (l : List ℕ). getD l 33 0) (e .1));
+  exports-sheet = (refl, refl);
+  exports-sheet-not = (refl, refl);
+  no-other-format = λ e. eqb-of _ _ (ap (λ (l : List ℕ). getD l 128 0) (e .1));
+  no-other-number = λ e. eqb-of _ _ (e .0);
+  no-file-refused = λ e. eqb-of _ _ (ap (λ (l : List ℕ). getD l 180 0) (e .1));
+  exports-numbered = (refl, refl);
+  exports-numbered-not = (refl, refl);
+  no-format-of-another = λ e. eqb-of _ _ (ap (λ (l : List ℕ). getD l 128 0) (e .1));
+  no-number-let-through = λ e. eqb-of _ _ (e .0);
+  no-file-numbered = λ e. eqb-of _ _ (ap (λ (l : List ℕ). getD l 179 0) (e .1));
+  import-needs = refl;
+  import-needs-not = refl;
+  no-length-of-the-file = λ e. eqb-of _ _ (ap (λ (n : Length). n .length) e);
+  no-length-refused = λ e. eqb-of _ _ (ap (λ (n : Length). n .length) e);
+  no-length-let-through = λ e. eqb-of _ _ (ap (λ (n : Length). n .refusal) e);
+  export-needs = refl;
+  export-needs-not = refl;
+  no-length-of-the-sheet = λ e. eqb-of _ _ (ap (λ (n : Length). n .length) e);
+  no-length-of-nothing = λ e. eqb-of _ _ (ap (λ (n : Length). n .length) e);
+  no-nothing-let-through = λ e. eqb-of _ _ (ap (λ (n : Length). n .refusal) e);
 }

@@ -1,8 +1,9 @@
 -- WHAT HOLDS THE DEFINITIONS OF A HEAD: numbers and heads with their bytes, written out, at both ends of what is accepted.
 -- Assumes nothing.
-use mathlib.Core.Path.{_≡_, refl}
+use mathlib.Core.Path.{_≡_, refl, ap}
 use mathlib.Core.List.{List, [], _∷_, map}
 use Prim.Native.Nat.{ℕ}
+use lib.ListN.{getD}
 use Rattle.head_rules.specs.declared.Number.{Number}
 use Rattle.head_rules.specs.declared.ColourSpace.{ColourSpace}
 use Rattle.head_rules.specs.declared.ColourSpace.the-variants.{Unspecified, Linear, Srgb}
@@ -12,10 +13,12 @@ use Rattle.head_rules.specs.declared.HeadBytes.{HeadBytes}
 use lib.ListN.{replicate}
 use Rattle.laws.specs.Padding.{padded}
 use Rattle.laws.specs.Refusals.{first}
+use Rattle.laws.proofs.Tests.{eqb-of}
 use Rattle.head_rules.specs.Colours.{colourNumber, colourOf, colourRefusal}
 use Rattle.head_rules.specs.Heads.{bytesOfHead, colourIn, formIn, formNumber, formOf, headBytes, headRefusalUpTo, heightIn, limit, oldHead}
 use Rattle.head_rules.specs.Heads.{ofFormRefusalUpTo, readHead, readHeadUpTo, readOfForm, readOfFormUpTo, sizeRefusalUpTo, tiledBytes}
 use Rattle.head_rules.specs.Heads.{under, widthIn, writeHead, writeHeadUpTo}
+use Rattle.head_rules.specs.Heads.{ReadsHead, WritesHead}
 use Rattle.head_rules.specs.declared.Stage.the-variants.{Width}
 use Rattle.laws.specs.Counting.{count}
 use Rattle.tile_rules.specs.Tiles.{columnAt, columnOfSlot, inSheet, mostAcross, rowAt, rowOfSlot, slotIn, slotOf, storedInTiles, tiles}
@@ -37,6 +40,10 @@ head w h start = record { refusal = 0; form = Rows; width = w; height = h; start
 
 abbrev noHead : ℕ → Head
 noHead r = record { refusal = r; form = Rows; width = 0; height = 0; start = 0; «colour_space» = Unspecified }
+
+-- a height beside a refusal
+abbrev refusedBeside : ℕ → ℕ → Head
+refusedBeside r h = record { refusal = r; form = Rows; width = 0; height = h; start = 0; «colour_space» = Unspecified }
 
 -- a head that says something of it
 abbrev headSrgb : Head
@@ -161,4 +168,50 @@ heads-hold = record {
   blocks-in-tiles = refl;
   whole-sheets = refl;
   whole-in-rows = refl;
+}
+
+-- THE PROMISES: of each call an accepted answer, a refused one, and answers that it does not admit: the sides exchanged, tiles taken for rows,
+-- another colour space, another start, another refusal, sides or bytes beside a refusal, a byte behind the head, another count
+pub record Promised : Type 0 where
+  pub reads-head : ReadsHead (0x01 ∷ 0x05 ∷ 0x06 ∷ 0x60 ∷ []) (head 5 6 3)
+  pub reads-tiled : ReadsHead (0x02 ∷ 0x05 ∷ 0x06 ∷ 0x01 ∷ []) (tiled Linear 5 6 4)
+  pub reads-largest : ReadsHead (0x01 ∷ 0x80 ∷ 0x80 ∷ 0x01 ∷ 0x80 ∷ 0x80 ∷ 0x01 ∷ []) (head 16384 16384 7)
+  pub reads-head-not : ReadsHead (0x01 ∷ 0x00 ∷ 0x06 ∷ []) (noHead 9)
+  pub no-other-side : ReadsHead (0x01 ∷ 0x05 ∷ 0x06 ∷ 0x60 ∷ []) (head 6 5 3) → ⊥
+  pub no-other-start : ReadsHead (0x01 ∷ 0x05 ∷ 0x06 ∷ 0x60 ∷ []) (head 5 6 4) → ⊥
+  pub no-other-form : ReadsHead (0x02 ∷ 0x05 ∷ 0x06 ∷ 0x00 ∷ []) (head 5 6 4) → ⊥
+  pub no-other-colours : ReadsHead (0x02 ∷ 0x05 ∷ 0x06 ∷ 0x01 ∷ []) (tiled Srgb 5 6 4) → ⊥
+  pub no-other-refusal : ReadsHead (0x01 ∷ 0x00 ∷ 0x06 ∷ []) (noHead 7) → ⊥
+  pub no-refused-sides : ReadsHead (0x01 ∷ 0x00 ∷ 0x06 ∷ []) (refusedBeside 9 6) → ⊥
+  pub writes-head : WritesHead 5 6 (written 0 (0x01 ∷ 0x05 ∷ 0x06 ∷ 0 ∷ 0 ∷ 0 ∷ 0 ∷ []) 3)
+  pub writes-largest : WritesHead 16384 16384 (written 0 (0x01 ∷ 0x80 ∷ 0x80 ∷ 0x01 ∷ 0x80 ∷ 0x80 ∷ 0x01 ∷ []) 7)
+  pub writes-head-not : WritesHead 0 6 (written 9 (0 ∷ 0 ∷ 0 ∷ 0 ∷ 0 ∷ 0 ∷ 0 ∷ []) 0)
+  pub no-other-bytes : WritesHead 5 6 (written 0 (0x01 ∷ 0x06 ∷ 0x05 ∷ 0 ∷ 0 ∷ 0 ∷ 0 ∷ []) 3) → ⊥
+  pub no-byte-behind : WritesHead 5 6 (written 0 (0x01 ∷ 0x05 ∷ 0x06 ∷ 0 ∷ 0 ∷ 0 ∷ 9 ∷ []) 3) → ⊥
+  pub no-other-count : WritesHead 5 6 (written 0 (0x01 ∷ 0x05 ∷ 0x06 ∷ 0 ∷ 0 ∷ 0 ∷ 0 ∷ []) 7) → ⊥
+  pub no-refused-head : WritesHead 5 6 (written 9 (0x01 ∷ 0x05 ∷ 0x06 ∷ 0 ∷ 0 ∷ 0 ∷ 0 ∷ []) 3) → ⊥
+  pub no-refused-bytes : WritesHead 0 6 (written 9 (0x01 ∷ 0x00 ∷ 0x06 ∷ 0 ∷ 0 ∷ 0 ∷ 0 ∷ []) 0) → ⊥
+
+pub promises-hold : Promised
+unfolding groups readGroups readNumber raised readHeadUpTo headRefusalUpTo formIn widthIn heightIn colourIn first sizeRefusalUpTo writeHeadUpTo
+    headBytes padded colourOf colourRefusal formOf
+promises-hold = record {
+  reads-head = refl;
+  reads-tiled = refl;
+  reads-largest = refl;
+  reads-head-not = refl;
+  no-other-side = λ e. eqb-of _ _ (ap (λ (h : Head). h .width) e);
+  no-other-start = λ e. eqb-of _ _ (ap (λ (h : Head). h .start) e);
+  no-other-form = λ e. eqb-of _ _ (ap (λ (h : Head). formNumber (h .form)) e);
+  no-other-colours = λ e. eqb-of _ _ (ap (λ (h : Head). colourNumber (h .«colour_space»)) e);
+  no-other-refusal = λ e. eqb-of _ _ (ap (λ (h : Head). h .refusal) e);
+  no-refused-sides = λ e. eqb-of _ _ (ap (λ (h : Head). h .height) e);
+  writes-head = refl;
+  writes-largest = refl;
+  writes-head-not = refl;
+  no-other-bytes = λ e. eqb-of _ _ (ap (λ (b : HeadBytes). getD (b .bytes) 1 0) e);
+  no-byte-behind = λ e. eqb-of _ _ (ap (λ (b : HeadBytes). getD (b .bytes) 6 0) e);
+  no-other-count = λ e. eqb-of _ _ (ap (λ (b : HeadBytes). b .count) e);
+  no-refused-head = λ e. eqb-of _ _ (ap (λ (b : HeadBytes). b .refusal) e);
+  no-refused-bytes = λ e. eqb-of _ _ (ap (λ (b : HeadBytes). getD (b .bytes) 0 0) e);
 }

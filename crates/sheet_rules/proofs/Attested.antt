@@ -1,14 +1,15 @@
 -- WHAT HOLDS THE DEFINITIONS OF SHEETS: a picture of 5 by 6 pixels, no two alike, written out; calls on its rows and its blocks.
 -- Assumes nothing.
-use mathlib.Core.Path.{_≡_, refl}
+use mathlib.Core.Path.{_≡_, refl, ap}
 use mathlib.Core.List.{List, [], _∷_, _++_, map}
 use Prim.Native.Nat.{ℕ}
-use lib.ListN.{drop, length, replicate, take}
+use lib.ListN.{drop, getD, length, replicate, set, take}
 use Rattle.line_rules.specs.declared.Replacement.{Replacement}
 use Rattle.sheet_rules.specs.declared.BlockRead.{BlockRead}
 use Rattle.laws.specs.Refusals.{first}
 use Rattle.laws.specs.Tables.{over, table, tableFrom}
 use Rattle.bcn_format.specs.Block.{blockAt, bytesOf, number, putBlock, trailing}
+use Rattle.laws.proofs.Tests.{eqb-of}
 use Rattle.bc7_format.specs.Modes.{modeOf, endpointCount, kindOfMode, modeRow}
 use Rattle.bcn_format.specs.Drawing.{drawn, promoted, weightOf, weights}
 use Rattle.bc7_format.specs.Lines.{eight, anchorOf, indexSetOf, has, indexPlace, laid, lineAt, lineBits, lineOf, meansStored, own, pPlace, pixel}
@@ -24,13 +25,13 @@ use Rattle.head_rules.specs.Heads.{readOfFormUpTo, sizeRefusalUpTo, widthIn}
 use Rattle.head_rules.specs.Numbers.{raised, readGroups, readNumber}
 use Rattle.head_rules.specs.Whole.{wholeRefusal}
 use Rattle.line_rules.specs.Replace.{after, indexFits, lineFits, lineGiven, oriented, ownWidth, pFits, put, refusal, refusalIn, replaced, valueFits}
-use Rattle.sheet_rules.specs.Blocks.{blockRead}
+use Rattle.sheet_rules.specs.Blocks.{ReadsBlock, blockRead}
 use Rattle.sheet_rules.specs.Pictures.{blocksAs, byteAs, picture, pictureByte, rowOf}
 use Rattle.sheet_rules.specs.SheetRows as whole
-use Rattle.sheet_rules.specs.SheetRows.{sheetRowOut, sheetRowRefusal}
-use Rattle.sheet_rules.specs.Rows.{channel, rowByte, rowBytes, rowOut, rowOutUpTo, rowRefusal, rowRefusalUpTo}
-use Rattle.sheet_rules.specs.Sheets.{blockIn, blockBy, findRefusalBy, replacedBy, sheetAfter, sheetAfterBy, sheetRefusal}
-use Rattle.sheet_rules.specs.Sheets.{sheetRefusalBy}
+use Rattle.sheet_rules.specs.SheetRows.{sheetRowOut, sheetRowRefusal, DecodesSheetRow}
+use Rattle.sheet_rules.specs.Rows.{channel, rowByte, rowBytes, rowOut, rowOutUpTo, rowRefusal, rowRefusalUpTo, DecodesRow, blockAt}
+use Rattle.sheet_rules.specs.Sheets.{blockIn, blockBy, findRefusalBy, replacedBy, sheetAfter}
+use Rattle.sheet_rules.specs.Sheets.{sheetAfterBy, sheetRefusal, sheetRefusalBy, putBlock, ReplacesInSheet}
 
 -- blocks of mode 6: red from 0 to 120, blue 7, alpha 127, and a green of 10, 20, 30 or 40; p 0 and 0; pixel q has index q
 abbrev shade : ℕ → ℕ → ℕ → List ℕ
@@ -193,11 +194,13 @@ abbrev wideScanline : ℕ → ℕ → ℕ → ℕ → List ℕ
 wideScanline a b c d =
     (px a 80 ++ px b 80 ++ px c 80 ++ px d 80) ++ (px a 20 ++ px b 20 ++ px c 20 ++ px d 20) ++ (px a 40 ++ px b 40 ++ px c 40 ++ px d 40)
 
+abbrev lowerTiles : List ℕ
+lowerTiles = wideScanline 0 15 34 49 ++ wideScanline 64 79 98 113 ++ wideScanline 128 143 161 176 ++ wideScanline 191 206 225 240
+
 abbrev pub sheetRowClaims : List SheetRow
 sheetRowClaims =
     draw small 1 40 0 lowerScanlines ∷
-    draw (tiles3 shade30) 1 192 0
-    (wideScanline 0 15 34 49 ++ wideScanline 64 79 98 113 ++ wideScanline 128 143 161 176 ++ wideScanline 191 206 225 240) ∷
+    draw (tiles3 shade30) 1 192 0 lowerTiles ∷
     draw-not [] 9 41 7 ∷
     draw-not (0x02 ∷ 0x00 ∷ 0x08 ∷ 0x03 ∷ drop 3 longer) 9 41 18 ∷
     draw-not longer 2 41 10 ∷
@@ -262,3 +265,83 @@ unfolding over table tableFrom modeRow kindOfMode endpointCount placeAt pos widt
     readNumber readGroups raised replaced after refusal refusalIn lineFits valueFits pFits indexFits ownWidth lineGiven put oriented withLine laid
     turned anchorOf blockOf listOf bytesOf colourIn formOf colourOf colourRefusal storedAt meansStored
 before-holds = record { answers = refl; sheets = refl }
+
+-- THE PROMISES: of each call an accepted answer, a refused one, and answers and bytes that it does not admit: another answer, another last pixel,
+-- the next block, the sheet as it was, bytes that a refused call touched or answers
+-- a sheet of 16,384 by 16,384 of which only the head is there: 10, and not 9
+abbrev largest : List ℕ
+largest = 0x01 ∷ 0x80 ∷ 0x80 ∷ 0x01 ∷ 0x80 ∷ 0x80 ∷ 0x01 ∷ []
+
+abbrev answers : ℕ → List ℕ → BlockRead
+answers r bs = record { refusal = r; block = bs }
+
+pub record Promised : Type 0 where
+  pub decodes-row : DecodesRow 5 6 1 lower (nines 40) 0 lowerScanlines
+  pub decodes-row-not : DecodesRow 5 6 2 lower (nines 40) 12 (nines 40)
+  pub decodes-largest : DecodesRow 16384 16384 4096 [] [] 12 []
+  pub no-other-row-answer : DecodesRow 5 6 1 lower (nines 40) 12 lowerScanlines → ⊥
+  pub no-row-let-through : DecodesRow 5 6 2 lower (nines 40) 0 (nines 40) → ⊥
+  pub no-other-pixel : DecodesRow 5 6 1 lower (nines 40) 0 (set lowerScanlines 39 0) → ⊥
+  pub no-output-touched : DecodesRow 5 6 2 lower (nines 40) 12 (set (nines 40) 39 0) → ⊥
+  pub decodes-sheet-row : DecodesSheetRow small 1 (nines 40) 0 lowerScanlines
+  pub decodes-tiled-row : DecodesSheetRow (tiles3 shade30) 1 (nines 192) 0 lowerTiles
+  pub decodes-largest-sheet : DecodesSheetRow largest 0 [] 10 []
+  pub decodes-sheet-row-not : DecodesSheetRow small 2 (nines 40) 12 (nines 40)
+  pub no-other-sheet-row-answer : DecodesSheetRow small 1 (nines 40) 12 lowerScanlines → ⊥
+  pub no-sheet-row-let-through : DecodesSheetRow small 2 (nines 40) 0 (nines 40) → ⊥
+  pub no-other-sheet-pixel : DecodesSheetRow small 1 (nines 40) 0 (set lowerScanlines 39 0) → ⊥
+  pub no-sheet-output-touched : DecodesSheetRow small 2 (nines 40) 12 (set (nines 40) 39 0) → ⊥
+  pub reads-block : ReadsBlock (tiles3 shade30) 2 (answers 0 shade30)
+  pub reads-block-not : ReadsBlock small 4 (answers 12 (replicate 16 0))
+  pub reads-largest : ReadsBlock largest 0 (answers 10 (replicate 16 0))
+  pub no-other-block : ReadsBlock (tiles3 shade30) 2 (answers 0 shade40) → ⊥
+  pub no-other-block-answer : ReadsBlock small 4 (answers 10 (replicate 16 0)) → ⊥
+  pub no-block-refused : ReadsBlock small 4 (answers 12 shade40) → ⊥
+  pub replaces-in-sheet : ReplacesInSheet small 2 0 given 0 smallReplaced
+  pub replaces-in-sheet-not : ReplacesInSheet small 4 0 given 12 small
+  pub replaces-no-line-1 : ReplacesInSheet small 2 1 given 2 small
+  pub replaces-in-largest : ReplacesInSheet largest 0 0 given 10 largest
+  pub not-as-it-was : ReplacesInSheet small 2 0 given 0 small → ⊥
+  pub no-other-replace-answer : ReplacesInSheet small 2 0 given 12 smallReplaced → ⊥
+  pub no-byte-behind : ReplacesInSheet small 2 0 given 0 (set smallReplaced 51 0) → ⊥
+  pub no-sheet-touched : ReplacesInSheet small 4 0 given 12 smallReplaced → ⊥
+
+pub promises-hold : Promised
+unfolding wholeRefusal over table tableFrom weights weightOf drawn promoted eight modeRow kindOfMode endpointCount placeAt pos width widths trailing number modeOf
+    splitAt splitOf atPlace opened has valuePlace pPlace indexSetOf indexPlace own lineOf lineBits meansStored rotated lineAt shown pixel pixels
+    blockAt channel rowByte rowBytes rowOutUpTo rowRefusalUpTo blockBy blocksOf findRefusalBy placeOf putBlock
+    replacedBy sheetAfterBy sheetRefusalBy first sizeRefusalUpTo readHeadUpTo headRefusalUpTo formIn widthIn heightIn readNumber
+    readGroups raised replaced after refusal refusalIn lineFits valueFits pFits indexFits ownWidth lineGiven put oriented withLine laid
+    turned anchorOf blockOf listOf bytesOf colourIn formOf colourOf colourRefusal storedAt storedInTiles count slotOf slotIn inSheet columnAt
+    columnOfSlot rowAt rowOfSlot tiles blockRead blocksAs byteAs rowOf sheetRowOut sheetRowRefusal whole.rowBlocks
+promises-hold = record {
+  decodes-row = (refl, refl);
+  decodes-row-not = (refl, refl);
+  decodes-largest = (refl, refl);
+  no-other-row-answer = λ e. eqb-of _ _ (e .0);
+  no-row-let-through = λ e. eqb-of _ _ (e .0);
+  no-other-pixel = λ e. eqb-of _ _ (ap (λ (l : List ℕ). getD l 39 0) (e .1));
+  no-output-touched = λ e. eqb-of _ _ (ap (λ (l : List ℕ). getD l 39 0) (e .1));
+  decodes-sheet-row = (refl, refl);
+  decodes-tiled-row = (refl, refl);
+  decodes-largest-sheet = (refl, refl);
+  decodes-sheet-row-not = (refl, refl);
+  no-other-sheet-row-answer = λ e. eqb-of _ _ (e .0);
+  no-sheet-row-let-through = λ e. eqb-of _ _ (e .0);
+  no-other-sheet-pixel = λ e. eqb-of _ _ (ap (λ (l : List ℕ). getD l 39 0) (e .1));
+  no-sheet-output-touched = λ e. eqb-of _ _ (ap (λ (l : List ℕ). getD l 39 0) (e .1));
+  reads-block = refl;
+  reads-block-not = refl;
+  reads-largest = refl;
+  no-other-block = λ e. eqb-of _ _ (ap (λ (b : BlockRead). getD (b .block) 2 0) e);
+  no-other-block-answer = λ e. eqb-of _ _ (ap (λ (b : BlockRead). b .refusal) e);
+  no-block-refused = λ e. eqb-of _ _ (ap (λ (b : BlockRead). getD (b .block) 0 0) e);
+  replaces-in-sheet = (refl, refl);
+  replaces-in-sheet-not = (refl, refl);
+  replaces-no-line-1 = (refl, refl);
+  replaces-in-largest = (refl, refl);
+  not-as-it-was = λ e. eqb-of _ _ (ap (λ (l : List ℕ). getD l 36 0) (e .1));
+  no-other-replace-answer = λ e. eqb-of _ _ (e .0);
+  no-byte-behind = λ e. eqb-of _ _ (ap (λ (l : List ℕ). getD l 51 0) (e .1));
+  no-sheet-touched = λ e. eqb-of _ _ (ap (λ (l : List ℕ). getD l 36 0) (e .1));
+}
