@@ -28,7 +28,7 @@ use Rattle.dds_rules.specs.Header.{numberAt, offset, redMask, reserved, 
 use Rattle.dds_rules.specs.Files.{exportAfter, exportAfterBy, exportHead, exportLength, exportRefusal, exportRefusalBy, fileMadeBy}
 use Rattle.dds_rules.specs.Files.{fileRefusalUpTo, headMade, importAfter, importAfterUpTo}
 use Rattle.dds_rules.specs.Files.{importAnswer, importHead, importLength, importRefusal, importRefusalUpTo, numberedAfter, numberedRefusal}
-use Rattle.dds_rules.specs.Files.{said, sheetMade, wholeRefusalBy}
+use Rattle.dds_rules.specs.Files.{said, sheetMade}
 use Rattle.dds_rules.specs.Promises.{ExportNeeds, Exports, ExportsNumbered, ImportNeeds, Imports}
 
 abbrev zeros : ℕ → List ℕ
@@ -336,7 +336,7 @@ pub record Promised : Type 0 where
 
 pub promises-hold : Promised
 unfolding evenly table tableFrom first numberAt entries headerNumber canonicalHeader isTexture headMade sheetMade fileRefusalUpTo importRefusalUpTo
-    importAfterUpTo wholeRefusalBy exportRefusalBy fileMadeBy exportAfterBy importLength exportLength blocksOf sizeRefusalUpTo headBytes groups
+    importAfterUpTo wholeRefusal exportRefusalBy fileMadeBy exportAfterBy importLength exportLength blocksOf sizeRefusalUpTo headBytes groups
     readOfFormUpTo ofFormRefusalUpTo colourIn formOf readHeadUpTo headRefusalUpTo formIn widthIn heightIn readNumber readGroups raised formatSays
     importAnswer numberedRefusal numberedAfter colourOf colourRefusal
 promises-hold = record {

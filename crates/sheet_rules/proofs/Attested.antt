@@ -29,9 +29,9 @@ use Rattle.sheet_rules.specs.Blocks.{ReadsBlock, blockRead}
 use Rattle.sheet_rules.specs.Pictures.{blocksAs, byteAs, picture, pictureByte, rowOf}
 use Rattle.sheet_rules.specs.SheetRows as whole
 use Rattle.sheet_rules.specs.SheetRows.{sheetRowOut, sheetRowRefusal, DecodesSheetRow}
-use Rattle.sheet_rules.specs.Rows.{channel, rowByte, rowBytes, rowOut, rowOutUpTo, rowRefusal, rowRefusalUpTo, DecodesRow, blockAt}
+use Rattle.sheet_rules.specs.Rows.{channel, rowByte, rowBytes, rowOut, rowOutUpTo, rowRefusal, rowRefusalUpTo, DecodesRow}
 use Rattle.sheet_rules.specs.Sheets.{blockIn, blockBy, findRefusalBy, replacedBy, sheetAfter}
-use Rattle.sheet_rules.specs.Sheets.{sheetAfterBy, sheetRefusal, sheetRefusalBy, putBlock, ReplacesInSheet}
+use Rattle.sheet_rules.specs.Sheets.{sheetAfterBy, sheetRefusal, sheetRefusalBy, ReplacesInSheet}
 
 -- blocks of mode 6: red from 0 to 120, blue 7, alpha 127, and a green of 10, 20, 30 or 40; p 0 and 0; pixel q has index q
 abbrev shade : ℕ → ℕ → ℕ → List ℕ
