@@ -4,7 +4,7 @@ use mathlib.Core.Path.{_≡_}
 use Prim.Native.Nat.{ℕ, _+_, _-_, _*_, _/_, _%_, _^_, _≤_, _<_}
 use Rattle.bc7_drawing.specs.declared.colour.Ends.{Ends}
 use Rattle.bc7_drawing.specs.declared.colour.Stored.{Stored}
-use Rattle.bc7_drawing.specs.Words.{Alone, Bytes, Fitting, Lanes, LanesOfOne}
+use Rattle.bc7_drawing.specs.Words.{Alone, EndsOfBytes, Fitting, Lanes, LanesOfOne}
 
 -- four values, each of which fits a lane
 pub record FourLanes (a b c d : ℕ) : Type 0 where
@@ -84,12 +84,12 @@ pub record Mixable2 (ws e0 e1 : ℕ) : Type 0 where
 -- the same of endpoints
 pub record Shaded (w : ℕ) (e : Ends) : Type 0 where
   pub weight : w ≤ 256
-  pub ends : Bytes e
+  pub ends : EndsOfBytes e
 
 pub record Shaded2 (ws : ℕ) (e : Ends) : Type 0 where
   pub weights : TwoWeights ws
   pub ends : Alone e
 
 pub record ThreeSubsets (e f : Ends) : Type 0 where
-  pub two : Bytes e
-  pub third : Bytes f
+  pub two : EndsOfBytes e
+  pub third : EndsOfBytes f

@@ -39,7 +39,7 @@ endpoint e l k =
     getD rb (2 * l) 0 ∷ getD ga (2 * l) 0 ∷ getD rb (2 * l + 1) 0 ∷ getD ga (2 * l + 1) 0 ∷ []
 
 -- all their channels are bytes
-pub record Bytes (e : Ends) : Type 0 where
+pub record EndsOfBytes (e : Ends) : Type 0 where
   pub rb0 : Lanes 8 (e .rb0)
   pub ga0 : Lanes 8 (e .ga0)
   pub rb1 : Lanes 8 (e .rb1)
@@ -57,8 +57,8 @@ pub record Alone (e : Ends) : Type 0 where
   pub ga1 : LanesOfOne (e .ga1)
 
 -- a channel of what is stored of a colour, and that all of it fits lanes
-abbrev pub channel : Stored → ℕ → ℕ
-channel x c = getD (x .r ∷ x .g ∷ x .b ∷ x .a ∷ []) c 0
+abbrev pub storedChannel : Stored → ℕ → ℕ
+storedChannel x c = getD (x .r ∷ x .g ∷ x .b ∷ x .a ∷ []) c 0
 
 pub record Fitting (x : Stored) : Type 0 where
   pub red : x .r < 2 ^ 16
@@ -69,27 +69,27 @@ pub record Fitting (x : Stored) : Type 0 where
 
 -- channel c of endpoint k of what is stored: without p bits and with them
 abbrev pub plain : ℕ → Stored → ℕ → ℕ → ℕ
-plain n x k c = endOf n k (channel x c)
+plain n x k c = endOf n k (storedChannel x c)
 
 abbrev pub withP : ℕ → Stored → ℕ → ℕ → ℕ
-withP n x k c = endOfP n k (channel x c) (x .p)
+withP n x k c = endOfP n k (storedChannel x c) (x .p)
 
 -- where alpha has a width of its own, w
 abbrev pub withAlpha : ℕ → ℕ → Stored → ℕ → ℕ → ℕ
-withAlpha n w x k c = endOf (pick (eqb c 3) w n) k (channel x c)
+withAlpha n w x k c = endOf (pick (eqb c 3) w n) k (storedChannel x c)
 
 -- the ends of two colours: what they are, and that they are bytes
 pub record Holds (f : ℕ → ℕ → ℕ → ℕ) (e : Ends) : Type 0 where
   pub same : e ≡ endsOf f
   pub each : (l k c : ℕ) → f l k c < 2 ^ 8
-  pub small : Bytes e
+  pub small : EndsOfBytes e
 
 -- those of one colour
-abbrev pub first : (ℕ → ℕ → ℕ) → ℕ → ℕ → ℕ → ℕ
-first f l k c = pick (eqb l 0) (f k c) 0
+abbrev pub firstAlone : (ℕ → ℕ → ℕ) → ℕ → ℕ → ℕ → ℕ
+firstAlone f l k c = pick (eqb l 0) (f k c) 0
 
 pub record HoldsOne (f : ℕ → ℕ → ℕ) (e : Ends) : Type 0 where
-  pub same : e ≡ endsOf (first f)
+  pub same : e ≡ endsOf (firstAlone f)
   pub each : (k c : ℕ) → f k c < 2 ^ 8
   pub one : Alone e
 

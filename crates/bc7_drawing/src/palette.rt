@@ -9,7 +9,7 @@ ghost use Rattle.bcn_format.specs.Drawing.{weightOf};
 ghost use Rattle.bcn_format.specs.Indexes.{part};
 ghost use Rattle.bc7_fields.specs.Painting.{between};
 ghost use Rattle.bc7_drawing.specs.Asked.{Shaded, Shaded2, ThreeSubsets};
-ghost use Rattle.bc7_drawing.specs.Words.{Alone, Bytes, endpoint, wordBytes};
+ghost use Rattle.bc7_drawing.specs.Words.{Alone, EndsOfBytes, endpoint, wordBytes};
 ghost use Rattle.bc7_drawing.specs.Colours.{endpoints, keyed, shade};
 use crate::colour::Ends;
 use crate::colour::high_colour;
@@ -40,7 +40,7 @@ pub fn two_shades(e: Ends, weights: u64) -> u64
 
 // The colours of two subsets: that of index k and subset s is at 2 * k + s.
 pub fn palette_2_2(e: Ends) -> [[u8; 4]; 8]
-    requires { ⌜ Bytes e ⌝ }
+    requires { ⌜ EndsOfBytes e ⌝ }
     ensures { λ q. ⌜ q ≡ table 8 (keyed 2 2 (endpoint e)) ⌝ }
 {
     let mut q = [[0u8; 4]; 8];
@@ -53,7 +53,7 @@ pub fn palette_2_2(e: Ends) -> [[u8; 4]; 8]
 }
 
 pub fn palette_2_3(e: Ends) -> [[u8; 4]; 16]
-    requires { ⌜ Bytes e ⌝ }
+    requires { ⌜ EndsOfBytes e ⌝ }
     ensures { λ q. ⌜ q ≡ table 16 (keyed 3 2 (endpoint e)) ⌝ }
 {
     let mut q = [[0u8; 4]; 16];

@@ -4,11 +4,9 @@ use mathlib.Core.Path.{_≡_, refl, sym, ap, ap₂, _∙_, subst}
 use mathlib.Core.Bool.{Bool, false, true}
 use mathlib.Core.List.{List, [], _∷_}
 use Prim.Native.Nat.{ℕ, zero, suc, _+_, _-_, _*_, _/_, _^_, _<_}
-use native.Mathlib.Nat.{mod-lt}
 use native.Mathlib.Omega.{arith}
 use lib.Dec.{T, eqb}
 use lib.ListN.{getD}
-use lib.Pow.{pow-pos}
 use Rattle.bc7_format.specs.declared.Place.the-variants.{Index}
 use Rattle.bc7_format.specs.declared.Split.{Split}
 use Rattle.bc7_format.specs.declared.Split.the-variants.{Three, Two, Vector, Whole}
@@ -16,6 +14,7 @@ use Rattle.laws.specs.Digits.{total}
 use Rattle.laws.specs.Tables.{pick, table}
 use Rattle.laws.proofs.Joining.{table-same}
 use Rattle.laws.proofs.Part.{getD-table}
+use Rattle.bcn_format.proofs.Fields.{field-lt}
 use Rattle.bcn_format.specs.Block.{field}
 use Rattle.bcn_format.specs.Drawing.{drawn, weightOf}
 use Rattle.bc7_format.specs.Lines.{indexSetOf, lineAt, rotated}
@@ -29,10 +28,6 @@ use Rattle.bc7_fields.specs.Fields.{direct, directPixels, endByte}
 use Rattle.bc7_fields.specs.Painting.{four, between, painted}
 use Rattle.bc7_fields.proofs.Fields.{index-at}
 use Rattle.bc7_fields.specs.Rotating.{merged, swapped, mergedAndSwapped}
-
-pub part-lt : (x k q : ℕ) → part x k q < 2 ^ k
-unfolding part
-part-lt x k q = mod-lt (x / 2 ^ (q * k)) (pow-pos k)
 
 four-at : (f : ℕ → ℕ) (c : ℕ) → c < 4 → getD (four f) c 0 ≡ f c
 four-at f zero h = refl
@@ -87,7 +82,7 @@ pub keyed-law : (m n b k t : ℕ) (s : Split) {p : List (List ℕ)} → firstBit
     → painted place p ≡ directPixels m n
 keyed-law m n b k t s {p} eb es flat subsets palette x place places indexes =
     looked-up m n b s p eb es flat x place indexes (λ q hq.
-    ap (λ (j : ℕ). getD p j []) (places q hq) ∙ palette .at (subset s q) (part x b q) (subsets q hq) (part-lt x b q))
+    ap (λ (j : ℕ). getD p j []) (places q hq) ∙ palette .at (subset s q) (part x b q) (subsets q hq) (field-lt x (q * b) b))
 
 -- the palette of one subset, and pixels that are drawn by their own indexes
 module _ (m n b : ℕ) {e0 e1 : List ℕ} (p0 : e0 ≡ four (endByte m n 0)) (p1 : e1 ≡ four (endByte m n 1)) where
@@ -103,7 +98,7 @@ module _ (m n b : ℕ) {e0 e1 : List ℕ} (p0 : e0 ≡ four (endByte m n 0)) (p1
 
 pub drawn-each : (b x : ℕ) (e0 e1 : List ℕ) → table 16 (λ q. between b e0 e1 (part x b q)) ≡ painted (part x b) (table (2 ^ b) (between b e0 e1))
 unfolding painted
-drawn-each b x e0 e1 = table-same [] 16 _ _ (λ q hq. sym (getD-table (2 ^ b) (between b e0 e1) [] (part x b q) (part-lt x b q)))
+drawn-each b x e0 e1 = table-same [] 16 _ _ (λ q hq. sym (getD-table (2 ^ b) (between b e0 e1) [] (part x b q) (field-lt x (q * b) b)))
 
 -- rotation after colour and alpha are joined
 module _ (r : ℕ) (colours alphas : List (List ℕ)) (h : r < 4) where

@@ -4,7 +4,8 @@ ghost use Prim.Native.Nat.{_<_};
 ghost use Rattle.bc7_format.specs.Modes.{modeOf};
 ghost use Rattle.bc7_modes.specs.Modes.{modeRowAs, modeRowOf};
 
-// A row of the table. The kind of split: 0 whole, 1 two subsets, 2 three subsets, 3 vector and scalar.
+// A row of the table. The kind of split: 0 whole, 1 two subsets, 2 three subsets, 3 vector and scalar. `indexes` asks for the number of
+// fix-ups, and is told the kind: kinds 1 and 2 have as many, the others none.
 pub struct ModeRow {
     pub lines: u32,
     pub kind: u8,

@@ -66,7 +66,7 @@ pub record Has (m c e : ℕ) : Type 0 where
   pub endpoint : e < endpointCount m
 
 -- a pixel of a string, and the pixels before one, or all sixteen
-pub record PixelIn (cs : List ℕ) (q : ℕ) : Type 0 where
+pub record PixelOfString (cs : List ℕ) (q : ℕ) : Type 0 where
   pub sixteen : Sixteen cs
   pub pixel : q < 16
 
@@ -89,7 +89,7 @@ pub record IndexAsked (m : ℕ) (cs : List ℕ) (a q : ℕ) : Type 0 where
   pub pixel : q < 16
 
 -- two bytes and a weight of 64
-pub record Mixable (x y w : ℕ) : Type 0 where
+pub record TwoBytes (x y w : ℕ) : Type 0 where
   pub first : x < 256
   pub second : y < 256
   pub weight : w ≤ 64

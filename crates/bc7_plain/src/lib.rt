@@ -13,7 +13,7 @@ ghost use Rattle.bc7_format.specs.Modes.{alphaBits, channelBits, colourBits, en
 ghost use Rattle.pixel_rules.specs.Plain.{channelIn, firstStart, indexIn, plainChannel, setFor, setStart};
 ghost use Rattle.pixel_rules.specs.Promises.{ReadsPixel};
 ghost use Rattle.bc7_plain.specs.Asked.{Bits, Byte, ChannelAsked, ChannelOf, Column, EndpointOf, Has, InTable, IndexAsked};
-ghost use Rattle.bc7_plain.specs.Asked.{IndexModeOf, Mixable, PixelAsked, PixelOf, Promoted, Rotatable, SetAsked, SetOf};
+ghost use Rattle.bc7_plain.specs.Asked.{IndexModeOf, TwoBytes, PixelAsked, PixelOf, Promoted, Rotatable, SetAsked, SetOf};
 ghost use Rattle.bc7_plain.specs.Asked.{ShortField, SplitRead};
 use pixel_rules::PixelRead;
 use strings::anchors_before;
@@ -273,7 +273,7 @@ fn weight(width: usize, index: usize) -> usize
 
 // A channel between two endpoints.
 fn mixed(first: usize, second: usize, weight: usize) -> u8
-    requires { ⌜ Mixable first second weight ⌝ }
+    requires { ⌜ TwoBytes first second weight ⌝ }
     ensures { λ r. ⌜ r ≡ drawn first second weight ⌝ }
 {
     (((64 - weight) * first + weight * second + 32) / 64) as u8

@@ -4,8 +4,8 @@ ghost use mathlib.Core.Path.{_≡_};
 ghost use Prim.Native.Nat.{_<_};
 ghost use lib.ListN.{getD};
 ghost use Rattle.bcn_format.specs.Partitions.{strings2, strings3};
-ghost use Rattle.pixel_rules.specs.Strings.{anchorsBefore, isAnchorIn, letters, placeIn, subsetIn, undivided};
-ghost use Rattle.bc7_plain.specs.Asked.{PixelIn, PixelsBefore};
+ghost use Rattle.pixel_rules.specs.Strings.{anchorsBefore, isAnchorIn, letters, placeIn, subsetSpelt, undivided};
+ghost use Rattle.bc7_plain.specs.Asked.{PixelOfString, PixelsBefore};
 
 const TWO: [[u8; 17]; 64] = [
     *b"001100110011001-1",
@@ -182,8 +182,8 @@ fn place(string: &[u8], pixel: usize) -> usize
 
 // The subset of a pixel: its digit.
 pub fn subset(string: &[u8], pixel: usize) -> usize
-    requires { ⌜ PixelIn (now string) pixel ⌝ }
-    ensures { λ r. ⌜ r ≡ subsetIn (now (string .entry)) pixel ⌝ }
+    requires { ⌜ PixelOfString (now string) pixel ⌝ }
+    ensures { λ r. ⌜ r ≡ subsetSpelt (now (string .entry)) pixel ⌝ }
 {
     let k = place(string, pixel);
     (string[k] - b'0') as usize
@@ -191,7 +191,7 @@ pub fn subset(string: &[u8], pixel: usize) -> usize
 
 // Is a pixel an anchor: pixel 0, or one with a dash before its digit?
 pub fn is_anchor(string: &[u8], pixel: usize) -> bool
-    requires { ⌜ PixelIn (now string) pixel ⌝ }
+    requires { ⌜ PixelOfString (now string) pixel ⌝ }
     ensures { λ r. ⌜ r ≡ isAnchorIn (now (string .entry)) pixel ⌝ }
 {
     if pixel == 0 {

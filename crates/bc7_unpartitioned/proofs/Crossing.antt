@@ -25,20 +25,22 @@ use Rattle.bc7_drawing.specs.declared.colour.Ends.{Ends}
 use Rattle.bc7_drawing.specs.Words.{Alone, endpoint, wordBytes}
 use Rattle.bc7_drawing.specs.Colours.{shade}
 use Rattle.bc7_drawing.proofs.palette.Keyed.{shade-is}
-use Rattle.bc7_unpartitioned.specs.Crossing.{crossed, kept, keptWord}
+use Rattle.bc7_unpartitioned.specs.Crossing.{crossed, keptChannels, keptWord}
 
 -- a mask of whole bytes
 byte-stays : (v : ℕ) → bitAnd (v % 2 ^ 8) 255 ≡ v % 2 ^ 8
 byte-stays v = and-mask (v % 2 ^ 8) 8 ∙ mod-mod v (2 ^ 8)
 
-pub keep-colour : (x : ℕ) → wordBytes (bitAnd x 0x00FF_FFFF_00FF_FFFF) ≡ kept true (take 4 (wordBytes x)) ++ kept true (drop 4 (wordBytes x))
-unfolding wordBytes kept
+pub keep-colour : (x : ℕ) → wordBytes (bitAnd x 0x00FF_FFFF_00FF_FFFF)
+    ≡ keptChannels true (take 4 (wordBytes x)) ++ keptChannels true (drop 4 (wordBytes x))
+unfolding wordBytes keptChannels
 keep-colour x =
     split-and (replicate 8 8) x 0x00FF_FFFF_00FF_FFFF
     ∙ simp (byte-stays, and-zero-r)
 
-pub keep-alpha : (x : ℕ) → wordBytes (bitAnd x 0xFF00_0000_FF00_0000) ≡ kept false (take 4 (wordBytes x)) ++ kept false (drop 4 (wordBytes x))
-unfolding wordBytes kept
+pub keep-alpha : (x : ℕ) → wordBytes (bitAnd x 0xFF00_0000_FF00_0000)
+    ≡ keptChannels false (take 4 (wordBytes x)) ++ keptChannels false (drop 4 (wordBytes x))
+unfolding wordBytes keptChannels
 keep-alpha x =
     split-and (replicate 8 8) x 0xFF00_0000_FF00_0000
     ∙ simp (byte-stays, and-zero-r)
@@ -84,33 +86,33 @@ module _ (b k : ℕ) (second : Weighed b (2 * k + 1)) {u v : ℕ} (eu : u ≡ 4 
       (shade-is b (2 * k + 1) second (pair .high) e 0)
 
 -- words of colours of which a part is kept
-take-kept : (colour : Bool) (l m : List ℕ) → take 4 (kept colour l ++ m) ≡ kept colour l
-unfolding kept
+take-kept : (colour : Bool) (l m : List ℕ) → take 4 (keptChannels colour l ++ m) ≡ keptChannels colour l
+unfolding keptChannels
 take-kept true l m = refl
 take-kept false l m = refl
 
-drop-kept : (colour : Bool) (l m : List ℕ) → drop 4 (kept colour l ++ m) ≡ m
-unfolding kept
+drop-kept : (colour : Bool) (l m : List ℕ) → drop 4 (keptChannels colour l ++ m) ≡ m
+unfolding keptChannels
 drop-kept true l m = refl
 drop-kept false l m = refl
 
 module _ (colour : Bool) (b j k : ℕ) (e0 e1 : List ℕ) {bytes all : List ℕ} (two : all ≡ between b e0 e1 j ++ between b e0 e1 k)
-    (part : bytes ≡ kept colour (take 4 all) ++ kept colour (drop 4 all)) where
-  pub both-kept : bytes ≡ kept colour (between b e0 e1 j) ++ kept colour (between b e0 e1 k)
+    (part : bytes ≡ keptChannels colour (take 4 all) ++ keptChannels colour (drop 4 all)) where
+  pub both-kept : bytes ≡ keptChannels colour (between b e0 e1 j) ++ keptChannels colour (between b e0 e1 k)
   unfolding between
-  both-kept = part ∙ ap (λ (l : List ℕ). kept colour (take 4 l) ++ kept colour (drop 4 l)) two
+  both-kept = part ∙ ap (λ (l : List ℕ). keptChannels colour (take 4 l) ++ keptChannels colour (drop 4 l)) two
 
   pub low-kept : {w : ℕ} → w ≡ join (replicate 4 8) (take 4 bytes) → w ≡ keptWord colour (between b e0 e1 j)
   unfolding keptWord
   low-kept e =
       e ∙ ap (λ (l : List ℕ). join (replicate 4 8) (take 4 l)) both-kept
-      ∙ ap (join (replicate 4 8)) (take-kept colour (between b e0 e1 j) (kept colour (between b e0 e1 k)))
+      ∙ ap (join (replicate 4 8)) (take-kept colour (between b e0 e1 j) (keptChannels colour (between b e0 e1 k)))
 
   pub high-kept : {w : ℕ} → w ≡ join (replicate 4 8) (drop 4 bytes) → w ≡ keptWord colour (between b e0 e1 k)
   unfolding keptWord
   high-kept e =
       e ∙ ap (λ (l : List ℕ). join (replicate 4 8) (drop 4 l)) both-kept
-      ∙ ap (join (replicate 4 8)) (drop-kept colour (between b e0 e1 j) (kept colour (between b e0 e1 k)))
+      ∙ ap (join (replicate 4 8)) (drop-kept colour (between b e0 e1 j) (keptChannels colour (between b e0 e1 k)))
 
 -- colours between two endpoints are bytes
 pub between-fits : (b k : ℕ) (e : Ends) → Alone e → 2 ≤ b → b ≤ 4 → k < 2 ^ b → Fit (replicate 4 8) (between b (endpoint e 0 0) (endpoint e 0 1) k)
@@ -125,7 +127,7 @@ between-fits b k e one least most h =
 -- colour and alpha: one word, and two colours in one
 module _ {l a : List ℕ} (fl : Fit (replicate 4 8) l) (fa : Fit (replicate 4 8) a) where
   sum-is : keptWord true l + keptWord false a ≡ join (replicate 4 8) (crossed l a)
-  unfolding keptWord kept crossed
+  unfolding keptWord keptChannels crossed
   sum-is = omega arith
 
   crossed-fits : Fit (replicate 4 8) (crossed l a)
@@ -172,18 +174,18 @@ module _ {x a : ℕ} (hx : x < 2 ^ 64) (ha : a < 2 ^ 32) (colours : Fit Colours 
   alphas-bytes = ap (split (replicate 8 8)) whole ∙ split-join (sums-fit colours alpha)
 
 -- what is kept of bytes
-two-kept : {bs cs : List ℕ} → Fit (replicate 4 8) bs → Fit (replicate 4 8) cs → Fit Colours (kept true bs ++ kept true cs)
-unfolding kept
+two-kept : {bs cs : List ℕ} → Fit (replicate 4 8) bs → Fit (replicate 4 8) cs → Fit Colours (keptChannels true bs ++ keptChannels true cs)
+unfolding keptChannels
 two-kept f g =
     more (fit-get f 0) (more (fit-get f 1) (more (fit-get f 2) (more {w = 0} (pow-pos 0)
     (more (fit-get g 0) (more (fit-get g 1) (more (fit-get g 2) (more {w = 0} (pow-pos 0) none)))))))
 
-kept-alpha : {bs : List ℕ} → Fit (replicate 4 8) bs → Fit Alpha (kept false bs)
-unfolding kept
+kept-alpha : {bs : List ℕ} → Fit (replicate 4 8) bs → Fit Alpha (keptChannels false bs)
+unfolding keptChannels
 kept-alpha f = more {w = 0} (pow-pos 0) (more {w = 0} (pow-pos 0) (more {w = 0} (pow-pos 0) (more (fit-get f 3) none)))
 
-kept-bytes : {bs : List ℕ} → Fit (replicate 4 8) bs → Fit (replicate 4 8) (kept false bs)
-unfolding kept
+kept-bytes : {bs : List ℕ} → Fit (replicate 4 8) bs → Fit (replicate 4 8) (keptChannels false bs)
+unfolding keptChannels
 kept-bytes f = more {w = 8} (pow-pos 8) (more {w = 8} (pow-pos 8) (more {w = 8} (pow-pos 8) (more (fit-get f 3) none)))
 
 -- all pairs: colour i % 4 of two words that have two each, with alpha i / 4 of four words
@@ -227,7 +229,7 @@ module _ (e : Ends) (one : Alone e) where
   colour-fits k h = between-fits 2 k e one (omega arith) (omega arith) h
 
   alpha-is : {alphas : List ℕ} → alphas ≡ table 4 (λ k. keptWord false (colour k)) → (j : ℕ) → j < 4
-      → take 4 (wordBytes (getD alphas j 0)) ≡ kept false (colour j)
+      → take 4 (wordBytes (getD alphas j 0)) ≡ keptChannels false (colour j)
   unfolding wordBytes keptWord
   alpha-is ea j h =
       ap (λ (l : List ℕ). take 4 (wordBytes (getD l j 0))) ea
@@ -238,13 +240,15 @@ module _ (e : Ends) (one : Alone e) where
       → Fit Alpha (take 4 (wordBytes (getD alphas j 0)))
   alpha-fits ea j h = rw (alpha-is ea j h) (kept-alpha (colour-fits j h))
 
-  pub colours-fit : {bytes : List ℕ} (j k : ℕ) → j < 4 → k < 4 → bytes ≡ kept true (colour j) ++ kept true (colour k) → Fit Colours bytes
+  pub colours-fit : {bytes : List ℕ} (j k : ℕ) → j < 4 → k < 4 → bytes ≡ keptChannels true (colour j) ++ keptChannels true (colour k)
+      → Fit Colours bytes
   colours-fit j k hj hk eb = rw eb (two-kept (colour-fits j hj) (colour-fits k hk))
 
   module _ {alphas : List ℕ} (low high : ℕ) (ea : alphas ≡ table 4 (λ k. keptWord false (colour k)))
-      (el : wordBytes low ≡ kept true (colour 0) ++ kept true (colour 1)) (eh : wordBytes high ≡ kept true (colour 2) ++ kept true (colour 3)) where
-    colour-is : (k : ℕ) → k < 4 → colourAt low high k ≡ kept true (colour k)
-    unfolding kept
+      (el : wordBytes low ≡ keptChannels true (colour 0) ++ keptChannels true (colour 1))
+      (eh : wordBytes high ≡ keptChannels true (colour 2) ++ keptChannels true (colour 3)) where
+    colour-is : (k : ℕ) → k < 4 → colourAt low high k ≡ keptChannels true (colour k)
+    unfolding keptChannels
     colour-is zero h = ap (take 4) el
     colour-is (suc zero) h = ap (drop 4) el
     colour-is (suc (suc zero)) h = ap (take 4) eh
@@ -252,5 +256,5 @@ module _ (e : Ends) (one : Alone e) where
     colour-is (suc (suc (suc (suc k)))) h = absurd (let z : ⊥ = omega arith in z)
 
     pub pairs : table 16 (pairAt alphas low high) ≡ table 16 (λ i. crossed (colour (i % 4)) (colour (i / 4)))
-    unfolding pairAt crossed kept
+    unfolding pairAt crossed keptChannels
     pairs = table-same [] 16 _ _ (λ i h. ap₂ crossed (colour-is (i % 4) (mod-lt i (omega arith))) (alpha-is ea (i / 4) (omega arith)))

@@ -13,6 +13,7 @@ use Rattle.laws.specs.Digits.{Fit}
 use Rattle.laws.specs.Tables.{pick, table}
 use Rattle.laws.proofs.Joining.{table-same}
 use Rattle.laws.proofs.Part.{getD-table}
+use Rattle.bcn_format.proofs.Fields.{field-lt}
 use Rattle.bcn_format.specs.Block.{field}
 use Rattle.bcn_format.specs.Drawing.{drawn, weightOf}
 use Rattle.bc7_format.specs.Lines.{rotated}
@@ -24,7 +25,7 @@ use Rattle.bcn_format.proofs.Expanding.{size-1}
 use Rattle.bc7_fields.specs.Fields.{directPixels, endByte}
 use Rattle.bc7_fields.specs.Painting.{four, between, painted}
 use Rattle.bc7_fields.specs.Rotating.{merged, swapped}
-use Rattle.bc7_fields.proofs.Pictures.{Palette, Picture, indexes-at, keyed-law, part-lt, vector-law}
+use Rattle.bc7_fields.proofs.Pictures.{Palette, Picture, indexes-at, keyed-law, vector-law}
 use Rattle.bc7_drawing.specs.declared.colour.Ends.{Ends}
 use Rattle.bc7_drawing.specs.Words.{Alone, endpoint, wordBytes}
 use Rattle.drawing.specs.Keys.{keyAt, keysOf}
@@ -88,11 +89,11 @@ pub paired : (x y : ℕ) (f : ℕ → List ℕ)
 unfolding painted
 paired x y f =
     table-same [] 16 _ _ (λ q hq.
-    let px = part-lt x 2 q in
-    let py = part-lt y 2 q in
+    let px = field-lt x (q * 2) 2 in
+    let py = field-lt y (q * 2) 2 in
     let low : (part y 2 q * 2 ^ 2 + part x 2 q) % 4 ≡ part x 2 q = omega arith in
     let high : (part y 2 q * 2 ^ 2 + part x 2 q) / 4 ≡ part y 2 q = omega arith in
-    ap (λ (j : ℕ). getD (table 16 (λ i. crossed (f (i % 4)) (f (i / 4)))) j []) (key-at 2 2 y x (omega arith) (λ j hj. part-lt x 2 j) q hq)
+    ap (λ (j : ℕ). getD (table 16 (λ i. crossed (f (i % 4)) (f (i / 4)))) j []) (key-at 2 2 y x (omega arith) (λ j hj. field-lt x (j * 2) 2) q hq)
     ∙ getD-table 16 _ [] (part y 2 q * 2 ^ 2 + part x 2 q) (omega arith)
     ∙ ap₂ (λ (j k : ℕ). crossed (f j) (f k)) low high)
 
@@ -127,7 +128,7 @@ module _ (colour : Bool) (e : Ends) (one : Alone e) {p q : List ℕ}
   words-summed x y =
       table-same [] 16 _ _ (λ i hi.
       ap₂ (λ (u v : ℕ). take 4 (wordBytes (u + v)))
-      (ap (λ (l : List ℕ). getD l (part x 2 i) 0) ep ∙ getD-table 4 _ 0 (part x 2 i) (part-lt x 2 i))
-      (ap (λ (l : List ℕ). getD l (part y 3 i) 0) eq ∙ getD-table 8 _ 0 (part y 3 i) (part-lt y 3 i))
-      ∙ summed colour (between-fits 2 (part x 2 i) e one (omega arith) (omega arith) (part-lt x 2 i))
-      (between-fits 3 (part y 3 i) e one (omega arith) (omega arith) (part-lt y 3 i)))
+      (ap (λ (l : List ℕ). getD l (part x 2 i) 0) ep ∙ getD-table 4 _ 0 (part x 2 i) (field-lt x (i * 2) 2))
+      (ap (λ (l : List ℕ). getD l (part y 3 i) 0) eq ∙ getD-table 8 _ 0 (part y 3 i) (field-lt y (i * 3) 3))
+      ∙ summed colour (between-fits 2 (part x 2 i) e one (omega arith) (omega arith) (field-lt x (i * 2) 2))
+      (between-fits 3 (part y 3 i) e one (omega arith) (omega arith) (field-lt y (i * 3) 3)))

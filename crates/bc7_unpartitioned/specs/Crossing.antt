@@ -14,11 +14,11 @@ use Rattle.bcn_format.specs.Drawing.{Weighed}
 use Rattle.indexes.specs.declared.Indexes.{Indexes}
 
 -- red, green and blue of a colour, or its alpha, and 0 in place of the others
-unfoldable pub kept : Bool → List ℕ → List ℕ
-kept colour l = pick colour (getD l 0 0 ∷ getD l 1 0 ∷ getD l 2 0 ∷ 0 ∷ []) (0 ∷ 0 ∷ 0 ∷ getD l 3 0 ∷ [])
+unfoldable pub keptChannels : Bool → List ℕ → List ℕ
+keptChannels colour l = pick colour (getD l 0 0 ∷ getD l 1 0 ∷ getD l 2 0 ∷ 0 ∷ []) (0 ∷ 0 ∷ 0 ∷ getD l 3 0 ∷ [])
 
 unfoldable pub keptWord : Bool → List ℕ → ℕ
-keptWord colour l = join (replicate 4 8) (kept colour l)
+keptWord colour l = join (replicate 4 8) (keptChannels colour l)
 
 -- red, green and blue of one colour with the alpha of another
 unfoldable pub crossed : List ℕ → List ℕ → List ℕ

@@ -14,7 +14,8 @@ ghost use Rattle.bc7_fields.specs.Fields.{directPixels};
 ghost use Rattle.bc7_fields.specs.Painting.{four};
 ghost use Rattle.bc7_fields.specs.Rotating.{swapped};
 ghost use Rattle.bc7_drawing.specs.Words.{Alone, wordBytes};
-ghost use Rattle.bc7_unpartitioned.specs.Crossing.{Crossable, Paintable, TwoIndexes, colourBetween, crossed, crossedBoth, kept, keptWord};
+ghost use Rattle.bc7_unpartitioned.specs.Crossing.{Crossable, Paintable, TwoIndexes, colourBetween, crossed, crossedBoth};
+ghost use Rattle.bc7_unpartitioned.specs.Crossing.{keptChannels, keptWord};
 use bc7_drawing::colour::Ends;
 use bc7_drawing::colour::Stored;
 use bc7_drawing::colour::alone;
@@ -71,7 +72,7 @@ fn swap_channels(pixels: [[u8; 4]; 16], rotation: u8) -> [[u8; 4]; 16]
 
 // Two colours side by side, of which only red, green and blue stay, or only alpha, which is the upper byte of each.
 fn keep(x: u64, colour: bool) -> u64
-    ensures { λ r. ⌜ wordBytes r ≡ kept colour (take 4 (wordBytes x)) ++ kept colour (drop 4 (wordBytes x)) ⌝ }
+    ensures { λ r. ⌜ wordBytes r ≡ keptChannels colour (take 4 (wordBytes x)) ++ keptChannels colour (drop 4 (wordBytes x)) ⌝ }
 {
     if colour {
         return x & 0x00FF_FFFF_00FF_FFFF;

@@ -1,12 +1,12 @@
 -- WHAT HOLDS THE DEFINITIONS OF BITS AND DRAWING: numbers that a reader can check on paper. (Printed has the partitions.)
 -- Assumes nothing.
 use mathlib.Core.Path.{_≡_, refl}
-use mathlib.Core.List.{[], _∷_, _++_, map}
+use mathlib.Core.List.{List, [], _∷_, _++_, map}
 use Prim.Native.Nat.{ℕ, _+_, _-_, _*_, _/_, _^_}
 use lib.Dec.{T, eqb}
 use lib.ListN.{replicate}
-use Rattle.laws.specs.Tables.{below}
-use Rattle.bcn_format.specs.Block.{bitsOf, bitsOfBytes, bytesOf, field, number, trailing, valueOfBits}
+use Rattle.laws.specs.Tables.{below, over}
+use Rattle.bcn_format.specs.Block.{bitsOf, bitsOfBytes, blockAt, bytesOf, field, number, putBlock, trailing, valueOfBits}
 use Rattle.bcn_format.specs.Drawing.{promoted, weightOf, weights}
 
 -- byte 0 first, low bit first
@@ -21,6 +21,17 @@ pub record Bits : Type 0 where
 pub bits-hold : Bits
 unfolding number bytesOf field trailing
 bits-hold = record { of-number = refl; to-number = refl; of-bytes = refl; block-number = refl; number-block = refl; some-bits = refl }
+
+-- the block at place 1 of eighteen bytes, and another stored over it
+abbrev around : List ℕ → List ℕ
+around block = 101 ∷ (block ++ (118 ∷ []))
+
+abbrev sixteen : List ℕ
+sixteen = 2 ∷ 3 ∷ 4 ∷ 5 ∷ 6 ∷ 7 ∷ 8 ∷ 9 ∷ 10 ∷ 11 ∷ 12 ∷ 13 ∷ 14 ∷ 15 ∷ 16 ∷ 17 ∷ []
+
+pub among-bytes : (blockAt (around sixteen) 1 ≡ sixteen) × (putBlock (around (replicate 16 0)) 1 sixteen ≡ around sixteen)
+unfolding blockAt putBlock over
+among-bytes = (refl, refl)
 
 -- a weight is 64 · i / last, rounded: all 28, at the widths 2, 3 and 4
 abbrev rounded : ℕ → ℕ → ℕ

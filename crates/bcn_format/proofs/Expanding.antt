@@ -16,6 +16,7 @@ use Rattle.laws.proofs.Digits.{join-split, split-join, total-append}
 use Rattle.laws.proofs.Joining.{table-same}
 use Rattle.laws.proofs.Part.{getD-table}
 use Rattle.laws.proofs.Rows.{digit, fit-table, split-table, table-mid, total-same}
+use Rattle.bcn_format.specs.Block.{field}
 use Rattle.bcn_format.specs.Partitions.{among}
 use Rattle.bcn_format.specs.Indexes.{expanded, indexWidth, indexWidths, part}
 use Rattle.bcn_format.proofs.Insert.{inserted-lt, split-inserted}
@@ -158,7 +159,7 @@ full-width w an k = pick-less (among k an) w
 
 pub part-expanded : (w : ℕ) (an : List ℕ) (n q : ℕ) → q < 16
     → part (expanded w an n) w q ≡ n / 2 ^ total (table q (indexWidth w an)) % 2 ^ indexWidth w an q
-unfolding expanded part indexWidths
+unfolding expanded field indexWidths
 part-expanded w an n q h =
     let f : ℕ → ℕ = indexWidth w [] in
     let v : ℕ → ℕ = λ k. n / 2 ^ total (table k (indexWidth w an)) % 2 ^ indexWidth w an k in

@@ -12,7 +12,7 @@ use Rattle.laws.specs.Digits.{Fit, inserted, join, removed, split, total}
 use Rattle.laws.proofs.Digits.{join-lt, join-split, split-join}
 use Rattle.laws.proofs.Masks.{removed-inserted}
 use Rattle.laws.proofs.Words.{one-shl}
-use Rattle.bcn_format.specs.Indexes.{Rising, anchorCount, anchorsOfKind, expanded, indexWidths}
+use Rattle.bcn_format.specs.Indexes.{Rising, anchorCount, anchorsWith, expanded, indexWidths}
 use Rattle.bcn_format.proofs.Expanding.{one-anchor, size-1, size-2, size-3, size-none, three-anchors, two-anchors}
 
 -- what is above the bit
@@ -34,18 +34,18 @@ removed-lt n p hp hn =
     rw (← (pow-add 2 (63 - p) p), e) at (digits-lt (above-lt n p hp hn) (mod-lt n (pow-pos p)))
 
 -- the kinds that have pixel 0 alone
-pub one-kind : (k p q : ℕ) → k ≢ 1 → k ≢ 2 → anchorsOfKind k p q ≡ 0 ∷ []
-one-kind zero p q a b = refl
-one-kind (suc zero) p q a b = absurd (a refl)
-one-kind (suc (suc zero)) p q a b = absurd (b refl)
-one-kind (suc (suc (suc k))) p q a b = refl
+pub no-fixups : (k p q : ℕ) → k ≢ 1 → k ≢ 2 → anchorsWith k p q ≡ 0 ∷ []
+no-fixups zero p q a b = refl
+no-fixups (suc zero) p q a b = absurd (a refl)
+no-fixups (suc (suc zero)) p q a b = absurd (b refl)
+no-fixups (suc (suc (suc k))) p q a b = refl
 
 -- how many bits the stored indexes have
-pub size-kind : (k w p q : ℕ) → 0 < w → Rising k p q → total (indexWidths w (anchorsOfKind k p q)) ≡ 16 * w - anchorCount k
-size-kind zero w p q hw r = size-1 w hw
-size-kind (suc zero) w p q hw r = let h = r .two refl in size-2 w p hw (h .above) (h .pixel)
-size-kind (suc (suc zero)) w p q hw r = let h = r .three refl in size-3 w p q hw (h .above) (h .rising) (h .pixel)
-size-kind (suc (suc (suc k))) w p q hw r = size-1 w hw
+pub size-with : (k w p q : ℕ) → 0 < w → Rising k p q → total (indexWidths w (anchorsWith k p q)) ≡ 16 * w - anchorCount k
+size-with zero w p q hw r = size-1 w hw
+size-with (suc zero) w p q hw r = let h = r .two refl in size-2 w p hw (h .above) (h .pixel)
+size-with (suc (suc zero)) w p q hw r = let h = r .three refl in size-3 w p q hw (h .above) (h .rising) (h .pixel)
+size-with (suc (suc (suc k))) w p q hw r = size-1 w hw
 
 -- indexes that fit their stored widths: stored and expanded they are as before
 module _ (w n : ℕ) (hw : 0 < w) (hn : n < 2 ^ (16 * w)) where
@@ -92,19 +92,19 @@ module _ (w n : ℕ) (hw : 0 < w) (hn : n < 2 ^ (16 * w)) where
       ∙ removed-inserted m1 (top p))
       ∙ removed-inserted m (top 0)
 
-  -- by the kind
-  module _ {k p q : ℕ} (rise : Rising k p q) (f : Fits (anchorsOfKind k p q)) where
-    pub store-1 : {b : ℕ} → k ≢ 1 → k ≢ 2 → b ≡ removed n (top 0) → b ≡ stored (anchorsOfKind k p q)
-    store-1 d1 d2 eb = let e = one-kind k p q d1 d2 in one (subst Fits e f) eb ∙ ap stored (sym e)
+  -- by the number of fix-ups
+  module _ {k p q : ℕ} (rise : Rising k p q) (f : Fits (anchorsWith k p q)) where
+    pub store-1 : {b : ℕ} → k ≢ 1 → k ≢ 2 → b ≡ removed n (top 0) → b ≡ stored (anchorsWith k p q)
+    store-1 d1 d2 eb = let e = no-fixups k p q d1 d2 in one (subst Fits e f) eb ∙ ap stored (sym e)
 
-    pub store-2 : {a b : ℕ} → k ≡ 1 → a ≡ removed n (top p) → b ≡ removed a (top 0) → b ≡ stored (anchorsOfKind k p q)
+    pub store-2 : {a b : ℕ} → k ≡ 1 → a ≡ removed n (top p) → b ≡ removed a (top 0) → b ≡ stored (anchorsWith k p q)
     store-2 e ea eb =
         let h = rise .two e in
-        let an : anchorsOfKind k p q ≡ 0 ∷ p ∷ [] = ap (λ (k : ℕ). anchorsOfKind k p q) e in
+        let an : anchorsWith k p q ≡ 0 ∷ p ∷ [] = ap (λ (k : ℕ). anchorsWith k p q) e in
         two (h .above) (h .pixel) (subst Fits an f) ea eb ∙ ap stored (sym an)
 
-    pub store-3 : {a b c : ℕ} → k ≡ 2 → a ≡ removed n (top q) → b ≡ removed a (top p) → c ≡ removed b (top 0) → c ≡ stored (anchorsOfKind k p q)
+    pub store-3 : {a b c : ℕ} → k ≡ 2 → a ≡ removed n (top q) → b ≡ removed a (top p) → c ≡ removed b (top 0) → c ≡ stored (anchorsWith k p q)
     store-3 e ea eb ec =
         let h = rise .three e in
-        let an : anchorsOfKind k p q ≡ 0 ∷ p ∷ q ∷ [] = ap (λ (k : ℕ). anchorsOfKind k p q) e in
+        let an : anchorsWith k p q ≡ 0 ∷ p ∷ q ∷ [] = ap (λ (k : ℕ). anchorsWith k p q) e in
         three (h .above) (h .rising) (h .pixel) (subst Fits an f) ea eb ec ∙ ap stored (sym an)

@@ -8,7 +8,7 @@ use Rattle.indexes.specs.declared.NewIndexes.{NewIndexes}
 use Rattle.bits.specs.declared.stream.BitStream.{BitStream}
 use Rattle.bits.specs.Stream.{taken}
 use Rattle.laws.specs.Digits.{Fit}
-use Rattle.bcn_format.specs.Indexes.{OneFixup, Rising, TwoFixups, anchorCount, expanded, indexWidths, part}
+use Rattle.bcn_format.specs.Indexes.{IndexWidth, OneFixup, Rising, TwoFixups, anchorCount, expanded, indexWidths, part}
 
 -- index i, which is within its width
 pub record Index (x : Indexes) (i r : ℕ) : Type 0 where
@@ -22,19 +22,13 @@ indexesOf w an n = record { uncompressed = expanded w an n; bits = w }
 abbrev pub newIndexes : ℕ → List ℕ → BitStream → ℕ → NewIndexes
 newIndexes w an s t = record { indexes = indexesOf w an (taken s t .value); stream = taken s t .stream }
 
--- what is asked of indexes with one, two or three anchors: they have one to four bits, and the fix-ups rise
-pub record Anchors1 (w : ℕ) : Type 0 where
-  pub least : 0 < w
-  pub most : w ≤ 4
-
+-- what is asked of indexes with two or three anchors, beside their width: the fix-ups rise
 pub record Anchors2 (w p : ℕ) : Type 0 where
-  pub least : 0 < w
-  pub most : w ≤ 4
+  pub width : IndexWidth w
   pub fixup : OneFixup p
 
 pub record Anchors3 (w p q : ℕ) : Type 0 where
-  pub least : 0 < w
-  pub most : w ≤ 4
+  pub width : IndexWidth w
   pub fixups : TwoFixups p q
 
 -- and of a stream that they are read from: their t bits lie ahead
@@ -49,22 +43,18 @@ pub record Compressed (Anchors : Type 0) (n t : ℕ) : Type 0 where
 
 -- of an index of a word: which one; and, to put a bit in, that there is room for it
 pub record IndexAt (w i : ℕ) : Type 0 where
-  pub least : 0 < w
-  pub most : w ≤ 4
+  pub width : IndexWidth w
   pub pixel : i < 16
 
 pub record Insertable (w n i : ℕ) : Type 0 where
-  pub least : 0 < w
-  pub most : w ≤ 4
-  pub pixel : i < 16
+  pub index : IndexAt w i
   pub room : n < 2 ^ 63
 
--- of a set that comes next: its kind's anchors rise, and its bits lie ahead
-pub record SetAhead (s : BitStream) (kind w p q : ℕ) : Type 0 where
-  pub least : 0 < w
-  pub most : w ≤ 4
-  pub rising : Rising kind p q
-  pub inside : s .at + (16 * w - anchorCount kind) ≤ 128
+-- of a set that comes next: its fix-ups rise, and its bits lie ahead
+pub record SetAhead (s : BitStream) (fixups w p q : ℕ) : Type 0 where
+  pub width : IndexWidth w
+  pub rising : Rising fixups p q
+  pub inside : s .at + (16 * w - anchorCount fixups) ≤ 128
 
 -- of sixteen indexes
 pub record SetFits (vs : List ℕ) (w : ℕ) : Type 0 where

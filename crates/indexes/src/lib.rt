@@ -5,7 +5,8 @@ ghost use mathlib.Core.Path.{_≡_};
 ghost use mathlib.Core.List.{[], _∷_};
 ghost use Prim.Native.Nat.{_+_, _-_, _*_, _≤_, _<_};
 ghost use Rattle.laws.specs.Digits.{inserted};
-ghost use Rattle.indexes.specs.Reading.{Ahead, Anchors1, Anchors2, Anchors3, Compressed, Index, Insertable, indexesOf, newIndexes};
+ghost use Rattle.bcn_format.specs.Indexes.{IndexWidth};
+ghost use Rattle.indexes.specs.Reading.{Ahead, Anchors2, Anchors3, Compressed, Index, Insertable, indexesOf, newIndexes};
 use bits::stream::BitStream;
 
 pub mod sets;
@@ -35,7 +36,7 @@ fn decompress_single_index(bits: u32, compressed: u64, index: u32) -> u64
 
 impl Indexes {
     pub fn new_p1(bits: u32, stream: BitStream) -> NewIndexes
-        requires { ⌜ Ahead (Anchors1 bits) stream (16 * bits - 1) ⌝ }
+        requires { ⌜ Ahead (IndexWidth bits) stream (16 * bits - 1) ⌝ }
         ensures { λ r. ⌜ r ≡ newIndexes bits (0 ∷ []) stream (16 * bits - 1) ⌝ }
     {
         let compressed = stream.take(16 * bits - 1);
@@ -75,7 +76,7 @@ impl Indexes {
 
     // Pixel 0 is always an anchor, and the fix-ups are the others in pixel order.
     pub fn from_compressed_p1(bits: u32, compressed: u64) -> Self
-        requires { ⌜ Compressed (Anchors1 bits) compressed (16 * bits - 1) ⌝ }
+        requires { ⌜ Compressed (IndexWidth bits) compressed (16 * bits - 1) ⌝ }
         ensures { λ r. ⌜ r ≡ indexesOf bits (0 ∷ []) compressed ⌝ }
     {
         Indexes {

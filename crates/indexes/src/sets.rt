@@ -1,4 +1,4 @@
-// A set of sixteen indexes as one word of equal parts: read by the kind of its anchors, taken apart and put together. It is ours; the
+// A set of sixteen indexes as one word of equal parts: read by the number of its fix-ups, taken apart and put together. It is ours; the
 // Rust reads a set by one function for each number of anchors, and takes each index from it where it draws.
 ghost use mathlib.Core.Path.{_≡_};
 ghost use mathlib.Core.List.{[]};
@@ -6,27 +6,28 @@ ghost use Prim.Native.Nat.{_+_, _-_, _*_, _≤_};
 ghost use Rattle.laws.specs.Digits.{join};
 ghost use Rattle.laws.specs.Tables.{table};
 ghost use Rattle.bcn_format.specs.Block.{field};
-ghost use Rattle.bcn_format.specs.Indexes.{anchorCount, anchorsOfKind, indexWidths, part};
+ghost use Rattle.bcn_format.specs.Indexes.{anchorCount, anchorsWith, indexWidths, part};
 ghost use Rattle.indexes.specs.Reading.{IndexAt, SetAhead, SetFits, newIndexes};
 use crate::Indexes;
 use crate::NewIndexes;
 use bits::stream::BitStream;
 
-// The kinds: 1 has two anchors, 2 has three, the others have pixel 0 alone. The anchors' zeros are put in.
+// With one fix-up there are two anchors, with two there are three; any other number stands for none, which leaves pixel 0 alone. The
+// anchors' zeros are put in.
 pub fn read_indexes(
-    kind: u8,
+    fixups: u8,
     bits: u32,
     stream: BitStream,
     second: usize,
     third: usize,
 ) -> NewIndexes
-    requires { ⌜ SetAhead stream kind bits second third ⌝ }
-    ensures { λ r. ⌜ r ≡ newIndexes bits (anchorsOfKind kind second third) stream (16 * bits - anchorCount kind) ⌝ }
+    requires { ⌜ SetAhead stream fixups bits second third ⌝ }
+    ensures { λ r. ⌜ r ≡ newIndexes bits (anchorsWith fixups second third) stream (16 * bits - anchorCount fixups) ⌝ }
 {
-    if kind == 1 {
+    if fixups == 1 {
         return Indexes::new_p2(bits, stream, second as u32);
     }
-    if kind == 2 {
+    if fixups == 2 {
         return Indexes::new_p3(bits, stream, second as u32, third as u32);
     }
     Indexes::new_p1(bits, stream)

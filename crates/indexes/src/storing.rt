@@ -3,7 +3,7 @@ ghost use mathlib.Core.Path.{_≡_};
 ghost use mathlib.Core.List.{[]};
 ghost use Prim.Native.Nat.{_+_, _-_, _*_, _≤_, _<_};
 ghost use Rattle.laws.specs.Digits.{join, removed, split};
-ghost use Rattle.bcn_format.specs.Indexes.{anchorCount, anchorsOfKind, indexWidths};
+ghost use Rattle.bcn_format.specs.Indexes.{IndexWidth, anchorCount, anchorsWith, indexWidths};
 ghost use Rattle.indexes.specs.Reading.{IndexAt};
 ghost use Rattle.indexes.specs.Storing.{Storable};
 
@@ -17,16 +17,16 @@ fn compress_single_index(bits: u32, word: u64, index: u32) -> u64
 }
 
 // The indexes of a word at their stored widths. The highest anchor's zero goes first, so that the others stand where they were.
-// The kinds: 1 has two anchors, 2 has three, the others have pixel 0 alone.
-pub fn compressed(kind: u8, bits: u32, p2_fixup: u32, p3_fixup: u32, word: u64) -> u64
-    requires { ⌜ Storable kind bits «p2_fixup» «p3_fixup» word ⌝ }
-    ensures { λ r. ⌜ r ≡ join (indexWidths bits (anchorsOfKind kind «p2_fixup» «p3_fixup»)) (split (indexWidths bits []) word) ⌝ }
+// With one fix-up there are two anchors, with two there are three; any other number stands for none, which leaves pixel 0 alone.
+pub fn compressed(fixups: u8, bits: u32, p2_fixup: u32, p3_fixup: u32, word: u64) -> u64
+    requires { ⌜ Storable fixups bits «p2_fixup» «p3_fixup» word ⌝ }
+    ensures { λ r. ⌜ r ≡ join (indexWidths bits (anchorsWith fixups «p2_fixup» «p3_fixup»)) (split (indexWidths bits []) word) ⌝ }
 {
-    if kind == 1 {
+    if fixups == 1 {
         let second = compress_single_index(bits, word, p2_fixup);
         return compress_single_index(bits, second, 0);
     }
-    if kind == 2 {
+    if fixups == 2 {
         let third = compress_single_index(bits, word, p3_fixup);
         let second = compress_single_index(bits, third, p2_fixup);
         return compress_single_index(bits, second, 0);
@@ -34,15 +34,15 @@ pub fn compressed(kind: u8, bits: u32, p2_fixup: u32, p3_fixup: u32, word: u64) 
     compress_single_index(bits, word, 0)
 }
 
-// How many bits the stored indexes of a kind have together.
-pub fn stored_bits(kind: u8, bits: u32) -> u32
-    requires { ⌜ (0 < bits) × (bits ≤ 4) ⌝ }
-    ensures { λ r. ⌜ r ≡ 16 * bits - anchorCount kind ⌝ }
+// How many bits the stored indexes have together.
+pub fn stored_bits(fixups: u8, bits: u32) -> u32
+    requires { ⌜ IndexWidth bits ⌝ }
+    ensures { λ r. ⌜ r ≡ 16 * bits - anchorCount fixups ⌝ }
 {
-    if kind == 1 {
+    if fixups == 1 {
         return 16 * bits - 2;
     }
-    if kind == 2 {
+    if fixups == 2 {
         return 16 * bits - 3;
     }
     16 * bits - 1

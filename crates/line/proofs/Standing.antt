@@ -161,7 +161,7 @@ module _ {m : ℕ} {s : Split} {f : Place → ℕ} (g : WellFormed m s f) (l : �
         go false e = sym (rw (own-none m s l (indexPlace s l q) e))
 
     set-are : setAt n (kindOfMode m) (at .indexes) x ≡ table 16 (λ q. mine (indexPlace s l q))
-    unfolding setAt part
+    unfolding setAt field
     set-are =
         let wd : ℕ = x .index in
         let stood : ℕ → ℕ = λ q. f (indexPlace s l q) in
@@ -211,8 +211,7 @@ module _ {m : ℕ} {s : Split} {f : Place → ℕ} (g : WellFormed m s f) (l : �
         alpha = record { start = rw fields-are (low 3 (omega arith)); width = part-small .alpha };
         p = record { start = rw fields-are low-p; line = l3; width = part-small .p };
         set = rw (fields-are, er) (record {
-          least = omega (arith, is .least);
-          most = is .most;
+          width = record { least = omega (arith, is .least); most = is .most };
           rising = rising g l is;
           map = is .map;
           room = rw (set-starts g l hl l3, size-is g l is) (set-room g l);

@@ -31,7 +31,7 @@ use Rattle.bc7_format.proofs.Reserved.{reserved-mode, zero-byte}
 use Rattle.bits.specs.Stream.{held}
 use Rattle.bcn_format.specs.Indexes.{indexWidths}
 use Rattle.bc7_modes.specs.Modes.{modeRowOf}
-use Rattle.line_rules.specs.Acceptable.{Within, callRules}
+use Rattle.line_rules.specs.Acceptable.{WithinLine, callRules}
 use Rattle.line_rules.specs.Replace.{after, callOf, lineGiven, refusal, refusalIn, replaced, replacedAs}
 use Rattle.line_rules.proofs.Accepting.{on-block, second}
 use Rattle.line_rules.proofs.Blocks.{unchanged}
@@ -106,7 +106,7 @@ module _ (bs : List ℕ) (sixteen : Fit eights bs) (l : ℕ) (g : Replacement) (
             kept : (q : ℕ) → q < 16 → pick (ownPixel (x .pixels) q) (v q) 0 ≡ v q
             kept = only-kept is g small (rw (word-is, em) at (eqb-true (bitAnd wd mask) wd alone))
 
-            within : Within m s l (lineGiven g)
+            within : WithinLine m s l (lineGiven g)
             within = parts-within is g fits kept
 
             abbrev differ : Bool

@@ -15,7 +15,7 @@ use Rattle.laws.specs.Digits.{Fit, join, replacedAt, split}
 use Rattle.laws.specs.Tables.{pick}
 use Rattle.bcn_format.specs.Block.{field}
 use Rattle.bits.specs.Stream.{held}
-use Rattle.bcn_format.specs.Indexes.{Rising, anchorCount, anchorsOfKind, expanded, indexWidths}
+use Rattle.bcn_format.specs.Indexes.{IndexWidth, Rising, anchorCount, anchorsWith, expanded, indexWidths}
 use Rattle.bc7_modes.specs.Modes.{OfMode}
 use Rattle.bc7_places.specs.Places.{fieldsOf}
 
@@ -45,7 +45,7 @@ psPut n mode a l w p = pick (eqb mode 1) (replacedAt n (a + l) 1 (getD p 0 0)) (
 
 -- the set of indexes as it stands, with the line's own replaced, and put back as it is stored
 abbrev pub anchorsIn : ℕ → LinePart → List ℕ
-anchorsIn k x = anchorsOfKind k (x .anchors .b) (x .anchors .c)
+anchorsIn k x = anchorsWith k (x .anchors .b) (x .anchors .c)
 
 abbrev pub sizeIn : ℕ → LinePart → ℕ
 sizeIn k x = 16 * x .index - anchorCount k
@@ -62,8 +62,7 @@ setPut n k a x mask new =
 
 -- what that asks for
 pub record SetReady (n k a : ℕ) (x : LinePart) (mask new : ℕ) : Type 0 where
-  pub least : 0 < x .index
-  pub most : x .index ≤ 4
+  pub width : IndexWidth (x .index)
   pub rising : Rising k (x .anchors .b) (x .anchors .c)
   pub second : x .anchors .b < 16
   pub third : x .anchors .c < 16

@@ -12,7 +12,7 @@ use Rattle.line_rules.specs.declared.Replacement.{Replacement}
 use Rattle.laws.specs.Digits.{join}
 use Rattle.laws.specs.Tables.{below, both, pick, table}
 use Rattle.bcn_format.specs.Block.{field}
-use Rattle.bcn_format.specs.Indexes.{indexWidths}
+use Rattle.bcn_format.specs.Indexes.{IndexWidth, indexWidths}
 use Rattle.bc7_places.specs.Lines.{ownPixel}
 
 -- all ones at each of them, zeros at the others, in a word of parts of w bits
@@ -54,7 +54,6 @@ pub record PartWidths (x : LinePart) : Type 0 where
   pub index : x .index ≤ 8
 
 pub record Turnable (x : LinePart) (indexes mask : ℕ) : Type 0 where
-  pub least : 0 < x .index
-  pub most : x .index ≤ 4
+  pub width : IndexWidth (x .index)
   pub anchor : x .anchor < 16
   pub own : indexes ≤ mask

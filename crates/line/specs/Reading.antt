@@ -12,7 +12,7 @@ use Rattle.bc7_modes.specs.declared.ModeRow.{ModeRow}
 use Rattle.laws.specs.Tables.{pick, table}
 use Rattle.bcn_format.specs.Block.{field}
 use Rattle.bits.specs.Stream.{held}
-use Rattle.bcn_format.specs.Indexes.{Rising, part}
+use Rattle.bcn_format.specs.Indexes.{IndexWidth, Rising, part}
 use Rattle.bc7_modes.specs.Modes.{OfMode}
 use Rattle.line.specs.Parts.{maskOf}
 use Rattle.bc7_places.specs.Lines.{ownPixel}
@@ -40,8 +40,7 @@ unfoldable pub setAt : ℕ → ℕ → ℕ → LinePart → List ℕ
 setAt n k a x = table 16 (part (bitAnd (setBefore n k a x) (maskOf (x .pixels) (x .index))) (x .index))
 
 pub record SetThere (k a : ℕ) (x : LinePart) : Type 0 where
-  pub least : 0 < x .index
-  pub most : x .index ≤ 4
+  pub width : IndexWidth (x .index)
   pub rising : Rising k (x .anchors .b) (x .anchors .c)
   pub map : x .pixels .subsets .bits ≤ 2
   pub room : a + sizeIn k x ≤ 128

@@ -19,7 +19,7 @@ use Rattle.bc7_format.specs.Modes.{modeOf, lines}
 use Rattle.bc7_format.specs.Lines.{Line}
 use Rattle.bc7_format.specs.Splits.{splitOf}
 use Rattle.bc7_format.proofs.Reserved.{reserved-mode, zero-byte}
-use Rattle.line_rules.specs.Acceptable.{Acceptable, Within, callRules, lineRules}
+use Rattle.line_rules.specs.Acceptable.{Acceptable, WithinLine, callRules, lineRules}
 use Rattle.line_rules.specs.Replace.{Call, indexFits, lineFits, pFits, refusal, refusalIn, valueFits}
 
 pub second : (a b : Bool) → a ≡ true → both a b ≡ false → b ≡ false
@@ -28,7 +28,7 @@ second false b p q = absurd (subst (λ (c : Bool). T (not c)) p tt)
 
 module _ (m : ℕ) (s : Split) (l : ℕ) (ln : Line) where
   -- the test of all values, and each value
-  pub fits-within : lineFits m s l ln ≡ true → Within m s l ln
+  pub fits-within : lineFits m s l ln ≡ true → WithinLine m s l ln
   unfolding lineFits valueFits pFits indexFits
   fits-within e =
       let a = both-true (below 2 (λ k. below 4 (valueFits m s l ln k))) (both (below 2 (pFits m s l ln)) (below 16 (indexFits m s l ln))) e in
@@ -39,7 +39,7 @@ module _ (m : ℕ) (s : Split) (l : ℕ) (ln : Line) where
         index = λ q hq. ltb→lt _ _ (at 16 (indexFits m s l ln) (true-T _ (b .1)) q hq);
       }
 
-  pub within-fits : Within m s l ln → lineFits m s l ln ≡ true
+  pub within-fits : WithinLine m s l ln → lineFits m s l ln ≡ true
   unfolding lineFits valueFits pFits indexFits
   within-fits w =
       let a = below-intro 2 (λ k. below 4 (valueFits m s l ln k))

@@ -23,7 +23,7 @@ use Rattle.bc7_format.specs.Splits.{anchors, indexMode, isVector, subset}
 use Rattle.bc7_format.specs.WellFormed.{WellFormed}
 use Rattle.bc7_format.proofs.Lens.{has-lead, has-parts}
 use Rattle.bc7_format.proofs.Modes.{good-64, good-index-mode, good-subset, good-vector, lines-le, the-anchor}
-use Rattle.line_rules.specs.Acceptable.{Acceptable, Within}
+use Rattle.line_rules.specs.Acceptable.{Acceptable, WithinLine}
 use Rattle.line_rules.specs.Replace.{oriented, ownWidth, put, refusalIn, topSet}
 use Rattle.line_rules.proofs.Accepting.{accepted-is}
 
@@ -59,7 +59,7 @@ module _ (m : ℕ) (s : Split) (l : ℕ) (ln : Line) where
   unfolding width indexPlace lineBits
   index-width q = own-width-le m s l (indexPlace s l q)
 
-  pub bounded : Within m s l ln → Bounded m s l ln
+  pub bounded : WithinLine m s l ln → Bounded m s l ln
   bounded w = record {
     value = λ k c hk hc. lt-of-lt-of-le (w .value k c hk hc) (pow-mono (value-width k c));
     p = λ k hk. lt-of-lt-of-le (w .p k hk) (pow-mono (p-width k));

@@ -21,7 +21,7 @@ use Rattle.laws.proofs.Tests.{at, no-both, not-so, true-T}
 use Rattle.bc7_format.specs.Modes.{modeOf, lines}
 use Rattle.bc7_format.specs.Lines.{Line}
 use Rattle.bc7_format.specs.Splits.{splitOf}
-use Rattle.line_rules.specs.Acceptable.{Within}
+use Rattle.line_rules.specs.Acceptable.{WithinLine}
 use Rattle.line_rules.specs.Read.{TooWide, givenAs, lineRead, readRefusal, valueAt, widthsOf}
 use Rattle.line_rules.specs.Replace.{callOf, lineFits, lineGiven, refusal, refusalIn}
 use Rattle.line_rules.proofs.Accepting.{fits-within, within-fits}
@@ -51,7 +51,7 @@ module _ (m : ℕ) (s : Split) (l : ℕ) (g : Replacement) where
   Narrow i = valueAt g i < 2 ^ valueAt ws i
 
   -- each of the 26 is within its width exactly where the line is
-  by-values : ((i : ℕ) → i < 26 → Narrow i) → Within m s l (lineGiven g)
+  by-values : ((i : ℕ) → i < 26 → Narrow i) → WithinLine m s l (lineGiven g)
   unfolding Narrow widthsOf
   by-values t = record {
     value =
@@ -61,7 +61,7 @@ module _ (m : ℕ) (s : Split) (l : ℕ) (g : Replacement) where
     index = λ q hq. rw (at-index g q, at-index ws q, given-line (widthsOf m s l) .index q hq) at (t (10 + q) (omega arith));
   }
 
-  by-line : Within m s l (lineGiven g) → (i : ℕ) → i < 26 → Narrow i
+  by-line : WithinLine m s l (lineGiven g) → (i : ℕ) → i < 26 → Narrow i
   unfolding Narrow widthsOf
   by-line w i h = ⊎-elim endpoint (λ a. ⊎-elim (p a) index (lt-or i 10)) (lt-or i 8)
     where

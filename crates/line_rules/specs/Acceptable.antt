@@ -15,7 +15,7 @@ use Rattle.bc7_format.specs.Splits.{isVector, splitOf, subset}
 use Rattle.line_rules.specs.Replace.{Call, ownWidth}
 
 -- every value is within the width that it has in line l
-pub record Within (m : ℕ) (s : Split) (l : ℕ) (ln : Line) : Type 0 where
+pub record WithinLine (m : ℕ) (s : Split) (l : ℕ) (ln : Line) : Type 0 where
   pub value : (k c : ℕ) → k < 2 → c < 4 → ln .value k c < 2 ^ ownWidth m s l (valuePlace s l k c)
   pub p : (k : ℕ) → k < 2 → ln .p k < 2 ^ ownWidth m s l (pPlace m l k)
   pub index : (q : ℕ) → q < 16 → ln .index q < 2 ^ ownWidth m s l (indexPlace s l q)
@@ -33,12 +33,12 @@ pub record OwnWidths (m : ℕ) (s : Split) (l : ℕ) : Type 0 where
 -- a line that a block of mode m and split s takes: its number is below the mode's count, and in mode 1 its p bits are equal
 pub record Acceptable (m : ℕ) (s : Split) (l : ℕ) (ln : Line) : Type 0 where
   pub line : l < lines m
-  pub within : Within m s l ln
+  pub within : WithinLine m s l ln
   pub same-p : m ≡ 1 → ln .p 0 ≡ ln .p 1
 
 -- the rules of a call on a block: it gets the number of the first that it breaks
 abbrev pub lineRules : ℕ → Split → ℕ → Line → List Rule
-lineRules m s l ln = unless 2 (l < lines m) ∷ unless 3 (Within m s l ln) ∷ unless 4 (m ≡ 1 → ln .p 0 ≡ ln .p 1) ∷ []
+lineRules m s l ln = unless 2 (l < lines m) ∷ unless 3 (WithinLine m s l ln) ∷ unless 4 (m ≡ 1 → ln .p 0 ≡ ln .p 1) ∷ []
 
 abbrev pub callRules : List ℕ → Call → List Rule
 callRules bs c = unless 1 (getD bs 0 0 ≢ 0) ∷ lineRules (modeOf bs) (splitOf bs) (c .line) (c .given)

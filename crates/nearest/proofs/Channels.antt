@@ -11,8 +11,8 @@ use Rattle.nearest.specs.declared.Channel.{Channel}
 use Rattle.line_rules.specs.declared.Replacement.{Replacement}
 use Rattle.bcn_format.specs.Drawing.{drawn, promoted}
 use Rattle.nearest_rules.specs.Nearest.{squared}
-use Rattle.nearest_rules.specs.Parts.{pIn, widthIn}
-use Rattle.nearest.specs.Trying.{channelFar, channelIn, endIn, uncounted}
+use Rattle.nearest_rules.specs.Parts.{pIn, channelWidth}
+use Rattle.nearest.specs.Trying.{channelFar, channelTried, endIn, uncounted}
 
 -- one that counts, and one that doesn't
 pub far-counts : (x : Channel) (w : ℕ) {v : ℕ} → x .counts ≡ true → v ≡ drawn (x .first) (x .second) w → squared v (x .wanted) ≡ channelFar x w
@@ -24,13 +24,13 @@ unfolding channelFar
 far-not x w e = rw e
 
 module _ (ln ws : Replacement) (d v : ℕ) where
-  pub no-width : widthIn ws d ≡ 0 → uncounted ≡ channelIn ln ws d v
-  unfolding channelIn
+  pub no-width : channelWidth ws d ≡ 0 → uncounted ≡ channelTried ln ws d v
+  unfolding channelTried
   no-width e = rw (eq-eqb _ _ e)
 
-  pub some-width : widthIn ws d ≢ 0 → {a b : ℕ} → a ≡ endIn ln ws 0 d → b ≡ endIn ln ws 1 d
-      → record { counts = true; first = a; second = b; wanted = v } ≡ channelIn ln ws d v
-  unfolding channelIn
+  pub some-width : channelWidth ws d ≢ 0 → {a b : ℕ} → a ≡ endIn ln ws 0 d → b ≡ endIn ln ws 1 d
+      → record { counts = true; first = a; second = b; wanted = v } ≡ channelTried ln ws d v
+  unfolding channelTried
   some-width ne ea eb = rw (ne-eqb _ _ ne, ea, eb)
 
 -- the first endpoint's values come first
@@ -38,6 +38,6 @@ pub first-at : (ln : Replacement) (d : ℕ) → getD (ln .endpoints) d 0 ≡ get
 first-at ln d = ap (λ (i : ℕ). getD (ln .endpoints) i 0) (let z : d ≡ 4 * 0 + d = omega arith in z)
 
 pub first-end : (ln ws : Replacement) (d : ℕ)
-    → promoted (widthIn ws d + pIn ws 0) (getD (ln .endpoints) d 0 * 2 ^ pIn ws 0 + pIn ln 0) ≡ endIn ln ws 0 d
+    → promoted (channelWidth ws d + pIn ws 0) (getD (ln .endpoints) d 0 * 2 ^ pIn ws 0 + pIn ln 0) ≡ endIn ln ws 0 d
 unfolding endIn
-first-end ln ws d = ap (λ (x : ℕ). promoted (widthIn ws d + pIn ws 0) (x * 2 ^ pIn ws 0 + pIn ln 0)) (first-at ln d)
+first-end ln ws d = ap (λ (x : ℕ). promoted (channelWidth ws d + pIn ws 0) (x * 2 ^ pIn ws 0 + pIn ln 0)) (first-at ln d)

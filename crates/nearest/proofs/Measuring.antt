@@ -26,7 +26,7 @@ use Rattle.bc7_format.specs.WellFormed.{WellFormed}
 use Rattle.bc7_format.proofs.Meaning.{good-rotation, line-bits, rotated-lt}
 use Rattle.line_rules.specs.Read.{lineRead, readRefusal}
 use Rattle.nearest_rules.specs.Nearest.{channelDistance, distance, drawnWith, indexCount, nearestIndex, nearestRefusal, squared, withIndex}
-use Rattle.nearest_rules.specs.Parts.{pIn, widthIn}
+use Rattle.nearest_rules.specs.Parts.{pIn, channelWidth}
 use Rattle.nearest.specs.Trying.{Readable, SearchedIn, Tries, Tryable, channelFar, distanceAt, endIn, shownIn, triedAs}
 use Rattle.nearest.proofs.Channels.{no-width, some-width}
 use Rattle.nearest_rules.proofs.Correcting.{in-line, readable}
@@ -88,7 +88,7 @@ module _ (bs : List ℕ) (sixteen : Fit eights bs) (l q : ℕ) (ok : nearestRefu
   good = well-formed bs sixteen l can
 
   -- a channel that has a width has the mode's
-  whole-width : (d : ℕ) → d < 4 → widthIn ws d ≢ 0 → widthIn ws d ≡ channelBits m d
+  whole-width : (d : ℕ) → d < 4 → channelWidth ws d ≢ 0 → channelWidth ws d ≡ channelBits m d
   whole-width d hd ne =
       let e = width-is bs sixteen l can d hd in
       e ∙ go (isVector s) (eqb (pick (eqb d 3) 1 0) l) (channelBits m d) (rw e at ne)
@@ -107,7 +107,7 @@ module _ (bs : List ℕ) (sixteen : Fit eights bs) (l q : ℕ) (ok : nearestRefu
     p = p-fits bs sixteen l can;
   }
     where
-      wide-there : widthIn ws d ≢ 0 → (4 ≤ widthIn ws d + pIn ws 0) × (widthIn ws d + pIn ws 0 ≤ 8)
+      wide-there : channelWidth ws d ≢ 0 → (4 ≤ channelWidth ws d + pIn ws 0) × (channelWidth ws d + pIn ws 0 ≤ 8)
       wide-there ne =
           let e = whole-width d hd ne in
           rw (e, p-width-is bs sixteen l can) (is-wide m d (good .mode) hd (rw e at ne))
@@ -116,7 +116,7 @@ module _ (bs : List ℕ) (sixteen : Fit eights bs) (l q : ℕ) (ok : nearestRefu
   tryable = record { channels = readable-channel; rotation = good-rotation good; least = line-bits good l .0; most = line-bits good l .1 }
 
   -- an endpoint as eight bits is the format's
-  end-is : (k d : ℕ) → k < 2 → d < 4 → widthIn ws d ≢ 0 → endIn ln ws k d ≡ eight m d (stored .value k d) (stored .p k)
+  end-is : (k d : ℕ) → k < 2 → d < 4 → channelWidth ws d ≢ 0 → endIn ln ws k d ≡ eight m d (stored .value k d) (stored .p k)
   unfolding endIn eight
   end-is k d hk hd ne =
       let p-width = p-width-is bs sixteen l can in
@@ -132,7 +132,7 @@ module _ (bs : List ℕ) (sixteen : Fit eights bs) (l q : ℕ) (ok : nearestRefu
     below-four = rotated-lt (rotation s) c (good-rotation good) hc
 
     -- the line draws the channels that have a width
-    draws-is : draws m s l q c ≡ not (eqb (widthIn ws d) 0)
+    draws-is : draws m s l q c ≡ not (eqb (channelWidth ws d) 0)
     unfolding draws lineAt
     draws-is = rw (width-is bs sixteen l can d below-four) (go (isVector s) refl)
       where
@@ -146,7 +146,7 @@ module _ (bs : List ℕ) (sixteen : Fit eights bs) (l q : ℕ) (ok : nearestRefu
         go true e = vector (eqb (pick (eqb d 3) 1 0) l)
         go false e = rw (eq-eqb (subset s q) l (in-line bs sixteen l q ok .own e)) (both-so (not (eqb (channelBits m d) 0)))
 
-    drawn-is : (i : ℕ) → widthIn ws d ≢ 0 → drawn (endIn ln ws 0 d) (endIn ln ws 1 d) (weightOf (lineBits m s l) i) ≡ drawnWith bs l q i c
+    drawn-is : (i : ℕ) → channelWidth ws d ≢ 0 → drawn (endIn ln ws 0 d) (endIn ln ws 1 d) (weightOf (lineBits m s l) i) ≡ drawnWith bs l q i c
     unfolding drawnWith withIndex meansShown meansStored
     drawn-is i ne = rw (end-is 0 d (lit< tt) below-four ne, end-is 1 d (lit< tt) below-four ne)
 
@@ -157,15 +157,15 @@ module _ (bs : List ℕ) (sixteen : Fit eights bs) (l q : ℕ) (ok : nearestRefu
     -- so a channel is as far as the format says
     channel-far : (i c : ℕ) → c < 4 → channelFar (shown c) (weightOf (lineBits m s l) i) ≡ channelDistance bs l q wanted i c
     unfolding channelFar channelDistance
-    channel-far i c hc = rw (draws-is c hc) (go (eqb (widthIn ws (d c hc)) 0) refl)
+    channel-far i c hc = rw (draws-is c hc) (go (eqb (channelWidth ws (d c hc)) 0) refl)
       where
-        go : (b : Bool) → eqb (widthIn ws (d c hc)) 0 ≡ b
+        go : (b : Bool) → eqb (channelWidth ws (d c hc)) 0 ≡ b
             → channelFar (shown c) (weightOf (lineBits m s l) i) ≡ pick (not b) (squared (drawnWith bs l q i c) (getD wanted c 0)) 0
         go true e =
-            let z : widthIn ws (d c hc) ≡ 0 = eqb-true (widthIn ws (d c hc)) 0 e in
+            let z : channelWidth ws (d c hc) ≡ 0 = eqb-true (channelWidth ws (d c hc)) 0 e in
             sym (ap (λ (x : Channel). channelFar x (weightOf (lineBits m s l) i)) (no-width ln ws (d c hc) (getD wanted c 0) z))
         go false e =
-            let ne : widthIn ws (d c hc) ≢ 0 = eqb-false (widthIn ws (d c hc)) 0 e in
+            let ne : channelWidth ws (d c hc) ≢ 0 = eqb-false (channelWidth ws (d c hc)) 0 e in
             sym (ap (λ (x : Channel). channelFar x (weightOf (lineBits m s l) i)) (some-width ln ws (d c hc) (getD wanted c 0) ne refl refl))
             ∙ ap (λ (x : ℕ). squared x (getD wanted c 0)) (drawn-is c hc i ne)
 

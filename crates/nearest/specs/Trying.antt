@@ -14,16 +14,16 @@ use Rattle.line_rules.specs.declared.Replacement.{Replacement}
 use Rattle.laws.specs.Tables.{pick}
 use Rattle.bcn_format.specs.Drawing.{drawn, promoted, weightOf}
 use Rattle.bc7_format.specs.Lines.{rotated}
-use Rattle.nearest_rules.specs.Parts.{pIn, valueIn, widthIn}
+use Rattle.nearest_rules.specs.Parts.{pIn, valueIn, channelWidth}
 use Rattle.nearest_rules.specs.Nearest.{distance, leastAt, nearestIndex, squared}
 
-pub record Byte (x : Channel) : Type 0 where
+pub record ChannelOfBytes (x : Channel) : Type 0 where
   pub first : x .first < 256
   pub second : x .second < 256
   pub wanted : x .wanted < 256
 
 -- What the functions ask, each clause by its name: a value that is promoted, two endpoints and a weight, an endpoint's value and p bit
-pub record Promotable (v bits : ℕ) : Type 0 where
+pub record ToPromote (v bits : ℕ) : Type 0 where
   pub least : 4 ≤ bits
   pub most : bits ≤ 8
   pub value : v < 2 ^ bits
@@ -46,10 +46,10 @@ pub record IsBelow (most x r : ℕ) : Type 0 where
 
 -- four channels, and indexes of so many bits
 pub record Searchable (r g b a : Channel) (bits : ℕ) : Type 0 where
-  pub red : Byte r
-  pub green : Byte g
-  pub blue : Byte b
-  pub alpha : Byte a
+  pub red : ChannelOfBytes r
+  pub green : ChannelOfBytes g
+  pub blue : ChannelOfBytes b
+  pub alpha : ChannelOfBytes a
   pub least : 2 ≤ bits
   pub most : bits ≤ 4
 
@@ -73,30 +73,30 @@ pub record Searched (r g b a : Channel) (bits : ℕ) (x : Nearest) : Type 0 wher
 
 -- endpoint k as eight bits
 unfoldable pub endIn : Replacement → Replacement → ℕ → ℕ → ℕ
-endIn ln ws k d = promoted (widthIn ws d + pIn ws 0) (valueIn ln k d * 2 ^ pIn ws 0 + pIn ln k)
+endIn ln ws k d = promoted (channelWidth ws d + pIn ws 0) (valueIn ln k d * 2 ^ pIn ws 0 + pIn ln k)
 
 -- a channel can be made: each value is within its width, and with the p bit it has four to eight
 pub record Readable (ln ws : Replacement) (d : ℕ) : Type 0 where
   pub channel : d < 4
-  pub least : widthIn ws d ≢ 0 → 4 ≤ widthIn ws d + pIn ws 0
-  pub most : widthIn ws d ≢ 0 → widthIn ws d + pIn ws 0 ≤ 8
-  pub value : (k : ℕ) → k < 2 → valueIn ln k d < 2 ^ widthIn ws d
+  pub least : channelWidth ws d ≢ 0 → 4 ≤ channelWidth ws d + pIn ws 0
+  pub most : channelWidth ws d ≢ 0 → channelWidth ws d + pIn ws 0 ≤ 8
+  pub value : (k : ℕ) → k < 2 → valueIn ln k d < 2 ^ channelWidth ws d
   pub p : (k : ℕ) → k < 2 → pIn ln k < 2 ^ pIn ws 0
 
 abbrev pub uncounted : Channel
 uncounted = record { counts = false; first = 0; second = 0; wanted = 0 }
 
-unfoldable pub channelIn : Replacement → Replacement → ℕ → ℕ → Channel
-channelIn ln ws d wanted =
-    pick (eqb (widthIn ws d) 0) uncounted (record { counts = true; first = endIn ln ws 0 d; second = endIn ln ws 1 d; wanted = wanted })
+unfoldable pub channelTried : Replacement → Replacement → ℕ → ℕ → Channel
+channelTried ln ws d wanted =
+    pick (eqb (channelWidth ws d) 0) uncounted (record { counts = true; first = endIn ln ws 0 d; second = endIn ln ws 1 d; wanted = wanted })
 
 pub record IsChannel (ln ws : Replacement) (d wanted : ℕ) (x : Channel) : Type 0 where
-  pub is : x ≡ channelIn ln ws d wanted
-  pub byte : Byte x
+  pub is : x ≡ channelTried ln ws d wanted
+  pub byte : ChannelOfBytes x
 
 -- the shown channel c under rotation r, and a search over the four
 abbrev pub shownIn : Replacement → Replacement → ℕ → List ℕ → ℕ → Channel
-shownIn ln ws r wanted c = channelIn ln ws (rotated r c) (getD wanted c 0)
+shownIn ln ws r wanted c = channelTried ln ws (rotated r c) (getD wanted c 0)
 
 abbrev pub SearchedIn : Replacement → Replacement → ℕ → List ℕ → ℕ → Nearest → Type 0
 SearchedIn ln ws r wanted = Searched (shownIn ln ws r wanted 0) (shownIn ln ws r wanted 1) (shownIn ln ws r wanted 2) (shownIn ln ws r wanted 3)

@@ -9,7 +9,7 @@ ghost use Rattle.bc7_format.specs.Modes.{modeOf};
 ghost use Rattle.bc7_format.specs.Splits.{rotation as rotationIn, splitOf};
 ghost use Rattle.nearest_rules.specs.Nearest.{squared as squaredDifference};
 ghost use Rattle.nearest_rules.specs.Promises.{FindsExact, FindsNearest};
-ghost use Rattle.nearest.specs.Trying.{AtEndpoint, Between, Byte, IsBelow, IsChannel, Measurable, Promotable, Readable, Searchable};
+ghost use Rattle.nearest.specs.Trying.{AtEndpoint, Between, ChannelOfBytes, IsBelow, IsChannel, Measurable, ToPromote, Readable, Searchable};
 ghost use Rattle.nearest.specs.Trying.{Searched, SearchedIn, Tries, Tryable, channelFar, distanceAt, triedAs};
 use bc7_modes::mode_of;
 use bc7_modes::mode_row;
@@ -44,7 +44,7 @@ pub struct Tried {
 
 // A value of some bits as eight: shifted left, and the empty places filled from its top.
 fn promote(value: u32, bits: u32) -> u32
-    requires { ⌜ Promotable value bits ⌝ }
+    requires { ⌜ ToPromote value bits ⌝ }
     ensures { λ r. ⌜ IsBelow 256 (promoted bits value) r ⌝ }
 {
     let top = value << (8 - bits);
@@ -88,7 +88,7 @@ fn rotated(rotation: u8, channel: usize) -> usize
 
 // How far a channel is at a weight.
 fn far(channel: Channel, weight: u32) -> u32
-    requires { ⌜ Byte channel × (weight ≤ 64) ⌝ }
+    requires { ⌜ ChannelOfBytes channel × (weight ≤ 64) ⌝ }
     ensures { λ r. ⌜ IsBelow 65536 (channelFar channel weight) r ⌝ }
 {
     if channel.counts {

@@ -33,7 +33,7 @@ use Rattle.line_rules.specs.Replace.{callOf, lineGiven, replaced}
 use Rattle.line_rules.proofs.Reading.{given-line, read-answers, read-is, replaced-by-read}
 use Rattle.line_rules.proofs.Theorems.{accepted-when, the-widths}
 use Rattle.nearest_rules.specs.Nearest.{inLine, nearestRefusal}
-use Rattle.nearest_rules.specs.Parts.{pIn, valueIn, widthIn}
+use Rattle.nearest_rules.specs.Parts.{pIn, valueIn, channelWidth}
 
 -- what a reading refuses, the search refuses
 pub refused-as-read : (bs : List ℕ) (l q : ℕ) → readRefusal bs l ≢ 0 → nearestRefusal bs l q ≡ readRefusal bs l
@@ -82,7 +82,7 @@ module _ (bs : List ℕ) (sixteen : Fit eights bs) (l : ℕ) (readable : readRef
   widths-as = ap (λ (r : LineRead). r .widths) (read-is bs l readable)
 
   pub width-is : (d : ℕ) → d < 4
-      → widthIn (lineRead bs l .widths) d ≡ pick (isVector s) (pick (eqb (pick (eqb d 3) 1 0) l) (channelBits m d) 0) (channelBits m d)
+      → channelWidth (lineRead bs l .widths) d ≡ pick (isVector s) (pick (eqb (pick (eqb d 3) 1 0) l) (channelBits m d) 0) (channelBits m d)
   unfolding widthsOf lineGiven
   width-is d hd =
       ap (λ (r : Replacement). getD (r .endpoints) d 0) widths-as
@@ -102,7 +102,7 @@ module _ (bs : List ℕ) (sixteen : Fit eights bs) (l : ℕ) (readable : readRef
   unfolding lineGiven
   p-is k hk = ap (λ (r : Replacement). getD (r .p) k 0) stands-as ∙ given-line stored .p k hk
 
-  pub value-fits : (k d : ℕ) → k < 2 → d < 4 → valueIn (lineRead bs l .line) k d < 2 ^ widthIn (lineRead bs l .widths) d
+  pub value-fits : (k d : ℕ) → k < 2 → d < 4 → valueIn (lineRead bs l .line) k d < 2 ^ channelWidth (lineRead bs l .widths) d
   value-fits k d hk hd =
       rw (value-is k d hk hd, width-is d hd, ← (own .value k d hk hd), ← (given-line stored .value k d hk hd)) (stands-fits .within .value k d hk hd)
 

@@ -69,14 +69,14 @@ exactRefusal bs l q wanted =
     first (nearestRefusal bs l q ∷ refuse 14 (not (ltb (zeroAt (indexCount bs l) (distance bs l q wanted)) (indexCount bs l))) ∷ [])
 
 -- what the calls answer
-abbrev pub found : ℕ → ℕ → Found
-found r i = record { refusal = r; index = pick (eqb r 0) i 0 }
+abbrev pub foundAs : ℕ → ℕ → Found
+foundAs r i = record { refusal = r; index = pick (eqb r 0) i 0 }
 
 unfoldable pub nearestIndex : List ℕ → ℕ → ℕ → List ℕ → Found
-nearestIndex bs l q wanted = found (nearestRefusal bs l q) (leastAt (indexCount bs l) (distance bs l q wanted))
+nearestIndex bs l q wanted = foundAs (nearestRefusal bs l q) (leastAt (indexCount bs l) (distance bs l q wanted))
 
 unfoldable pub exactIndex : List ℕ → ℕ → ℕ → List ℕ → Found
-exactIndex bs l q wanted = found (exactRefusal bs l q wanted) (zeroAt (indexCount bs l) (distance bs l q wanted))
+exactIndex bs l q wanted = foundAs (exactRefusal bs l q wanted) (zeroAt (indexCount bs l) (distance bs l q wanted))
 
 -- THE RULES IN WORDS
 pub record InLine (s : Split) (l q : ℕ) : Type 0 where

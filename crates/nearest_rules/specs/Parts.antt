@@ -11,5 +11,5 @@ valueIn g k d = getD (g .endpoints) (4 * k + d) 0
 abbrev pub pIn : Replacement → ℕ → ℕ
 pIn g k = getD (g .p) k 0
 
-abbrev pub widthIn : Replacement → ℕ → ℕ
-widthIn ws d = getD (ws .endpoints) d 0
+abbrev pub channelWidth : Replacement → ℕ → ℕ
+channelWidth ws d = getD (ws .endpoints) d 0

@@ -11,6 +11,7 @@ use lib.Pow.{high, low, pow-add, pow-mono}
 use Rattle.laws.specs.Digits.{Fit, join, more, none, split, total}
 use Rattle.laws.proofs.Digits.{join-lt, split-join}
 use Rattle.laws.proofs.Rows.{split-mod}
+use Rattle.bcn_format.specs.Block.{field}
 use Rattle.bcn_format.specs.Indexes.{OneFixup, TwoFixups, part}
 use Rattle.bcn_format.specs.Partitions.{anchors2, anchors3, digits, marks, strings2, strings3, subset2, subset3}
 use Rattle.partitions.specs.Maps.{map2, map3}
@@ -98,7 +99,7 @@ pub record Fixes3 (id a b : ℕ) : Type 0 where
 module _ {w id set : ℕ} (hid : id < 64) (most : w ≤ 3) where
   module _ (least : 1 ≤ w) (e : set ≡ partitionWord2 w id) where
     pub maps-2 : Maps w (subset2 id) set
-    unfolding part
+    unfolding field
     maps-2 = record { at = λ q hq. rw e (subset-of2 w id hid most least q hq) }
 
     pub fixes-2 : Fixes2 id (anchorIn2 set)
@@ -108,7 +109,7 @@ module _ {w id set : ℕ} (hid : id < 64) (most : w ≤ 3) where
 
   module _ (least : 2 ≤ w) (e : set ≡ partitionWord3 w id) where
     pub maps-3 : Maps w (subset3 id) set
-    unfolding part
+    unfolding field
     maps-3 = record { at = λ q hq. rw e (subset-of3 w id hid most least q hq) }
 
     pub fixes-3 : Fixes3 id (secondIn3 set) (thirdIn3 set)

@@ -23,7 +23,7 @@ use Rattle.pixel_rules.specs.Columns.{columnOf, printedRows}
 use Rattle.pixel_rules.specs.Pixels.{pixelRead, pixelRefusal}
 use Rattle.pixel_rules.specs.Promises.{ReadsPixel}
 use Rattle.pixel_rules.specs.Plain.{channelIn, firstStart, indexStart, indexWide, lettersOf, plainChannel, plainPixel, setFor, setStart}
-use Rattle.pixel_rules.specs.Strings.{anchorsBefore, isAnchorIn, letters, placeIn, stringFor, subsetIn}
+use Rattle.pixel_rules.specs.Strings.{anchorsBefore, isAnchorIn, letters, placeIn, stringFor, subsetSpelt}
 
 -- three subsets, partition 23: 00001100-22-102210. Pixel 8 is the anchor of subset 2 and pixel 10 that of subset 1
 abbrev cs23 : List ℕ
@@ -35,10 +35,10 @@ string-23 = refl
 
 -- the places of the digits, past both dashes; the subsets; the anchors; how many of them come before the pixels 0 to 16
 pub walked-23 : (map (placeIn cs23) (0 ∷ 7 ∷ 8 ∷ 9 ∷ 10 ∷ 15 ∷ []) ≡ 0 ∷ 7 ∷ 9 ∷ 10 ∷ 12 ∷ 17 ∷ [])
-    × (table 16 (subsetIn cs23) ≡ 0 ∷ 0 ∷ 0 ∷ 0 ∷ 1 ∷ 1 ∷ 0 ∷ 0 ∷ 2 ∷ 2 ∷ 1 ∷ 0 ∷ 2 ∷ 2 ∷ 1 ∷ 0 ∷ [])
+    × (table 16 (subsetSpelt cs23) ≡ 0 ∷ 0 ∷ 0 ∷ 0 ∷ 1 ∷ 1 ∷ 0 ∷ 0 ∷ 2 ∷ 2 ∷ 1 ∷ 0 ∷ 2 ∷ 2 ∷ 1 ∷ 0 ∷ [])
     × (map (isAnchorIn cs23) (0 ∷ 1 ∷ 7 ∷ 8 ∷ 9 ∷ 10 ∷ 11 ∷ 15 ∷ []) ≡ true ∷ false ∷ false ∷ true ∷ false ∷ true ∷ false ∷ false ∷ [])
     × (map (anchorsBefore cs23) (0 ∷ 1 ∷ 8 ∷ 9 ∷ 10 ∷ 11 ∷ 16 ∷ []) ≡ 0 ∷ 1 ∷ 1 ∷ 2 ∷ 2 ∷ 3 ∷ 3 ∷ [])
-unfolding letters strings3 placeIn subsetIn isAnchorIn anchorsBefore table tableFrom
+unfolding letters strings3 placeIn subsetSpelt isAnchorIn anchorsBefore table tableFrom
 walked-23 = (refl, refl, refl, refl)
 
 -- mode 2 in that partition has its indexes from bit 99 on, two bits each and one at an anchor; the last ends with the block
@@ -67,7 +67,7 @@ pub read-plainly :
     × (table 4 (plainPixel (replicate 16 0) 3) ≡ rgba 0 0 0 0)
 unfolding table tableFrom field number trailing drawn promoted weightOf weights strings2 strings3 endByte leadEnd pStart valueStart
     eight rotated endpointCount modeOf modeRow columnOf printedRows channelIn firstStart indexStart indexWide lettersOf plainChannel
-    plainPixel setFor setStart anchorsBefore isAnchorIn letters placeIn stringFor subsetIn
+    plainPixel setFor setStart anchorsBefore isAnchorIn letters placeIn stringFor subsetSpelt
 read-plainly = (refl, refl, refl, refl)
 
 -- 21 from 16 on, whole: 256 + p isn't pixel p

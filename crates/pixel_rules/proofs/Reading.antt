@@ -29,7 +29,7 @@ use Rattle.bc7_fields.proofs.Showing.{pixels-are}
 use Rattle.bc7_format.proofs.Starts.{at-field, start, start-room}
 use Rattle.bc7_format.proofs.Theorems.{widths-sum-to-128}
 use Rattle.pixel_rules.specs.Columns.{columnOf, printedRows, subsetCount}
-use Rattle.pixel_rules.specs.Strings.{letters, stringFor, stringOf, subsetIn}
+use Rattle.pixel_rules.specs.Strings.{letters, stringFor, stringOf, subsetSpelt}
 use Rattle.pixel_rules.specs.Plain.{Spelt, channelIn, firstStart, indexIn, indexModeIn, indexStart, indexWide}
 use Rattle.pixel_rules.specs.Plain.{lettersOf, partitionIn, plainChannel}
 use Rattle.pixel_rules.specs.Plain.{rotationIn, setFor, setStart}
@@ -207,7 +207,7 @@ channel-is m n q c hm hq =
     let step1 : channelIn m i (letters (stringFor (subsetCount m) (partitionIn m n))) n q d ≡ channelIn m i (letters (stringOf s)) n q d =
     ap (λ t. channelIn m i (letters t) n q d) (g .string) in
     let a : ℕ = setFor m i d in
-    let e : subsetIn (letters (stringOf s)) q ≡ subset s q = subset-is s (g .fitting .few) q hq in
+    let e : subsetSpelt (letters (stringOf s)) q ≡ subset s q = subset-is s (g .fitting .few) q hq in
     let w : weightOf (indexBits m a) (indexIn m (letters (stringOf s)) n a q) ≡ weightOf (indexBits m a) (atPlace m s n (Index a q)) =
     ap (weightOf (indexBits m a)) (sym (index-is m s (g .fitting) n a q (g .two d) hq)) in
     step1

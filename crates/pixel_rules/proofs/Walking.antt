@@ -17,7 +17,7 @@ use Rattle.bcn_format.specs.Partitions.{among, anchors2, anchors3, digits, mark
 use Rattle.bc7_format.specs.declared.Split.{Split}
 use Rattle.bc7_format.specs.declared.Split.the-variants.{Whole, Two, Three, Vector}
 use Rattle.bc7_format.specs.Splits.{anchors, kindOf, partition, subset}
-use Rattle.pixel_rules.specs.Strings.{anchorsBefore, isAnchorIn, letters, placeIn, stringOf, subsetIn, undivided}
+use Rattle.pixel_rules.specs.Strings.{anchorsBefore, isAnchorIn, letters, placeIn, stringOf, subsetSpelt, undivided}
 
 -- two tests have the same answer
 same : Bool → Bool → Bool
@@ -39,8 +39,8 @@ walkedAt n t q =
     both (ltb (placeIn cs q) (length cs))
     (both (leb q (placeIn cs q))
     (both (leb 48 (getD cs (placeIn cs q) 0))
-    (both (ltb (subsetIn cs q) n)
-    (both (eqb (subsetIn cs q) (getD (digits t) q 0))
+    (both (ltb (subsetSpelt cs q) n)
+    (both (eqb (subsetSpelt cs q) (getD (digits t) q 0))
     (both (same (isAnchorIn cs q) (among q (0 ∷ marks 0 t)))
     (eqb (anchorsBefore cs (suc q)) (pick (isAnchorIn cs q) 1 0 + anchorsBefore cs q)))))))
 
@@ -48,15 +48,15 @@ walked : ℕ → String → Bool
 walked n t = below 16 (walkedAt n t)
 
 walked-1 : T (walked 1 undivided)
-unfolding walked walkedAt same letters placeIn subsetIn isAnchorIn anchorsBefore digits marks
+unfolding walked walkedAt same letters placeIn subsetSpelt isAnchorIn anchorsBefore digits marks
 walked-1 = tt
 
 walked-2 : T (below 64 (λ a. walked 2 (getD strings2 a "")))
-unfolding walked walkedAt same letters placeIn subsetIn isAnchorIn anchorsBefore digits marks strings2
+unfolding walked walkedAt same letters placeIn subsetSpelt isAnchorIn anchorsBefore digits marks strings2
 walked-2 = tt
 
 walked-3 : T (below 64 (λ a. walked 3 (getD strings3 a "")))
-unfolding walked walkedAt same letters placeIn subsetIn isAnchorIn anchorsBefore digits marks strings3
+unfolding walked walkedAt same letters placeIn subsetSpelt isAnchorIn anchorsBefore digits marks strings3
 walked-3 = tt
 
 -- what the test says of a pixel
@@ -64,8 +64,8 @@ pub record Walked (n : ℕ) (t : String) (q : ℕ) : Type 0 where
   pub found : placeIn (letters t) q < length (letters t)
   pub past : q ≤ placeIn (letters t) q
   pub digit : 48 ≤ getD (letters t) (placeIn (letters t) q) 0
-  pub few : subsetIn (letters t) q < n
-  pub subset : subsetIn (letters t) q ≡ getD (digits t) q 0
+  pub few : subsetSpelt (letters t) q < n
+  pub subset : subsetSpelt (letters t) q ≡ getD (digits t) q 0
   pub anchor : isAnchorIn (letters t) q ≡ among q (0 ∷ marks 0 t)
   pub counted : anchorsBefore (letters t) (suc q) ≡ pick (isAnchorIn (letters t) q) 1 0 + anchorsBefore (letters t) q
 
@@ -77,15 +77,15 @@ walked-at n t w q h =
     let t1 = both-right (ltb (placeIn cs q) (length cs)) _ t0 in
     let t2 = both-right (leb q (placeIn cs q)) _ t1 in
     let t3 = both-right (leb 48 (getD cs (placeIn cs q) 0)) _ t2 in
-    let t4 = both-right (ltb (subsetIn cs q) n) _ t3 in
-    let t5 = both-right (eqb (subsetIn cs q) (getD (digits t) q 0)) _ t4 in
+    let t4 = both-right (ltb (subsetSpelt cs q) n) _ t3 in
+    let t5 = both-right (eqb (subsetSpelt cs q) (getD (digits t) q 0)) _ t4 in
     let t6 = both-right (same (isAnchorIn cs q) (among q (0 ∷ marks 0 t))) _ t5 in
     record {
       found = ltb→lt _ _ (both-left (ltb (placeIn cs q) (length cs)) _ t0);
       past = leb→le _ _ (both-left (leb q (placeIn cs q)) _ t1);
       digit = leb→le _ _ (both-left (leb 48 (getD cs (placeIn cs q) 0)) _ t2);
-      few = ltb→lt _ _ (both-left (ltb (subsetIn cs q) n) _ t3);
-      subset = eqb→eq _ _ (both-left (eqb (subsetIn cs q) (getD (digits t) q 0)) _ t4);
+      few = ltb→lt _ _ (both-left (ltb (subsetSpelt cs q) n) _ t3);
+      subset = eqb→eq _ _ (both-left (eqb (subsetSpelt cs q) (getD (digits t) q 0)) _ t4);
       anchor = same-is _ _ (both-left (same (isAnchorIn cs q) (among q (0 ∷ marks 0 t))) _ t5);
       counted = eqb→eq _ _ t6;
     }
@@ -108,7 +108,7 @@ anchors-are (Two a) = refl
 anchors-are (Three a) = refl
 anchors-are (Vector r i) = refl
 
-pub subset-is : (s : Split) → partition s < 64 → (q : ℕ) → q < 16 → subsetIn (letters (stringOf s)) q ≡ subset s q
+pub subset-is : (s : Split) → partition s < 64 → (q : ℕ) → q < 16 → subsetSpelt (letters (stringOf s)) q ≡ subset s q
 unfolding subset2 subset3
 subset-is Whole h q hq = omega (arith, walked-split Whole h q hq .few)
 subset-is (Two a) h q hq = walked-split (Two a) h q hq .subset

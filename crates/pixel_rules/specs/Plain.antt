@@ -12,7 +12,7 @@ use Rattle.bc7_format.specs.Lines.{rotated}
 use Rattle.bc7_format.specs.Modes.{alphaBits, colourBits, endpointCount, firstBits, indexBits, indexModeBits, modeOf}
 use Rattle.bc7_format.specs.Modes.{pCount, partitionBits, rotationBits}
 use Rattle.pixel_rules.specs.Columns.{subsetCount}
-use Rattle.pixel_rules.specs.Strings.{Sixteen, anchorsBefore, isAnchorIn, letters, stringFor, subsetIn}
+use Rattle.pixel_rules.specs.Strings.{Sixteen, anchorsBefore, isAnchorIn, letters, stringFor, subsetSpelt}
 
 -- what a block of mode m and number n says of its split, behind the marker
 abbrev pub partitionIn : ℕ → ℕ → ℕ
@@ -49,7 +49,7 @@ setFor m i d = pick (eqb (rotationBits m) 0) 0 (pick (eqb d 3) (1 - i) i)
 unfoldable pub channelIn : ℕ → ℕ → List ℕ → ℕ → ℕ → ℕ → ℕ
 channelIn m i cs n q d =
     let a = setFor m i d in
-    drawn (endByte m n (2 * subsetIn cs q + 0) d) (endByte m n (2 * subsetIn cs q + 1) d) (weightOf (indexBits m a) (indexIn m cs n a q))
+    drawn (endByte m n (2 * subsetSpelt cs q + 0) d) (endByte m n (2 * subsetSpelt cs q + 1) d) (weightOf (indexBits m a) (indexIn m cs n a q))
 
 -- the letters of a block's partition
 unfoldable pub lettersOf : ℕ → ℕ → List ℕ
@@ -65,5 +65,5 @@ plainPixel bs q c = pick (eqb (modeOf bs) 8) 0 (plainChannel (modeOf bs) (number
 -- letters by which a pixel of a block of mode m can be read
 pub record Spelt (m : ℕ) (cs : List ℕ) : Type 0 where
   pub sixteen : Sixteen cs
-  pub inside : (q : ℕ) → q < 16 → 2 * subsetIn cs q + 1 < endpointCount m
+  pub inside : (q : ℕ) → q < 16 → 2 * subsetSpelt cs q + 1 < endpointCount m
   pub room : (a q : ℕ) → a < 2 → q < 16 → indexStart m cs a q + indexWide m cs a q ≤ 128

@@ -37,8 +37,8 @@ placeIn [] q = 0
 placeIn (c ∷ cs) q = pick (both (eqb q 0) (not (eqb c 45))) 0 (suc (placeIn cs (pick (eqb c 45) q (q - 1))))
 
 -- its subset is that digit (48 is the digit 0)
-unfoldable pub subsetIn : List ℕ → ℕ → ℕ
-subsetIn cs q = getD cs (placeIn cs q) 0 - 48
+unfoldable pub subsetSpelt : List ℕ → ℕ → ℕ
+subsetSpelt cs q = getD cs (placeIn cs q) 0 - 48
 
 -- pixel 0 is an anchor, and so is each pixel whose digit has a dash before it
 unfoldable pub isAnchorIn : List ℕ → ℕ → Bool

@@ -144,7 +144,7 @@ module _ (b n s : ℕ) (hb : 0 < b) (most : b ≤ 4) where
 
 -- an index, masked
 pub get-index-is : (b : ℕ) (an : List ℕ) (x q : ℕ) → b ≤ 4 → q < 16 → get-index (indexesAre b an x) q ≡ part (expanded b an x) b q
-unfolding get-index get-mask part
+unfolding get-index get-mask fieldOf
 get-index-is b an x q most hq =
     let few : q * b ≤ 60 = omega (arith, times-width b q 15 (omega arith)) in
     let count : mul 8 q b ≡ q * b = mod-eq-of-lt (omega arith) in

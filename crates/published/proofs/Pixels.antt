@@ -171,7 +171,7 @@ module _ (m n l b i : ℕ) (hm : m < 8) (least : 2 ≤ b) (hi : i < 2 ^ b) where
 pub indexes-are : (m : ℕ) (s : Split) (a n b t s0 : ℕ) (an : List ℕ) → a < 2 → b ≤ 4 → indexBits m a ≡ b → anchors s ≡ an
     → total (indexWidths b an) ≡ t → start m s (firstFrom + (16 * a + 0)) ≡ s0 → (q : ℕ) → q < 16
     → (get-index (indexesAre b an (field n s0 t)) q ≡ atPlace m s n (Index a q)) × (get-index (indexesAre b an (field n s0 t)) q < 2 ^ b)
-unfolding part
+unfolding field
 indexes-are m s a n b t s0 an ha most eb ea et es q hq =
     let is = get-index-is b an (field n s0 t) q most hq in (
       is ∙ indexes-at m s a n b t an ha eb ea et (ap (λ (z : ℕ). expanded b an (field n z t)) (sym es)) q hq,

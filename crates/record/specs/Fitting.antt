@@ -6,6 +6,7 @@ use Prim.Native.Nat.{ℕ, _+_, _/_, _%_, _^_, _<_, _≤_}
 use mathlib.Core.List.{List}
 use lib.Dec.{eqb, ltb}
 use lib.ListN.{getD}
+use Rattle.bcn_format.specs.Indexes.{IndexWidth}
 use Rattle.record_rules.specs.declared.Record.{Record}
 use Rattle.bc7_places.specs.declared.splits.Anchors.{Anchors}
 use Rattle.bc7_modes.specs.declared.ModeRow.{ModeRow}
@@ -54,6 +55,5 @@ pub record PairAt (row : ModeRow) (at : ℕ) : Type 0 where
   pub even : at % 8 ≡ 0
 
 pub record SetAt (a : Anchors) (w : ℕ) : Type 0 where
-  pub least : 0 < w
-  pub most : w ≤ 4
+  pub width : IndexWidth w
   pub pixels : ArePixels a

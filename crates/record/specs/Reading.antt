@@ -11,7 +11,7 @@ use Rattle.bc7_places.specs.declared.splits.Anchors.{Anchors}
 use Rattle.bc7_modes.specs.declared.ModeRow.{ModeRow}
 use Rattle.bits.specs.declared.stream.BitStream.{BitStream}
 use Rattle.laws.specs.Tables.{pick, table}
-use Rattle.bcn_format.specs.Indexes.{anchorCount, anchorsOfKind, part, Rising}
+use Rattle.bcn_format.specs.Indexes.{anchorCount, anchorsWith, part, Rising}
 use Rattle.indexes.specs.Reading.{newIndexes}
 use Rattle.bits.specs.Stream.{taken}
 use Rattle.bc7_modes.specs.Modes.{OfMode}
@@ -51,7 +51,7 @@ pub record PAhead (row : ModeRow) (s : BitStream) : Type 0 where
 unfoldable pub secondRead : ModeRow → Anchors → BitStream → List ℕ
 secondRead row a s =
     pick (eqb (row .kind) 3)
-    (table 16 (part (newIndexes (row .second) (anchorsOfKind (row .kind) (a .b) (a .c)) s (16 * row .second - anchorCount (row .kind)) .indexes
+    (table 16 (part (newIndexes (row .second) (anchorsWith (row .kind) (a .b) (a .c)) s (16 * row .second - anchorCount (row .kind)) .indexes
     .uncompressed) (row .second)))
     (replicate 16 0)
 

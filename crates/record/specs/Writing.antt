@@ -18,7 +18,7 @@ use Rattle.record_rules.specs.Records.{says}
 use Rattle.bc7_modes.specs.Modes.{modeRowOf}
 use mathlib.Core.List.{List}
 use Rattle.bc7_places.specs.declared.splits.Anchors.{Anchors}
-use Rattle.bcn_format.specs.Indexes.{Rising, anchorCount, anchorsOfKind, indexWidths}
+use Rattle.bcn_format.specs.Indexes.{IndexWidth, Rising, anchorCount, anchorsWith, indexWidths}
 use Rattle.bc7_places.specs.Splits.{ArePixels, anchorsOf}
 
 -- values of a channel that fit their width, and p bits
@@ -34,7 +34,7 @@ pub record PBitsFit (p : List ℕ) (n : ℕ) : Type 0 where
 
 -- a set of indexes as it is stored: each at its width, and how many bits that makes
 abbrev pub storedSet : ℕ → Anchors → ℕ → List ℕ → ℕ
-storedSet kind a w indexes = join (indexWidths w (anchorsOfKind kind (a .b) (a .c))) indexes
+storedSet kind a w indexes = join (indexWidths w (anchorsWith kind (a .b) (a .c))) indexes
 
 -- a record that packs, with the row of its mode: everything fits as it is stored
 pub record Packable (r : Record) (row : ModeRow) : Type 0 where
@@ -47,11 +47,11 @@ pub record Packable (r : Record) (row : ModeRow) : Type 0 where
 abbrev pub wide : Record → ℕ → ℕ
 wide r i = width (r .mode) (anchors (r .split)) (placeAt i)
 
-abbrev pub said : Record → ℕ → ℕ
-said r i = says r (placeAt i)
+abbrev pub saidAt : Record → ℕ → ℕ
+saidAt r i = says r (placeAt i)
 
 unfoldable pub upto : Record → ℕ → BitWriter
-upto r i = writerOf (join (table i (wide r)) (table i (said r))) (total (table i (wide r)))
+upto r i = writerOf (join (table i (wide r)) (table i (saidAt r))) (total (table i (wide r)))
 
 -- what each group asks for: a record that packs, the anchors of its split, the writer that holds what stands before the group
 pub record PackableWith (r : Record) (row : ModeRow) (a : Anchors) : Type 0 where
@@ -75,10 +75,9 @@ pub record IndexesNext (r : Record) (row : ModeRow) (a : Anchors) (b : BitWriter
 
 -- and a set of indexes: that they fit as they are stored, and that there is room
 pub record SetNext (b : BitWriter) (kind : ℕ) (a : Anchors) (w : ℕ) (vs : List ℕ) : Type 0 where
-  pub least : 0 < w
-  pub most : w ≤ 4
+  pub width : IndexWidth w
   pub pixels : ArePixels a
   pub rising : Rising kind (a .b) (a .c)
-  pub fits : Fit (indexWidths w (anchorsOfKind kind (a .b) (a .c))) vs
+  pub fits : Fit (indexWidths w (anchorsWith kind (a .b) (a .c))) vs
   pub room : b .at + (16 * w - anchorCount kind) ≤ 128
   pub holds : written b < 2 ^ b .at

@@ -23,7 +23,7 @@ use Rattle.bcn_format.proofs.Drawing.{promoted-lt}
 use Rattle.bc7_drawing.specs.declared.colour.Ends.{Ends}
 use Rattle.bc7_fields.specs.Painting.{endOf, endOfP, solid}
 use Rattle.bc7_drawing.specs.Asked.{Promotable, PromotableP, Width, WidthP}
-use Rattle.bc7_drawing.specs.Words.{endpoint, endsOf, first, Holds, HoldsOne, laned, Lanes, lanesOf}
+use Rattle.bc7_drawing.specs.Words.{endpoint, endsOf, firstAlone, Holds, HoldsOne, laned, Lanes, lanesOf}
 
 -- a word and its lanes
 pub laned-lanes : {x : ℕ} → x < 2 ^ 64 → laned (lanesOf x) ≡ x
@@ -317,23 +317,23 @@ nothing (suc (suc (suc (suc c)))) = refl
 
 -- one colour
 module _ (f : ℕ → ℕ → ℕ) (each : (k c : ℕ) → f k c < 2 ^ 8) where
-  each-first : (l k c : ℕ) → first f l k c < 2 ^ 8
+  each-first : (l k c : ℕ) → firstAlone f l k c < 2 ^ 8
   each-first l k c = pick-lt (eqb l 0) (f k c) 0 (2 ^ 8) (each k c) (omega arith)
 
   two-lanes : (k c : ℕ) → Fit (8 ∷ 8 ∷ 0 ∷ 0 ∷ []) (lanesOf (laned (f k c ∷ f k (c + 2) ∷ 0 ∷ 0 ∷ [])))
   two-lanes k c =
-      rw (four-lanes (first f) each-first k c)
+      rw (four-lanes (firstAlone f) each-first k c)
       (more (each k c) (more (each k (c + 2)) (more {w = 0} (zero-lt-suc 0) (more {w = 0} (zero-lt-suc 0) none))))
 
-  pub holds-one : {e : Ends} → e ≡ endsOf (first f) → HoldsOne f e
+  pub holds-one : {e : Ends} → e ≡ endsOf (firstAlone f) → HoldsOne f e
   unfolding endsOf
   holds-one e =
       record { same = e; each = each; one = rw e (record { rb0 = two-lanes 0 0; ga0 = two-lanes 0 1; rb1 = two-lanes 1 0; ga1 = two-lanes 1 1 }) }
 
-  pub endpoint-one : {e : Ends} → e ≡ endsOf (first f) → (k : ℕ) → k < 2 → endpoint e 0 k ≡ f k 0 ∷ f k 1 ∷ f k 2 ∷ f k 3 ∷ []
-  endpoint-one e k hk = ap (λ (e : Ends). endpoint e 0 k) e ∙ endpoint-of (first f) each-first 0 k (omega arith) hk
+  pub endpoint-one : {e : Ends} → e ≡ endsOf (firstAlone f) → (k : ℕ) → k < 2 → endpoint e 0 k ≡ f k 0 ∷ f k 1 ∷ f k 2 ∷ f k 3 ∷ []
+  endpoint-one e k hk = ap (λ (e : Ends). endpoint e 0 k) e ∙ endpoint-of (firstAlone f) each-first 0 k (omega arith) hk
 
-pub ends-first : (h : ℕ → ℕ → ℕ → ℕ) → ((k c : ℕ) → h 1 k c ≡ 0) → endsOf h ≡ endsOf (first (h 0))
+pub ends-first : (h : ℕ → ℕ → ℕ → ℕ) → ((k c : ℕ) → h 1 k c ≡ 0) → endsOf h ≡ endsOf (firstAlone (h 0))
 unfolding endsOf
 ends-first h z = λ i. record {
   rb0 = laned (h 0 0 0 ∷ h 0 0 2 ∷ z 0 0 i ∷ z 0 2 i ∷ []);

@@ -16,4 +16,6 @@ module _ (w s : ℕ) (keys : Keys) (p : List (List ℕ)) (i : ℕ) where
   pub two-more : {k l : ℕ} {output : List (List ℕ)} → Made (colourOf w s keys p) (2 * i) output → i < 8
       → k ≡ keys .even / 2 ^ (i * (2 * w)) % 2 ^ (w + s) → l ≡ keys .odd / 2 ^ (i * (2 * w)) % 2 ^ (w + s)
       → Made (colourOf w s keys p) (2 * (i + 1)) (set (set output (2 * i) (getD p k [])) (2 * i + 1) (getD p l []))
-  two-more made h ek el = made-two made h (ap (λ (k : ℕ). getD p k []) (ek ∙ sym (even w s keys i))) (ap (λ (k : ℕ). getD p k []) (el ∙ sym (odd w s keys i)))
+  two-more made h ek el =
+      let colour : ℕ → List ℕ = λ k. getD p k [] in
+      made-two made h (ap colour (ek ∙ sym (even w s keys i))) (ap colour (el ∙ sym (odd w s keys i)))

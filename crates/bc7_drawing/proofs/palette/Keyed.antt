@@ -14,7 +14,7 @@ use Rattle.bc7_fields.specs.Painting.{between}
 use Rattle.bcn_format.specs.Drawing.{Weighed}
 use Rattle.bc7_drawing.specs.declared.colour.Ends.{Ends}
 use Rattle.bc7_drawing.specs.Asked.{Mixable2, Shaded2}
-use Rattle.bc7_drawing.specs.Words.{blend, blends, Bytes, endpoint, laned, Lanes, lanesOf, woven}
+use Rattle.bc7_drawing.specs.Words.{blend, blends, EndsOfBytes, endpoint, laned, Lanes, lanesOf, woven}
 use Rattle.bc7_drawing.proofs.colour.Mixing.{blend-lt, blends-fit}
 use Rattle.bc7_drawing.proofs.colour.Words.{fit-zip, lanes-laned}
 use Rattle.bc7_drawing.specs.Colours.{keyed, lerped, shade}
@@ -25,7 +25,7 @@ mixed-lanes : (w x y : ℕ) → w ≤ 256 → {r : ℕ} → Lanes 8 x → Lanes 
     → lanesOf r ≡ zipWith (blend w) (lanesOf x) (lanesOf y)
 mixed-lanes w x y h p q e = ap lanesOf e ∙ lanes-laned (fit-zip 4 8 8 16 (blend w) (blend-lt w h) p q)
 
-pub shades : (w : ℕ) (e : Ends) → w ≤ 256 → Bytes e → {rb ga : ℕ} {bytes : List ℕ}
+pub shades : (w : ℕ) (e : Ends) → w ≤ 256 → EndsOfBytes e → {rb ga : ℕ} {bytes : List ℕ}
     → rb ≡ laned (zipWith (blend w) (lanesOf (e .rb0)) (lanesOf (e .rb1)))
     → ga ≡ laned (zipWith (blend w) (lanesOf (e .ga0)) (lanesOf (e .ga1))) → bytes ≡ woven (lanesOf rb) (lanesOf ga)
     → bytes ≡ shade e 0 w ++ shade e 1 w

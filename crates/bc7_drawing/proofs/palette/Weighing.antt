@@ -7,11 +7,12 @@ use native.Mathlib.Nat.{add-comm, mod-eq-of-lt, mod-lt, mul-comm, not-suc-le-zer
 use native.Mathlib.Omega.{arith}
 use lib.Bits.{bitAnd}
 use lib.ListN.{length, set}
-use lib.Pow.{field, mod-mod-pow, pow-pos, shr-shr}
+use lib.Pow.{field as pow-field, mod-mod-pow, pow-pos, shr-shr}
 use Rattle.laws.specs.Digits.{evenly}
 use Rattle.laws.specs.Tables.{table, tableFrom}
 use Rattle.laws.proofs.Evenly.{evenly-linear, evenly-mask, evenly-part, evenly-same}
 use Rattle.laws.proofs.Part.{Part, part-all, part-none, part-set}
+use Rattle.bcn_format.specs.Block.{field}
 use Rattle.bcn_format.specs.Drawing.{weightOf}
 use Rattle.bcn_format.proofs.Drawing.{weight-le}
 use Rattle.bcn_format.specs.Indexes.{part}
@@ -30,11 +31,11 @@ module _ (x : ℕ) where
   index j = part x 4 (2 * j)
 
   index-lt : (j : ℕ) → index j < 16
-  unfolding part
+  unfolding field
   index-lt j = mod-lt (x / 2 ^ (2 * j * 4)) (pow-pos 4)
 
   pub indexes : bitAnd x 0x0F0F_0F0F_0F0F_0F0F ≡ evenly 8 8 index
-  unfolding evenly table tableFrom part
+  unfolding evenly table tableFrom field
   indexes =
       evenly-mask 8 8 4 (omega arith) x
       ∙ evenly-same 8 8 _ _ (λ i l. let e : i * 8 ≡ 2 * i * 4 = omega arith in ap (λ (s : ℕ). x / 2 ^ s % 2 ^ 4) e)
@@ -54,7 +55,7 @@ module _ (x : ℕ) where
       ap (λ (u : ℕ). u % 2 ^ 3) (shr-shr y 2 (i * 8) ∙ ap (λ (s : ℕ). y / 2 ^ s) (add-comm 2 (i * 8)) ∙ sym (shr-shr y (i * 8) 2))
       ∙ sym (mod-mod-pow (z / 2 ^ 2) 3 3)
       ∙ ap (λ (u : ℕ). u % 2 ^ 3)
-      (sym (field z 6 2) ∙ ap (λ (u : ℕ). u / 2 ^ 2) (evenly-part 8 8 (λ j. index j + 2) (λ j h. omega (arith, index-lt j)) i l)))
+      (sym (pow-field z 6 2) ∙ ap (λ (u : ℕ). u / 2 ^ 2) (evenly-part 8 8 (λ j. index j + 2) (λ j h. omega (arith, index-lt j)) i l)))
 
   weights-word : evenly 8 8 index * 4 + evenly 8 8 (λ j. (index j + 2) / 4 % 8) ≡ evenly 8 8 (λ j. weightOf 4 (index j))
   weights-word = evenly-linear 8 8 4 index (λ j. (index j + 2) / 4 % 8) ∙ evenly-same 8 8 _ _ (λ j l. weight-is (index j) (index-lt j))
@@ -72,7 +73,7 @@ module _ (x i : ℕ) (hi : i < 4) {all : ℕ} (ea : all ≡ evenly 8 8 (λ j. we
   weight-64 j = weight-le 4 (part x 4 (2 * j)) (omega arith) (omega arith) (index-lt x j)
 
   weight-at : (j : ℕ) → j < 8 → part all 8 j ≡ weightOf 4 (part x 4 (2 * j))
-  unfolding part
+  unfolding field
   weight-at j h =
       ap (λ (y : ℕ). y / 2 ^ (j * 8) % 2 ^ 8) ea ∙ evenly-part 8 8 (λ j. weightOf 4 (part x 4 (2 * j))) (λ k l. omega (arith, weight-64 k)) j h
 
@@ -99,7 +100,7 @@ unfolding evenly table tableFrom
 four-times f = omega arith
 
 pub weights-taken : (all i : ℕ) → 4 * bitAnd (all / 2 ^ (8 * i)) 0x00FF_0000_00FF ≡ evenly 2 32 (λ h. 4 * part all 8 (i + 4 * h))
-unfolding evenly table tableFrom part
+unfolding evenly table tableFrom field
 weights-taken all i =
     ap (λ (y : ℕ). 4 * y)
     (evenly-mask 2 32 8 (omega arith) (all / 2 ^ (8 * i))
@@ -130,10 +131,10 @@ module _ {f : ℕ → List ℕ} {out : List (List ℕ)} where
 
 -- an index is that of the pixel before it, a place further down
 pub next-index : (x q : ℕ) → part (x / 2 ^ 4) 4 q ≡ part x 4 (q + 1)
-unfolding part
+unfolding field
 next-index x q =
     let place : 4 + q * 4 ≡ (q + 1) * 4 = omega arith in ap (λ (y : ℕ). y % 2 ^ 4) (shr-shr x 4 (q * 4) ∙ ap (λ (s : ℕ). x / 2 ^ s) place)
 
 pub index-16 : (x q : ℕ) → part x 4 q < 2 ^ 4
-unfolding part
+unfolding field
 index-16 x q = mod-lt (x / 2 ^ (q * 4)) (pow-pos 4)

@@ -11,7 +11,7 @@ use Rattle.bc7_format.specs.declared.Split.{Split}
 use Rattle.bc7_format.specs.declared.Split.the-variants.{Whole, Two, Three, Vector}
 use Rattle.bcn_format.specs.Partitions.{among, or}
 use Rattle.bc7_format.specs.Splits.{anchors, kindOf, partition}
-use Rattle.bcn_format.specs.Indexes.{Rising, anchorsOfKind}
+use Rattle.bcn_format.specs.Indexes.{Rising, anchorsWith}
 use Rattle.bc7_places.specs.Splits.{ArePixels, anchorsOf, threeOf}
 use Rattle.partitions.specs.Maps.{map2, map3}
 use Rattle.partitions.proofs.Maps.{anchors-in2, anchors-in3}
@@ -41,7 +41,7 @@ pub anchors-three : (a : ℕ) → a < 64
 anchors-three a h = rw (anchors-in3 a h .are)
 
 -- the anchors of a split by its kind
-pub anchors-kind : (s : Split) → partition s < 64 → anchorsOfKind (kindOf s) (anchorsOf s .b) (anchorsOf s .c) ≡ anchors s
+pub anchors-kind : (s : Split) → partition s < 64 → anchorsWith (kindOf s) (anchorsOf s .b) (anchorsOf s .c) ≡ anchors s
 anchors-kind Whole h = refl
 anchors-kind (Two a) h = rw (anchors-in2 a h .are)
 anchors-kind (Three a) h = rw (anchors-in3 a h .are)

@@ -12,7 +12,7 @@ use Rattle.bcn_format.proofs.Fields.{field-below}
 use Rattle.bc7_fields.specs.Fields.{endByte}
 use Rattle.bc7_format.specs.Modes.{endpointCount, indexBits}
 use Rattle.pixel_rules.specs.Plain.{channelIn, indexIn, indexWide, setFor}
-use Rattle.pixel_rules.specs.Strings.{isAnchorIn, subsetIn}
+use Rattle.pixel_rules.specs.Strings.{isAnchorIn, subsetSpelt}
 use Rattle.bc7_plain.proofs.Rows.{Serves, fits, serves}
 use Rattle.bc7_plain.proofs.channel_of.Statement.{statement}
 use Rattle.bc7_plain.proofs.channel_of.Tie as tie
@@ -45,7 +45,7 @@ weighed c =
     }
 
 -- its endpoints
-pair : (s : tie.Start) → 2 * subsetIn (s .args .string .now) (s .args .pixel) + 1 < endpointCount (s .args .mode)
+pair : (s : tie.Start) → 2 * subsetSpelt (s .args .string .now) (s .args .pixel) + 1 < endpointCount (s .args .mode)
 pair s = s .pre .spelt .inside (s .args .pixel) (s .pre .pixel)
 
 few : (s : tie.Start) → endpointCount (s .args .mode) ≤ 6
@@ -114,7 +114,7 @@ returns c =
     let n : ℕ = number (s .args .block) in
     let d : ℕ = s .args .channel in
     let cs = s .args .string .now in
-    let l : ℕ = subsetIn cs (s .args .pixel) in
+    let l : ℕ = subsetSpelt cs (s .args .pixel) in
     let a : ℕ = setFor m (s .args .index-mode) d in
     let first : 2 * b .subset .result ≡ 2 * l + 0 = omega (arith, b .subset .ensures) in
     let second : 2 * b .subset .result + 1 ≡ 2 * l + 1 = omega (arith, b .subset .ensures) in

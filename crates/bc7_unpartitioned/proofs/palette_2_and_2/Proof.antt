@@ -12,7 +12,7 @@ use Rattle.bc7_fields.specs.Painting.{between}
 use Rattle.bcn_format.proofs.Weighing.{two-bits}
 use Rattle.bc7_drawing.specs.declared.colour.Ends.{Ends}
 use Rattle.bc7_drawing.specs.Words.{Alone, endpoint, wordBytes}
-use Rattle.bc7_unpartitioned.specs.Crossing.{kept, keptWord}
+use Rattle.bc7_unpartitioned.specs.Crossing.{keptChannels, keptWord}
 use Rattle.bc7_unpartitioned.proofs.Crossing.{alpha-fits, both-kept, colours-fit, high-pairs, low-pairs, pairAt, pairs}
 use Rattle.bc7_unpartitioned.proofs.palette_2_and_2.Statement.{statement}
 use Rattle.bc7_unpartitioned.proofs.palette_2_and_2.Tie as tie
@@ -29,9 +29,9 @@ record Words (c : tie.After-keep2 Inv-loop μ-loop) : Type 0 where
   one : Alone e
   alphas-are : c .before .before .before .before .words-2 .result ≡ table 4 (λ k. keptWord false (between 2 (endpoint e 0 0) (endpoint e 0 1) k))
   low-is : wordBytes (c .before .before .keep .result)
-      ≡ kept true (between 2 (endpoint e 0 0) (endpoint e 0 1) 0) ++ kept true (between 2 (endpoint e 0 0) (endpoint e 0 1) 1)
+      ≡ keptChannels true (between 2 (endpoint e 0 0) (endpoint e 0 1) 0) ++ keptChannels true (between 2 (endpoint e 0 0) (endpoint e 0 1) 1)
   high-is : wordBytes (c .keep2 .result)
-      ≡ kept true (between 2 (endpoint e 0 0) (endpoint e 0 1) 2) ++ kept true (between 2 (endpoint e 0 0) (endpoint e 0 1) 3)
+      ≡ keptChannels true (between 2 (endpoint e 0 0) (endpoint e 0 1) 2) ++ keptChannels true (between 2 (endpoint e 0 0) (endpoint e 0 1) 3)
 
 words : (c : tie.After-keep2 Inv-loop μ-loop) → Words c
 words c =

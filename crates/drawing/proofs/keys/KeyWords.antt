@@ -13,6 +13,7 @@ use lib.Pow.{mod-mod-pow, pow-add, pow-mono, pow-pos, shr-shr}
 use Rattle.laws.specs.Digits.{evenly}
 use Rattle.laws.specs.Tables.{pick}
 use Rattle.laws.proofs.Evenly.{evenly-linear, evenly-mask, evenly-part, evenly-same}
+use Rattle.bcn_format.specs.Block.{field}
 use Rattle.bcn_format.specs.Indexes.{part}
 use Rattle.drawing.specs.declared.keys.Keys.{Keys}
 use Rattle.drawing.specs.Keys.{everyOther, keyAt, keyOf, keysOf}
@@ -23,7 +24,7 @@ evens w = evenly 8 (2 * w) (λ i. 2 ^ w - 1)
 
 -- they take every other field of w bits
 every-other : (w o x : ℕ) → bitAnd (x / 2 ^ (o * w)) (evens w) ≡ evenly 8 (2 * w) (λ i. part x w (2 * i + o))
-unfolding part
+unfolding field
 every-other w o x =
     evenly-mask 8 (2 * w) w (omega arith) (x / 2 ^ (o * w))
     ∙ evenly-same 8 (2 * w) _ _ (λ i l.
@@ -53,7 +54,7 @@ module _ (w s : ℕ) (keys : Keys) (i : ℕ) where
 -- where every subset is below 2 ^ s, that is the key that was made
 module _ (w s x map : ℕ) (room : s ≤ w) (small : (q : ℕ) → q < 16 → part map w q < 2 ^ s) where
   key-lt : (q : ℕ) → q < 16 → keyOf w s x map q < 2 ^ (w + s)
-  unfolding part
+  unfolding field
   key-lt q h = rw (pow-add 2 w s) (digits-lt (mod-lt (x / 2 ^ (q * w)) (pow-pos w)) (small q h))
 
   read-back : (o i : ℕ) → o < 2 → i < 8 → everyOther w s x map o / 2 ^ (i * (2 * w)) % 2 ^ (w + s) ≡ keyOf w s x map (2 * i + o)

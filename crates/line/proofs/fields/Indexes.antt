@@ -29,7 +29,7 @@ use Rattle.bc7_format.proofs.Places.{inside-index}
 use Rattle.bc7_format.proofs.Starts.{start}
 use Rattle.bcn_format.specs.Indexes.{Rising, anchorCount, expanded, indexWidth, indexWidths, part}
 use Rattle.bcn_format.proofs.Expanding.{part-expanded}
-use Rattle.indexes.proofs.Remove.{size-kind}
+use Rattle.indexes.proofs.Remove.{size-with}
 use Rattle.bc7_fields.proofs.Fields.{index-at}
 use Rattle.bc7_places.proofs.splits.AnchorPixels.{anchors-kind, anchors-low, anchors-rise}
 use Rattle.line_rules.specs.Replace.{ownWidth}
@@ -84,7 +84,7 @@ module _ {m : ℕ} {s : Split} {f : Place → ℕ} (g : WellFormed m s f) (l : �
 
   pub size-is : sizeIn k x ≡ total (indexWidths (indexBits m a) (anchors s))
   size-is =
-      sym (size-kind k w (x .anchors .b) (x .anchors .c) (omega (arith, is .least)) rising)
+      sym (size-with k w (x .anchors .b) (x .anchors .c) (omega (arith, is .least)) rising)
       ∙ ap₂ (λ (b : ℕ) (an : List ℕ). total (indexWidths b an)) bits anchors-are
 
   -- as it stands
@@ -173,8 +173,7 @@ module _ {m : ℕ} {s : Split} {f : Place → ℕ} (g : WellFormed m s f) (l : �
 
       pub set-ready : start m s (firstFrom + (16 * a + 0)) + total (indexWidths (indexBits m a) (anchors s)) ≤ 128 → SetReady n k b x mask new
       set-ready room = record {
-        least = omega (arith, is .least);
-        most = is .most;
+        width = record { least = omega (arith, is .least); most = is .most };
         rising = rising;
         second = rw (is .anchors) (anchors-low s (good-64 g) .second);
         third = rw (is .anchors) (anchors-low s (good-64 g) .third);

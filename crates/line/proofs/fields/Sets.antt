@@ -16,7 +16,7 @@ use Rattle.bits.specs.Stream.{held}
 use Rattle.bcn_format.specs.Indexes.{anchorCount, indexWidths}
 use Rattle.indexes.specs.Reading.{newIndexes}
 use Rattle.indexes.proofs.Reading.{got-indexes}
-use Rattle.indexes.proofs.Remove.{size-kind}
+use Rattle.indexes.proofs.Remove.{size-with}
 use Rattle.line.specs.Fields.{SetReady, anchorsIn, setAfter, setBefore, sizeIn, standing}
 
 module _ (s : BitStream) (k a : ℕ) (x : LinePart) (mask new : ℕ) where
@@ -31,11 +31,11 @@ module _ (s : BitStream) (k a : ℕ) (x : LinePart) (mask new : ℕ) where
     after-is = rw e
 
     pub after-fits : b - bitAnd b mask + new < 2 ^ 64
-    after-fits = rw after-is (lt-of-lt-of-le (r .small) (pow-mono {i = 16 * x .index} {j = 64} (omega (arith, r .most))))
+    after-fits = rw after-is (lt-of-lt-of-le (r .small) (pow-mono {i = 16 * x .index} {j = 64} (omega (arith, r .width .most))))
 
   pub stored-lt : {v t : ℕ} → SetReady (held s) k a x mask new → t ≡ sizeIn k x
       → v ≡ join (indexWidths (x .index) (anchorsIn k x)) (split (indexWidths (x .index) []) (setAfter (held s) k a x mask new)) → v < 2 ^ t
-  stored-lt r et ev = rw (ev, et, ← (size-kind k (x .index) (x .anchors .b) (x .anchors .c) (r .least) (r .rising))) (join-lt (r .fits))
+  stored-lt r et ev = rw (ev, et, ← (size-with k (x .index) (x .anchors .b) (x .anchors .c) (r .width .least) (r .rising))) (join-lt (r .fits))
 
 pub size-lt : (k w : ℕ) → 0 < w → w ≤ 4 → 16 * w - anchorCount k < 64
 size-lt zero w h l = omega arith

@@ -14,7 +14,7 @@ use Rattle.line_rules.specs.declared.Replacement.{Replacement}
 use Rattle.bc7_format.specs.declared.Split.{Split}
 use Rattle.laws.specs.Tables.{below, pick}
 use Rattle.laws.proofs.Tests.{T-true, at, below-intro, both-intro, both-true, true-T}
-use Rattle.line_rules.specs.Acceptable.{Within}
+use Rattle.line_rules.specs.Acceptable.{WithinLine}
 use Rattle.line_rules.specs.Replace.{lineGiven}
 use Rattle.bc7_places.specs.Lines.{ownPixel}
 use Rattle.line.specs.Parts.{partsFit}
@@ -41,7 +41,7 @@ module _ {m : ℕ} {s : Split} {l : ℕ} {x : LinePart} (is : IsPart m s l x) (g
   index-test q = ltb (v q) (2 ^ w)
 
   -- what fits in the line fits its parts
-  pub within-parts : Within m s l (lineGiven g) → partsFit x g ≡ true
+  pub within-parts : WithinLine m s l (lineGiven g) → partsFit x g ≡ true
   unfolding partsFit lineGiven
   within-parts h =
       T-true _ (both-intro (below 16 index-test) _ (below-intro 16 index-test (λ q hq. lt→ltb _ _ (index q hq)))
@@ -74,7 +74,7 @@ module _ {m : ℕ} {s : Split} {l : ℕ} {x : LinePart} (is : IsPart m s l x) (g
     pub only-kept : bitAnd (word w v) (word w (maskPart x)) ≡ word w v → (q : ℕ) → q < 16 → pick (own q) (v q) 0 ≡ v q
     only-kept e = word-one w (λ q. pick (own q) (v q) 0) v own-small fits (sym (masked x v fits) ∙ e)
 
-    pub within-kept : Within m s l (lineGiven g) → bitAnd (word w v) (word w (maskPart x)) ≡ word w v
+    pub within-kept : WithinLine m s l (lineGiven g) → bitAnd (word w v) (word w (maskPart x)) ≡ word w v
     unfolding lineGiven
     within-kept h = masked x v fits ∙ word-same w _ _ (λ q hq. go (own q) (rw (is .index q hq) at (h .index q hq)))
       where
@@ -88,7 +88,7 @@ module _ {m : ℕ} {s : Split} {l : ℕ} {x : LinePart} (is : IsPart m s l x) (g
   small-indexes e q hq =
       ltb→lt _ _ (at 16 index-test (true-T _ (both-true (below 16 index-test) _ e .0)) q hq)
 
-  pub parts-within : partsFit x g ≡ true → ((q : ℕ) → q < 16 → pick (own q) (v q) 0 ≡ v q) → Within m s l (lineGiven g)
+  pub parts-within : partsFit x g ≡ true → ((q : ℕ) → q < 16 → pick (own q) (v q) 0 ≡ v q) → WithinLine m s l (lineGiven g)
   unfolding partsFit lineGiven
   parts-within e kept =
       let b = both-true (below 2 p-test) _ (both-true (below 16 index-test) _ e .1) in

@@ -191,8 +191,7 @@ oriented-requires c κs =
     let d = unreserved (o .before) in
     let i = line-is o in
     record {
-      least = omega (arith, i .least);
-      most = i .most;
+      width = record { least = omega (arith, i .least); most = i .most };
       anchor = i .anchor-small;
       own =
           below-mask _ (sixteen (call d)) _ _ (long (call d)) (low d) (counted (o .before)) (o .open-line .ensures) (fitting (fit k))

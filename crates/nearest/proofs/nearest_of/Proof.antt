@@ -6,13 +6,13 @@ use borrow.Author.Needs.{needs}
 use lib.Dec.{lit<}
 use Rattle.nearest.specs.declared.Channel.{Channel}
 use Rattle.line_rules.specs.declared.Replacement.{Replacement}
-use Rattle.nearest.specs.Trying.{IsChannel, channelIn}
+use Rattle.nearest.specs.Trying.{IsChannel, channelTried}
 use Rattle.bc7_format.proofs.Meaning.{rotated-lt}
 use Rattle.nearest.proofs.nearest_of.Statement.{statement}
 use Rattle.nearest.proofs.nearest_of.Tie as tie
 
-as-shown : {ln ws : Replacement} {d e v : ℕ} {x : Channel} → IsChannel ln ws d v x → d ≡ e → x ≡ channelIn ln ws e v
-as-shown {ln} {ws} {v = v} h e = h .is ∙ ap (λ (d : ℕ). channelIn ln ws d v) e
+as-shown : {ln ws : Replacement} {d e v : ℕ} {x : Channel} → IsChannel ln ws d v x → d ≡ e → x ≡ channelTried ln ws e v
+as-shown {ln} {ws} {v = v} h e = h .is ∙ ap (λ (d : ℕ). channelTried ln ws d v) e
 
 rotated-requires : tie.Need-rotated-requires
 rotated-requires c κs = search needs

@@ -37,9 +37,9 @@ use Rattle.bc7_format.proofs.Modes.{by-subset, good-64}
 use Rattle.bc7_format.proofs.Opening.{good-kind, opened-good}
 use Rattle.bc7_format.proofs.Places.{inside-index, inside-pbit, inside-value}
 use Rattle.bc7_format.proofs.Starts.{at-field, start}
-use Rattle.bcn_format.specs.Indexes.{Rising, anchorCount, anchorsOfKind, expanded, indexWidths, part}
+use Rattle.bcn_format.specs.Indexes.{Rising, anchorCount, anchorsWith, expanded, indexWidths, part}
 use Rattle.indexes.specs.Reading.{SetAhead, newIndexes}
-use Rattle.indexes.proofs.Remove.{size-kind}
+use Rattle.indexes.proofs.Remove.{size-with}
 use Rattle.bits.specs.declared.stream.Read.{Read}
 use Rattle.bits.specs.Stream.{taken}
 use Rattle.bits.proofs.On.{On, field-lt, got, on-read}
@@ -54,7 +54,7 @@ use Rattle.bc7_places.proofs.splits.AnchorPixels.{anchors-kind, anchors-rise}
 
 -- a part of a field is a field
 part-field : (n a t w i : ℕ) → i * w + w ≤ t → part (field n a t) w i ≡ field n (a + i * w) w
-unfolding part field
+unfolding field
 part-field n a t w i h =
     let k : ℕ = i * w in
     let j : ℕ = t - k in
@@ -67,7 +67,7 @@ part-field n a t w i h =
 
 -- and past its end there is nothing
 part-past : (n a t i : ℕ) → t ≤ i → part (field n a t) 1 i ≡ 0
-unfolding part
+unfolding field
 part-past n a t i h =
     ap (λ (y : ℕ). y % 2 ^ 1) (div-eq-of-lt (lt-of-lt-of-le (field-lt n a t) (pow-mono {i = t} {j = i * 1} (rw (mul-one i) h))))
 
@@ -220,11 +220,11 @@ module _ (bs : List ℕ) (sixteen : Fit eights bs) {m : ℕ} (em : m ≡ modeOf 
       pub rise : Rising (row .kind) (a .b) (a .c)
       rise = rw (kind, ea) (anchors-rise s partition-64)
 
-      anchors-are : anchorsOfKind (row .kind) (a .b) (a .c) ≡ anchors s
+      anchors-are : anchorsWith (row .kind) (a .b) (a .c) ≡ anchors s
       anchors-are = rw (kind, ea) (anchors-kind s partition-64)
 
       set-size : (w : ℕ) → 0 < w → 16 * w - anchorCount (row .kind) ≡ total (indexWidths w (anchors s))
-      set-size w h = sym (size-kind (row .kind) w (a .b) (a .c) h rise) ∙ ap (λ (l : List ℕ). total (indexWidths w l)) anchors-are
+      set-size w h = sym (size-with (row .kind) w (a .b) (a .c) h rise) ∙ ap (λ (l : List ℕ). total (indexWidths w l)) anchors-are
 
       second-start : start m s secondFrom ≡ start m s firstFrom + (16 * row .first - anchorCount (row .kind))
       unfolding indexWidths
@@ -235,7 +235,7 @@ module _ (bs : List ℕ) (sixteen : Fit eights bs) {m : ℕ} (em : m ≡ modeOf 
           (sym (set-size (row .first) w ∙ ap (λ (r : ModeRow). total (indexWidths (r .first) (anchors s))) er))
 
       second-on : {t : BitStream} {set : NewIndexes} → On n (start m s firstFrom) t
-          → set ≡ newIndexes (row .first) (anchorsOfKind (row .kind) (a .b) (a .c)) t (16 * row .first - anchorCount (row .kind))
+          → set ≡ newIndexes (row .first) (anchorsWith (row .kind) (a .b) (a .c)) t (16 * row .first - anchorCount (row .kind))
           → On n (start m s secondFrom) (set .stream)
       second-on {set = set} o e =
           subst (λ (a : ℕ). On n a (set .stream)) (sym second-start)
@@ -246,7 +246,7 @@ module _ (bs : List ℕ) (sixteen : Fit eights bs) {m : ℕ} (em : m ≡ modeOf 
       second-stands {t} o = go (eqb (row .kind) 3) refl
         where
           two : row .kind ≡ 3 → table 16
-              (part (newIndexes (row .second) (anchorsOfKind (row .kind) (a .b) (a .c)) t (16 * row .second - anchorCount (row .kind)) .indexes
+              (part (newIndexes (row .second) (anchorsWith (row .kind) (a .b) (a .c)) t (16 * row .second - anchorCount (row .kind)) .indexes
               .uncompressed) (row .second))
               ≡ table 16 (λ q. atPlace m s n (Index 1 q))
           two k =
@@ -254,14 +254,14 @@ module _ (bs : List ℕ) (sixteen : Fit eights bs) {m : ℕ} (em : m ≡ modeOf 
               rw e (set-stands m s n hm 1 (omega arith) _ anchors-are (rw e at (set-size (row .second) (second-bits of-mode k))) o)
 
           go : (b : Bool) → eqb (row .kind) 3 ≡ b
-              → pick b (table 16 (part (newIndexes (row .second) (anchorsOfKind (row .kind) (a .b) (a .c)) t
+              → pick b (table 16 (part (newIndexes (row .second) (anchorsWith (row .kind) (a .b) (a .c)) t
               (16 * row .second - anchorCount (row .kind)) .indexes .uncompressed) (row .second))) (replicate 16 0)
               ≡ table 16 (λ q. atPlace m s n (Index 1 q))
           go true e = two (eqb-true (row .kind) 3 e)
           go false e = set-none m s n hm (by-subset m hm (λ k. eqb-false (row .kind) 3 e (ap (λ (r : ModeRow). r .kind) er ∙ k)) .second)
 
       first-stands : {t : BitStream} → On n (start m s firstFrom) t
-          → table 16 (part (newIndexes (row .first) (anchorsOfKind (row .kind) (a .b) (a .c)) t (16 * row .first - anchorCount (row .kind)) .indexes
+          → table 16 (part (newIndexes (row .first) (anchorsWith (row .kind) (a .b) (a .c)) t (16 * row .first - anchorCount (row .kind)) .indexes
           .uncompressed) (row .first))
           ≡ table 16 (λ q. atPlace m s n (Index 0 q))
       first-stands o =
@@ -295,14 +295,13 @@ module _ (bs : List ℕ) (sixteen : Fit eights bs) {m : ℕ} (em : m ≡ modeOf 
 
         pub first-ahead : {a : Anchors} → a ≡ anchorsOf (h .split) → SetAhead (p .stream) (row .kind) (row .first) (a .b) (a .c)
         first-ahead ea = record {
-          least = omega (arith, small of-mode .least);
-          most = small of-mode .most;
+          width = record { least = omega (arith, small of-mode .least); most = small of-mode .most };
           rising = rise (lead .split) ea;
           inside = rw (er, p-behind .stands, first-start m (h .split) hm) (omega (arith, groups-128 m hm));
         }
 
         pub second-ahead : {a : Anchors} → a ≡ anchorsOf (h .split) → {set : NewIndexes}
-            → set ≡ newIndexes (row .first) (anchorsOfKind (row .kind) (a .b) (a .c)) (p .stream) (16 * row .first - anchorCount (row .kind))
+            → set ≡ newIndexes (row .first) (anchorsWith (row .kind) (a .b) (a .c)) (p .stream) (16 * row .first - anchorCount (row .kind))
             → SecondAhead row a (set .stream)
         second-ahead ea eset = record {
           of-mode = of-mode;
@@ -313,7 +312,7 @@ module _ (bs : List ℕ) (sixteen : Fit eights bs) {m : ℕ} (em : m ≡ modeOf 
         }
 
         pub record-read : {a : Anchors} → a ≡ anchorsOf (h .split) → {set : NewIndexes}
-            → set ≡ newIndexes (row .first) (anchorsOfKind (row .kind) (a .b) (a .c)) (p .stream) (16 * row .first - anchorCount (row .kind))
+            → set ≡ newIndexes (row .first) (anchorsWith (row .kind) (a .b) (a .c)) (p .stream) (16 * row .first - anchorCount (row .kind))
             → {first second : List ℕ} → first ≡ table 16 (part (set .indexes .uncompressed) (row .first)) → second ≡ secondRead row a (set .stream)
             → record { mode = m; split = h .split; endpoints = v .endpoints; p = p .p; first = first; second = second } ≡ recordOf bs
         unfolding recordOf made opened splitOf

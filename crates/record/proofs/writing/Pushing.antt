@@ -31,8 +31,8 @@ use Rattle.bcn_format.specs.Block.{bytesOf}
 use Rattle.bc7_format.specs.Splits.{anchors, indexMode, kindOf, partition, rotation}
 use Rattle.bc7_format.proofs.Modes.{by-subset}
 use Rattle.bc7_format.proofs.Places.{inside-index, inside-pbit, inside-placeAt, inside-value, placeAt-pos, total-128}
-use Rattle.bcn_format.specs.Indexes.{Rising, anchorCount, anchorsOfKind, indexWidths}
-use Rattle.indexes.proofs.Remove.{size-kind}
+use Rattle.bcn_format.specs.Indexes.{Rising, anchorCount, anchorsWith, indexWidths}
+use Rattle.indexes.proofs.Remove.{size-with}
 use Rattle.bits.specs.Writer.{Pushable, pushed, writerOf, written}
 use Rattle.bits.proofs.Puts.{pushes-ask, pushes-more, pushes-none, pushes-written, written-of}
 use Rattle.laws.proofs.Words.{one-shl}
@@ -40,11 +40,11 @@ use Rattle.record_rules.specs.Records.{says}
 use Rattle.bc7_modes.specs.Modes.{OfMode}
 use Rattle.bc7_places.specs.Splits.{ArePixels, anchorsOf}
 use Rattle.bc7_modes.proofs.Bounds.{low-partition, small}
-use Rattle.record.specs.Writing.{Packable, said, upto, wide}
+use Rattle.record.specs.Writing.{Packable, saidAt, upto, wide}
 use Rattle.bc7_places.proofs.splits.AnchorPixels.{anchors-kind, anchors-low, anchors-rise}
 
 module _ {r : Record} {row : ModeRow} (p : Packable r row) where
-  each : (k : ℕ) → k < placeCount → said r k < 2 ^ wide r k
+  each : (k : ℕ) → k < placeCount → saidAt r k < 2 ^ wide r k
   each k l = p .fits (placeAt k) (inside-placeAt k l)
 
   part-fits : partition (r .split) < 2 ^ partitionBits (r .mode)
@@ -63,22 +63,22 @@ module _ {r : Record} {row : ModeRow} (p : Packable r row) where
       let e : i + (placeCount - i) ≡ placeCount = omega arith in
       let t : total (table placeCount (wide r)) ≡ total (table i (wide r)) + total (table (placeCount - i) (λ j. wide r (i + j))) =
       subst (λ (n : ℕ). total (table n (wide r)) ≡ total (table i (wide r)) + total (table (placeCount - i) (λ j. wide r (i + j)))) e
-      (rows-total i (placeCount - i) (wide r) (said r)) in
+      (rows-total i (placeCount - i) (wide r) (saidAt r)) in
       omega (arith, all-128)
 
   -- a group of k places from i on: what a push asks, and what it gives
   module _ (i k : ℕ) (room : i + k ≤ placeCount) {b : BitWriter} (eb : b ≡ upto r i) {x n : ℕ}
-      (ex : x ≡ join (table k (λ j. wide r (i + j))) (table k (λ j. said r (i + j)))) (en : n ≡ total (table k (λ j. wide r (i + j)))) where
+      (ex : x ≡ join (table k (λ j. wide r (i + j))) (table k (λ j. saidAt r (i + j)))) (en : n ≡ total (table k (λ j. wide r (i + j)))) where
     pub group-asks : Pushable b x n
     unfolding upto
     group-asks =
         rw (ex, en, eb)
         (record {
-          fits = join-lt (fit-table k (λ j. wide r (i + j)) (λ j. said r (i + j)) (λ j l. each (i + j) (omega arith)));
-          room = rw (← (rows-total i k (wide r) (said r))) (room-128 (i + k) room);
+          fits = join-lt (fit-table k (λ j. wide r (i + j)) (λ j. saidAt r (i + j)) (λ j l. each (i + j) (omega arith)));
+          room = rw (← (rows-total i k (wide r) (saidAt r))) (room-128 (i + k) room);
           below =
-              rw (written-of (join (table i (wide r)) (table i (said r))) (total (table i (wide r))))
-              (join-lt (fit-table i (wide r) (said r) (λ j l. each j (omega arith))));
+              rw (written-of (join (table i (wide r)) (table i (saidAt r))) (total (table i (wide r))))
+              (join-lt (fit-table i (wide r) (saidAt r) (λ j l. each j (omega arith))));
         })
 
     pub group-next : {c : BitWriter} → c ≡ pushed b x n → c ≡ upto r (i + k)
@@ -88,27 +88,27 @@ module _ {r : Record} {row : ModeRow} (p : Packable r row) where
           eb,
           ex,
           en,
-          written-of (join (table i (wide r)) (table i (said r))) (total (table i (wide r))),
-          rows-total i k (wide r) (said r),
-          rows-join i k (wide r) (said r) (λ j l. each j (omega arith)),
+          written-of (join (table i (wide r)) (table i (saidAt r))) (total (table i (wide r))),
+          rows-total i k (wide r) (saidAt r),
+          rows-join i k (wide r) (saidAt r) (λ j l. each j (omega arith)),
         )
 
   -- one place
-  module _ (i : ℕ) (h : i < placeCount) {b : BitWriter} (eb : b ≡ upto r i) {v w : ℕ} (ev : v ≡ said r i) (ew : w ≡ wide r i) where
+  module _ (i : ℕ) (h : i < placeCount) {b : BitWriter} (eb : b ≡ upto r i) {v w : ℕ} (ev : v ≡ saidAt r i) (ew : w ≡ wide r i) where
     pub place-asks : Pushable b v w
     unfolding upto
-    place-asks = rw (ev, ew) (pushes-ask (wide r) (said r) placeCount each i h eb (le-of-eq all-128))
+    place-asks = rw (ev, ew) (pushes-ask (wide r) (saidAt r) placeCount each i h eb (le-of-eq all-128))
 
     pub place-next : {c : BitWriter} → c ≡ pushed b v w → c ≡ upto r (i + 1)
     unfolding upto
-    place-next ec = pushes-more (wide r) (said r) placeCount each i h eb (rw (ev, ew) at ec)
+    place-next ec = pushes-more (wide r) (saidAt r) placeCount each i h eb (rw (ev, ew) at ec)
 
   pub begun : {b : BitWriter} → b ≡ writerOf 0 0 → b ≡ upto r 0
   unfolding upto
-  begun e = e ∙ pushes-none (wide r) (said r)
+  begun e = e ∙ pushes-none (wide r) (saidAt r)
 
   -- the lead
-  pub marker-said : (1 * 2 ^ r .mode) % 2 ^ 64 ≡ said r 0
+  pub marker-said : (1 * 2 ^ r .mode) % 2 ^ 64 ≡ saidAt r 0
   unfolding says placeAt
   marker-said = one-shl (r .mode) (omega (arith, p .low))
 
@@ -121,13 +121,13 @@ module _ {r : Record} {row : ModeRow} (p : Packable r row) where
   lead-wide = rw (p .is) (refl, refl, refl)
 
   pub lead-said : {x y z : ℕ} → x ≡ partition (r .split) → y ≡ rotation (r .split) → z ≡ indexMode (r .split)
-      → (x ≡ said r 1) × (y ≡ said r 2) × (z ≡ said r 3)
+      → (x ≡ saidAt r 1) × (y ≡ saidAt r 2) × (z ≡ saidAt r 3)
   unfolding says placeAt
   lead-said a b c = (a, b, c)
 
   -- six places, of which the mode has the first `count`: the values of a channel, or the p bits
   module _ (i : ℕ) (room : i + 6 ≤ placeCount) (count w : ℕ) (v : ℕ → ℕ) (six : count ≤ 6)
-      (wides : (j : ℕ) → j < 6 → wide r (i + j) ≡ pick (ltb j count) w 0) (saids : (j : ℕ) → j < 6 → said r (i + j) ≡ v j) where
+      (wides : (j : ℕ) → j < 6 → wide r (i + j) ≡ pick (ltb j count) w 0) (saids : (j : ℕ) → j < 6 → saidAt r (i + j) ≡ v j) where
     abbrev some : ℕ → ℕ
     some j = pick (ltb j count) w 0
 
@@ -143,7 +143,7 @@ module _ {r : Record} {row : ModeRow} (p : Packable r row) where
     past : (k : ℕ) → count ≤ k → k < count + (6 - count) → some k ≡ 0
     past k a l = rw (le-ltb k count a)
 
-    pub run-join : evenly count w v ≡ join (table 6 (λ j. wide r (i + j))) (table 6 (λ j. said r (i + j)))
+    pub run-join : evenly count w v ≡ join (table 6 (λ j. wide r (i + j))) (table 6 (λ j. saidAt r (i + j)))
     unfolding evenly
     run-join =
         ap (λ (l : List ℕ). join l (table count v)) (table-same 0 count _ some (λ k l. sym (rw (lt-ltb k count l))))
@@ -171,7 +171,7 @@ module _ {r : Record} {row : ModeRow} (p : Packable r row) where
     unfolding width
     value-wide j h = ap (width (r .mode) (anchors (r .split))) (value-place j h)
 
-    pub value-said : (j : ℕ) → j < 6 → said r (valuesFrom + 6 * c + j) ≡ getD (r .endpoints) (4 * j + c) 0
+    pub value-said : (j : ℕ) → j < 6 → saidAt r (valuesFrom + 6 * c + j) ≡ getD (r .endpoints) (4 * j + c) 0
     unfolding says
     value-said j h = ap (says r) (value-place j h)
 
@@ -192,7 +192,7 @@ module _ {r : Record} {row : ModeRow} (p : Packable r row) where
       channel-fits = run-fits (valuesFrom + 6 * c) (omega arith) (row .endpoints) w values (small of-mode .endpoints) wides value-said
 
       module _ {b : BitWriter} (eb : b ≡ upto r (valuesFrom + 6 * c)) {x : ℕ} (ex : x ≡ evenly (row .endpoints) w values) where
-        joined : x ≡ join (table 6 (λ j. wide r (valuesFrom + 6 * c + j))) (table 6 (λ j. said r (valuesFrom + 6 * c + j)))
+        joined : x ≡ join (table 6 (λ j. wide r (valuesFrom + 6 * c + j))) (table 6 (λ j. saidAt r (valuesFrom + 6 * c + j)))
         joined = ex ∙ run-join (valuesFrom + 6 * c) (omega arith) (row .endpoints) w values (small of-mode .endpoints) wides value-said
 
         size : row .endpoints * w ≡ total (table 6 (λ j. wide r (valuesFrom + 6 * c + j)))
@@ -213,7 +213,7 @@ module _ {r : Record} {row : ModeRow} (p : Packable r row) where
   unfolding width
   p-wide j h = ap (width (r .mode) (anchors (r .split))) (p-place j h)
 
-  pub p-said : (j : ℕ) → j < 6 → said r (psFrom + j) ≡ getD (r .p) j 0
+  pub p-said : (j : ℕ) → j < 6 → saidAt r (psFrom + j) ≡ getD (r .p) j 0
   unfolding says
   p-said j h = ap (says r) (p-place j h)
 
@@ -224,7 +224,7 @@ module _ {r : Record} {row : ModeRow} (p : Packable r row) where
   bits-fit = run-fits psFrom (omega arith) (row .p) 1 (λ k. getD (r .p) k 0) (small of-mode .p) bits-wide p-said
 
   module _ {b : BitWriter} (eb : b ≡ upto r psFrom) {x : ℕ} (ex : x ≡ evenly (row .p) 1 (λ k. getD (r .p) k 0)) where
-    bits-joined : x ≡ join (table 6 (λ j. wide r (psFrom + j))) (table 6 (λ j. said r (psFrom + j)))
+    bits-joined : x ≡ join (table 6 (λ j. wide r (psFrom + j))) (table 6 (λ j. saidAt r (psFrom + j)))
     bits-joined = ex ∙ run-join psFrom (omega arith) (row .p) 1 (λ k. getD (r .p) k 0) (small of-mode .p) bits-wide p-said
 
     bits-size : row .p ≡ total (table 6 (λ j. wide r (psFrom + j)))
@@ -250,15 +250,15 @@ module _ {r : Record} {row : ModeRow} (p : Packable r row) where
     set-wide = table-same 0 16 _ _ (λ q h. sym (ap (width (r .mode) (anchors (r .split))) (index-place q h)))
 
     module _ (vs : List ℕ) (long : length vs ≡ 16) (ev : (q : ℕ) → q < 16 → says r (Index a q) ≡ getD vs q 0) where
-      set-said : vs ≡ table 16 (λ q. said r (firstFrom + 16 * a + q))
+      set-said : vs ≡ table 16 (λ q. saidAt r (firstFrom + 16 * a + q))
       set-said = sym (table-is 16 _ vs long (λ q h. ap (says r) (index-place q h) ∙ ev q h))
 
       pub set-fit : Fit stored vs
       set-fit =
-          rw (set-wide, set-said) (fit-table 16 (λ q. wide r (firstFrom + 16 * a + q)) (λ q. said r (firstFrom + 16 * a + q))
+          rw (set-wide, set-said) (fit-table 16 (λ q. wide r (firstFrom + 16 * a + q)) (λ q. saidAt r (firstFrom + 16 * a + q))
           (λ q h. each (firstFrom + 16 * a + q) (omega arith)))
 
-      pub set-join : join stored vs ≡ join (table 16 (λ q. wide r (firstFrom + 16 * a + q))) (table 16 (λ q. said r (firstFrom + 16 * a + q)))
+      pub set-join : join stored vs ≡ join (table 16 (λ q. wide r (firstFrom + 16 * a + q))) (table 16 (λ q. saidAt r (firstFrom + 16 * a + q)))
       set-join = ap₂ join set-wide set-said
 
     pub set-size : total stored ≡ total (table 16 (λ q. wide r (firstFrom + 16 * a + q)))
@@ -274,13 +274,13 @@ module _ {r : Record} {row : ModeRow} (p : Packable r row) where
     pub pixels : ArePixels a
     pixels = rw ea (anchors-low (r .split) part-64)
 
-    anchors-are : anchorsOfKind (row .kind) (a .b) (a .c) ≡ anchors (r .split)
+    anchors-are : anchorsWith (row .kind) (a .b) (a .c) ≡ anchors (r .split)
     anchors-are = rw (kind-is, ea) (anchors-kind (r .split) part-64)
 
     module _ (k : ℕ) (hk : k < 2) {w : ℕ} (ew : w ≡ indexBits (r .mode) k) (hw : 0 < w) (vs : List ℕ) (long : length vs ≡ 16)
         (ev : (q : ℕ) → q < 16 → says r (Index k q) ≡ getD vs q 0) where
       abbrev at-anchors : List ℕ
-      at-anchors = indexWidths w (anchorsOfKind (row .kind) (a .b) (a .c))
+      at-anchors = indexWidths w (anchorsWith (row .kind) (a .b) (a .c))
 
       widths-are : at-anchors ≡ indexWidths (indexBits (r .mode) k) (anchors (r .split))
       widths-are = ap₂ indexWidths ew anchors-are
@@ -289,9 +289,9 @@ module _ {r : Record} {row : ModeRow} (p : Packable r row) where
       set-fits = rw widths-are (set-fit k hk vs long ev)
 
       bits-are : 16 * w - anchorCount (row .kind) ≡ total (table 16 (λ q. wide r (firstFrom + 16 * k + q)))
-      bits-are = sym (size-kind (row .kind) w (a .b) (a .c) hw rise) ∙ ap total widths-are ∙ set-size k hk
+      bits-are = sym (size-with (row .kind) w (a .b) (a .c) hw rise) ∙ ap total widths-are ∙ set-size k hk
 
-      values-are : join at-anchors vs ≡ join (table 16 (λ q. wide r (firstFrom + 16 * k + q))) (table 16 (λ q. said r (firstFrom + 16 * k + q)))
+      values-are : join at-anchors vs ≡ join (table 16 (λ q. wide r (firstFrom + 16 * k + q))) (table 16 (λ q. saidAt r (firstFrom + 16 * k + q)))
       values-are = ap (λ (l : List ℕ). join l vs) widths-are ∙ set-join k hk vs long ev
 
       module _ {b : BitWriter} (eb : b ≡ upto r (firstFrom + 16 * k)) where
@@ -313,9 +313,9 @@ module _ {r : Record} {row : ModeRow} (p : Packable r row) where
       ap (wide r) (let z : k ≡ firstFrom + 16 * 1 + (k - secondFrom) = omega arith in z)
       ∙ ap (width (r .mode) (anchors (r .split))) (index-place 1 (omega arith) (k - secondFrom) (omega arith))
       ∙ rw e (le-zero (pick-less (among (k - secondFrom) (anchors (r .split))) 0)) in
-      sym (ap₂ writerOf (tail-join secondFrom (wide r) (said r) 16 each none) (tail-total secondFrom (wide r) (said r) 16 none))
+      sym (ap₂ writerOf (tail-join secondFrom (wide r) (saidAt r) 16 each none) (tail-total secondFrom (wide r) (saidAt r) 16 none))
 
   -- the whole
   pub all-written : {b : BitWriter} → b ≡ upto r placeCount → bytesOf (written b) ≡ blockOf (r .mode) (r .split) (says r)
   unfolding upto blockOf widths listOf
-  all-written e = ap bytesOf (pushes-written (wide r) (said r) placeCount e)
+  all-written e = ap bytesOf (pushes-written (wide r) (saidAt r) placeCount e)

@@ -5,7 +5,7 @@ use Prim.Native.Nat.{ℕ, _-_, _≤_, _<_}
 use native.Mathlib.Omega.{arith}
 use borrow.Author.Needs.{needs}
 use lib.ListN.{getD, length}
-use Rattle.pixel_rules.specs.Strings.{subsetIn}
+use Rattle.pixel_rules.specs.Strings.{subsetSpelt}
 use Rattle.bc7_plain.proofs.strings.subset.Statement.{statement}
 use Rattle.bc7_plain.proofs.strings.subset.Tie as tie
 
@@ -28,7 +28,7 @@ cast-result : tie.Need-cast-result
 cast-result c = omega (arith, c .shared-slice-known2 .given (c .before .place .result))
 
 returns : tie.Need-returns
-unfolding subsetIn
+unfolding subsetSpelt
 returns c = ap (λ (k : ℕ). getD (c .before .before .before .args .string .now) k 0 - 48) (c .before .place .ensures)
 
 pub subset-spec : {M : Type 1} → statement M

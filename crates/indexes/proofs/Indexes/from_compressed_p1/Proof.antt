@@ -9,9 +9,7 @@ decompress-single-index-requires : tie.Need-decompress-single-index-requires
 decompress-single-index-requires c κs =
     let s = c .pre .anchors in
     record {
-      least = s .least;
-      most = s .most;
-      pixel = omega arith;
+      index = record { width = s; pixel = omega arith };
       room = spare-bit (c .args .bits) 1 (c .args .compressed) (s .most) (omega arith) (c .pre .enough);
     }
 

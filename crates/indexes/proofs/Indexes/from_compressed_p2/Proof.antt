@@ -9,10 +9,8 @@ decompress-single-index-requires : tie.Need-decompress-single-index-requires
 decompress-single-index-requires c κs =
     let s = c .pre .anchors in
     record {
-      least = s .least;
-      most = s .most;
-      pixel = omega arith;
-      room = spare-bit (c .args .bits) 2 (c .args .compressed) (s .most) (omega arith) (c .pre .enough);
+      index = record { width = s .width; pixel = omega arith };
+      room = spare-bit (c .args .bits) 2 (c .args .compressed) (s .width .most) (omega arith) (c .pre .enough);
     }
 
 decompress-single-index-requires-2 : tie.Need-decompress-single-index-requires-2
@@ -20,18 +18,16 @@ decompress-single-index-requires-2 c κs =
     let s = c .before in
     let w = s .args .bits in
     let x = c .decompress-single-index in
-    let below = after-1 w (s .pre .anchors .least) (s .args .compressed) 0 (x .result) (omega arith) (s .pre .enough) (x .ensures) in
+    let below = after-1 w (s .pre .anchors .width .least) (s .args .compressed) 0 (x .result) (omega arith) (s .pre .enough) (x .ensures) in
     record {
-      least = s .pre .anchors .least;
-      most = s .pre .anchors .most;
-      pixel = omega (arith, s .pre .anchors .fixup .pixel);
-      room = spare-bit w 1 (x .result) (s .pre .anchors .most) (omega arith) below;
+      index = record { width = s .pre .anchors .width; pixel = omega (arith, s .pre .anchors .fixup .pixel) };
+      room = spare-bit w 1 (x .result) (s .pre .anchors .width .most) (omega arith) below;
     }
 
 returns : tie.Need-returns
 returns c =
     let s = c .before .before in
-    let all = two-anchors (s .args .bits) (s .pre .anchors .least) (s .args .compressed) 0 (s .args .p2-fixup) _ _
+    let all = two-anchors (s .args .bits) (s .pre .anchors .width .least) (s .args .compressed) 0 (s .args .p2-fixup) _ _
     (s .pre .anchors .fixup .above) (s .pre .anchors .fixup .pixel) (s .pre .enough)
     (c .before .decompress-single-index .ensures) (c .decompress-single-index2 .ensures) in
     rw all

@@ -11,10 +11,8 @@ decompress-single-index-requires : tie.Need-decompress-single-index-requires
 decompress-single-index-requires c κs =
     let s = c .pre .anchors in
     record {
-      least = s .least;
-      most = s .most;
-      pixel = omega arith;
-      room = spare-bit (c .args .bits) 3 (c .args .compressed) (s .most) (omega arith) (c .pre .enough);
+      index = record { width = s .width; pixel = omega arith };
+      room = spare-bit (c .args .bits) 3 (c .args .compressed) (s .width .most) (omega arith) (c .pre .enough);
     }
 
 decompress-single-index-requires-2 : tie.Need-decompress-single-index-requires-2
@@ -22,12 +20,10 @@ decompress-single-index-requires-2 c κs =
     let s = c .before in
     let w = s .args .bits in
     let x = c .decompress-single-index in
-    let below = after-2 w (s .pre .anchors .least) (s .args .compressed) (x .result) (s .pre .enough) (x .ensures) in
+    let below = after-2 w (s .pre .anchors .width .least) (s .args .compressed) (x .result) (s .pre .enough) (x .ensures) in
     record {
-      least = s .pre .anchors .least;
-      most = s .pre .anchors .most;
-      pixel = omega (arith, s .pre .anchors .fixups .rising, s .pre .anchors .fixups .pixel);
-      room = spare-bit w 2 (x .result) (s .pre .anchors .most) (omega arith) below;
+      index = record { width = s .pre .anchors .width; pixel = omega (arith, s .pre .anchors .fixups .rising, s .pre .anchors .fixups .pixel) };
+      room = spare-bit w 2 (x .result) (s .pre .anchors .width .most) (omega arith) below;
     }
 
 decompress-single-index-requires-3 : tie.Need-decompress-single-index-requires-3
@@ -36,20 +32,18 @@ decompress-single-index-requires-3 c κs =
     let w = s .args .bits in
     let x = c .before .decompress-single-index in
     let y = c .decompress-single-index2 in
-    let first = after-2 w (s .pre .anchors .least) (s .args .compressed) (x .result) (s .pre .enough) (x .ensures) in
+    let first = after-2 w (s .pre .anchors .width .least) (s .args .compressed) (x .result) (s .pre .enough) (x .ensures) in
     let second : s .args .p2-fixup < 15 = omega (arith, s .pre .anchors .fixups .rising, s .pre .anchors .fixups .pixel) in
-    let below = after-1 w (s .pre .anchors .least) (x .result) (s .args .p2-fixup) (y .result) second first (y .ensures) in
+    let below = after-1 w (s .pre .anchors .width .least) (x .result) (s .args .p2-fixup) (y .result) second first (y .ensures) in
     record {
-      least = s .pre .anchors .least;
-      most = s .pre .anchors .most;
-      pixel = s .pre .anchors .fixups .pixel;
-      room = spare-bit w 1 (y .result) (s .pre .anchors .most) (omega arith) below;
+      index = record { width = s .pre .anchors .width; pixel = s .pre .anchors .fixups .pixel };
+      room = spare-bit w 1 (y .result) (s .pre .anchors .width .most) (omega arith) below;
     }
 
 returns : tie.Need-returns
 returns c =
     let s = c .before .before .before in
-    let all = three-anchors (s .args .bits) (s .pre .anchors .least) (s .args .compressed) (s .args .p2-fixup) (s .args .p3-fixup) _ _ _
+    let all = three-anchors (s .args .bits) (s .pre .anchors .width .least) (s .args .compressed) (s .args .p2-fixup) (s .args .p3-fixup) _ _ _
     (s .pre .anchors .fixups .above) (s .pre .anchors .fixups .rising) (s .pre .anchors .fixups .pixel) (s .pre .enough)
     (c .before .before .decompress-single-index .ensures) (c .before .decompress-single-index2 .ensures) (c .decompress-single-index3 .ensures) in
     rw all

@@ -5,6 +5,7 @@ use native.Mathlib.Omega.{arith}
 use native.Mathlib.Nat.{lt-of-lt-of-le, mod-lt}
 use lib.Pow.{pow-pos, pow-mono}
 use borrow.Author.Needs.{needs}
+use Rattle.bcn_format.specs.Block.{field}
 use Rattle.bcn_format.specs.Indexes.{part}
 use Rattle.bcn_format.proofs.Expanding.{times-width}
 use Rattle.laws.proofs.Words.{one-shl}
@@ -39,7 +40,7 @@ cast-result-3 c =
     record { fits = rw (one-shl w (omega arith)) (lt-of-lt-of-le (mod-lt _ (pow-pos w)) (pow-mono {i = w} {j = 8} (omega arith))) }
 
 returns : tie.Need-returns
-unfolding part
+unfolding field
 returns c =
     let w = c .before .before .before .args .self .bits in
     let mask = one-shl w (omega arith) in

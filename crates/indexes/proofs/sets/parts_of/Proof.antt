@@ -6,6 +6,7 @@ use native.Mathlib.Nat.{div-one, zero-mul, lt-of-lt-of-le, mod-lt}
 use native.Mathlib.Omega.{arith}
 use lib.Pow.{pow-mono, pow-pos, shr-shr}
 use Rattle.laws.proofs.Filled.{Filled, filled-all, filled-next, filled-none}
+use Rattle.bcn_format.specs.Block.{field}
 use Rattle.bcn_format.specs.Indexes.{part}
 use Rattle.laws.proofs.Words.{one-shl}
 use Rattle.indexes.proofs.sets.parts_of.Statement.{statement}
@@ -48,7 +49,7 @@ loop-less : tie.Need-loop-less Inv-loop μ-loop
 loop-less c = omega arith
 
 loop-again : tie.Need-loop-again Inv-loop μ-loop
-unfolding part
+unfolding field
 loop-again c =
     let loop = c .before in
     let s = loop .before in

@@ -2,7 +2,7 @@
 -- Assumes nothing.
 use mathlib.Core.Path.{_∙_}
 use native.Mathlib.Omega.{arith}
-use Rattle.indexes.proofs.Remove.{one-kind}
+use Rattle.indexes.proofs.Remove.{no-fixups}
 use Rattle.indexes.proofs.sets.read_indexes.Statement.{statement}
 use Rattle.indexes.proofs.sets.read_indexes.Tie as tie
 
@@ -13,7 +13,7 @@ new-p2-requires : tie.Need-new-p2-requires
 new-p2-requires c κs =
     let s = c .before in
     record {
-      anchors = record { least = s .pre .least; most = s .pre .most; fixup = s .pre .rising .two (c .if1 .taken) };
+      anchors = record { width = s .pre .width; fixup = s .pre .rising .two (c .if1 .taken) };
       inside = rw (c .if1 .taken) at (s .pre .inside);
     }
 
@@ -30,7 +30,7 @@ new-p3-requires : tie.Need-new-p3-requires
 new-p3-requires c κs =
     let s = c .before .before in
     record {
-      anchors = record { least = s .pre .least; most = s .pre .most; fixups = s .pre .rising .three (c .if2 .taken) };
+      anchors = record { width = s .pre .width; fixups = s .pre .rising .three (c .if2 .taken) };
       inside = rw (c .if2 .taken) at (s .pre .inside);
     }
 
@@ -41,15 +41,15 @@ new-p1-requires : tie.Need-new-p1-requires
 new-p1-requires c κs =
     let s = c .before .before in
     record {
-      anchors = record { least = s .pre .least; most = s .pre .most };
-      inside = rw (one-kind _ 0 0 (c .before .if1 .left) (c .if2 .left)) at (s .pre .inside);
+      anchors = s .pre .width;
+      inside = rw (no-fixups _ 0 0 (c .before .if1 .left) (c .if2 .left)) at (s .pre .inside);
     }
 
 returns-3 : tie.Need-returns-3
 returns-3 c =
     c .new-p1 .ensures ∙ rw (
-      one-kind _ 0 0 (c .before .before .if1 .left) (c .before .if2 .left),
-      one-kind _ _ _ (c .before .before .if1 .left)
+      no-fixups _ 0 0 (c .before .before .if1 .left) (c .before .if2 .left),
+      no-fixups _ _ _ (c .before .before .if1 .left)
           (c .before .if2 .left),
     )
 

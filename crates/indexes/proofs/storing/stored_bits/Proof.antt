@@ -1,7 +1,7 @@
 -- `storing::stored_bits` meets its contract.
 -- Assumes nothing.
 use borrow.Author.Needs.{needs}
-use Rattle.indexes.proofs.Remove.{one-kind}
+use Rattle.indexes.proofs.Remove.{no-fixups}
 use Rattle.indexes.proofs.storing.stored_bits.Statement.{statement}
 use Rattle.indexes.proofs.storing.stored_bits.Tie as tie
 
@@ -30,7 +30,7 @@ sub-result-3 : tie.Need-sub-result-3
 sub-result-3 c = search needs
 
 returns-3 : tie.Need-returns-3
-returns-3 c = rw (one-kind _ 0 0 (c .before .if1 .left) (c .if2 .left))
+returns-3 c = rw (no-fixups _ 0 0 (c .before .if1 .left) (c .if2 .left))
 
 pub stored-bits-spec : {M : Type 1} → statement M
 stored-bits-spec =

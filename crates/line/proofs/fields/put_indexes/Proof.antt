@@ -29,8 +29,7 @@ read-indexes-requires : tie.Need-read-indexes-requires
 read-indexes-requires c κs =
     let s = c .before .before in
     record {
-      least = s .pre .least;
-      most = s .pre .most;
+      width = s .pre .width;
       rising = s .pre .rising;
       inside = rw (c .standing-at .ensures) (s .pre .room);
     }
@@ -57,7 +56,7 @@ compressed-requires c κs =
     let e =
     after-is (s .args .s) (s .args .kind) (s .args .at) (s .args .part) (s .args .mask) (s .args .new) (before (c .before .before .before))
     (s .pre) in
-    record { least = s .pre .least; most = s .pre .most; rising = s .pre .rising; small = rw e (s .pre .small); fits = rw e (s .pre .fits) }
+    record { width = s .pre .width; rising = s .pre .rising; small = rw e (s .pre .small); fits = rw e (s .pre .fits) }
 
 -- the set as it is stored
 stored : (c : tie.After-compressed)
@@ -87,7 +86,7 @@ put-requires : tie.Need-put-requires
 put-requires c κs =
     let s = c .before .before .before .before .before .before .before .before in
     record {
-      width = rw (c .stored-bits .ensures) (size-lt (s .args .kind) (s .args .part .index) (s .pre .least) (s .pre .most));
+      width = rw (c .stored-bits .ensures) (size-lt (s .args .kind) (s .args .part .index) (s .pre .width .least) (s .pre .width .most));
       below = s .pre .below;
       room = rw (c .stored-bits .ensures) (s .pre .room);
       fits = stored-lt (s .args .s) (s .args .kind) (s .args .at) (s .args .part) (s .args .mask) (s .args .new) (s .pre) (c .stored-bits .ensures)

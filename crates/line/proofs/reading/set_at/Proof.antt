@@ -17,8 +17,7 @@ read-indexes-requires : tie.Need-read-indexes-requires
 read-indexes-requires c κs =
     let s = c .before .before .before .before in
     record {
-      least = s .pre .least;
-      most = s .pre .most;
+      width = s .pre .width;
       rising = s .pre .rising;
       inside = rw (c .standing-at .ensures) (s .pre .room);
     }

@@ -15,7 +15,10 @@ of-mode s = record { mode = _; low = s .pre .full .low; is = s .pre .full .is }
 tops-zero-requires : tie.Need-tops-zero-requires
 tops-zero-requires c κs =
     let b = small (of-mode (c .before)) in
-    record { least = omega (arith, b .least); most = b .most; pixels = pixels (c .before .pre .full) (c .before .pre .anchors-are) }
+    record {
+      width = record { least = omega (arith, b .least); most = b .most };
+      pixels = pixels (c .before .pre .full) (c .before .pre .anchors-are);
+    }
 
 returns : tie.Need-returns
 returns c =
@@ -33,8 +36,7 @@ tops-zero-requires-2 : tie.Need-tops-zero-requires-2
 tops-zero-requires-2 c κs =
     let s = c .before .before .before .before .before .before in
     record {
-      least = second-bits (of-mode s) (c .before .if2 .left);
-      most = small (of-mode s) .second;
+      width = record { least = second-bits (of-mode s) (c .before .if2 .left); most = small (of-mode s) .second };
       pixels = pixels (s .pre .full) (s .pre .anchors-are);
     }
 

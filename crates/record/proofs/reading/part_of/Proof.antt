@@ -4,6 +4,7 @@ use Prim.Native.Nat.{_*_, _<_}
 use native.Mathlib.Nat.{lt-of-lt-of-le, mod-lt}
 use native.Mathlib.Omega.{arith}
 use lib.Pow.{pow-mono, pow-pos}
+use Rattle.bcn_format.specs.Block.{field}
 use Rattle.bcn_format.specs.Indexes.{part}
 use Rattle.bcn_format.proofs.Expanding.{times-width}
 use Rattle.laws.proofs.Words.{one-shl}
@@ -39,7 +40,7 @@ cast-result-3 c =
     record { fits = rw (one-shl w (omega arith)) (lt-of-lt-of-le (mod-lt _ (pow-pos w)) (pow-mono {i = w} {j = 8} (omega arith))) }
 
 returns : tie.Need-returns
-unfolding part
+unfolding field
 returns c = rw (one-shl (c .args .width) (omega arith))
 
 pub part-of-spec : {M : Type 1} → statement M

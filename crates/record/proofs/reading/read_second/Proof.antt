@@ -15,8 +15,7 @@ read-indexes-requires : tie.Need-read-indexes-requires
 read-indexes-requires c κs =
     let s = c .before .before in
     record {
-      least = second-bits (s .pre .of-mode) (c .if1 .left);
-      most = small (s .pre .of-mode) .second;
+      width = record { least = second-bits (s .pre .of-mode) (c .if1 .left); most = small (s .pre .of-mode) .second };
       rising = s .pre .rising;
       inside = s .pre .inside (c .if1 .left);
     }

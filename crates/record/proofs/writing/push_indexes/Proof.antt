@@ -37,8 +37,7 @@ push-set-requires c κs =
     let ask = set-asks (s .pre .packs) (s .pre .anchors-are) 0 (omega arith) w l (s .args .«record» .first) (long-1 s) (λ q h. refl)
     (s .pre .before) in
     record {
-      least = l;
-      most = b .most;
+      width = record { least = l; most = b .most };
       pixels = pixels (s .pre .packs) (s .pre .anchors-are);
       rising = rise (s .pre .packs) (s .pre .anchors-are);
       fits = set-fits (s .pre .packs) (s .pre .anchors-are) 0 (omega arith) w l
@@ -62,8 +61,7 @@ push-set-requires-2 c κs =
     let ask = set-asks (s .pre .packs) (s .pre .anchors-are) 1 (omega arith) w l (s .args .«record» .second) (long-2 s) (λ q h. refl)
     (first (c .before .before .before)) in
     record {
-      least = l;
-      most = b .second;
+      width = record { least = l; most = b .second };
       pixels = pixels (s .pre .packs) (s .pre .anchors-are);
       rising = rise (s .pre .packs) (s .pre .anchors-are);
       fits = set-fits (s .pre .packs) (s .pre .anchors-are) 1 (omega arith) w l

@@ -4,8 +4,8 @@ use mathlib.Core.Path.{_≡_, _∙_}
 use native.Mathlib.Omega.{arith}
 use Rattle.laws.specs.Digits.{join}
 use Rattle.laws.proofs.Digits.{join-lt}
-use Rattle.bcn_format.specs.Indexes.{anchorsOfKind, indexWidths}
-use Rattle.indexes.proofs.Remove.{size-kind}
+use Rattle.bcn_format.specs.Indexes.{anchorsWith, indexWidths}
+use Rattle.indexes.proofs.Remove.{size-with}
 use Rattle.indexes.proofs.sets.Words.{full-fit, stored-again, word-lt, word-split}
 use Rattle.record.proofs.writing.push_set.Statement.{statement}
 use Rattle.record.proofs.writing.push_set.Tie as tie
@@ -13,12 +13,12 @@ use Rattle.record.proofs.writing.push_set.Tie as tie
 stored : (c : tie.After-compressed)
     → c .compressed .result ≡ join
     (indexWidths (c .before .before .before .before .args .width)
-    (anchorsOfKind (c .before .before .before .before .args .kind) (c .before .before .before .before .args .anchors .b)
+    (anchorsWith (c .before .before .before .before .args .kind) (c .before .before .before .before .args .anchors .b)
     (c .before .before .before .before .args .anchors .c))) (c .before .before .before .before .args .indexes)
 stored c = c .compressed .ensures ∙ stored-again _ _ _ (c .before .before .before .before .pre .fits) (c .before .before .before .word-of .ensures)
 
 word-of-requires : tie.Need-word-of-requires
-word-of-requires c κs = record { most = c .pre .most; fits = full-fit _ _ _ (c .pre .fits) }
+word-of-requires c κs = record { most = c .pre .width .most; fits = full-fit _ _ _ (c .pre .fits) }
 
 cast-compressed : tie.Need-cast-compressed
 cast-compressed c = omega (arith, c .before .before .pre .pixels .second)
@@ -31,22 +31,21 @@ compressed-requires c κs =
     let s = c .before .before .before in
     let w = c .before .before .word-of .ensures in
     record {
-      least = s .pre .least;
-      most = s .pre .most;
+      width = s .pre .width;
       rising = s .pre .rising;
       small = word-lt _ _ _ (s .pre .fits) w;
       fits = rw (word-split _ _ _ (s .pre .fits) w) (s .pre .fits);
     }
 
 stored-bits-requires : tie.Need-stored-bits-requires
-stored-bits-requires c κs = (c .before .before .before .before .pre .least, c .before .before .before .before .pre .most)
+stored-bits-requires c κs = c .before .before .before .before .pre .width
 
 push-requires : tie.Need-push-requires
 push-requires c κs =
     let s = c .before .before .before .before .before in
     rw (stored (c .before), c .stored-bits .ensures)
     (record {
-      fits = rw (size-kind _ _ _ _ (s .pre .least) (s .pre .rising)) at (join-lt (s .pre .fits));
+      fits = rw (size-with _ _ _ _ (s .pre .width .least) (s .pre .rising)) at (join-lt (s .pre .fits));
       room = s .pre .room;
       below = s .pre .holds;
     })
