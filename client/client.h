@@ -2,7 +2,7 @@
  *
  *   main.c         the commands, and how their arguments are taken
  *   reasons.c      how it ends where something is wrong, and what it says then
- *   files.c        files read, and replaced whole
+ *   files.c        files read, named, locked, and replaced whole
  *   words.c        numbers, and lines of blocks, as text
  *   sheets.c       sheets and their blocks, brought in and out and moved
  *   corrections.c  lines looked at and replaced
@@ -17,56 +17,106 @@
 #include <stddef.h>
 #include <stdint.h>
 
+/* What was read, or is to be written. */
+struct bytes {
+    uint8_t *at; /* ours to change: a file that was mapped keeps its own bytes */
+    size_t length;
+    int is_mapped;
+};
+
 /* ---- reasons.c */
 
 enum status { DONE = 0, REFUSED = 1, FAILED = 2 };
 
-void stop(int status);
-void fail(const char *name, const char *what);
-void fail_by_system(const char *name, const char *what);
-/* Ends it where it is refused; the advice stands behind the text. */
+#ifdef __GNUC__
+#define DOES_NOT_RETURN __attribute__((noreturn))
+#else
+#define DOES_NOT_RETURN
+#endif
+
+/* A few words, which may be none. */
+struct reason {
+    char words[160];
+};
+
+/* Ends the program with this status, and leaves nothing unfinished behind. */
+DOES_NOT_RETURN void stop(int status);
+DOES_NOT_RETURN void fail(const char *name, const char *what);
+DOES_NOT_RETURN void fail_by_system(const char *name, const char *what);
+/* Says the refusal with its reason, if there is one, and ends the program. */
+DOES_NOT_RETURN void refuse(const char *name, uint32_t refusal, const char *reason);
+/* Each ends the program where it was refused: the second says what in the sheet it is about, the third what in the DDS file. */
 void check(const char *name, uint32_t refusal);
-void check_with_advice(const char *name, uint32_t refusal, const char *advice);
+void check_sheet(const char *name, struct bytes file, uint32_t refusal);
+void check_dds(const char *name, struct bytes file, uint32_t refusal);
+struct reason reason_of_sheet(struct bytes file, uint32_t refusal);
+/* What in a line of the block a refusal is about: its number, its pixel, or the 26 numbers that are given for it. */
+struct reason reason_of_line(const uint8_t block[RINCHOVEK_BLOCK_BYTES], uint32_t refusal, uint32_t line, uint32_t pixel,
+                             const uint8_t replacement[RINCHOVEK_LINE_BYTES]);
+/* Where standard error is a terminal, and it takes more than a second. */
+void show_progress(const char *what, uint64_t done, uint64_t all);
 
 /* ---- files.c */
 
-struct bytes {
-    uint8_t *at;
-    size_t length;
-};
-
-/* A file that is being written. */
+/* Where a command writes. */
 struct output {
-    const char *name; /* as it was given */
-    char *target;     /* where it will stand: a symbolic link is followed, and stays */
-    int file;
+    const char *name;      /* as it was given, or "standard output" */
+    char *target;          /* the file's path without links; NULL for standard output */
+    int file, lock;        /* open: what is written, and the lock that is held */
+    int is_new;            /* there was no file of this name; else it keeps: */
+    unsigned mode, owner, group;
+    int may_own;           /* its owner may change, where the system allows nothing else */
 };
 
-uint8_t *room_for(uint8_t *before, size_t length);
+void *room_for(void *before, size_t length);
+/* - is standard input where something is read, and standard output where something is written. */
+int is_stream(const char *name);
+/* What is read under this name. */
+const char *shown_name(const char *name);
 struct bytes read_file(const char *name);
-void remove_unfinished(void);
-struct output start_file(const char *name);
+void release(struct bytes file);
+/* Ends the program where both names lead to one file. */
+void refuse_same(const char *read, const char *written);
+/* Finds out where the name leads, refuses what can't be replaced, and waits for the lock. The second is for what is corrected in place. */
+struct output aim(const char *name, int may_own);
+struct output aim_at_present(const char *name, int may_own);
+/* The new file beside the old one: begun, written, brought to the disk, and brought to its name, by which the lock is given back. */
+void start_file(struct output *to);
 void put(const struct output *to, const void *bytes, size_t length);
-void finish_file(struct output *to);
-void write_file(const char *name, struct bytes file);
+void settle_file(struct output *to);
+void name_file(struct output *to);
+/* All of that. */
+void write_file(struct output *to, struct bytes file);
+/* For stop. */
+void undo_unfinished(void);
 
 /* ---- words.c */
+
+/* A line as text has it. */
+struct line_in_words {
+    uint8_t numbers[RINCHOVEK_LINE_BYTES];
+    unsigned long dots[RINCHOVEK_LINE_BYTES]; /* 0, or where a dot stood in the place of a number: in which line of the text */
+};
 
 /* Whether the word is a number up to this: digits alone, and no zero before others. */
 int is_number(const char *word, uint32_t most, uint32_t *number);
 /* A line as `line` prints it. A dot stands for what the line hasn't got, and # before a remark. */
 void print_line(const uint8_t held[RINCHOVEK_LINE_BYTES], const uint8_t widths[RINCHOVEK_LINE_BYTES]);
-/* The same from standard input. A dot is 0, and may stand only where the line has no value. */
-void read_line(const uint8_t widths[RINCHOVEK_LINE_BYTES], uint8_t replacement[RINCHOVEK_LINE_BYTES]);
+/* The same from standard input; a dot is 0. */
+struct line_in_words read_line(void);
+/* A dot may stand only where the line has no value. */
+void check_dots(const struct line_in_words *line, const uint8_t widths[RINCHOVEK_LINE_BYTES]);
 
 /* ---- main.c */
 
 extern const char *const colour_spaces[]; /* by enum rinchovek_colour_space */
 
-/* What a command was given: its files, and its numbers in their order. */
+/* What a command was given: its files, its numbers in their order, and its options. */
 struct given {
-    const char *file[2];
+    const char *file[3];
     uint32_t number[7];
+    int has_colour_space; /* the last word, which may be left out, is number[0] */
+    int to_tiles, may_own;
 };
 
 /* ---- sheets.c: where a block stands in a sheet, only the archive knows */
@@ -78,6 +128,7 @@ struct sheet {
 };
 
 struct sheet read_sheet(const char *name);
+void read_block(const struct sheet *sheet, uint32_t block, uint8_t bytes[RINCHOVEK_BLOCK_BYTES]);
 
 void import_dds(struct given given);
 void export_dds(struct given given);

@@ -2,7 +2,6 @@
 #include "client.h"
 
 #include <stdio.h>
-#include <stdlib.h>
 #include <string.h>
 
 /* A line of a block of a sheet. */
@@ -13,10 +12,16 @@ struct found {
     uint8_t held[RINCHOVEK_LINE_BYTES], widths[RINCHOVEK_LINE_BYTES];
 };
 
+/* Ends the program where a call on a line was refused. */
+static void check_line(const struct found *found, uint32_t refusal, uint32_t pixel, const uint8_t replacement[RINCHOVEK_LINE_BYTES]) {
+    if (refusal != RINCHOVEK_ACCEPTED)
+        refuse(found->sheet.name, refusal, reason_of_line(found->bytes, refusal, found->line, pixel, replacement).words);
+}
+
 static struct found find(struct sheet sheet, uint32_t block, uint32_t line) {
     struct found found = {.sheet = sheet, .block = block, .line = line};
-    check(sheet.name, rinchovek_sheet_block(sheet.file.at, sheet.file.length, block, found.bytes));
-    check(sheet.name, rinchovek_bc7_read_line(found.bytes, line, found.held, found.widths));
+    read_block(&sheet, block, found.bytes);
+    check_line(&found, rinchovek_bc7_read_line(found.bytes, line, found.held, found.widths), 0, found.held);
     return found;
 }
 
@@ -35,12 +40,12 @@ static struct colour drawn(const uint8_t block[RINCHOVEK_BLOCK_BYTES], uint32_t 
 }
 
 /* Replaces the line in the sheet, and the sheet in its file. Answers the line as it stands there now. */
-static struct found replaced(struct found found, const uint8_t replacement[RINCHOVEK_LINE_BYTES]) {
+static struct found replaced(struct output *to, struct found found, const uint8_t replacement[RINCHOVEK_LINE_BYTES]) {
     const uint32_t block = found.block, line = found.line;
     const struct sheet sheet = found.sheet;
-    check(sheet.name, rinchovek_sheet_replace_line(sheet.file.at, sheet.file.length, block, line, replacement));
+    check_line(&found, rinchovek_sheet_replace_line(sheet.file.at, sheet.file.length, block, line, replacement), 0, replacement);
     const struct found after = find(sheet, block, line);
-    write_file(sheet.name, sheet.file);
+    write_file(to, sheet.file);
     return after;
 }
 
@@ -49,13 +54,15 @@ static const char *pair_in_words(struct found after, const uint8_t replacement[R
     return memcmp(after.held, replacement, RINCHOVEK_LINE_BYTES) != 0 ? "turned" : "as given";
 }
 
+/* ---- the commands */
+
 void show_line(struct given given) {
     const struct found found = find(read_sheet(given.file[0]), given.number[0], given.number[1]);
     uint8_t record[RINCHOVEK_RECORD_BYTES];
-    check(given.file[0], rinchovek_bc7_unpack(found.bytes, record));
+    check(found.sheet.name, rinchovek_bc7_unpack(found.bytes, record));
     printf("# block %u, line %u: mode %u\n", found.block, found.line, record[RINCHOVEK_RECORD_MODE]);
     print_line(found.held, found.widths);
-    free(found.sheet.file.at);
+    release(found.sheet.file);
 }
 
 void show_nearest(struct given given) {
@@ -64,30 +71,32 @@ void show_nearest(struct given given) {
     uint8_t wanted[RINCHOVEK_PIXEL_BYTES];
     uint32_t index = 0;
     for (int channel = 0; channel < RINCHOVEK_PIXEL_BYTES; channel++) wanted[channel] = (uint8_t)given.number[3 + channel];
-    check(given.file[0], rinchovek_bc7_nearest_index(found.bytes, line, pixel, wanted, &index));
+    check_line(&found, rinchovek_bc7_nearest_index(found.bytes, line, pixel, wanted, &index), pixel, found.held);
     found.held[RINCHOVEK_LINE_INDEXES + pixel] = (uint8_t)index;
-    check(given.file[0], rinchovek_bc7_replace_line(found.bytes, line, found.held)); /* in memory, to see what it draws */
+    check_line(&found, rinchovek_bc7_replace_line(found.bytes, line, found.held), pixel, found.held); /* in memory, to see what it draws */
     printf("index %u\npixel %s\n", index, drawn(found.bytes, pixel).words);
-    free(found.sheet.file.at);
+    release(found.sheet.file);
 }
 
 void set_index(struct given given) {
+    struct output to = aim_at_present(given.file[0], given.may_own);
     struct found found = find(read_sheet(given.file[0]), given.number[0], given.number[1]);
     const uint32_t pixel = given.number[2], index = given.number[3];
     const size_t at = RINCHOVEK_LINE_INDEXES + (size_t)pixel;
-    if (pixel >= RINCHOVEK_BLOCK_PIXELS || found.widths[at] == 0) check(given.file[0], RINCHOVEK_PIXEL_NOT_IN_LINE);
+    if (pixel >= RINCHOVEK_BLOCK_PIXELS || found.widths[at] == 0) check_line(&found, RINCHOVEK_PIXEL_NOT_IN_LINE, pixel, found.held);
     const uint32_t was = found.held[at];
     found.held[at] = (uint8_t)index;
-    const struct found after = replaced(found, found.held);
+    const struct found after = replaced(&to, found, found.held);
     printf("index %u, was %u\npair %s\npixel %s, was %s\n", index, was, pair_in_words(after, found.held), drawn(after.bytes, pixel).words,
            drawn(found.bytes, pixel).words);
-    free(found.sheet.file.at);
+    release(found.sheet.file);
 }
 
 void replace_line(struct given given) {
+    const struct line_in_words words = read_line(); /* before the sheet is locked and read: it may take its time */
+    struct output to = aim_at_present(given.file[0], given.may_own);
     const struct found found = find(read_sheet(given.file[0]), given.number[0], given.number[1]);
-    uint8_t replacement[RINCHOVEK_LINE_BYTES];
-    read_line(found.widths, replacement);
-    printf("pair %s\n", pair_in_words(replaced(found, replacement), replacement));
-    free(found.sheet.file.at);
+    check_dots(&words, found.widths);
+    printf("pair %s\n", pair_in_words(replaced(&to, found, words.numbers), words.numbers));
+    release(found.sheet.file);
 }

@@ -11,17 +11,19 @@ void draw_picture(struct given given) {
     struct output to = {.file = -1};
     for (uint32_t row = 0; row < sheet.numbers[RINCHOVEK_OPEN_ROWS]; row++) {
         const size_t out_length = rinchovek_row_pixels(width, height, row);
-        check(sheet.name, rinchovek_sheet_show_row(sheet.file.at, sheet.file.length, row, out, out_length));
+        check_sheet(sheet.name, sheet.file, rinchovek_sheet_show_row(sheet.file.at, sheet.file.length, row, out, out_length));
         if (row == 0) { /* what is refused has been by now, so that no file is begun for it */
             char header[96];
             const int length = snprintf(header, sizeof header, "P7\nWIDTH %u\nHEIGHT %u\nDEPTH 4\nMAXVAL 255\nTUPLTYPE RGB_ALPHA\nENDHDR\n", width,
                                         height);
-            to = start_file(given.file[1]);
+            to = aim(given.file[1], given.may_own);
+            start_file(&to);
             put(&to, header, (size_t)length);
         }
         put(&to, out, out_length);
     }
-    finish_file(&to);
+    settle_file(&to);
+    name_file(&to);
     free(out);
-    free(sheet.file.at);
+    release(sheet.file);
 }

@@ -54,24 +54,35 @@ static void next_word(char *word, size_t size) {
     if (ferror(stdin)) fail_by_system("standard input", "can't be read");
 }
 
-static void fail_by_text(const char *wanted) {
-    fprintf(stderr, "rinchovek: standard input:%lu: %s is wanted here\n", newlines + 1, wanted);
+static void fail_by_text(unsigned long line, const char *wanted) {
+    fprintf(stderr, "rinchovek: standard input:%lu: %s is wanted here\n", line, wanted);
     stop(FAILED);
 }
 
-void read_line(const uint8_t widths[RINCHOVEK_LINE_BYTES], uint8_t replacement[RINCHOVEK_LINE_BYTES]) {
+static const char byte_wanted[] = "a number from 0 to 255";
+
+struct line_in_words read_line(void) {
+    struct line_in_words line;
     char word[16];
     int at = 0;
+    memset(&line, 0, sizeof line);
     for (const struct part *part = parts; at < RINCHOVEK_LINE_BYTES; part++) {
         next_word(word, sizeof word);
-        if (strcmp(word, part->label) != 0) fail_by_text(part->label);
+        if (strcmp(word, part->label) != 0) fail_by_text(newlines + 1, part->label);
         for (int i = 0; i < part->count; i++, at++) {
             uint32_t value = 0;
             next_word(word, sizeof word);
-            if (!is_number(word, UINT8_MAX, &value) && (strcmp(word, ".") != 0 || widths[at] != 0)) fail_by_text("a number from 0 to 255");
-            replacement[at] = (uint8_t)value;
+            if (strcmp(word, ".") == 0) line.dots[at] = newlines + 1;
+            else if (!is_number(word, UINT8_MAX, &value)) fail_by_text(newlines + 1, byte_wanted);
+            line.numbers[at] = (uint8_t)value;
         }
     }
     next_word(word, sizeof word);
-    if (*word != '\0') fail_by_text("the end");
+    if (*word != '\0') fail_by_text(newlines + 1, "the end");
+    return line;
+}
+
+void check_dots(const struct line_in_words *line, const uint8_t widths[RINCHOVEK_LINE_BYTES]) {
+    for (int at = 0; at < RINCHOVEK_LINE_BYTES; at++)
+        if (line->dots[at] != 0 && widths[at] != 0) fail_by_text(line->dots[at], byte_wanted);
 }
