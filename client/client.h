@@ -6,6 +6,7 @@
  *   words.c        numbers, and lines of blocks, as text
  *   sheets.c       sheets and their blocks, brought in and out and moved
  *   corrections.c  lines looked at and replaced
+ *   places.c       what stands where, and what differs
  *   pictures.c     sheets drawn
  *
  * It is plain C99 over include/rinchovek.h and POSIX. Nothing here depends on the order of bytes or the width of a word. */
@@ -39,7 +40,8 @@ struct reason {
     char words[160];
 };
 
-/* Ends the program with this status, and leaves nothing unfinished behind. */
+/* Each ends the program with this status: the first has all done and printed, the second leaves nothing unfinished behind. */
+DOES_NOT_RETURN void finish(int status);
 DOES_NOT_RETURN void stop(int status);
 DOES_NOT_RETURN void fail(const char *name, const char *what);
 DOES_NOT_RETURN void fail_by_system(const char *name, const char *what);
@@ -117,6 +119,11 @@ struct given {
     uint32_t number[7];
     int has_colour_space; /* the last word, which may be left out, is number[0] */
     int to_tiles, may_own;
+    /* of a picture */
+    int has_mask, has_grid, has_region;
+    uint32_t mask; /* 0 to 255; above that, what is masked stays masked */
+    uint32_t region[4], scale;
+    const char *picture; /* NULL, or what `diff` draws */
 };
 
 /* ---- sheets.c: where a block stands in a sheet, only the archive knows */
@@ -130,21 +137,47 @@ struct sheet {
 struct sheet read_sheet(const char *name);
 void read_block(const struct sheet *sheet, uint32_t block, uint8_t bytes[RINCHOVEK_BLOCK_BYTES]);
 
-void import_dds(struct given given);
-void export_dds(struct given given);
-void move_to_tiles(struct given given);
-void move_to_rows(struct given given);
-void state_colour(struct given given);
+int import_dds(struct given given);
+int export_dds(struct given given);
+int move_to_tiles(struct given given);
+int move_to_rows(struct given given);
+int state_colour(struct given given);
 
 /* ---- corrections.c */
 
-void show_line(struct given given);
-void show_nearest(struct given given);
-void set_index(struct given given);
-void replace_line(struct given given);
+int show_line(struct given given);
+int show_nearest(struct given given);
+int set_index(struct given given);
+int replace_line(struct given given);
+
+/* ---- places.c */
+
+/* What a pixel shows, in words. */
+struct colour {
+    char words[sizeof "255 255 255 255"];
+};
+
+/* Where a pixel of a block stands, and whether it is within the picture. */
+struct place {
+    uint32_t x, y;
+    int is_shown;
+};
+
+struct colour seen(const uint8_t block[RINCHOVEK_BLOCK_BYTES], uint32_t pixel);
+struct place place_of(const struct sheet *sheet, uint32_t block, uint32_t pixel);
+/* Where they differ, it is said and the program ends with 1. */
+void check_same_size(const struct sheet *old, const struct sheet *new);
+
+int show_info(struct given given);
+int show_place(struct given given);
+int show_block(struct given given);
+int show_difference(struct given given);
 
 /* ---- pictures.c */
 
-void draw_picture(struct given given);
+/* Draws a sheet into a file of this name; where another is given that it is compared with, what is the same in both fades away. */
+void paint(const struct sheet *sheet, const struct sheet *before, const char *name, struct given given);
+
+int draw_picture(struct given given);
 
 #endif

@@ -25,20 +25,6 @@ static struct found find(struct sheet sheet, uint32_t block, uint32_t line) {
     return found;
 }
 
-/* What a block draws at a pixel, in words. */
-struct colour {
-    char words[sizeof "255 255 255 255"];
-};
-
-static struct colour drawn(const uint8_t block[RINCHOVEK_BLOCK_BYTES], uint32_t pixel) {
-    struct colour colour;
-    uint8_t pixels[RINCHOVEK_PIXELS_BYTES];
-    rinchovek_bc7_decode_block(block, pixels);
-    const uint8_t *shown = pixels + RINCHOVEK_PIXEL_BYTES * pixel;
-    snprintf(colour.words, sizeof colour.words, "%u %u %u %u", shown[0], shown[1], shown[2], shown[3]);
-    return colour;
-}
-
 /* Replaces the line in the sheet, and the sheet in its file. Answers the line as it stands there now. */
 static struct found replaced(struct output *to, struct found found, const uint8_t replacement[RINCHOVEK_LINE_BYTES]) {
     const uint32_t block = found.block, line = found.line;
@@ -56,16 +42,17 @@ static const char *pair_in_words(struct found after, const uint8_t replacement[R
 
 /* ---- the commands */
 
-void show_line(struct given given) {
+int show_line(struct given given) {
     const struct found found = find(read_sheet(given.file[0]), given.number[0], given.number[1]);
     uint8_t record[RINCHOVEK_RECORD_BYTES];
     check(found.sheet.name, rinchovek_bc7_unpack(found.bytes, record));
     printf("# block %u, line %u: mode %u\n", found.block, found.line, record[RINCHOVEK_RECORD_MODE]);
     print_line(found.held, found.widths);
     release(found.sheet.file);
+    return DONE;
 }
 
-void show_nearest(struct given given) {
+int show_nearest(struct given given) {
     struct found found = find(read_sheet(given.file[0]), given.number[0], given.number[1]);
     const uint32_t line = found.line, pixel = given.number[2];
     uint8_t wanted[RINCHOVEK_PIXEL_BYTES];
@@ -74,11 +61,12 @@ void show_nearest(struct given given) {
     check_line(&found, rinchovek_bc7_nearest_index(found.bytes, line, pixel, wanted, &index), pixel, found.held);
     found.held[RINCHOVEK_LINE_INDEXES + pixel] = (uint8_t)index;
     check_line(&found, rinchovek_bc7_replace_line(found.bytes, line, found.held), pixel, found.held); /* in memory, to see what it draws */
-    printf("index %u\npixel %s\n", index, drawn(found.bytes, pixel).words);
+    printf("index %u\npixel %s\n", index, seen(found.bytes, pixel).words);
     release(found.sheet.file);
+    return DONE;
 }
 
-void set_index(struct given given) {
+int set_index(struct given given) {
     struct output to = aim_at_present(given.file[0], given.may_own);
     struct found found = find(read_sheet(given.file[0]), given.number[0], given.number[1]);
     const uint32_t pixel = given.number[2], index = given.number[3];
@@ -87,16 +75,18 @@ void set_index(struct given given) {
     const uint32_t was = found.held[at];
     found.held[at] = (uint8_t)index;
     const struct found after = replaced(&to, found, found.held);
-    printf("index %u, was %u\npair %s\npixel %s, was %s\n", index, was, pair_in_words(after, found.held), drawn(after.bytes, pixel).words,
-           drawn(found.bytes, pixel).words);
+    printf("index %u, was %u\npair %s\npixel %s, was %s\n", index, was, pair_in_words(after, found.held), seen(after.bytes, pixel).words,
+           seen(found.bytes, pixel).words);
     release(found.sheet.file);
+    return DONE;
 }
 
-void replace_line(struct given given) {
+int replace_line(struct given given) {
     const struct line_in_words words = read_line(); /* before the sheet is locked and read: it may take its time */
     struct output to = aim_at_present(given.file[0], given.may_own);
     const struct found found = find(read_sheet(given.file[0]), given.number[0], given.number[1]);
     check_dots(&words, found.widths);
     printf("pair %s\n", pair_in_words(replaced(&to, found, words.numbers), words.numbers));
     release(found.sheet.file);
+    return DONE;
 }

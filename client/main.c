@@ -7,10 +7,10 @@
 const char *const colour_spaces[] = {"unspecified", "linear", "srgb"};
 
 /* Of its arguments r is a file that is read, w one that is written, x one that is corrected, n any number, b a number from 0 to 255, u a colour
- * space or unspecified, and c a colour space, which may be left out. */
+ * space or unspecified, and c a colour space, which may be left out. Its options stand by their letters. */
 static const struct command {
     const char *name, *arguments, *kinds, *options, *does;
-    void (*run)(struct given);
+    int (*run)(struct given);
 } commands[] = {
     {"import", "DDS SHEET [--tiles]", "rw", "to", "makes a sheet of a DDS file, with --tiles one of form 2 that states the file's colour space; prints that",
      import_dds},
@@ -19,7 +19,13 @@ static const struct command {
     {"rows", "SHEET OUT", "rw", "o", "moves a sheet of form 2 to form 1, its blocks row by row; refused where it states a colour space", move_to_rows},
     {"colour", "SHEET linear|srgb|unspecified", "xu", "o", "states the colour space of a sheet of form 2, or takes it back; prints it, and what it was",
      state_colour},
-    {"picture", "SHEET PAM", "rw", "o", "draws a sheet into a PAM file, red, green, blue and alpha", draw_picture},
+    {"picture", "SHEET FILE.png|FILE.pam [--mask GREY|none] [--grid] [--region X Y WIDTH HEIGHT] [--scale N]", "rw", "mgrso",
+     "draws a sheet", draw_picture},
+    {"info", "SHEET", "r", "", "prints size, form, colour space, how many blocks there are, and how many of each mode", show_info},
+    {"at", "SHEET X Y", "rnn", "", "prints what stands at a pixel: block, number in it, mode, the lines that draw it, colour", show_place},
+    {"block", "SHEET BLOCK", "rn", "", "prints a block: where it stands, mode, lines, bytes, and what its pixels show", show_block},
+    {"diff", "OLD NEW [--picture FILE.png|FILE.pam]", "rr", "pmgrso", "lists the blocks, lines and pixels in which two sheets differ; ends with 1 where they do",
+     show_difference},
     {"line", "SHEET BLOCK LINE", "rnn", "", "prints a line of a block", show_line},
     {"nearest", "SHEET BLOCK LINE PIXEL RED GREEN BLUE ALPHA", "rnnnbbbb", "", "prints the index nearest to a colour, and what it draws",
      show_nearest},
@@ -55,8 +61,11 @@ static void print_help(void) {
            "stands NAME.lock, which is empty and may stay. What a kill leaves, NAME.unfinished, the next command takes away. The file keeps its\n"
            "owner, its group and its permissions; where its owner can't be kept the command fails, unless --own says that it may become yours.\n"
            "\n"
-           "Exit status: 0 done; 1 refused, with the number of the refusal (docs/REFUSALS.md); 2 a file can't be read or written, or the command\n"
-           "is wrong.\n");
+           "A picture is red, green, blue and alpha as drawn in PAM; in PNG what is masked lies over a grey of 128. --mask GREY puts it over another\n"
+           "in both, and --mask none leaves alpha there. --grid shows the edges of the blocks, --region a part, --scale each pixel N by N times.\n"
+           "\n"
+           "Exit status: 0 done; 1 refused, with the number of the refusal (docs/REFUSALS.md), or `diff` found a difference; 2 a file can't be read\n"
+           "or written, or the command is wrong.\n");
 }
 
 DOES_NOT_RETURN static void fail_by_usage(const struct command *command) {
@@ -65,32 +74,9 @@ DOES_NOT_RETURN static void fail_by_usage(const struct command *command) {
     stop(FAILED);
 }
 
-/* The options, each by the letter that stands among a command's options where it takes it. */
-static const struct option {
-    char letter;
-    const char *word;
-} options[] = {{'t', "--tiles"}, {'o', "--own"}};
-
-/* Takes an option, if the word is one. */
-static int is_option(const struct command *command, const char *word, struct given *given) {
-    if (strncmp(word, "--", 2) != 0) return 0;
-    const struct option *option = options;
-    const struct option *const end = options + sizeof options / sizeof options[0];
-    while (option < end && strcmp(word, option->word) != 0) option++;
-    if (option == end || strchr(command->options, option->letter) == NULL) {
-        fprintf(stderr, "rinchovek: %s has no option %s\n", command->name, word);
-        fail_by_usage(command);
-    }
-    switch (option->letter) {
-    case 't': given->to_tiles = 1; break;
-    case 'o': given->may_own = 1; break;
-    }
-    return 1;
-}
-
-static void take_number(const struct command *command, const char *word, uint32_t most, uint32_t *number) {
-    if (is_number(word, most, number)) return;
-    fprintf(stderr, "rinchovek: \"%s\" is no number from 0 to %u\n", word, most);
+static void take_number(const struct command *command, const char *word, uint32_t least, uint32_t most, uint32_t *number) {
+    if (is_number(word, most, number) && *number >= least) return;
+    fprintf(stderr, "rinchovek: \"%s\" is no number from %u to %u\n", word, least, most);
     fail_by_usage(command);
 }
 
@@ -100,31 +86,85 @@ static void take_colour_space(const struct command *command, const char *word, u
         if (++*colour_space > RINCHOVEK_SRGB) fail_by_usage(command);
 }
 
+/* The options, each by the letter that stands among a command's options where it takes it, and how many words follow. */
+static const struct option {
+    char letter;
+    const char *word;
+    int follow;
+} options[] = {{'t', "--tiles", 0},  {'o', "--own", 0},   {'m', "--mask", 1},   {'g', "--grid", 0},
+               {'r', "--region", 4}, {'s', "--scale", 1}, {'p', "--picture", 1}};
+enum { OPTIONS = sizeof options / sizeof options[0], LARGEST_SCALE = 64 };
+
+static void take_option(const struct command *command, char letter, char **words, struct given *given) {
+    switch (letter) {
+    case 't': given->to_tiles = 1; break;
+    case 'o': given->may_own = 1; break;
+    case 'm':
+        given->has_mask = 1;
+        if (strcmp(words[0], "none") == 0) given->mask = UINT32_MAX;
+        else take_number(command, words[0], 0, UINT8_MAX, &given->mask);
+        break;
+    case 'g': given->has_grid = 1; break;
+    case 'r':
+        given->has_region = 1;
+        for (int i = 0; i < 4; i++) take_number(command, words[i], 0, UINT32_MAX, &given->region[i]);
+        break;
+    case 's': take_number(command, words[0], 1, LARGEST_SCALE, &given->scale); break;
+    case 'p': given->picture = words[0]; break;
+    }
+}
+
+/* How many words of these an option takes: none where the first isn't one. */
+static int taken_by_option(const struct command *command, int count, char **words, struct given *given) {
+    if (strncmp(words[0], "--", 2) != 0) return 0;
+    const struct option *option = options;
+    while (option < options + OPTIONS && strcmp(words[0], option->word) != 0) option++;
+    if (option == options + OPTIONS || strchr(command->options, option->letter) == NULL) {
+        fprintf(stderr, "rinchovek: %s has no option %s\n", command->name, words[0]);
+        fail_by_usage(command);
+    }
+    if (count <= option->follow) fail_by_usage(command);
+    take_option(command, option->letter, words + 1, given);
+    return 1 + option->follow;
+}
+
+/* What is read must be another file than what is made of it. */
+static void check_names(const struct command *command, const struct given *given) {
+    const int reads = (int)strspn(command->kinds, "r");
+    for (int i = 0; i < reads; i++) {
+        if (command->kinds[reads] == 'w') refuse_same(given->file[i], given->file[reads]);
+        if (given->picture != NULL) refuse_same(given->file[i], given->picture);
+    }
+}
+
 /* Takes the words by the kinds that the command wants. */
 static struct given take(const struct command *command, int count, char **words) {
-    struct given given = {.has_colour_space = 0};
+    struct given given = {.scale = 1};
     const char *kind = command->kinds;
     int files = 0, numbers = 0;
-    for (int taken = 0; taken < count; taken++) {
-        const char *word = words[taken];
-        if (is_option(command, word, &given)) continue;
-        switch (*kind) {
+    for (int taken = 0; taken < count;) {
+        const int by_option = taken_by_option(command, count - taken, words + taken, &given);
+        taken += by_option;
+        if (by_option > 0) continue;
+        const char *word = words[taken++];
+        uint32_t *number = given.number + numbers;
+        switch (*kind++) {
         case 'r':
         case 'w':
-        case 'x': given.file[files++] = word; break;
-        case 'n': take_number(command, word, UINT32_MAX, &given.number[numbers++]); break;
-        case 'b': take_number(command, word, UINT8_MAX, &given.number[numbers++]); break;
-        case 'u': take_colour_space(command, word, RINCHOVEK_UNSPECIFIED, &given.number[numbers++]); break;
+        case 'x': given.file[files++] = word; continue;
+        case 'n': take_number(command, word, 0, UINT32_MAX, number); break;
+        case 'b': take_number(command, word, 0, UINT8_MAX, number); break;
+        case 'u': take_colour_space(command, word, RINCHOVEK_UNSPECIFIED, number); break;
         case 'c':
-            take_colour_space(command, word, RINCHOVEK_LINEAR, &given.number[numbers++]);
+            take_colour_space(command, word, RINCHOVEK_LINEAR, number);
             given.has_colour_space = 1;
             break;
         default: fail_by_usage(command);
         }
-        kind++;
+        numbers++;
     }
     if (*kind != '\0' && *kind != 'c') fail_by_usage(command);
-    if (strncmp(command->kinds, "rw", 2) == 0) refuse_same(given.file[0], given.file[1]);
+    check_names(command, &given);
     return given;
 }
 
@@ -134,14 +174,14 @@ int main(int count, char **words) {
     const char *wanted = count > 1 ? words[1] : "";
     if (count == 2 && strcmp(wanted, "--help") == 0) {
         print_help();
-    } else if (count == 2 && strcmp(wanted, "--version") == 0) {
-        printf("rinchovek %u.%u.%u\n", version / 10000, version / 100 % 100, version % 100);
-    } else {
-        const struct command *command = commands;
-        while (command < commands + COMMANDS && strcmp(wanted, command->name) != 0) command++;
-        if (command == commands + COMMANDS) fail_by_usage(NULL);
-        command->run(take(command, count - 2, words + 2));
+        finish(DONE);
     }
-    if (fflush(stdout) != 0) fail_by_system("standard output", "can't be written");
-    return 0;
+    if (count == 2 && strcmp(wanted, "--version") == 0) {
+        printf("rinchovek %u.%u.%u\n", version / 10000, version / 100 % 100, version % 100);
+        finish(DONE);
+    }
+    const struct command *command = commands;
+    while (command < commands + COMMANDS && strcmp(wanted, command->name) != 0) command++;
+    if (command == commands + COMMANDS) fail_by_usage(NULL);
+    finish(command->run(take(command, count - 2, words + 2)));
 }

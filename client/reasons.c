@@ -15,6 +15,11 @@ void stop(int status) {
     exit(status);
 }
 
+void finish(int status) {
+    if (fflush(stdout) != 0) fail_by_system("standard output", "can't be written");
+    exit(status);
+}
+
 void fail(const char *name, const char *what) {
     fprintf(stderr, "rinchovek: %s %s\n", name, what);
     stop(FAILED);

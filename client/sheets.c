@@ -49,7 +49,7 @@ static struct bytes in_rows(const char *name, struct bytes sheet) {
     return moved;
 }
 
-void import_dds(struct given given) {
+int import_dds(struct given given) {
     const char *name = shown_name(given.file[0]);
     const struct bytes dds = read_file(given.file[0]);
     uint32_t length = 0, head[RINCHOVEK_COLOUR_HEAD_NUMBERS] = {0};
@@ -67,6 +67,7 @@ void import_dds(struct given given) {
     write_made(given.file[1], given.may_own, sheet);
     fprintf(is_stream(given.file[1]) ? stderr : stdout, "%s\n", colour_spaces[colour_space]);
     release(sheet);
+    return DONE;
 }
 
 /* Under which colour space the sheet goes out: what it states, or what is said where it states nothing. */
@@ -82,7 +83,7 @@ static uint32_t colour_to_export(const struct sheet *sheet, struct given given) 
     return stated;
 }
 
-void export_dds(struct given given) {
+int export_dds(struct given given) {
     struct sheet sheet = read_sheet(given.file[0]);
     const uint32_t colour_space = colour_to_export(&sheet, given);
     uint32_t length = 0;
@@ -98,23 +99,26 @@ void export_dds(struct given given) {
     release(sheet.file);
     write_made(given.file[1], given.may_own, dds);
     release(dds);
+    return DONE;
 }
 
-void move_to_tiles(struct given given) {
+int move_to_tiles(struct given given) {
     const struct bytes sheet = read_file(given.file[0]), moved = in_tiles(shown_name(given.file[0]), sheet);
     release(sheet);
     write_made(given.file[1], given.may_own, moved);
     release(moved);
+    return DONE;
 }
 
-void move_to_rows(struct given given) {
+int move_to_rows(struct given given) {
     const struct bytes sheet = read_file(given.file[0]), moved = in_rows(shown_name(given.file[0]), sheet);
     release(sheet);
     write_made(given.file[1], given.may_own, moved);
     release(moved);
+    return DONE;
 }
 
-void state_colour(struct given given) {
+int state_colour(struct given given) {
     struct output to = aim_at_present(given.file[0], given.may_own);
     const struct bytes sheet = read_file(given.file[0]);
     const uint32_t colour_space = given.number[0];
@@ -126,4 +130,5 @@ void state_colour(struct given given) {
     write_file(&to, sheet);
     printf("%s, was %s\n", colour_spaces[colour_space], colour_spaces[before[RINCHOVEK_OPEN_COLOUR_SPACE]]);
     release(sheet);
+    return DONE;
 }

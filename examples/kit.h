@@ -45,8 +45,9 @@ char *strrchr(const char *text, int letter), *strchr(const char *text, int lette
 int strcmp(const char *left, const char *right), strncmp(const char *left, const char *right, size_t length);
 int memcmp(const void *left, const void *right, size_t length);
 void *memset(void *bytes, int byte, size_t length), *memcpy(void *to, const void *from, size_t length);
+unsigned sleep(unsigned seconds);
 void *memchr(const void *bytes, int byte, size_t length);
-size_t strlen(const char *text);
+size_t strlen(const char *text), strspn(const char *text, const char *letters);
 struct tm {
     int tm_sec, tm_min, tm_hour, tm_mday, tm_mon, tm_year, more[5];
     const char *zone;

@@ -4,6 +4,7 @@
  *   kill N   the program is killed in the place of its Nth call
  *   fail N   the Nth call fails, as on a broken disk; FAULT_CALL names a call that is counted alone
  *   slow     of three reads and writes one is interrupted by a signal, and the others move at most seven bytes; each lock is interrupted once
+ *   nap      each write moves at most 16,000 bytes, and takes a second
  *   log      each call is named on standard error
  *
  * Where a call fails its name stands on standard error before what the program says. */
@@ -25,7 +26,7 @@ static int is_fault(const char *wanted) {
 static int fails(const char *call) {
     static int calls;
     const char *fault = getenv("FAULT"), *counted = getenv("FAULT_CALL");
-    if (fault == NULL || is_fault("slow")) return 0;
+    if (fault == NULL || is_fault("slow") || is_fault("nap")) return 0;
     if (is_fault("log")) fprintf(stderr, "%s\n", call);
     if (is_fault("log") || (counted != NULL && strcmp(counted, call) != 0) || ++calls != atoi(fault + strlen("kill "))) return 0;
     if (is_fault("kill")) raise(KILL);
@@ -42,7 +43,10 @@ static int is_interrupted(void) {
     return turn == 1;
 }
 
-static size_t shortened(size_t length) { return is_fault("slow") && length > LONGEST ? LONGEST : length; }
+static size_t shortened(size_t length) {
+    const size_t longest = is_fault("slow") ? LONGEST : is_fault("nap") ? 16000 : length;
+    return length < longest ? length : longest;
+}
 
 #define WRAPPED(answer, call, failed, parameters, arguments) \
     answer __real_##call parameters; \
@@ -72,5 +76,6 @@ ssize_t __wrap_read(int file, void *bytes, size_t length) { return is_interrupte
 ssize_t __real_write(int file, const void *bytes, size_t length);
 ssize_t __wrap_write(int file, const void *bytes, size_t length);
 ssize_t __wrap_write(int file, const void *bytes, size_t length) {
+    if (is_fault("nap")) sleep(1);
     return is_interrupted() || fails("write") ? -1 : __real_write(file, bytes, shortened(length));
 }
