@@ -8,6 +8,8 @@
  *   corrections.c  lines looked at and replaced
  *   places.c       what stands where, and what differs
  *   pictures.c     sheets drawn
+ *   journal.c      corrections written down, played, taken back, brought together and audited
+ *   sha256.c       the sum that names a sheet
  *
  * It is plain C99 over include/rinchovek.h and POSIX. Nothing here depends on the order of bytes or the width of a word. */
 #ifndef CLIENT_H
@@ -87,7 +89,11 @@ void start_file(struct output *to);
 void put(const struct output *to, const void *bytes, size_t length);
 void settle_file(struct output *to);
 void name_file(struct output *to);
-/* All of that. */
+/* A journal, open and locked to be appended to; a new one gets the permissions of the file beside which it is kept. What is appended behind its
+ * first `length` bytes is on the disk afterwards, and is taken back where the program stops before name_file. */
+int open_appended(const char *name, const struct output *beside);
+void append(int file, size_t length, const char *text, size_t text_length);
+/* From beginning to name. */
 void write_file(struct output *to, struct bytes file);
 /* For stop. */
 void undo_unfinished(void);
@@ -114,6 +120,7 @@ void check_dots(const struct line_in_words *line, const uint8_t widths[RINCHOVEK
 extern const char *const colour_spaces[]; /* by enum rinchovek_colour_space */
 
 /* What a command was given: its files, its numbers in their order, and its options. */
+enum { NO_DESK = 2 };
 struct given {
     const char *file[3];
     uint32_t number[7];
@@ -124,6 +131,10 @@ struct given {
     uint32_t mask; /* 0 to 255; above that, what is masked stays masked */
     uint32_t region[4], scale;
     const char *picture; /* NULL, or what `diff` draws */
+    /* of a journal */
+    const char *journal, *by; /* or NULL */
+    int has_number;           /* the last number, which may be left out, is number[0] */
+    uint32_t later;           /* 0 or 1: the desk that decides where two have corrected one line */
 };
 
 /* ---- sheets.c: where a block stands in a sheet, only the archive knows */
@@ -179,5 +190,56 @@ int show_difference(struct given given);
 void paint(const struct sheet *sheet, const struct sheet *before, const char *name, struct given given);
 
 int draw_picture(struct given given);
+
+/* ---- sha256.c */
+
+struct sha256 {
+    char hex[65];
+};
+
+struct sha256 sha256_of(struct bytes file);
+
+/* ---- journal.c */
+
+#define JOURNAL_START "rinchovek-journal "
+
+/* A correction: of which line of which block, what it was and what it became. */
+struct call {
+    uint32_t block, line;
+    uint8_t before[RINCHOVEK_LINE_BYTES], after[RINCHOVEK_LINE_BYTES];
+    uint32_t order; /* in its journal, from 1 */
+};
+
+struct journal {
+    const char *name;
+    uint32_t width, height, form; /* of the sheet that it starts from, */
+    struct sha256 base;           /* and its sum */
+    struct call *calls;
+    size_t count, length; /* of the calls, and of its whole lines in bytes */
+};
+
+/* A call of a journal, of one of two desks. */
+struct called {
+    const struct call *call;
+    const struct journal *journal;
+    uint32_t desk;
+};
+
+/* Where corrections are written down: a journal, or nowhere. */
+struct record {
+    int is_on, is_new, file;
+    const char *by;
+    struct journal journal;
+};
+
+/* Before the sheet is changed in memory: it has to be where the journal ends. */
+struct record open_record(const struct given *given, const struct sheet *sheet, const struct output *to);
+/* Writes the sheet, as it is in memory now, and what has changed in it. */
+void commit(struct output *to, const struct sheet *sheet, const struct record *record, const struct call *calls, size_t count);
+
+int apply_journal(struct given given);
+int undo_corrections(struct given given);
+int merge_journals(struct given given);
+int audit_sheet(struct given given);
 
 #endif

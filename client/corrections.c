@@ -2,6 +2,7 @@
 #include "client.h"
 
 #include <stdio.h>
+#include <stdlib.h>
 #include <string.h>
 
 /* A line of a block of a sheet. */
@@ -26,12 +27,18 @@ static struct found find(struct sheet sheet, uint32_t block, uint32_t line) {
 }
 
 /* Replaces the line in the sheet, and the sheet in its file. Answers the line as it stands there now. */
-static struct found replaced(struct output *to, struct found found, const uint8_t replacement[RINCHOVEK_LINE_BYTES]) {
+static struct found replaced(struct given given, struct output *to, struct found found, const uint8_t replacement[RINCHOVEK_LINE_BYTES]) {
     const uint32_t block = found.block, line = found.line;
     const struct sheet sheet = found.sheet;
+    const struct record record = open_record(&given, &sheet, to);
+    struct call call = {.block = block, .line = line};
+    const struct found before = find(sheet, block, line);
     check_line(&found, rinchovek_sheet_replace_line(sheet.file.at, sheet.file.length, block, line, replacement), 0, replacement);
     const struct found after = find(sheet, block, line);
-    write_file(to, sheet.file);
+    memcpy(call.before, before.held, sizeof call.before);
+    memcpy(call.after, after.held, sizeof call.after);
+    commit(to, &sheet, &record, &call, 1);
+    free(record.journal.calls);
     return after;
 }
 
@@ -74,7 +81,7 @@ int set_index(struct given given) {
     if (pixel >= RINCHOVEK_BLOCK_PIXELS || found.widths[at] == 0) check_line(&found, RINCHOVEK_PIXEL_NOT_IN_LINE, pixel, found.held);
     const uint32_t was = found.held[at];
     found.held[at] = (uint8_t)index;
-    const struct found after = replaced(&to, found, found.held);
+    const struct found after = replaced(given, &to, found, found.held);
     printf("index %u, was %u\npair %s\npixel %s, was %s\n", index, was, pair_in_words(after, found.held), seen(after.bytes, pixel).words,
            seen(found.bytes, pixel).words);
     release(found.sheet.file);
@@ -86,7 +93,7 @@ int replace_line(struct given given) {
     struct output to = aim_at_present(given.file[0], given.may_own);
     const struct found found = find(read_sheet(given.file[0]), given.number[0], given.number[1]);
     check_dots(&words, found.widths);
-    printf("pair %s\n", pair_in_words(replaced(&to, found, words.numbers), words.numbers));
+    printf("pair %s\n", pair_in_words(replaced(given, &to, found, words.numbers), words.numbers));
     release(found.sheet.file);
     return DONE;
 }

@@ -25,12 +25,17 @@ static const char lock_ending[] = ".lock", unfinished_ending[] = ".unfinished";
 
 /* What has to be undone where the program stops: the other name of a file that is being written, and what a journal got for it. */
 static char *unfinished;
-static int appended = -1;
-static off_t length_before;
+static struct {
+    int is_on, file;
+    off_t length; /* that it had before */
+    const char *name;
+    char *path; /* of a new one, else NULL */
+} appended;
 
 void undo_unfinished(void) {
     if (unfinished != NULL) unlink(unfinished);
-    if (appended >= 0 && ftruncate(appended, length_before) == 0) fsync(appended);
+    if (appended.path != NULL) unlink(appended.path);
+    else if (appended.is_on && ftruncate(appended.file, appended.length) == 0) fsync(appended.file);
 }
 
 void *room_for(void *before, size_t length) {
@@ -294,10 +299,54 @@ void name_file(struct output *to) {
     if (rename(unfinished, to->target) != 0) fail_by_system(to->name, "can't be written");
     free(unfinished);
     unfinished = NULL;
-    appended = -1; /* what the journal says has happened */
+    appended.is_on = 0; /* what the journal says has happened */
+    appended.path = NULL;
     settle_folder(to->name, to->target);
     close(to->lock);
     free(to->target);
+}
+
+/* ---- journals, which grow at their end */
+
+/* Opens it, and waits for its lock, which is on the journal itself, since it is never renamed. */
+static int open_locked(const char *name, const char *path, const struct output *beside, struct stat *about) {
+    const mode_t mask = umask(0);
+    const int file = open(path, O_RDWR | O_CREAT | O_APPEND | O_CLOEXEC | O_NOFOLLOW | O_NONBLOCK, beside->mode & 0666);
+    umask(mask);
+    if (file < 0) fail_by_system(name, "can't be written");
+    wait_for(name, file);
+    if (fstat(file, about) != 0) fail_by_system(name, "can't be written");
+    return file;
+}
+
+int open_appended(const char *name, const struct output *beside) {
+    struct stat about, standing, sheet;
+    if (is_stream(name)) fail("-", "can't be a journal: only a file can be");
+    for (;;) {
+        char *path = path_of(name);
+        const int was_there = is_there(name, path, &about);
+        if (was_there && stat(beside->target, &sheet) == 0 && is_same(&about, &sheet)) fail(name, "can't be the journal: it is the sheet");
+        const int file = open_locked(name, path, beside, &about);
+        if (stat(path, &standing) == 0 && is_same(&about, &standing)) {
+            appended.name = name;
+            appended.file = file;
+            if (about.st_size > 0) free(path);
+            else appended.path = path; /* it is new, and goes where nothing comes of it */
+            if (!was_there && about.st_gid != beside->group && fchown(file, (uid_t)-1, beside->group) != 0) errno = 0; /* then it has our own group */
+            return file;
+        }
+        close(file); /* somebody has taken this one away meanwhile */
+        free(path);
+    }
+}
+
+void append(int file, size_t length, const char *text, size_t text_length) {
+    appended.length = (off_t)length;
+    if (ftruncate(file, appended.length) != 0) fail_by_system(appended.name, "can't be written"); /* a line that a kill has cut off */
+    appended.is_on = 1;
+    put_all(appended.name, file, (const uint8_t *)text, text_length);
+    if (fsync(file) != 0) fail_by_system(appended.name, "can't be written");
+    if (appended.path != NULL) settle_folder(appended.name, appended.path);
 }
 
 void write_file(struct output *to, struct bytes file) {

@@ -7,7 +7,7 @@
 const char *const colour_spaces[] = {"unspecified", "linear", "srgb"};
 
 /* Of its arguments r is a file that is read, w one that is written, x one that is corrected, n any number, b a number from 0 to 255, u a colour
- * space or unspecified, and c a colour space, which may be left out. Its options stand by their letters. */
+ * space or unspecified. Of what may be left out R is a file that is read, d any number, and c a colour space. Its options stand by their letters. */
 static const struct command {
     const char *name, *arguments, *kinds, *options, *does;
     int (*run)(struct given);
@@ -29,8 +29,14 @@ static const struct command {
     {"line", "SHEET BLOCK LINE", "rnn", "", "prints a line of a block", show_line},
     {"nearest", "SHEET BLOCK LINE PIXEL RED GREEN BLUE ALPHA", "rnnnbbbb", "", "prints the index nearest to a colour, and what it draws",
      show_nearest},
-    {"set", "SHEET BLOCK LINE PIXEL INDEX", "xnnnb", "o", "puts an index to a pixel; prints whether the pair was turned, and the pixel", set_index},
-    {"replace", "SHEET BLOCK LINE", "xnn", "o", "replaces a line by the one on standard input, as `line` prints it", replace_line},
+    {"set", "SHEET BLOCK LINE PIXEL INDEX [--journal FILE [--by NAME]]", "xnnnb", "ojb", "puts an index to a pixel; prints whether the pair was turned, and the pixel", set_index},
+    {"replace", "SHEET BLOCK LINE [--journal FILE [--by NAME]]", "xnn", "ojb", "replaces a line by the one on standard input, as `line` prints it", replace_line},
+    {"apply", "SHEET JOURNAL", "xr", "ojb", "makes the corrections of a journal that the sheet hasn't yet", apply_journal},
+    {"undo", "SHEET JOURNAL [N]", "xrd", "ob", "takes the last correction of a journal back, or the last N, as corrections of their own", undo_corrections},
+    {"merge", "SHEET A B [--later A|B]", "xrr", "lojb", "makes the corrections of two journals from one sheet; where both name one line, --later decides",
+     merge_journals},
+    {"audit", "OLD NEW [JOURNAL]", "rrR", "", "lists each pixel of NEW that is neither OLD's nor what the journal says; ends with 1 where there is one",
+     audit_sheet},
 };
 enum { COMMANDS = sizeof commands / sizeof commands[0] };
 
@@ -61,10 +67,14 @@ static void print_help(void) {
            "stands NAME.lock, which is empty and may stay. What a kill leaves, NAME.unfinished, the next command takes away. The file keeps its\n"
            "owner, its group and its permissions; where its owner can't be kept the command fails, unless --own says that it may become yours.\n"
            "\n"
+           "A journal is text: its first line names the sheet that it starts from, each other one is a correction, with time and --by. It is on the disk\n"
+           "before the sheet is, so after a kill it may be ahead of it, and `apply` makes that good.\n"
+           "\n"
            "A picture is red, green, blue and alpha as drawn in PAM; in PNG what is masked lies over a grey of 128. --mask GREY puts it over another\n"
            "in both, and --mask none leaves alpha there. --grid shows the edges of the blocks, --region a part, --scale each pixel N by N times.\n"
            "\n"
-           "Exit status: 0 done; 1 refused, with the number of the refusal (docs/REFUSALS.md), or `diff` found a difference; 2 a file can't be read\n"
+           "Exit status: 0 done; 1 refused, with the number of the refusal (docs/REFUSALS.md), or `diff`, `audit` or `merge`\n"
+           "found what it lists; 2 a file can't be read\n"
            "or written, or the command is wrong.\n");
 }
 
@@ -92,7 +102,8 @@ static const struct option {
     const char *word;
     int follow;
 } options[] = {{'t', "--tiles", 0},  {'o', "--own", 0},   {'m', "--mask", 1},   {'g', "--grid", 0},
-               {'r', "--region", 4}, {'s', "--scale", 1}, {'p', "--picture", 1}};
+               {'r', "--region", 4}, {'s', "--scale", 1}, {'p', "--picture", 1}, {'j', "--journal", 1},
+               {'b', "--by", 1},     {'l', "--later", 1}};
 enum { OPTIONS = sizeof options / sizeof options[0], LARGEST_SCALE = 64 };
 
 static void take_option(const struct command *command, char letter, char **words, struct given *given) {
@@ -111,6 +122,12 @@ static void take_option(const struct command *command, char letter, char **words
         break;
     case 's': take_number(command, words[0], 1, LARGEST_SCALE, &given->scale); break;
     case 'p': given->picture = words[0]; break;
+    case 'j': given->journal = words[0]; break;
+    case 'b': given->by = words[0]; break;
+    case 'l':
+        if (strcmp(words[0], "A") != 0 && strcmp(words[0], "B") != 0) fail_by_usage(command);
+        given->later = words[0][0] == 'A' ? 0 : 1;
+        break;
     }
 }
 
@@ -139,7 +156,7 @@ static void check_names(const struct command *command, const struct given *given
 
 /* Takes the words by the kinds that the command wants. */
 static struct given take(const struct command *command, int count, char **words) {
-    struct given given = {.scale = 1};
+    struct given given = {.scale = 1, .later = NO_DESK};
     const char *kind = command->kinds;
     int files = 0, numbers = 0;
     for (int taken = 0; taken < count;) {
@@ -150,10 +167,15 @@ static struct given take(const struct command *command, int count, char **words)
         uint32_t *number = given.number + numbers;
         switch (*kind++) {
         case 'r':
+        case 'R':
         case 'w':
         case 'x': given.file[files++] = word; continue;
         case 'n': take_number(command, word, 0, UINT32_MAX, number); break;
         case 'b': take_number(command, word, 0, UINT8_MAX, number); break;
+        case 'd':
+            take_number(command, word, 0, UINT32_MAX, number);
+            given.has_number = 1;
+            break;
         case 'u': take_colour_space(command, word, RINCHOVEK_UNSPECIFIED, number); break;
         case 'c':
             take_colour_space(command, word, RINCHOVEK_LINEAR, number);
@@ -163,7 +185,8 @@ static struct given take(const struct command *command, int count, char **words)
         }
         numbers++;
     }
-    if (*kind != '\0' && *kind != 'c') fail_by_usage(command);
+    if (strchr("Rdc", *kind) == NULL) fail_by_usage(command); /* which finds the end of the kinds too */
+    if (given.by != NULL && given.journal == NULL && strchr(command->options, 'j') != NULL) fail_by_usage(command); /* nothing is written down */
     check_names(command, &given);
     return given;
 }

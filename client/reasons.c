@@ -17,7 +17,7 @@ void stop(int status) {
 
 void finish(int status) {
     if (fflush(stdout) != 0) fail_by_system("standard output", "can't be written");
-    exit(status);
+    stop(status);
 }
 
 void fail(const char *name, const char *what) {
@@ -50,7 +50,7 @@ static int starts_with(struct bytes file, const char *start) {
 static const char *other_kind(struct bytes file) {
     if (starts_with(file, "P7\n")) return "it is a PAM picture";
     if (starts_with(file, "\x89PNG")) return "it is a PNG picture";
-    if (starts_with(file, "rinchovek-journal ")) return "it is a journal of corrections";
+    if (starts_with(file, JOURNAL_START)) return "it is a journal of corrections";
     return NULL;
 }
 
