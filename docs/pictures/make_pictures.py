@@ -1,6 +1,6 @@
 #!/usr/bin/env python3
 """make_pictures.py [--check] CLIENT: makes the pictures of README.md beside this file; with --check it only compares. CLIENT is the command
-that examples/rinchovek.c was built to (`examples/run` builds one and checks the pictures by it).
+that client/ was built to (`tests/client` builds one and checks the pictures by it).
 
 map.png        the sample map, and the neighbourhood of one block enlarged
 corrected.png  the same after one correction: `nearest` says the index for what was measured at pixel 0, and `set` puts it there
