@@ -282,7 +282,7 @@ void put(const struct output *to, const void *bytes, size_t length) { put_all(to
 static void settle_folder(const char *name, const char *path) {
     char *above = joined(path, "", "");
     char *slash = strrchr(above, '/'); /* there is one: the path is a whole one */
-    slash[slash == above ? 1 : 0] = '\0';
+    slash[1] = '\0';
     const int folder = open(above, O_RDONLY | O_DIRECTORY | O_CLOEXEC);
     if (folder < 0 || fsync(folder) != 0) fail_by_system(name, "is written, and may not be on the disk yet");
     close(folder);

@@ -114,7 +114,8 @@ static struct journal parse(const char *name, struct bytes text) {
         else take_call(&cursor, &call);
         if (cursor.at < cursor.end && cursor.wanted == NULL) cursor.wanted = "the end of the line";
         if (number == 0 && cursor.wanted != NULL) fail(name, "is no journal of corrections");
-        if (cursor.wanted != NULL && wrong++ < MOST_SAID) fprintf(stderr, "rinchovek: %s:%lu: %s is wanted here\n", name, (unsigned long)number + 1, cursor.wanted);
+        if (cursor.wanted != NULL && wrong++ < MOST_SAID)
+            fprintf(stderr, "rinchovek: %s:%lu: %s is wanted here\n", name, (unsigned long)number + 1, cursor.wanted);
         at = (size_t)(end - text.at) + 1;
         if (number == 0) continue;
         if (journal.count == room) journal.calls = room_for(journal.calls, (room = 2 * room + 64) * sizeof *journal.calls);
@@ -448,7 +449,8 @@ int undo_corrections(struct given given) {
 }
 
 /* What a block should show, and what it shows. */
-static uint32_t list_otherwise(const struct sheet *sheet, uint32_t block, const uint8_t expected[RINCHOVEK_BLOCK_BYTES], const uint8_t found[RINCHOVEK_BLOCK_BYTES]) {
+static uint32_t list_otherwise(const struct sheet *sheet, uint32_t block, const uint8_t expected[RINCHOVEK_BLOCK_BYTES],
+                               const uint8_t found[RINCHOVEK_BLOCK_BYTES]) {
     uint32_t pixels = 0;
     for (uint32_t pixel = 0; pixel < RINCHOVEK_BLOCK_PIXELS; pixel++) {
         const struct colour wanted = seen(expected, pixel), is = seen(found, pixel);

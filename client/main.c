@@ -24,13 +24,15 @@ static const struct command {
     {"info", "SHEET", "r", "", "prints size, form, colour space, how many blocks there are, and how many of each mode", show_info},
     {"at", "SHEET X Y", "rnn", "", "prints what stands at a pixel: block, number in it, mode, the lines that draw it, colour", show_place},
     {"block", "SHEET BLOCK", "rn", "", "prints a block: where it stands, mode, lines, bytes, and what its pixels show", show_block},
-    {"diff", "OLD NEW [--picture FILE.png|FILE.pam]", "rr", "pmgrso", "lists the blocks, lines and pixels in which two sheets differ; ends with 1 where they do",
-     show_difference},
+    {"diff", "OLD NEW [--picture FILE.png|FILE.pam]", "rr", "pmgrso",
+     "lists the blocks, lines and pixels in which two sheets differ; ends with 1 where they do", show_difference},
     {"line", "SHEET BLOCK LINE", "rnn", "", "prints a line of a block", show_line},
     {"nearest", "SHEET BLOCK LINE PIXEL RED GREEN BLUE ALPHA", "rnnnbbbb", "", "prints the index nearest to a colour, and what it draws",
      show_nearest},
-    {"set", "SHEET BLOCK LINE PIXEL INDEX [--journal FILE [--by NAME]]", "xnnnb", "ojb", "puts an index to a pixel; prints whether the pair was turned, and the pixel", set_index},
-    {"replace", "SHEET BLOCK LINE [--journal FILE [--by NAME]]", "xnn", "ojb", "replaces a line by the one on standard input, as `line` prints it", replace_line},
+    {"set", "SHEET BLOCK LINE PIXEL INDEX [--journal FILE [--by NAME]]", "xnnnb", "ojb",
+     "puts an index to a pixel; prints whether the pair was turned, and the pixel", set_index},
+    {"replace", "SHEET BLOCK LINE [--journal FILE [--by NAME]]", "xnn", "ojb", "replaces a line by the one on standard input, as `line` prints it",
+     replace_line},
     {"apply", "SHEET JOURNAL", "xr", "ojb", "makes the corrections of a journal that the sheet hasn't yet", apply_journal},
     {"undo", "SHEET JOURNAL [N]", "xrd", "ob", "takes the last correction of a journal back, or the last N, as corrections of their own", undo_corrections},
     {"merge", "SHEET A B [--later A|B]", "xrr", "lojb", "makes the corrections of two journals from one sheet; where both name one line, --later decides",
@@ -73,9 +75,8 @@ static void print_help(void) {
            "A picture is red, green, blue and alpha as drawn in PAM; in PNG what is masked lies over a grey of 128. --mask GREY puts it over another\n"
            "in both, and --mask none leaves alpha there. --grid shows the edges of the blocks, --region a part, --scale each pixel N by N times.\n"
            "\n"
-           "Exit status: 0 done; 1 refused, with the number of the refusal (docs/REFUSALS.md), or `diff`, `audit` or `merge`\n"
-           "found what it lists; 2 a file can't be read\n"
-           "or written, or the command is wrong.\n");
+           "Exit status: 0 done; 1 refused, with the number of the refusal (docs/REFUSALS.md), or `diff`, `audit` or `merge` found what it\n"
+           "lists; 2 a file can't be read or written, or the command is wrong.\n");
 }
 
 DOES_NOT_RETURN static void fail_by_usage(const struct command *command) {

@@ -110,7 +110,9 @@ static struct term name_of_number(int at) {
     struct term name;
     if (at >= RINCHOVEK_LINE_INDEXES) snprintf(name.words, sizeof name.words, "the index of pixel %d", at - RINCHOVEK_LINE_INDEXES);
     else if (at >= RINCHOVEK_LINE_P_BITS) snprintf(name.words, sizeof name.words, "the %s p bit", at == RINCHOVEK_LINE_P_BITS ? "first" : "second");
-    else snprintf(name.words, sizeof name.words, "%s of the %s endpoint", channels[at % RINCHOVEK_PIXEL_BYTES], at < RINCHOVEK_LINE_SECOND_ENDPOINT ? "first" : "second");
+    else
+        snprintf(name.words, sizeof name.words, "%s of the %s endpoint", channels[at % RINCHOVEK_PIXEL_BYTES],
+                 at < RINCHOVEK_LINE_SECOND_ENDPOINT ? "first" : "second");
     return name;
 }
 
@@ -120,7 +122,7 @@ struct reason reason_of_line(const uint8_t block[RINCHOVEK_BLOCK_BYTES], uint32_
     uint8_t held[RINCHOVEK_LINE_BYTES], widths[RINCHOVEK_LINE_BYTES];
     uint32_t lines = 0, home = UINT32_MAX;
     for (; rinchovek_bc7_read_line(block, lines, held, widths) == RINCHOVEK_ACCEPTED; lines++)
-        if (pixel < RINCHOVEK_BLOCK_PIXELS && widths[RINCHOVEK_LINE_INDEXES + pixel] != 0 && home == UINT32_MAX) home = lines;
+        if (pixel < RINCHOVEK_BLOCK_PIXELS && widths[RINCHOVEK_LINE_INDEXES + pixel] != 0) home = lines;
     if (refusal == RINCHOVEK_NO_SUCH_LINE) snprintf(reason.words, sizeof reason.words, "it has %u, which count from 0", lines);
     if (refusal == RINCHOVEK_PIXEL_NOT_IN_LINE && home != UINT32_MAX) snprintf(reason.words, sizeof reason.words, "it is in line %u", home);
     if (refusal == RINCHOVEK_PIXEL_NOT_IN_LINE && home == UINT32_MAX) snprintf(reason.words, sizeof reason.words, "a block has the pixels 0 to 15");

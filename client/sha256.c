@@ -17,23 +17,23 @@ static const uint32_t constants[64] = {
 static uint32_t turned(uint32_t word, unsigned by) { return word >> by | word << (32 - by); }
 
 static void take_chunk(uint32_t state[8], const uint8_t chunk[CHUNK]) {
-    uint32_t words[64], s[8];
+    uint32_t words[64];
     for (int i = 0; i < 16; i++)
         words[i] = (uint32_t)chunk[4 * i] << 24 | (uint32_t)chunk[4 * i + 1] << 16 | (uint32_t)chunk[4 * i + 2] << 8 | chunk[4 * i + 3];
     for (int i = 16; i < 64; i++) {
         const uint32_t low = words[i - 15], high = words[i - 2];
         words[i] = words[i - 16] + words[i - 7] + (turned(low, 7) ^ turned(low, 18) ^ low >> 3) + (turned(high, 17) ^ turned(high, 19) ^ high >> 10);
     }
-    memcpy(s, state, sizeof s);
+    uint32_t a = state[0], b = state[1], c = state[2], d = state[3], e = state[4], f = state[5], g = state[6], h = state[7];
     for (int i = 0; i < 64; i++) {
-        const uint32_t choice = (s[4] & s[5]) ^ (~s[4] & s[6]), majority = (s[0] & s[1]) ^ (s[0] & s[2]) ^ (s[1] & s[2]);
-        const uint32_t first = s[7] + (turned(s[4], 6) ^ turned(s[4], 11) ^ turned(s[4], 25)) + choice + constants[i] + words[i];
-        const uint32_t second = (turned(s[0], 2) ^ turned(s[0], 13) ^ turned(s[0], 22)) + majority;
-        for (int j = 7; j > 0; j--) s[j] = s[j - 1];
-        s[4] += first;
-        s[0] = first + second;
+        const uint32_t choice = (e & f) ^ (~e & g), majority = (a & b) ^ (a & c) ^ (b & c);
+        const uint32_t first = h + (turned(e, 6) ^ turned(e, 11) ^ turned(e, 25)) + choice + constants[i] + words[i];
+        const uint32_t second = (turned(a, 2) ^ turned(a, 13) ^ turned(a, 22)) + majority;
+        h = g, g = f, f = e, e = d + first;
+        d = c, c = b, b = a, a = first + second;
     }
-    for (int i = 0; i < 8; i++) state[i] += s[i];
+    state[0] += a, state[1] += b, state[2] += c, state[3] += d;
+    state[4] += e, state[5] += f, state[6] += g, state[7] += h;
 }
 
 struct sha256 sha256_of(struct bytes file) {

@@ -3,8 +3,10 @@
  *
  *   kill N   the program is killed in the place of its Nth call
  *   fail N   the Nth call fails, as on a broken disk; FAULT_CALL names a call that is counted alone
- *   slow     of three reads and writes one is interrupted by a signal, and the others move at most seven bytes; each lock is interrupted once
+ *   slow     of three reads and writes one is interrupted by a signal, and the others move at most seven bytes; the first two locks are interrupted
  *   nap      each write moves at most 16,000 bytes, and takes a second
+ *   version N  the archive says that it is of this version
+ *   cut      a file is cut to nothing by another program, just after it was mapped
  *   log      each call is named on standard error
  *
  * Where a call fails its name stands on standard error before what the program says. */
@@ -15,7 +17,7 @@
 #include <unistd.h>
 
 int raise(int signal);
-enum { KILL = 9, BROKEN = 5 /* EIO */, CREATES = 0100, LONGEST = 7 };
+enum { KILL = 9, BROKEN = 5 /* EIO */, CREATES = 0100, WRITES_FROM_NOTHING = 01001 /* O_WRONLY | O_TRUNC */, LONGEST = 7 };
 
 static int is_fault(const char *wanted) {
     const char *fault = getenv("FAULT");
@@ -26,7 +28,7 @@ static int is_fault(const char *wanted) {
 static int fails(const char *call) {
     static int calls;
     const char *fault = getenv("FAULT"), *counted = getenv("FAULT_CALL");
-    if (fault == NULL || is_fault("slow") || is_fault("nap")) return 0;
+    if (fault == NULL || is_fault("slow") || is_fault("nap") || is_fault("cut") || is_fault("version ")) return 0;
     if (is_fault("log")) fprintf(stderr, "%s\n", call);
     if (is_fault("log") || (counted != NULL && strcmp(counted, call) != 0) || ++calls != atoi(fault + strlen("kill "))) return 0;
     if (is_fault("kill")) raise(KILL);
@@ -59,15 +61,33 @@ WRAPPED(int, fchmod, -1, (int file, unsigned mode), (file, mode))
 WRAPPED(int, fchown, -1, (int file, unsigned owner, unsigned group), (file, owner, group))
 WRAPPED(int, ftruncate, -1, (int file, long length), (file, length))
 WRAPPED(int, unlink, -1, (const char *name), (name))
-WRAPPED(void *, mmap, (void *)-1L, (void *at, size_t length, int rights, int flags, int file, long from), (at, length, rights, flags, file, from))
+
+unsigned __real_rinchovek_version(void);
+unsigned __wrap_rinchovek_version(void);
+unsigned __wrap_rinchovek_version(void) { return is_fault("version ") ? (unsigned)atoi(getenv("FAULT") + strlen("version ")) : __real_rinchovek_version(); }
 
 int __real_open(const char *name, int how, ...);
+void *__real_mmap(void *at, size_t length, int rights, int flags, int file, long from);
+void *__wrap_mmap(void *at, size_t length, int rights, int flags, int file, long from);
+void *__wrap_mmap(void *at, size_t length, int rights, int flags, int file, long from) {
+    char name[64];
+    if (fails("mmap")) return (void *)-1L;
+    void *mapped = __real_mmap(at, length, rights, flags, file, from);
+    snprintf(name, sizeof name, "/proc/self/fd/%d", file);
+    if (is_fault("cut")) __real_open(name, WRITES_FROM_NOTHING);
+    return mapped;
+}
+
 int __wrap_open(const char *name, int how, unsigned mode);
 int __wrap_open(const char *name, int how, unsigned mode) { return fails("open") ? -1 : __real_open(name, how, how & CREATES ? mode : 0); }
 
 int __real_flock(int file, int how);
 int __wrap_flock(int file, int how);
-int __wrap_flock(int file, int how) { return is_interrupted() || fails("flock") ? -1 : __real_flock(file, how); }
+int __wrap_flock(int file, int how) {
+    static int calls;
+    errno = EINTR;
+    return (is_fault("slow") && ++calls <= 2) || fails("flock") ? -1 : __real_flock(file, how);
+}
 
 ssize_t __real_read(int file, void *bytes, size_t length);
 ssize_t __wrap_read(int file, void *bytes, size_t length);
