@@ -172,7 +172,10 @@ static int open_lock(const char *name, const char *lock, mode_t mode) {
     const mode_t mask = umask(0); /* who may write the file may lock it */
     int file = open(lock, O_RDWR | O_CREAT | flags, mode);
     umask(mask);
-    if (file < 0 && errno == EACCES) file = open(lock, O_RDONLY | flags);
+    if (file < 0 && errno == EACCES) { /* what may not be written can be locked all the same, where it is there */
+        file = open(lock, O_RDONLY | flags);
+        if (file < 0 && errno == ENOENT) errno = EACCES;
+    }
     if (file < 0) fail_by_system(name, "can't be locked");
     return file;
 }
