@@ -1,6 +1,6 @@
 -- What is answered of a head that was read, and of the output's length: for both ways the same.
 -- Assumes nothing.
-use mathlib.Core.Path.{_≡_, refl, _∙_, ap, sym}
+use mathlib.Core.Path.{_≡_, refl, _∙_, ap, ap₂, sym}
 use mathlib.Core.Logic.{_≢_}
 use mathlib.Core.Bool.{not}
 use mathlib.Core.List.{List, [], _∷_}
@@ -11,22 +11,26 @@ use lib.Dec.{eqb}
 use lib.ListN.{length}
 use Rattle.head_rules.specs.declared.ColourSpace.{ColourSpace}
 use Rattle.head_rules.specs.declared.Head.{Head}
-use Rattle.head_rules.specs.Geometry.{blocksOf, wholeLength}
+use Rattle.head_rules.specs.Colours.{colourOf, colourRefusal}
 use Rattle.head_rules.specs.declared.Form.the-variants.{Rows}
-use Rattle.head_rules.specs.Heads.{Sized, headAs, headOf}
+use Rattle.head_rules.specs.Geometry.{blocksOf, wholeLength}
+use Rattle.head_rules.specs.Heads.{Sized, headAs, headOf, readOfFormWith}
 use Rattle.head_rules.proofs.Blocks.{few-blocks}
-use Rattle.head_rules.specs.Whole.{Whole, wholeRefusal}
+use Rattle.head_rules.specs.Whole.{wholeHead, wholeRefusal}
 use Rattle.head_rules.proofs.Heading.{head-told}
-use Rattle.head_rules.proofs.Whole.{of-form-sized, whole-number, whole-told}
+use Rattle.head_rules.proofs.Between.{with-refused}
+use Rattle.head_rules.proofs.Colours.{colour-test}
+use Rattle.head_rules.proofs.Whole.{of-form-sized, whole-handed, whole-number, whole-told}
 use Rattle.laws.specs.Refusals.{Given, accepted, first, here, refuse, then}
 use Rattle.laws.specs.Tables.{pick}
-use Rattle.laws.proofs.Refusals.{exactly}
-use Rattle.dds_rules.specs.Files.{exportAfterBy, exportHead, exportLength, exportRefusalBy, fileLength, fileMade, fileRefusal, fileRules}
+use Rattle.laws.proofs.Refusals.{decided-is, exactly}
+use Rattle.dds_rules.specs.Files.{exportAfter, exportLength, exportRefusal, fileLength, fileMade, fileRefusal, fileRules}
 use Rattle.dds_rules.specs.Files.{headMade, importAfterUpTo, importAnswer, importHead, importLength, importRefusal, importRefusalUpTo}
-use Rattle.dds_rules.specs.Files.{lengthAs, sheetHead, sheetMade}
-use Rattle.dds_rules.specs.Promises.{Exports, Imports}
+use Rattle.dds_rules.specs.Files.{lengthAs, numberedAfter, numberedHead, numberedRefusal, sheetHead, sheetMade}
+use Rattle.dds_rules.specs.Promises.{Exports, ExportsNumbered, Imports}
 use Rattle.dds_rules.proofs.Refusing.{Taken, file-rules, room-rules, taken, taken-so}
 use Rattle.dds_rules.proofs.Making.{head-short}
+use Rattle.dds_rules.proofs.Numbered.{numbered-as}
 
 -- WHAT THE READERS ANSWER
 pub no-file : (dds : List ℕ) (n : ℕ) → Given (fileRules dds) n → n ≢ 0 → headOf n 0 0 0 ≡ importHead dds
@@ -42,10 +46,6 @@ module _ (dds : List ℕ) {x : Head} (e : x ≡ importHead dds) where
   pub file-told : (x .refusal ≡ fileRefusal dds) × (fileRefusal dds ≡ 0 → x ≡ headMade dds)
   unfolding importHead headMade
   file-told = head-told (fileRefusal dds) (headMade dds) (λ z. refl) e
-
-module _ (s : List ℕ) {x : Head} (e : x ≡ exportHead s) where
-  pub sheet-told : x .refusal ≡ wholeRefusal (sheetHead s) s
-  sheet-told = whole-number (sheetHead s) s e
 
 -- WHAT A CALL ANSWERS: what was told before, or 11, or 0 with what is made
 module _ (r needed : ℕ) (made out : List ℕ) where
@@ -102,25 +102,49 @@ module _ (dds out : List ℕ) {x : Head} (e : x ≡ importHead dds) where
       (l ∙ ap (λ (h : Head). h .start + 16 * blocksOf h) (import-taken z .1)) f in
       (answered (sym (p .0) ∙ sym told), p .1)
 
-module _ (s : List ℕ) {x : Head} (e : x ≡ exportHead s) where
-  pub export-taken : x .refusal ≡ 0 → Whole (sheetHead s) s × (x ≡ sheetHead s)
-  export-taken = whole-told (sheetHead s) s e
+-- x is the head of the sheet, if it is whole
+module _ (s : List ℕ) {x : Head} (e : x ≡ wholeHead (sheetHead s) s) where
+  pub export-sized : x .refusal ≡ 0 → Sized (x .width) (x .height)
+  export-sized z = of-form-sized Rows s (whole-told (sheetHead s) s e z .1) z
 
-module _ (s : List ℕ) (c : ColourSpace) (out : List ℕ) {x : Head} (e : x ≡ exportHead s) where
+module _ (s : List ℕ) (c : ColourSpace) (out : List ℕ) {x : Head} (e : x ≡ wholeHead (sheetHead s) s) where
+  abbrev k : Head
+  k = sheetHead s
+
   pub export-refused : x .refusal ≢ 0 → Exports s c out (x .refusal) out
-  unfolding exportRefusalBy exportAfterBy
-  export-refused ne = before-11 (wholeRefusal (sheetHead s) s) (fileLength (sheetHead s)) (fileMade s c) out (sheet-told s e) ne
+  unfolding exportRefusal exportAfter
+  export-refused ne = before-11 (wholeRefusal k s) (fileLength k) (fileMade k c s) out (whole-number k s e) ne
 
   pub export-11 : x .refusal ≡ 0 → length out ≢ fileLength x → Exports s c out 11 out
-  unfolding exportRefusalBy exportAfterBy
+  unfolding exportRefusal exportAfter
   export-11 z ne =
-      eleven (wholeRefusal (sheetHead s) s) (fileLength (sheetHead s)) (fileMade s c) out (sym (sheet-told s e) ∙ z)
-      (λ l. ne (l ∙ ap fileLength (sym (export-taken s e z .1))))
+      eleven (wholeRefusal k s) (fileLength k) (fileMade k c s) out (sym (whole-number k s e) ∙ z)
+      (λ l. ne (l ∙ ap fileLength (sym (whole-told k s e z .1))))
 
-  pub export-done : x .refusal ≡ 0 → length out ≡ fileLength x → {after : List ℕ} → after ≡ fileMade s c → Exports s c out 0 after
-  unfolding exportRefusalBy exportAfterBy
+  pub export-done : x .refusal ≡ 0 → length out ≡ fileLength x → {after : List ℕ} → after ≡ fileMade k c s → Exports s c out 0 after
+  unfolding exportRefusal exportAfter
   export-done z l =
-      done (wholeRefusal (sheetHead s) s) (fileLength (sheetHead s)) (fileMade s c) out (sym (sheet-told s e) ∙ z) (l ∙ ap fileLength (export-taken s e z .1))
+      done (wholeRefusal k s) (fileLength k) (fileMade k c s) out (sym (whole-number k s e) ∙ z) (l ∙ ap fileLength (whole-told k s e z .1))
+
+-- under a number: as export where it is a colour space's, else the head's refusals before 9, or 18
+module _ (s : List ℕ) (n : ℕ) (out : List ℕ) {r : ℕ} (er : r ≡ colourRefusal n) where
+  pub numbered-exported : r ≡ 0 → {c : ColourSpace} → c ≡ colourOf n → {answer : ℕ} {after : List ℕ} → Exports s c out answer after
+      → ExportsNumbered s n out answer after
+  unfolding numberedRefusal numberedAfter
+  numbered-exported z ec p =
+      let e = sym (numbered-as s n (decided-is (colour-test n) (sym er ∙ z))) in (
+        p .0 ∙ ap (λ (h : Head). exportRefusal h s (length out)) e,
+        p .1 ∙ ap₂ (λ (h : Head) (c : ColourSpace). exportAfter h c s out) e ec,
+      )
+
+  pub numbered-refused : r ≢ 0 → {h : Head} → h ≡ readOfFormWith r Rows s → ExportsNumbered s n out (h .refusal) out
+  unfolding numberedRefusal numberedAfter exportRefusal exportAfter
+  numbered-refused ne {h} eh =
+      let g = numberedHead n s in
+      let told = ap (λ (x : Head). x .refusal) (eh ∙ ap (λ (m : ℕ). readOfFormWith m Rows s) er) in
+      let no : g .refusal ≢ 0 = with-refused (colourRefusal n) Rows s (λ z. ne (er ∙ z)) in
+      before-11 (wholeRefusal g s) (fileLength g) (fileMade g (colourOf n) s) out
+      (told ∙ sym (exactly (whole-handed g s) (g .refusal) .1 (here no))) (λ z. no (sym told ∙ z))
 
 -- WHAT A CALL FOR THE LENGTH ANSWERS
 module _ (r needed : ℕ) where
@@ -150,19 +174,18 @@ module _ (dds : List ℕ) {x : Head} (e : x ≡ importHead dds) where
         length-is (fileRefusal dds) (wholeLength (headMade dds)) (sym (file-told dds e .0) ∙ z)
         (l ∙ ap (λ (h : Head). h .start + 16 * blocksOf h) (import-taken dds [] e z .1))
 
-module _ (s : List ℕ) {x : Head} (e : x ≡ exportHead s) where
+module _ (s : List ℕ) {x : Head} (e : x ≡ wholeHead (sheetHead s) s) where
+  abbrev h : Head
+  h = sheetHead s
+
   pub export-length-refused : x .refusal ≢ 0 → record { refusal = x .refusal; length = 0 } ≡ exportLength s
   unfolding exportLength
-  export-length-refused ne = length-refused (wholeRefusal (sheetHead s) s) (fileLength (sheetHead s)) (sheet-told s e) ne
+  export-length-refused ne = length-refused (wholeRefusal h s) (fileLength h) (whole-number h s e) ne
 
-  module _ (z : x .refusal ≡ 0) where
-    pub export-sized : Sized (x .width) (x .height)
-    export-sized = of-form-sized Rows s (export-taken s e z .1) z
-
-    pub export-length-is : {n : ℕ} → n ≡ fileLength x → record { refusal = 0; length = n } ≡ exportLength s
-    unfolding exportLength
-    export-length-is l =
-        length-is (wholeRefusal (sheetHead s) s) (fileLength (sheetHead s)) (sym (sheet-told s e) ∙ z) (l ∙ ap fileLength (export-taken s e z .1))
+  pub export-length-is : x .refusal ≡ 0 → {n : ℕ} → n ≡ fileLength x → record { refusal = 0; length = n } ≡ exportLength s
+  unfolding exportLength
+  export-length-is z l =
+      length-is (wholeRefusal h s) (fileLength h) (sym (whole-number h s e) ∙ z) (l ∙ ap fileLength (whole-told h s e z .1))
 
 -- a length fits 32 bits
 pub blocks-fit : (x : Head) → Sized (x .width) (x .height) → 16 * blocksOf x < 2 ^ 31

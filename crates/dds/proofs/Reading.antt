@@ -14,7 +14,9 @@ use Rattle.head_rules.specs.declared.Head.{Head}
 use Rattle.head_rules.specs.declared.HeadBytes.{HeadBytes}
 use Rattle.head_rules.specs.Geometry.{blocksOf, wholeLength}
 use Rattle.head_rules.specs.Heads.{Sized, headBytes, headOf, limit, sevenOf, sizeRefusal, under, writeHead, writeHeadUpTo}
+use Rattle.head_rules.specs.Whole.{wholeHead}
 use Rattle.head_rules.proofs.Heading.{size-0}
+use Rattle.head_rules.proofs.Whole.{whole-told}
 use Rattle.head_rules.proofs.Theorems.{head-not-written-when}
 use Rattle.laws.specs.Padding.{padded}
 use Rattle.laws.specs.Refusals.{Given, Rule, accepted, here, then, unless}
@@ -22,13 +24,13 @@ use Rattle.laws.specs.Tables.{table}
 use Rattle.laws.proofs.Tests.{no-both}
 use Rattle.dds_rules.specs.Header.{Texture, bytesIn, canonicalHeader, fieldIn, format, formatSays, headerLength, headerNumber, height, isTexture}
 use Rattle.dds_rules.specs.Header.{width}
-use Rattle.dds_rules.specs.Files.{exportHead, fileLength, fileMadeBy, headMade, importHead, sheetHead, sheetMade}
+use Rattle.dds_rules.specs.Files.{fileLength, fileMade, headMade, importHead, sheetHead, sheetMade}
 use Rattle.dds_rules.specs.Promises.{Exports, Imports}
 use Rattle.dds_rules.proofs.Refusing.{Taken}
 use Rattle.dds_rules.proofs.Numbers.{header-long}
 use Rattle.dds_rules.proofs.Textures.{a-texture}
 use Rattle.dds.specs.Filling.{Fills}
-use Rattle.dds.proofs.Answers.{a-file, export-done, export-taken, import-done, import-sized, import-taken, no-file}
+use Rattle.dds.proofs.Answers.{a-file, export-done, import-done, import-sized, import-taken, no-file}
 
 -- 15
 pub another : (dds : List ℕ) → isTexture dds ≡ false → headOf 15 0 0 0 ≡ importHead dds
@@ -126,12 +128,12 @@ module _ (dds out : List ℕ) {x : Head} (e : x ≡ importHead dds) (z : x .refu
   pub import-filled : {after : List ℕ} → after ≡ take (x .start) (b .bytes) ++ drop headerLength dds → Imports dds out x after
   import-filled f = import-done dds out e z l (f ∙ sheet-laid dds take-dds made eb)
 
--- the file: the header, and the blocks
-module _ (s : List ℕ) (c : ColourSpace) (out : List ℕ) {x : Head} (e : x ≡ exportHead s) (z : x .refusal ≡ 0) {u : Head} (eu : u ≡ under c x)
-    {numbers header : List ℕ} (en : numbers ≡ table 37 (headerNumber u)) (eh : header ≡ table headerLength (bytesIn numbers))
+-- the file: the header, and the blocks; x is the head of the sheet, if it is whole
+module _ (s : List ℕ) (c : ColourSpace) (out : List ℕ) {x : Head} (e : x ≡ wholeHead (sheetHead s) s) (z : x .refusal ≡ 0) {u : Head}
+    (eu : u ≡ under c x) {numbers header : List ℕ} (en : numbers ≡ table 37 (headerNumber u)) (eh : header ≡ table headerLength (bytesIn numbers))
     (l : length out ≡ fileLength x) where
   abbrev known : x ≡ sheetHead s
-  known = export-taken s e z .1
+  known = whole-told (sheetHead s) s e z .1
 
   is-header : header ≡ canonicalHeader (under c x)
   unfolding canonicalHeader
@@ -139,7 +141,7 @@ module _ (s : List ℕ) (c : ColourSpace) (out : List ℕ) {x : Head} (e : x ≡
 
   pub export-fits : Fills (length header) headerLength (length s) (x .start) (length out)
   export-fits =
-      let w = export-taken s e z .0 .long ∙ ap (λ (h : Head). h .start + 16 * blocksOf h) (sym known) in
+      let w = whole-told (sheetHead s) s e z .0 .long ∙ ap (λ (h : Head). h .start + 16 * blocksOf h) (sym known) in
       record {
         count-there = omega (arith, ap length is-header, header-long (under c x));
         start-there = omega (arith, w);
@@ -147,7 +149,7 @@ module _ (s : List ℕ) (c : ColourSpace) (out : List ℕ) {x : Head} (e : x ≡
       }
 
   pub export-filled : {after : List ℕ} → after ≡ take headerLength header ++ drop (x .start) s → Exports s c out 0 after
-  unfolding fileMadeBy
+  unfolding fileMade
   export-filled f =
       export-done s c out e z l
       (f ∙ ap (λ (t : List ℕ). t ++ drop (x .start) s)

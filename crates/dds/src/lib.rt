@@ -8,7 +8,7 @@ ghost use lib.ListN.{drop, length, take};
 ghost use Rattle.head_rules.specs.Heads.{Sized};
 ghost use Rattle.laws.specs.Tables.{table};
 ghost use Rattle.dds_rules.specs.Header.{bytesIn, formatOf, formatSays, headerNumber, isTexture, numberAt};
-ghost use Rattle.dds_rules.specs.Files.{exportHead, fileLength, importHead};
+ghost use Rattle.dds_rules.specs.Files.{fileLength, importHead};
 ghost use Rattle.dds_rules.specs.Promises.{ExportNeeds, Exports, ExportsNumbered, ImportNeeds, Imports};
 ghost use Rattle.dds.specs.Filling.{Fills, Widens};
 use dds_rules::Length;
@@ -21,6 +21,7 @@ use sheet_head::colours::under;
 use sheet_head::geometry::blocks_of;
 use sheet_head::geometry::whole_length;
 use sheet_head::read_of_form;
+use sheet_head::read_of_form_with;
 use sheet_head::reader::no_head;
 use sheet_head::whole;
 use sheet_head::write_head;
@@ -175,13 +176,6 @@ fn read_file(dds: &[u8]) -> Head
     head
 }
 
-// The head of a sheet of form 1 that is there whole, or the first refusal that applies: 7, 8, 9, 10.
-fn read_sheet(sheet: &[u8]) -> Head
-    ensures { λ r. ⌜ r ≡ exportHead (now (sheet .entry)) ⌝ }
-{
-    whole(read_of_form(Form::Rows, sheet), sheet)
-}
-
 // The 37 numbers of the header that export writes, in their order.
 fn numbers_of(head: Head) -> [u32; NUMBERS]
     requires { ⌜ Sized (head .width) (head .height) ⌝ }
@@ -271,11 +265,11 @@ pub fn import_dds(dds: &[u8], out: &mut [u8]) -> Head
     head
 }
 
-// A sheet as a file under a colour space: the header, then the blocks as they stand. A refused call leaves the output as it was.
+// A sheet of form 1 as a file under a colour space: the header, then the blocks as they stand. A refused call leaves the output as it was.
 pub fn export_dds(sheet: &[u8], colour_space: ColourSpace, out: &mut [u8]) -> u8
     ensures { λ r. ⌜ Exports (now (sheet .entry)) «colour_space» (now (out .entry)) r (now (out .exit)) ⌝ }
 {
-    let head = read_sheet(sheet);
+    let head = whole(read_of_form(Form::Rows, sheet), sheet);
     if head.refusal != 0 {
         return head.refusal;
     }
@@ -295,13 +289,7 @@ pub fn export_numbered(sheet: &[u8], number: u32, out: &mut [u8]) -> u8
     if refusal == 0 {
         return export_dds(sheet, colour_of(number), out);
     }
-    let head = read_of_form(Form::Rows, sheet);
-    if head.refusal == 0 {
-        return refusal;
-    }
-    if head.refusal == 9 {
-        return refusal;
-    }
+    let head = read_of_form_with(Form::Rows, refusal, sheet);
     head.refusal
 }
 
@@ -326,7 +314,7 @@ pub fn import_length(dds: &[u8]) -> Length
 pub fn export_length(sheet: &[u8]) -> Length
     ensures { λ r. ⌜ ExportNeeds (now (sheet .entry)) r ⌝ }
 {
-    let head = read_sheet(sheet);
+    let head = whole(read_of_form(Form::Rows, sheet), sheet);
     if head.refusal != 0 {
         return Length {
             refusal: head.refusal,

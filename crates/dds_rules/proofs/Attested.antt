@@ -13,6 +13,7 @@ use Rattle.head_rules.specs.declared.Head.{Head}
 use Rattle.head_rules.specs.Colours.{colourNumber, colourOf, colourRefusal}
 use Rattle.head_rules.specs.Geometry.{blocksOf}
 use Rattle.head_rules.specs.Heads.{colourIn, formIn, formOf, headBytes, headRefusalUpTo, heightIn, ofFormRefusalUpTo, oldHead, readHeadUpTo}
+use Rattle.head_rules.specs.Heads.{ofFormRefusalWith, readOfFormWith}
 use Rattle.head_rules.specs.Heads.{readOfFormUpTo, sizeRefusalUpTo, widthIn}
 use Rattle.head_rules.specs.Numbers.{groups, raised, readGroups, readNumber}
 use Rattle.laws.specs.Digits.{evenly}
@@ -25,7 +26,7 @@ use Rattle.dds_rules.specs.Header.{alphaMask, arraySize, bitCount, blueM
 use Rattle.dds_rules.specs.Header.{dimension, entries, format, formatCode, formatFlags, formatOf, formatSays, formatSize, greenMask}
 use Rattle.dds_rules.specs.Header.{headerFlags, headerNumber, headerSize, height, isTexture, linearSize, magic, mipCount, misc, misc2}
 use Rattle.dds_rules.specs.Header.{numberAt, offset, redMask, reserved, reserved2, width}
-use Rattle.dds_rules.specs.Files.{exportAfter, exportAfterBy, exportHead, exportLength, exportRefusal, exportRefusalBy, fileMadeBy}
+use Rattle.dds_rules.specs.Files.{exportAfter, exportLength, exportRefusal, fileMade, sheetHead}
 use Rattle.dds_rules.specs.Files.{fileRefusalUpTo, headMade, importAfter, importAfterUpTo}
 use Rattle.dds_rules.specs.Files.{importAnswer, importHead, importLength, importRefusal, importRefusalUpTo, numberedAfter, numberedRefusal}
 use Rattle.dds_rules.specs.Files.{said, sheetMade}
@@ -243,24 +244,24 @@ pub record Files : Type 0 where
   pub number-low-byte-first : numberAt (9 ∷ 0x04 ∷ 0x03 ∷ 0x02 ∷ 0x81 ∷ 9 ∷ []) 1 ≡ 0x81020304
   pub imported : map (λ out. importAfter file53 out) (nines 35 ∷ nines 34 ∷ []) ≡ sheet53 ∷ nines 34 ∷ []
   pub imported-srgb : importAfter (but 128 99) (nines 35) ≡ sheet53
-  pub exported : map (λ out. exportAfter sheet53 Unspecified out) (nines 180 ∷ nines 181 ∷ []) ≡ file53 ∷ nines 181 ∷ []
-  pub exported-under : map (λ c. exportAfter sheet53 c (nines 180)) three ≡ file53 ∷ file53 ∷ but 128 99 ∷ []
+  pub exported : map (λ out. exportAfter (sheetHead sheet53) Unspecified sheet53 out) (nines 180 ∷ nines 181 ∷ []) ≡ file53 ∷ nines 181 ∷ []
+  pub exported-under : map (λ c. exportAfter (sheetHead sheet53) c sheet53 (nines 180)) three ≡ file53 ∷ file53 ∷ but 128 99 ∷ []
   pub exported-numbered : map (λ n. numberedAfter sheet53 n (nines 180)) (0 ∷ 1 ∷ 2 ∷ 3 ∷ []) ≡ file53 ∷ file53 ∷ but 128 99 ∷ nines 180 ∷ []
   -- the answer of an import: linear for 98, sRGB for 99, and nothing where it is refused, for the file or for the output's length
   pub answered : importAnswer file53 35 ∷ importAnswer (but 128 99) 35 ∷ importAnswer (but 128 99) 34 ∷ importAnswer (but 128 100) 35 ∷ []
       ≡ head Linear 5 3 3 ∷ head Srgb 5 3 3 ∷ noHead 11 ∷ noHead 15 ∷ []
-  pub heads : importHead file53 ∷ importHead (but 128 99) ∷ exportHead sheet53 ∷ importHead [] ∷ exportHead [] ∷ []
+  pub heads : importHead file53 ∷ importHead (but 128 99) ∷ wholeHead (sheetHead sheet53) sheet53 ∷ importHead [] ∷ wholeHead (sheetHead []) [] ∷ []
       ≡ head Linear 5 3 3 ∷ head Srgb 5 3 3 ∷ head Unspecified 5 3 3 ∷ noHead 15 ∷ noHead 7 ∷ []
   pub import-answers : map (λ c. importRefusal (c .given) (c .room)) imports ≡ map (λ c. c .answer) imports
-  pub export-answers : map (λ c. exportRefusal (c .given) (c .room)) exports ≡ map (λ c. c .answer) exports
+  pub export-answers : map (λ c. exportRefusal (sheetHead (c .given)) (c .given) (c .room)) exports ≡ map (λ c. c .answer) exports
   -- the larger map by every call; and by a console of before, which takes neither it nor form 2
-  pub larger-taken : importRefusal largerFile 16404 ∷ exportRefusal larger 16548 ∷ numberedRefusal larger 2 16548 ∷ [] ≡ 0 ∷ 0 ∷ 0 ∷ []
+  pub larger-taken : importRefusal largerFile 16404 ∷ exportRefusal (sheetHead larger) larger 16548 ∷ numberedRefusal larger 2 16548 ∷ [] ≡ 0 ∷ 0 ∷ 0 ∷ []
   pub larger-answered : importAnswer largerFile 16404 ≡ head Linear 4097 1 4
   pub larger-imported : take 5 (importAfter largerFile (nines 16404)) ≡ 0x01 ∷ 0x81 ∷ 0x20 ∷ 0x01 ∷ 0 ∷ []
   pub larger-lengths : importLength largerFile ∷ exportLength larger ∷ []
       ≡ record { refusal = 0; length = 16404 } ∷ record { refusal = 0; length = 16548 } ∷ []
-  pub not-exported-before : map (λ (s : List ℕ). exportRefusalBy (oldHead s) s 180) (sheet53 ∷ larger ∷ tiled53 ∷ []) ≡ 0 ∷ 9 ∷ 8 ∷ []
-  pub left-before : map (λ (s : List ℕ). exportAfterBy (oldHead s) Unspecified s (nines 180)) (sheet53 ∷ larger ∷ tiled53 ∷ [])
+  pub not-exported-before : map (λ (s : List ℕ). exportRefusal (oldHead s) s 180) (sheet53 ∷ larger ∷ tiled53 ∷ []) ≡ 0 ∷ 9 ∷ 8 ∷ []
+  pub left-before : map (λ (s : List ℕ). exportAfter (oldHead s) Unspecified s (nines 180)) (sheet53 ∷ larger ∷ tiled53 ∷ [])
       ≡ file53 ∷ nines 180 ∷ nines 180 ∷ []
   pub numbered-answers : map (λ c. numberedRefusal (c .given) (c .colour) (c .room)) numbered ≡ map (λ c. c .answer) numbered
   pub lengths : importLength file53 ∷ importLength header53 ∷ exportLength sheet53 ∷ exportLength [] ∷ []
@@ -269,9 +270,10 @@ pub record Files : Type 0 where
 
 pub files-hold : Files
 unfolding evenly table tableFrom first numberAt entries headerNumber canonicalHeader isTexture headMade sheetMade fileRefusalUpTo importRefusalUpTo
-    importAfterUpTo wholeRefusal exportRefusalBy fileMadeBy exportAfterBy importLength exportLength importHead wholeHead blocksOf
+    importAfterUpTo wholeRefusal exportRefusal fileMade exportAfter importLength exportLength importHead wholeHead blocksOf
     sizeRefusalUpTo headBytes groups readOfFormUpTo ofFormRefusalUpTo colourIn formOf readHeadUpTo headRefusalUpTo formIn widthIn heightIn
     readNumber readGroups raised formatSays importAnswer numberedRefusal numberedAfter colourOf colourRefusal
+    readOfFormWith ofFormRefusalWith
 files-hold = record {
   in-order = refl;
   headers = refl;
@@ -336,9 +338,9 @@ pub record Promised : Type 0 where
 
 pub promises-hold : Promised
 unfolding evenly table tableFrom first numberAt entries headerNumber canonicalHeader isTexture headMade sheetMade fileRefusalUpTo importRefusalUpTo
-    importAfterUpTo wholeRefusal exportRefusalBy fileMadeBy exportAfterBy importLength exportLength blocksOf sizeRefusalUpTo headBytes groups
+    importAfterUpTo wholeRefusal exportRefusal fileMade exportAfter importLength exportLength blocksOf sizeRefusalUpTo headBytes groups
     readOfFormUpTo ofFormRefusalUpTo colourIn formOf readHeadUpTo headRefusalUpTo formIn widthIn heightIn readNumber readGroups raised formatSays
-    importAnswer numberedRefusal numberedAfter colourOf colourRefusal
+    importAnswer numberedRefusal numberedAfter colourOf colourRefusal readOfFormWith ofFormRefusalWith
 promises-hold = record {
   imports-file = (refl, refl);
   imports-file-not = (refl, refl);

@@ -20,7 +20,7 @@ use Rattle.head_rules.proofs.Theorems.{rows-sized}
 use Rattle.dds_rules.specs.Header.{Entry, arraySize, cubeBit, dimension, ddsMagic, dx10Code, entries, entryAt, fieldIn, format}
 use Rattle.dds_rules.specs.Header.{formatCode, formatOf, formatSize, headerLength, headerNumber, headerSize, height, isTexture, magic}
 use Rattle.dds_rules.specs.Header.{mipCount, misc, numberAt, offset, width}
-use Rattle.dds_rules.specs.Files.{exportAfter, exportAfterBy, exportRefusal, fileMade, fileMadeBy, fileRefusalUpTo, headMade, importAfter}
+use Rattle.dds_rules.specs.Files.{exportAfter, exportRefusal, fileMade, fileRefusalUpTo, headMade, importAfter}
 use Rattle.dds_rules.specs.Files.{importAfterUpTo, importAnswer, importLength, importRefusalUpTo, sheetHead, sheetMade}
 use Rattle.dds_rules.proofs.Making.{format-small}
 use Rattle.dds_rules.proofs.Numbers.{number-back}
@@ -39,7 +39,7 @@ entry-small : (es : List Entry) → AllSmall es → (at : ℕ) → entryAt es at
 entry-small [] u at = lit< tt
 entry-small (e ∷ es) (s, ss) at = small-pick (eqb at (offset (e .field))) s (entry-small es ss at)
 
-module _ (s : List ℕ) (c : ColourSpace) (out : List ℕ) (e : exportRefusal s (length out) ≡ 0) where
+module _ (s : List ℕ) (c : ColourSpace) (out : List ℕ) (e : exportRefusal (sheetHead s) s (length out) ≡ 0) where
   abbrev head : Head
   head = under c (sheetHead s)
 
@@ -96,14 +96,14 @@ module _ (s : List ℕ) (c : ColourSpace) (out : List ℕ) (e : exportRefusal s 
       ) (4 * i)
 
   -- EXPORT WRITES: each of the 37 numbers of an exported file, in their order
-  pub export-writes : table 37 (λ i. numberAt (exportAfter s c out) (4 * i)) ≡
+  pub export-writes : table 37 (λ i. numberAt (exportAfter (sheetHead s) c s out) (4 * i)) ≡
       ddsMagic ∷ 124 ∷ 0x81007 ∷ sheetHead s .height ∷ sheetHead s .width ∷ 16 * blocksOf (sheetHead s) ∷ 0 ∷ 1 ∷
       0 ∷ 0 ∷ 0 ∷ 0 ∷ 0 ∷ 0 ∷ 0 ∷ 0 ∷ 0 ∷ 0 ∷ 0 ∷
       32 ∷ 4 ∷ dx10Code ∷ 0 ∷ 0 ∷ 0 ∷ 0 ∷ 0 ∷ 0x1000 ∷ 0 ∷ 0 ∷ 0 ∷ 0 ∷ formatOf c ∷ 3 ∷ 0 ∷ 1 ∷ 0 ∷ []
-  unfolding exportAfterBy fileMadeBy headerNumber entries table tableFrom blocksOf
+  unfolding exportAfter fileMade headerNumber entries table tableFrom blocksOf
   export-writes =
-      ap (λ (l : List ℕ). table 37 (λ i. numberAt l (4 * i))) (answer-0 (fileMade s c) out e)
-      ∙ table-same 0 37 (λ i. numberAt (fileMade s c) (4 * i)) (headerNumber head)
+      ap (λ (l : List ℕ). table 37 (λ i. numberAt l (4 * i))) (answer-0 (fileMade (sheetHead s) c s) out e)
+      ∙ table-same 0 37 (λ i. numberAt (fileMade (sheetHead s) c s) (4 * i)) (headerNumber head)
       (λ i l. number-back head (drop (sheetHead s .start) s) i l (number-small i))
 
 -- FURTHER FIELDS ARE IGNORED: two files alike in what the request names, whatever else their headers hold

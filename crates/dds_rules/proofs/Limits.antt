@@ -20,10 +20,10 @@ use Rattle.head_rules.proofs.Heading.{size-0, size-9}
 use Rattle.head_rules.proofs.Limits.{wider}
 use Rattle.head_rules.proofs.Theorems.{old-console-knows-no-tiles, old-console-refuses, stored-rows-keep}
 use Rattle.dds_rules.specs.Header.{fieldIn, height, isTexture, width}
-use Rattle.dds_rules.specs.Files.{exportAfter, exportAfterBy, exportRefusal, exportRefusalBy, fileRefusalUpTo, importAfter, importAfterUpTo}
+use Rattle.dds_rules.specs.Files.{exportAfter, exportRefusal, fileRefusalUpTo, importAfter, importAfterUpTo, sheetHead}
 use Rattle.dds_rules.specs.Files.{exportLength, fileLength, headMade, importAnswer, importLength, importRefusal, importRefusalUpTo}
 use Rattle.dds_rules.specs.Files.{lengthAs, numberedAfter, numberedRefusal}
-use Rattle.dds_rules.proofs.Numbered.{numbered-export}
+use Rattle.dds_rules.proofs.Numbered.{numbered-as}
 
 module _ (dds out : List ℕ) where
   pub stored-files-keep : SizedUpTo oldLimit (fieldIn dds width) (fieldIn dds height)
@@ -61,20 +61,21 @@ module _ (dds : List ℕ) where
 
 module _ (s : List ℕ) (c : ColourSpace) (out : List ℕ) where
   pub stored-sheets-export : oldHead s .refusal ≡ 0
-      → (exportRefusal s (length out) ≡ exportRefusalBy (oldHead s) s (length out)) × (exportAfter s c out ≡ exportAfterBy (oldHead s) c s out)
+      → (exportRefusal (sheetHead s) s (length out) ≡ exportRefusal (oldHead s) s (length out))
+      × (exportAfter (sheetHead s) c s out ≡ exportAfter (oldHead s) c s out)
   stored-sheets-export e =
       let k = stored-rows-keep s e in
-      (ap (λ (h : Head). exportRefusalBy h s (length out)) k, ap (λ (h : Head). exportAfterBy h c s out) k)
+      (ap (λ (h : Head). exportRefusal h s (length out)) k, ap (λ (h : Head). exportAfter h c s out) k)
 
   pub old-console-exports-nothing : readHead s .refusal ≡ 0 → readHead s .form ≡ Rows
       → (oldLimit < readHead s .width) ⊎ (oldLimit < readHead s .height)
-      → (exportRefusalBy (oldHead s) s (length out) ≡ 9) × (exportAfterBy (oldHead s) c s out ≡ out)
-  unfolding exportAfterBy exportRefusalBy wholeRefusal first
+      → (exportRefusal (oldHead s) s (length out) ≡ 9) × (exportAfter (oldHead s) c s out ≡ out)
+  unfolding exportAfter exportRefusal wholeRefusal first
   old-console-exports-nothing e f above = rw (old-console-refuses s e f above) (refl, refl)
 
   pub old-console-exports-no-tiles : formIn s .value ≡ formNumber Tiles
-      → (exportRefusalBy (oldHead s) s (length out) ≡ 8) × (exportAfterBy (oldHead s) c s out ≡ out)
-  unfolding exportAfterBy exportRefusalBy wholeRefusal first
+      → (exportRefusal (oldHead s) s (length out) ≡ 8) × (exportAfter (oldHead s) c s out ≡ out)
+  unfolding exportAfter exportRefusal wholeRefusal first
   old-console-exports-no-tiles e = rw (old-console-knows-no-tiles s e) (refl, refl)
 
 -- the length that export needs, and export under a number, which for a number that is a colour space's is export
@@ -90,10 +91,7 @@ module _ (s : List ℕ) where
   old-console-needs-nothing e f above = rw (old-console-refuses s e f above)
 
   pub stored-sheets-export-numbered : oldHead s .refusal ≡ 0 → (n : ℕ) → n ≤ 2 → (out : List ℕ)
-      → (numberedRefusal s n (length out) ≡ exportRefusalBy (oldHead s) s (length out))
-      × (numberedAfter s n out ≡ exportAfterBy (oldHead s) (colourOf n) s out)
-  unfolding numberedAfter exportAfterBy
-  stored-sheets-export-numbered e n l out =
-      let q = numbered-export s n (length out) l in
-      let k = stored-sheets-export s (colourOf n) out e in
-      (q ∙ k .0, rw q (k .1))
+      → (numberedRefusal s n (length out) ≡ exportRefusal (oldHead s) s (length out))
+      × (numberedAfter s n out ≡ exportAfter (oldHead s) (colourOf n) s out)
+  unfolding numberedRefusal numberedAfter
+  stored-sheets-export-numbered e n l out = rw (numbered-as s n l) (stored-sheets-export s (colourOf n) out e)

@@ -20,7 +20,7 @@ use Rattle.head_rules.proofs.Theorems.{head-read-back, of-form-is, rows-one-for
 use Rattle.head_rules.proofs.Writing.{few, one-byte}
 use Rattle.dds_rules.specs.Header.{Texture, canonicalHeader, entries, fieldIn, format, formatOf, formatSays, headerLength, headerNumber}
 use Rattle.dds_rules.specs.Header.{height, width}
-use Rattle.dds_rules.specs.Files.{fileLength, fileMade, fileMadeBy, headMade, said, sheetHead, sheetMade}
+use Rattle.dds_rules.specs.Files.{fileLength, fileMade, headMade, said, sheetHead, sheetMade}
 use Rattle.dds_rules.proofs.Refusing.{Taken}
 use Rattle.dds_rules.proofs.Numbers.{header-long, number-back}
 
@@ -78,8 +78,8 @@ module _ (dds : List ℕ) where
 
   -- and its file has the header of its head, and the blocks of the first file
   pub file-again : Sized wide high → (c : ColourSpace)
-      → fileMade (sheetMade dds) c ≡ canonicalHeader (under c (headMade dds)) ++ drop headerLength dds
-  unfolding fileMadeBy
+      → fileMade (sheetHead (sheetMade dds)) c (sheetMade dds) ≡ canonicalHeader (under c (headMade dds)) ++ drop headerLength dds
+  unfolding fileMade
   file-again z c =
       ap (λ (x : Head). canonicalHeader (under c x) ++ drop (x .start) (sheetMade dds)) (sheet-head z)
       ∙ ap (λ (l : List ℕ). canonicalHeader (under c (headMade dds)) ++ l) sheet-blocks
@@ -103,27 +103,27 @@ module _ (s : List ℕ) (y : Bytes s) (w : Whole (sheetHead s) s) (c : ColourSpa
       let e = ap length spelt ∙ length-append (headBytes (head .width) (head .height)) (drop (head .start) s) in
       omega (arith, e, length-drop (head .start) s, w .long)
 
-  pub file-long : length (fileMade s c) ≡ fileLength head
-  unfolding fileMadeBy
+  pub file-long : length (fileMade (sheetHead s) c s) ≡ fileLength head
+  unfolding fileMade
   file-long =
       length-append (canonicalHeader (under c head)) (drop (head .start) s)
       ∙ omega (arith, header-long (under c head), length-drop (head .start) s, w .long)
 
   -- the file's fields
-  width-back : fieldIn (fileMade s c) width ≡ head .width
-  unfolding fileMadeBy headerNumber entries
+  width-back : fieldIn (fileMade (sheetHead s) c s) width ≡ head .width
+  unfolding fileMade headerNumber entries
   width-back = number-back (under c head) (drop (head .start) s) 4 (lit< tt) (omega (arith, size .within-wide))
 
-  height-back : fieldIn (fileMade s c) height ≡ head .height
-  unfolding fileMadeBy headerNumber entries
+  height-back : fieldIn (fileMade (sheetHead s) c s) height ≡ head .height
+  unfolding fileMade headerNumber entries
   height-back = number-back (under c head) (drop (head .start) s) 3 (lit< tt) (omega (arith, size .within-high))
 
-  format-back : fieldIn (fileMade s c) format ≡ formatOf c
-  unfolding fileMadeBy headerNumber entries
+  format-back : fieldIn (fileMade (sheetHead s) c s) format ≡ formatOf c
+  unfolding fileMade headerNumber entries
   format-back = number-back (under c head) (drop (head .start) s) 32 (lit< tt) (format-small c)
 
-  file-texture : Texture (fileMade s c)
-  unfolding fileMadeBy headerNumber entries
+  file-texture : Texture (fileMade (sheetHead s) c s)
+  unfolding fileMade headerNumber entries
   file-texture =
       let back = number-back (under c head) (drop (head .start) s) in
       record {
@@ -141,16 +141,17 @@ module _ (s : List ℕ) (y : Bytes s) (w : Whole (sheetHead s) s) (c : ColourSpa
       }
 
   -- its head is the first sheet's under what the format says, and its sheet is that sheet
-  pub head-again : headMade (fileMade s c) ≡ under (said c) head
+  pub head-again : headMade (fileMade (sheetHead s) c s) ≡ under (said c) head
   unfolding headMade
   head-again =
-      ap₂ (λ (a b : ℕ). under (formatSays (fieldIn (fileMade s c) format)) (headOf 0 a b (length (headBytes a b)))) width-back height-back
+      ap₂ (λ (a b : ℕ). under (formatSays (fieldIn (fileMade (sheetHead s) c s) format)) (headOf 0 a b (length (headBytes a b)))) width-back
+      height-back
       ∙ ap (λ (k : ColourSpace). under k (headOf 0 (head .width) (head .height) (length (headBytes (head .width) (head .height)))))
       (ap formatSays format-back ∙ format-said c)
       ∙ ap₂ (λ (r n : ℕ). under (said c) (headOf r (head .width) (head .height) n)) (sym (w .told)) (sym starts)
       ∙ ap (λ (f : Form). headIn f (said c) (head .refusal) (head .width) (head .height) (head .start)) (sym form-is)
 
-  pub file-taken : Taken (fileMade s c)
+  pub file-taken : Taken (fileMade (sheetHead s) c s)
   unfolding blocksOf
   file-taken = record {
     texture = file-texture;
@@ -158,8 +159,8 @@ module _ (s : List ℕ) (y : Bytes s) (w : Whole (sheetHead s) s) (c : ColourSpa
     long = file-long ∙ ap fileLength (sym head-again);
   }
 
-  pub sheet-again : sheetMade (fileMade s c) ≡ s
-  unfolding sheetMade fileMadeBy
+  pub sheet-again : sheetMade (fileMade (sheetHead s) c s) ≡ s
+  unfolding sheetMade fileMade
   sheet-again =
       ap₂ (λ (b l : List ℕ). b ++ l) (ap₂ headBytes width-back height-back)
       (drop-at (canonicalHeader (under c head)) (drop (head .start) s) headerLength (header-long (under c head)))

@@ -17,7 +17,7 @@ use Rattle.head_rules.proofs.Whole.{whole-rules}
 use Rattle.laws.specs.Refusals.{Given, Rule, accepted, first, handed, here, refuse, then, unless}
 use Rattle.laws.proofs.Refusals.{Answers, accepted-when, answers, by-answer, by-not-eqb, exactly, none, rule, rules}
 use Rattle.dds_rules.specs.Header.{Another, Texture, fieldIn, height, width}
-use Rattle.dds_rules.specs.Files.{exportRefusal, exportRefusalBy, exportRules, fileLength, fileRefusal, fileRefusalUpTo, fileRules, headMade}
+use Rattle.dds_rules.specs.Files.{exportRefusal, exportRules, fileLength, fileRefusal, fileRefusalUpTo, fileRules, headMade}
 use Rattle.dds_rules.specs.Files.{importRefusal, importRefusalUpTo, importRules}
 use Rattle.dds_rules.specs.Files.{sheetHead, wholeRules}
 use Rattle.dds_rules.proofs.Textures.{not-both, texture-test, whether}
@@ -36,8 +36,8 @@ import-rules dds room = answers (rules (file-rules dds) λ m. rule (by-not-eqb t
 pub sheet-rules : (s : List ℕ) → Answers (wholeRefusal (sheetHead s) s) (wholeRules s)
 sheet-rules s = whole-rules (sheetHead s) s (rows-answers s)
 
-pub export-rules : (s : List ℕ) (room : ℕ) → Answers (exportRefusal s room) (exportRules s room)
-unfolding exportRefusalBy
+pub export-rules : (s : List ℕ) (room : ℕ) → Answers (exportRefusal (sheetHead s) s room) (exportRules s room)
+unfolding exportRefusal
 export-rules s room = answers (rules (sheet-rules s) λ m. rule (by-not-eqb tt room (fileLength (sheetHead s))) λ r. none)
 
 -- 11 stands behind whatever was answered before
@@ -65,8 +65,8 @@ module _ (dds : List ℕ) (room : ℕ) where
       (λ e. (a .0 e .0, a .0 e .1 .0), λ m. a .1 (m .0, (m .1, tt)))
 
 module _ (s : List ℕ) (room : ℕ) where
-  pub exported-when : (exportRefusal s room ≡ 0) ↔ (wholeRefusal (sheetHead s) s ≡ 0) × (room ≡ fileLength (sheetHead s))
-  unfolding exportRefusalBy
+  pub exported-when : (exportRefusal (sheetHead s) s room ≡ 0) ↔ (wholeRefusal (sheetHead s) s ≡ 0) × (room ≡ fileLength (sheetHead s))
+  unfolding exportRefusal
   exported-when =
       let a = accepted-when (room-rules (wholeRefusal (sheetHead s) s) (fileLength (sheetHead s)) room) in
       (λ e. (a .0 e .0, a .0 e .1 .0), λ m. a .1 (m .0, (m .1, tt)))

@@ -20,10 +20,10 @@ use Rattle.head_rules.proofs.Whole.{whole-when}
 use Rattle.laws.specs.Refusals.{Given}
 use Rattle.laws.proofs.Refusals.{answer-0, exactly}
 use Rattle.dds_rules.specs.Header.{Another, canonicalHeader, headerLength}
-use Rattle.dds_rules.specs.Files.{exportAfter, exportAfterBy, exportLength, exportRefusal, exportRules, fileLength, fileMade, fileRules}
+use Rattle.dds_rules.specs.Files.{exportAfter, exportLength, exportRefusal, exportRules, fileLength, fileMade, fileRules}
 use Rattle.dds_rules.specs.Files.{headMade}
 use Rattle.dds_rules.specs.Files.{importAfter, importAfterUpTo, importAnswer, importLength, importRefusal, importRules, numberedAfter}
-use Rattle.dds_rules.specs.Files.{numberedRefusal, numberedRules, said, sheetHead, sheetMade, wholeRules}
+use Rattle.dds_rules.specs.Files.{numberedHead, numberedRefusal, numberedRules, said, sheetHead, sheetMade, wholeRules}
 use Rattle.dds_rules.specs.Promises.{ExportNeeds, Exports, ExportsNumbered, ImportNeeds, Imports}
 use Rattle.dds_rules.proofs.Numbered.{numbered-rules}
 use Rattle.dds_rules.proofs.Refusing.{export-rules, exported-when, fifteen, file-rules, import-rules, imported-when, sheet-rules}
@@ -36,9 +36,10 @@ imported-is : (dds out : List ℕ) → importRefusal dds (length out) ≡ 0 → 
 unfolding importAfterUpTo
 imported-is dds out e = answer-0 (sheetMade dds) out e
 
-exported-is : (s : List ℕ) (c : ColourSpace) (out : List ℕ) → exportRefusal s (length out) ≡ 0 → exportAfter s c out ≡ fileMade s c
-unfolding exportAfterBy
-exported-is s c out e = answer-0 (fileMade s c) out e
+exported-is : (s : List ℕ) (c : ColourSpace) (out : List ℕ) → exportRefusal (sheetHead s) s (length out) ≡ 0
+    → exportAfter (sheetHead s) c s out ≡ fileMade (sheetHead s) c s
+unfolding exportAfter
+exported-is s c out e = answer-0 (fileMade (sheetHead s) c s) out e
 
 -- what import answers: its refusal, and the head that the file makes; or the refusal and nothing else
 pub import-answers : (dds : List ℕ) (room : ℕ) → importAnswer dds room .refusal ≡ importRefusal dds room
@@ -56,24 +57,29 @@ refused-import-answers-none dds room ne = rw (ne-eqb (importRefusal dds room) 0 
 
 -- THERE AND BACK: a sheet that was exported, under whichever colour space, is imported again, and restored byte for byte, whatever stood in
 -- the outputs
-module _ (s : List ℕ) (y : Bytes s) (c : ColourSpace) (out back : List ℕ) (e : exportRefusal s (length out) ≡ 0) (l : length back ≡ length s) where
-  again : importRefusal (fileMade s c) (length back) ≡ 0
+module _ (s : List ℕ) (y : Bytes s) (c : ColourSpace) (out back : List ℕ) (e : exportRefusal (sheetHead s) s (length out) ≡ 0)
+    (l : length back ≡ length s) where
+  again : importRefusal (fileMade (sheetHead s) c s) (length back) ≡ 0
   unfolding blocksOf
   again =
       let w = whole-when (sheetHead s) s .0 (exported-when s (length out) .0 e .0) in
-      imported-when (fileMade s c) (length back) .1
-      (taken-so (fileMade s c) (file-taken s y w c), l ∙ w .long ∙ ap (λ (h : Head). h .start + 16 * blocksOf h) (sym (head-again s y w c)))
+      imported-when (fileMade (sheetHead s) c s) (length back) .1 (
+        taken-so (fileMade (sheetHead s) c s) (file-taken s y w c),
+        l ∙ w .long ∙ ap (λ (h : Head). h .start + 16 * blocksOf h)
+            (sym (head-again s y w c)),
+      )
 
-  pub import-exported : (importRefusal (exportAfter s c out) (length back) ≡ 0) × (importAfter (exportAfter s c out) back ≡ s)
+  pub import-exported : (importRefusal (exportAfter (sheetHead s) c s out) (length back) ≡ 0)
+      × (importAfter (exportAfter (sheetHead s) c s out) back ≡ s)
   import-exported =
       let w = whole-when (sheetHead s) s .0 (exported-when s (length out) .0 e .0) in
-      rw (exported-is s c out e) (again, imported-is (fileMade s c) back again ∙ sheet-again s y w c)
+      rw (exported-is s c out e) (again, imported-is (fileMade (sheetHead s) c s) back again ∙ sheet-again s y w c)
 
   -- and import answers its head, with the colour space that was given; but unspecified comes back as linear
-  pub head-exported : importAnswer (exportAfter s c out) (length back) ≡ under (said c) (sheetHead s)
+  pub head-exported : importAnswer (exportAfter (sheetHead s) c s out) (length back) ≡ under (said c) (sheetHead s)
   head-exported =
       let w = whole-when (sheetHead s) s .0 (exported-when s (length out) .0 e .0) in
-      rw (exported-is s c out e) (import-answers-head (fileMade s c) (length back) again ∙ head-again s y w c)
+      rw (exported-is s c out e) (import-answers-head (fileMade (sheetHead s) c s) (length back) again ∙ head-again s y w c)
 
 pub colour-comes-back : (c : ColourSpace) → c ≢ Unspecified → said c ≡ c
 colour-comes-back Unspecified n = absurd (n refl)
@@ -85,18 +91,20 @@ unspecified-comes-back-linear = refl
 
 -- AND BACK AGAIN: a file that was imported is exported again, with the header that export writes and the same blocks
 pub export-imported : (dds out : List ℕ) (c : ColourSpace) (back : List ℕ) → importRefusal dds (length out) ≡ 0 → length back ≡ length dds
-    → (exportRefusal (importAfter dds out) (length back) ≡ 0)
-    × (exportAfter (importAfter dds out) c back ≡ canonicalHeader (under c (headMade dds)) ++ drop headerLength dds)
+    → let s = importAfter dds out in
+    (exportRefusal (sheetHead s) s (length back) ≡ 0)
+    × (exportAfter (sheetHead s) c s back ≡ canonicalHeader (under c (headMade dds)) ++ drop headerLength dds)
 unfolding blocksOf
 export-imported dds out c back e l =
     let t = taken dds (imported-when dds (length out) .0 e .0) in
-    let again : exportRefusal (sheetMade dds) (length back) ≡ 0 = exported-when (sheetMade dds) (length back) .1
+    let again : exportRefusal (sheetHead (sheetMade dds)) (sheetMade dds) (length back) ≡ 0 = exported-when (sheetMade dds) (length back) .1
     (whole-when (sheetHead (sheetMade dds)) (sheetMade dds) .1 (sheet-whole dds t), l ∙ t .long ∙ ap fileLength (sym (sheet-head dds (t .size)))) in
     rw (imported-is dds out e) (again, exported-is (sheetMade dds) c back again ∙ file-again dds (t .size) c)
 
 -- so byte for byte the file itself, where its header was as export writes it and the colour space is the one that import answered
 pub canonical-restored : (dds out back : List ℕ) → importRefusal dds (length out) ≡ 0 → length back ≡ length dds
-    → take headerLength dds ≡ canonicalHeader (headMade dds) → exportAfter (importAfter dds out) (headMade dds .«colour_space») back ≡ dds
+    → take headerLength dds ≡ canonicalHeader (headMade dds)
+    → let s = importAfter dds out in exportAfter (sheetHead s) (headMade dds .«colour_space») s back ≡ dds
 canonical-restored dds out back e l c =
     export-imported dds out (headMade dds .«colour_space») back e l .1 ∙ ap (λ (h : List ℕ). h ++ drop headerLength dds) (sym c)
     ∙ take-append-drop headerLength dds
@@ -121,7 +129,7 @@ block-imported dds out b e =
 pub import-refused-when : (dds : List ℕ) (room n : ℕ) → (importRefusal dds room ≡ n) ↔ Given (importRules dds room) n
 import-refused-when dds room = exactly (import-rules dds room)
 
-pub export-refused-when : (s : List ℕ) (room n : ℕ) → (exportRefusal s room ≡ n) ↔ Given (exportRules s room) n
+pub export-refused-when : (s : List ℕ) (room n : ℕ) → (exportRefusal (sheetHead s) s room ≡ n) ↔ Given (exportRules s room) n
 export-refused-when s room = exactly (export-rules s room)
 
 -- 18 stands behind 7 and 8 and before 9 (`numberedRules`)
@@ -152,7 +160,7 @@ import-length-serves dds room =
     )
 
 pub export-length-serves : (s : List ℕ) (room : ℕ)
-    → (exportRefusal s room ≡ 0) ↔ (exportLength s .refusal ≡ 0) × (room ≡ exportLength s .length)
+    → (exportRefusal (sheetHead s) s room ≡ 0) ↔ (exportLength s .refusal ≡ 0) × (room ≡ exportLength s .length)
 unfolding exportLength
 export-length-serves s room =
     let a = exported-when s room in (
@@ -170,13 +178,14 @@ refused-import-leaves dds before answer after p ne =
 
 pub refused-export-leaves : (s : List ℕ) (c : ColourSpace) (before : List ℕ) (answer : ℕ) (after : List ℕ) → Exports s c before answer after
     → answer ≢ 0 → after ≡ before
-unfolding exportAfterBy
-refused-export-leaves s c before answer after p ne = p .1 ∙ rw (ne-eqb (exportRefusal s (length before)) 0 (λ e. ne (p .0 ∙ e)))
+unfolding exportAfter
+refused-export-leaves s c before answer after p ne = p .1 ∙ rw (ne-eqb (exportRefusal (sheetHead s) s (length before)) 0 (λ e. ne (p .0 ∙ e)))
 
 pub refused-numbered-leaves : (s : List ℕ) (n : ℕ) (before : List ℕ) (answer : ℕ) (after : List ℕ) → ExportsNumbered s n before answer after
     → answer ≢ 0 → after ≡ before
-unfolding numberedAfter
-refused-numbered-leaves s n before answer after p ne = p .1 ∙ rw (ne-eqb (numberedRefusal s n (length before)) 0 (λ e. ne (p .0 ∙ e)))
+unfolding numberedRefusal numberedAfter exportAfter
+refused-numbered-leaves s n before answer after p ne =
+    p .1 ∙ rw (ne-eqb (exportRefusal (numberedHead n s) s (length before)) 0 (λ e. ne (p .0 ∙ e)))
 
 -- any two results that a promise admits coincide
 pub determined-import : (dds before : List ℕ) (a b : Head) (x y : List ℕ) → Imports dds before a x → Imports dds before b y → (a ≡ b) × (x ≡ y)

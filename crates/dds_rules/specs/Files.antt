@@ -13,10 +13,9 @@ use Rattle.head_rules.specs.declared.Head.{Head}
 use Rattle.head_rules.specs.Colours.{colourOf, colourRefusal}
 use Rattle.head_rules.specs.Geometry.{blocksOf, wholeLength}
 use Rattle.head_rules.specs.declared.Form.the-variants.{Rows}
-use Rattle.head_rules.specs.Heads.{Sized, formIn, formNumber, headAs, headBytes, headOf, heightIn, limit, readOfForm, rowsRules, sizeRefusal}
-use Rattle.head_rules.specs.Heads.{sizeRefusalUpTo, under, widthIn}
-use Rattle.head_rules.specs.Whole.{wholeHead, wholeRefusal, wholeRule}
-use Rattle.laws.specs.Refusals.{Rule, first, handed, refuse, unless}
+use Rattle.head_rules.specs.Heads.{Sized, headAs, headBytes, headOf, limit, readOfForm, readOfFormWith, rowsRulesWith, sizeRefusalUpTo, under}
+use Rattle.head_rules.specs.Whole.{wholeRefusal, wholeRule}
+use Rattle.laws.specs.Refusals.{Rule, first, refuse, unless}
 use Rattle.laws.specs.Tables.{pick}
 use Rattle.dds_rules.specs.Header.{Texture, canonicalHeader, fieldIn, format, formatSays, headerLength, height, isTexture, width}
 
@@ -68,27 +67,18 @@ importAfter dds out = importAfterUpTo limit dds out
 abbrev pub sheetHead : List ℕ → Head
 sheetHead s = readOfForm Rows s
 
--- under a colour space, of a sheet whose head was read as h, by whatever limit. 7, 8, 9 of the head, then 10, whatever the output;
--- then 11, by the output's length
-unfoldable pub exportRefusalBy : Head → List ℕ → ℕ → ℕ
-exportRefusalBy h s room = first (wholeRefusal h s ∷ refuse 11 (not (eqb room (fileLength h))) ∷ [])
+-- Each of these takes a head first: h is what was read of the sheet's own, by whatever reader. Its refusals and 10, whatever the output; then
+-- 11, by the output's length
+unfoldable pub exportRefusal : Head → List ℕ → ℕ → ℕ
+exportRefusal h s room = first (wholeRefusal h s ∷ refuse 11 (not (eqb room (fileLength h))) ∷ [])
 
-abbrev pub exportRefusal : List ℕ → ℕ → ℕ
-exportRefusal s room = exportRefusalBy (sheetHead s) s room
-
--- the file: the header, then the blocks as they stand in the sheet
-unfoldable pub fileMadeBy : Head → ColourSpace → List ℕ → List ℕ
-fileMadeBy h c s = canonicalHeader (under c h) ++ drop (h .start) s
-
-abbrev pub fileMade : List ℕ → ColourSpace → List ℕ
-fileMade s c = fileMadeBy (sheetHead s) c s
+-- the file: the header under a colour space, then the blocks as they stand in the sheet
+unfoldable pub fileMade : Head → ColourSpace → List ℕ → List ℕ
+fileMade h c s = canonicalHeader (under c h) ++ drop (h .start) s
 
 -- the output afterwards
-unfoldable pub exportAfterBy : Head → ColourSpace → List ℕ → List ℕ → List ℕ
-exportAfterBy h c s out = pick (eqb (exportRefusalBy h s (length out)) 0) (fileMadeBy h c s) out
-
-abbrev pub exportAfter : List ℕ → ColourSpace → List ℕ → List ℕ
-exportAfter s c out = exportAfterBy (sheetHead s) c s out
+unfoldable pub exportAfter : Head → ColourSpace → List ℕ → List ℕ → List ℕ
+exportAfter h c s out = pick (eqb (exportRefusal h s (length out)) 0) (fileMade h c s) out
 
 -- what a file says that was exported under a colour space: unspecified comes back as linear
 abbrev pub said : ColourSpace → ColourSpace
@@ -96,22 +86,15 @@ said Unspecified = Linear
 said Linear = Linear
 said Srgb = Srgb
 
--- EXPORT UNDER A NUMBER, as C gives the colour space: 18 where it has none, behind 7 and 8 and before 9; otherwise as export
+-- EXPORT UNDER A NUMBER, as C gives the colour space: 18 where it has none, looked at behind 7 and 8 of the head and before 9
+abbrev pub numberedHead : ℕ → List ℕ → Head
+numberedHead n s = readOfFormWith (colourRefusal n) Rows s
+
 unfoldable pub numberedRefusal : List ℕ → ℕ → ℕ → ℕ
-numberedRefusal s n room =
-    first
-    (formIn s .refusal
-    ∷ refuse 8 (not (eqb (formIn s .value) (formNumber Rows)))
-    ∷ widthIn s .refusal
-    ∷ heightIn s .refusal
-    ∷ colourRefusal n
-    ∷ sizeRefusal (widthIn s .value) (heightIn s .value)
-    ∷ refuse 10 (not (eqb (length s) (wholeLength (sheetHead s))))
-    ∷ refuse 11 (not (eqb room (fileLength (sheetHead s))))
-    ∷ [])
+numberedRefusal s n room = exportRefusal (numberedHead n s) s room
 
 unfoldable pub numberedAfter : List ℕ → ℕ → List ℕ → List ℕ
-numberedAfter s n out = pick (eqb (numberedRefusal s n (length out)) 0) (fileMade s (colourOf n)) out
+numberedAfter s n out = exportAfter (numberedHead n s) (colourOf n) s out
 
 -- HOW LONG THE OUTPUT HAS TO BE: refused as the call itself is, but for 11
 abbrev pub lengthAs : ℕ → ℕ → Length
@@ -123,12 +106,9 @@ importLength dds = lengthAs (fileRefusal dds) (wholeLength (headMade dds))
 unfoldable pub exportLength : List ℕ → Length
 exportLength s = lengthAs (wholeRefusal (sheetHead s) s) (fileLength (sheetHead s))
 
--- what is known of a file and of a sheet before the output is looked at
+-- what is known of a file before the output is looked at
 unfoldable pub importHead : List ℕ → Head
 importHead dds = headAs (fileRefusal dds) (headMade dds)
-
-abbrev pub exportHead : List ℕ → Head
-exportHead s = wholeHead (sheetHead s) s
 
 -- THE RULES IN WORDS
 abbrev pub fileRules : List ℕ → List Rule
@@ -141,20 +121,18 @@ fileRules dds =
 abbrev pub importRules : List ℕ → ℕ → List Rule
 importRules dds room = fileRules dds ++ (unless 11 (room ≡ wholeLength (headMade dds)) ∷ [])
 
+-- of export, where a call looks at something between 7 and 9 of the head
+abbrev pub wholeRulesWith : List Rule → List ℕ → List Rule
+wholeRulesWith between s = rowsRulesWith between s ++ (wholeRule (sheetHead s) s ∷ [])
+
+abbrev pub exportRulesWith : List Rule → List ℕ → ℕ → List Rule
+exportRulesWith between s room = wholeRulesWith between s ++ (unless 11 (room ≡ fileLength (sheetHead s)) ∷ [])
+
 abbrev pub wholeRules : List ℕ → List Rule
-wholeRules s = rowsRules s ++ (wholeRule (sheetHead s) s ∷ [])
+wholeRules s = wholeRulesWith [] s
 
 abbrev pub exportRules : List ℕ → ℕ → List Rule
-exportRules s room = wholeRules s ++ (unless 11 (room ≡ fileLength (sheetHead s)) ∷ [])
+exportRules s room = exportRulesWith [] s room
 
 abbrev pub numberedRules : List ℕ → ℕ → ℕ → List Rule
-numberedRules s n room =
-    handed (formIn s .refusal) ∷
-    unless 8 (formIn s .value ≡ formNumber Rows) ∷
-    handed (widthIn s .refusal) ∷
-    handed (heightIn s .refusal) ∷
-    unless 18 (n ≤ 2) ∷
-    unless 9 (Sized (widthIn s .value) (heightIn s .value)) ∷
-    wholeRule (sheetHead s) s ∷
-    unless 11 (room ≡ fileLength (sheetHead s)) ∷
-    []
+numberedRules s n room = exportRulesWith (unless 18 (n ≤ 2) ∷ []) s room

@@ -17,8 +17,7 @@ use Rattle.laws.proofs.Tests.{eqb-of}
 use Rattle.head_rules.specs.Colours.{colourNumber, colourOf, colourRefusal}
 use Rattle.head_rules.specs.Heads.{bytesOfHead, colourIn, formIn, formNumber, formOf, headBytes, headRefusalUpTo, heightIn, limit, oldHead}
 use Rattle.head_rules.specs.Heads.{ofFormRefusalUpTo, readHead, readHeadUpTo, readOfForm, readOfFormUpTo, sizeRefusalUpTo, tiledBytes}
-use Rattle.head_rules.specs.Heads.{under, widthIn, writeHead, writeHeadUpTo}
-use Rattle.head_rules.specs.Heads.{ReadsHead, WritesHead}
+use Rattle.head_rules.specs.Heads.{ReadsHead, WritesHead, ofFormRefusalWith, readOfFormWith, under, widthIn, writeHead, writeHeadUpTo}
 use Rattle.head_rules.specs.declared.Stage.the-variants.{Width}
 use Rattle.laws.specs.Counting.{count}
 use Rattle.tile_rules.specs.Tiles.{columnAt, columnOfSlot, inSheet, mostAcross, rowAt, rowOfSlot, slotIn, slotOf, storedInTiles, tiles}
@@ -96,6 +95,11 @@ pub record Heads : Type 0 where
       ≡ head 5 6 3 ∷ noHead 8 ∷ noHead 7 ∷ noHead 7 ∷ []
   pub only-tiles : map (readOfForm Tiles) ((0x02 ∷ 0x05 ∷ 0x06 ∷ 0x02 ∷ []) ∷ (0x01 ∷ []) ∷ (0x02 ∷ 0x05 ∷ 0x06 ∷ 0x03 ∷ []) ∷ [])
       ≡ tiled Srgb 5 6 4 ∷ noHead 8 ∷ noHead 18 ∷ []
+  -- a refusal of a call's own, 18, is looked at behind 7 and 8 and before 9; 0 is none
+  pub before-nine : map (readOfFormWith 18 Rows) ((0x01 ∷ 0x05 ∷ []) ∷ (0x02 ∷ []) ∷ (0x01 ∷ 0x00 ∷ 0x06 ∷ []) ∷ (0x01 ∷ 0x05 ∷ 0x06 ∷ []) ∷ [])
+      ≡ noHead 7 ∷ noHead 8 ∷ noHead 18 ∷ noHead 18 ∷ []
+  pub nothing-before-nine : map (readOfFormWith 0 Rows) ((0x01 ∷ 0x05 ∷ []) ∷ (0x01 ∷ 0x00 ∷ 0x06 ∷ []) ∷ (0x01 ∷ 0x05 ∷ 0x06 ∷ []) ∷ [])
+      ≡ noHead 7 ∷ noHead 9 ∷ head 5 6 3 ∷ []
   -- by a console of before: 4,096 by 4,096, 4,097 by 1 and 1 by 4,097; and form 2, small, larger than its limit, and cut off
   pub heads-read-before : map oldHead
       ((0x01 ∷ 0x80 ∷ 0x20 ∷ 0x80 ∷ 0x20 ∷ []) ∷ (0x01 ∷ 0x81 ∷ 0x20 ∷ 0x01 ∷ []) ∷ (0x01 ∷ 0x01 ∷ 0x81 ∷ 0x20 ∷ []) ∷
@@ -141,7 +145,7 @@ pub heads-hold : Heads
 unfolding groups readGroups readNumber raised readHeadUpTo headRefusalUpTo formIn widthIn heightIn colourIn first sizeRefusalUpTo writeHeadUpTo
     headBytes tiledBytes padded formTaken sizeTaken colourTaken lastTaken groupTaken readBy blocksOf placeOf colourOf colourRefusal formOf
     readOfFormUpTo ofFormRefusalUpTo storedAt storedInTiles count slotOf slotIn inSheet columnAt columnOfSlot rowAt rowOfSlot tiles wholeHead
-    wholeRefusal
+    wholeRefusal readOfFormWith ofFormRefusalWith
 heads-hold = record {
   numbers-written = refl;
   numbers-read = refl;
@@ -151,6 +155,8 @@ heads-hold = record {
   tiled-spelt = refl;
   only-rows = refl;
   only-tiles = refl;
+  before-nine = refl;
+  nothing-before-nine = refl;
   heads-read-before = refl;
   heads-written = refl;
   colours-numbered = refl;

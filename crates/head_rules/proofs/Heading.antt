@@ -11,14 +11,15 @@ use lib.Dec.{eqb, leb}
 use Rattle.head_rules.specs.declared.Head.{Head}
 use Rattle.head_rules.specs.declared.Form.{Form}
 use Rattle.head_rules.specs.declared.Form.the-variants.{Rows, Tiles}
-use Rattle.laws.specs.Refusals.{Given, refuse}
+use Rattle.laws.specs.Refusals.{Given, first, refuse, unless}
 use Rattle.laws.specs.Tables.{both}
 use Rattle.laws.proofs.First.{first-last, first-skip}
 use Rattle.laws.proofs.Refusals.{Answers, Decided, answers, by-answer, by-not, by-not-eqb, decided-is, decided-not, decided-so, exactly, none, rule}
 use Rattle.laws.proofs.Refusals.{rules}
 use Rattle.laws.proofs.Tests.{both-true}
-use Rattle.head_rules.specs.Heads.{IsForm, SizedUpTo, formIn, formNumber, formOf, headAs, headOf, headRefusalUpTo, headRulesUpTo, headTold}
-use Rattle.head_rules.specs.Heads.{ofFormRefusalUpTo, ofFormRulesUpTo, readHeadUpTo, readOfFormUpTo, sideUpTo, sizeRefusalUpTo}
+use Rattle.head_rules.specs.Heads.{IsForm, SizedUpTo, formIn, formNumber, formOf, headAs, headOf, headRefusalUpTo, headRulesUpTo}
+use Rattle.head_rules.specs.Heads.{headRulesWith, headTests, headTold, ofFormRefusalUpTo, ofFormRulesUpTo, ofFormRulesWith, ofFormTests}
+use Rattle.head_rules.specs.Heads.{readHeadUpTo, readOfFormUpTo, sideUpTo, sizeRefusalUpTo}
 use Rattle.head_rules.proofs.Colours.{colour-test}
 
 -- what a head says that was answered: the number, and where it is 0 the head
@@ -108,6 +109,16 @@ module _ (top : ℕ) (f : Form) (s : List ℕ) where
   pub of-form-rules : Answers (ofFormRefusalUpTo top f s) (ofFormRulesUpTo top f s)
   unfolding ofFormRefusalUpTo
   of-form-rules = answers (rule by-answer λ a. rule (by-not-eqb tt (formIn s .value) (formNumber f)) λ b. rules (head-rules top s) λ m. none)
+
+  -- a refusal before 9 is one rule more
+  module _ {r n : ℕ} {Q : Type 0} (d : Decided r n Q) where
+    head-rules-with : Answers (first (headTests (r ∷ []) top s)) (headRulesWith (unless n Q ∷ []) top s)
+    head-rules-with =
+        answers (rule by-answer λ a. rule (form-test _) λ b. rule by-answer λ c. rule by-answer λ e. rule by-answer λ g. rule (colour-test _) λ k.
+        rule d λ q. rule (size-test _ _ _) λ z. none)
+
+    pub of-form-with : Answers (first (ofFormTests f s (first (headTests (r ∷ []) top s)))) (ofFormRulesWith (unless n Q ∷ []) top f s)
+    of-form-with = answers (rule by-answer λ a. rule (by-not-eqb tt (formIn s .value) (formNumber f)) λ b. rules head-rules-with λ m. none)
 
   pub of-form-told : ofFormRefusalUpTo top f s ≡ 0 → headTold s ≡ readOfFormUpTo top f s
   unfolding readOfFormUpTo

@@ -10,3 +10,4 @@ pub mod Limits
 pub mod Bytewise
 pub mod Theorems
 pub mod Whole
+pub mod Between

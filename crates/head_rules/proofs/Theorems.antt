@@ -17,14 +17,14 @@ use Rattle.head_rules.specs.declared.Form.{Form}
 use Rattle.head_rules.specs.declared.Form.the-variants.{Rows, Tiles}
 use Rattle.head_rules.specs.declared.HeadBytes.{HeadBytes}
 use Rattle.laws.specs.Padding.{padded}
-use Rattle.laws.specs.Refusals.{Given, here, then}
+use Rattle.laws.specs.Refusals.{Given, Rule, here, then}
 use Rattle.laws.proofs.Cases.{lt-or}
 use Rattle.laws.specs.Inverse.{Inverse}
 use Rattle.laws.proofs.Refusals.{Answers, accepted-when, alone, exactly}
 use Rattle.head_rules.specs.Colours.{colourNumber, colourOf}
 use Rattle.head_rules.specs.Heads.{IsForm, ReadsHead, Sized, SizedUpTo, WritesHead, bytesOfHead, colourIn, formIn, formNumber, formOf}
 use Rattle.head_rules.specs.Heads.{headBytes, headIn, headOf, headRefusal, headRules, headSpelt, heightIn, limit, noBytes, oldHead, oldLimit}
-use Rattle.head_rules.specs.Heads.{ofFormRules, readHead, readOfForm, rowsRules}
+use Rattle.head_rules.specs.Heads.{ofFormRules, ofFormRulesWith, readHead, readOfForm, rowsRules, rowsRulesWith}
 use Rattle.head_rules.specs.Heads.{sizeRefusal, sizeRules, tiledBytes, under, widthIn, writeHead, writeHeadUpTo}
 use Rattle.head_rules.specs.Numbers.{Bytes, found, groups, noNumber, numberBytes, numbersEnd, raised, readGroups, readNumber}
 use Rattle.head_rules.specs.Geometry.{across, blocksOf, numberAt, placeOf, storedAt, wholeLength}
@@ -438,24 +438,26 @@ module _ (s : List ℕ) where
   no-colour : formIn s .value ≡ formNumber Rows → colourIn s ≡ found 0 (heightIn s .next)
   no-colour e = colour-rows s (ap formOf e ∙ form-back Rows)
 
-  rows-given : {n : ℕ} → Given (ofFormRules Rows s) n → Given (rowsRules s) n
-  rows-given (here x) = here x
-  rows-given (then a (here x)) = then a (here x)
-  rows-given (then a (then b (here x))) = absurd (x a)
-  rows-given (then a (then b (then c (here x)))) = absurd (x (inl b))
-  rows-given (then a (then b (then c (then d (here x))))) = then a (then b (here x))
-  rows-given (then a (then b (then c (then d (then w (here x)))))) = then a (then b (then w (here x)))
-  rows-given (then a (then b (then c (then d (then w (then h (here x))))))) = absurd (x (ap (λ (r : Number). r .refusal) (no-colour b)))
-  rows-given (then a (then b (then c (then d (then w (then h (then f (here x)))))))) =
+  rows-given : (between : List Rule) {n : ℕ} → Given (ofFormRulesWith between limit Rows s) n → Given (rowsRulesWith between s) n
+  rows-given between (here x) = here x
+  rows-given between (then a (here x)) = then a (here x)
+  rows-given between (then a (then b (here x))) = absurd (x a)
+  rows-given between (then a (then b (then c (here x)))) = absurd (x (inl b))
+  rows-given between (then a (then b (then c (then d (here x))))) = then a (then b (here x))
+  rows-given between (then a (then b (then c (then d (then w (here x)))))) = then a (then b (then w (here x)))
+  rows-given between (then a (then b (then c (then d (then w (then h (here x))))))) = absurd (x (ap (λ (r : Number). r .refusal) (no-colour b)))
+  rows-given between (then a (then b (then c (then d (then w (then h (then f (here x)))))))) =
       absurd (x (rw (no-colour b) (omega arith)))
-  rows-given (then a (then b (then c (then d (then w (then h (then f (then k (here x))))))))) = then a (then b (then w (then h (here x))))
-  rows-given (then a (then b (then c (then d (then w (then h (then f (then k (then z g))))))))) = then a (then b (then w (then h (then z g))))
+  rows-given between (then a (then b (then c (then d (then w (then h (then f (then k g)))))))) = then a (then b (then w (then h g)))
+
+  pub of-rows : (between : List Rule) {r : ℕ} → Answers r (ofFormRulesWith between limit Rows s) → Answers r (rowsRulesWith between s)
+  of-rows between t = record {
+    given = rows-given between (t .given);
+    met = λ e. let (a, (b, (c, (d, (w, (h, (f, (k, m)))))))) = t .met e in (a, (b, (w, (h, m))));
+  }
 
   pub rows-answers : Answers (readOfForm Rows s .refusal) (rowsRules s)
-  rows-answers = record {
-    given = rows-given (of-form-answers Rows s .given);
-    met = λ e. let (a, (b, (c, (d, (w, (h, (f, (k, (z, u))))))))) = of-form-answers Rows s .met e in (a, (b, (w, (h, (z, tt)))));
-  }
+  rows-answers = of-rows [] (of-form-answers Rows s)
 
   pub rows-sized : readOfForm Rows s .refusal ≡ 0 → Sized (readOfForm Rows s .width) (readOfForm Rows s .height)
   rows-sized e =

@@ -58,18 +58,6 @@ pub record SizedUpTo (top w h : ℕ) : Type 0 where
 abbrev pub Sized : ℕ → ℕ → Type 0
 Sized w h = SizedUpTo limit w h
 
--- the rules of a head whose numbers were read as f, w, h, c: 7 and 8 on the form, 7 on width, height and colour space, 18, then 9
-abbrev pub rulesUpTo : ℕ → Number → Number → Number → Number → List Rule
-rulesUpTo top f w h c =
-    handed (f .refusal) ∷
-    unless 8 (IsForm (f .value)) ∷
-    handed (w .refusal) ∷
-    handed (h .refusal) ∷
-    handed (c .refusal) ∷
-    unless 18 (c .value ≤ 2) ∷
-    unless 9 (SizedUpTo top (w .value) (h .value)) ∷
-    []
-
 -- the one rule of writing a head
 abbrev pub sizeRules : ℕ → ℕ → List Rule
 sizeRules w h = unless 9 (Sized w h) ∷ []
@@ -92,23 +80,37 @@ colourBehind Tiles s at = readNumber s at
 unfoldable pub colourIn : List ℕ → Number
 colourIn s = colourBehind (formOf (formIn s .value)) s (heightIn s .next)
 
-abbrev pub headRulesUpTo : ℕ → List ℕ → List Rule
-headRulesUpTo top s = rulesUpTo top (formIn s) (widthIn s) (heightIn s) (colourIn s)
-
-abbrev pub headRules : List ℕ → List Rule
-headRules s = headRulesUpTo limit s
-
--- 7 and 8 on the form, 7 on width, height and colour space, 18, then 9
-unfoldable pub headRefusalUpTo : ℕ → List ℕ → ℕ
-headRefusalUpTo top s =
-    first
-    (formIn s .refusal
+-- THE HEAD'S ONE LIST of refusals: 7 and 8 on the form, 7 on width, height and colour space, 18, what a call looks at between, then 9
+abbrev pub headTests : List ℕ → ℕ → List ℕ → List ℕ
+headTests between top s =
+    formIn s .refusal
     ∷ refuse 8 (not (eqb (formNumber (formOf (formIn s .value))) (formIn s .value)))
     ∷ widthIn s .refusal
     ∷ heightIn s .refusal
     ∷ colourIn s .refusal
     ∷ colourRefusal (colourIn s .value)
-    ∷ sizeRefusalUpTo top (widthIn s .value) (heightIn s .value) ∷ [])
+    ∷ (between ++ (sizeRefusalUpTo top (widthIn s .value) (heightIn s .value) ∷ []))
+
+-- in words
+abbrev pub headRulesWith : List Rule → ℕ → List ℕ → List Rule
+headRulesWith between top s =
+    handed (formIn s .refusal) ∷
+    unless 8 (IsForm (formIn s .value)) ∷
+    handed (widthIn s .refusal) ∷
+    handed (heightIn s .refusal) ∷
+    handed (colourIn s .refusal) ∷
+    unless 18 (colourIn s .value ≤ 2) ∷
+    (between ++ (unless 9 (SizedUpTo top (widthIn s .value) (heightIn s .value)) ∷ []))
+
+-- reading a head looks at nothing between
+unfoldable pub headRefusalUpTo : ℕ → List ℕ → ℕ
+headRefusalUpTo top s = first (headTests [] top s)
+
+abbrev pub headRulesUpTo : ℕ → List ℕ → List Rule
+headRulesUpTo top s = headRulesWith [] top s
+
+abbrev pub headRules : List ℕ → List Rule
+headRules s = headRulesUpTo limit s
 
 abbrev pub headRefusal : List ℕ → ℕ
 headRefusal s = headRefusalUpTo limit s
@@ -138,9 +140,12 @@ readHeadUpTo top s = headAs (headRefusalUpTo top s) (headTold s)
 abbrev pub readHead : List ℕ → Head
 readHead s = readHeadUpTo limit s
 
--- ONE FORM ONLY, for a call that takes no other: 8 for the other form, before anything behind it; else as `readHeadUpTo`
+-- ONE FORM ONLY, for a call that takes no other: 8 for the other form, before anything behind it; else the head's refusal
+abbrev pub ofFormTests : Form → List ℕ → ℕ → List ℕ
+ofFormTests f s head = formIn s .refusal ∷ refuse 8 (not (eqb (formIn s .value) (formNumber f))) ∷ head ∷ []
+
 unfoldable pub ofFormRefusalUpTo : ℕ → Form → List ℕ → ℕ
-ofFormRefusalUpTo top f s = first (formIn s .refusal ∷ refuse 8 (not (eqb (formIn s .value) (formNumber f))) ∷ headRefusalUpTo top s ∷ [])
+ofFormRefusalUpTo top f s = first (ofFormTests f s (headRefusalUpTo top s))
 
 abbrev pub ofFormRefusal : Form → List ℕ → ℕ
 ofFormRefusal f s = ofFormRefusalUpTo limit f s
@@ -151,22 +156,35 @@ readOfFormUpTo top f s = headAs (ofFormRefusalUpTo top f s) (headTold s)
 abbrev pub readOfForm : Form → List ℕ → Head
 readOfForm f s = readOfFormUpTo limit f s
 
+-- for a call that has a refusal r of its own to look at before 9
+unfoldable pub ofFormRefusalWith : ℕ → Form → List ℕ → ℕ
+ofFormRefusalWith r f s = first (ofFormTests f s (first (headTests (r ∷ []) limit s)))
+
+unfoldable pub readOfFormWith : ℕ → Form → List ℕ → Head
+readOfFormWith r f s = headAs (ofFormRefusalWith r f s) (headTold s)
+
 -- A CONSOLE OF BEFORE maps up to 16,384 and tiles: it has the old limit, and knows form 1 alone
 abbrev pub oldHead : List ℕ → Head
 oldHead s = readOfFormUpTo oldLimit Rows s
 
--- for form 1 alone: 7 and 8 on the form, 7 on width and height, then 9
-abbrev pub rowsRules : List ℕ → List Rule
-rowsRules s =
+-- in words: the form, then what is said of the head; and for form 1 alone, each rule once
+abbrev pub ofFormRulesWith : List Rule → ℕ → Form → List ℕ → List Rule
+ofFormRulesWith between top f s =
+    handed (formIn s .refusal) ∷ unless 8 (formIn s .value ≡ formNumber f) ∷ headRulesWith between top s
+
+abbrev pub rowsRulesWith : List Rule → List ℕ → List Rule
+rowsRulesWith between s =
     handed (formIn s .refusal) ∷
     unless 8 (formIn s .value ≡ formNumber Rows) ∷
     handed (widthIn s .refusal) ∷
     handed (heightIn s .refusal) ∷
-    unless 9 (Sized (widthIn s .value) (heightIn s .value)) ∷
-    []
+    (between ++ (unless 9 (Sized (widthIn s .value) (heightIn s .value)) ∷ []))
+
+abbrev pub rowsRules : List ℕ → List Rule
+rowsRules s = rowsRulesWith [] s
 
 abbrev pub ofFormRulesUpTo : ℕ → Form → List ℕ → List Rule
-ofFormRulesUpTo top f s = handed (formIn s .refusal) ∷ unless 8 (formIn s .value ≡ formNumber f) ∷ headRulesUpTo top s
+ofFormRulesUpTo top f s = ofFormRulesWith [] top f s
 
 abbrev pub ofFormRules : Form → List ℕ → List Rule
 ofFormRules f s = ofFormRulesUpTo limit f s

@@ -11,6 +11,7 @@ use Rattle.listing_rules.specs.declared.Machine.{Machine}
 use Rattle.laws.specs.Padding.{Written}
 use Rattle.laws.proofs.Cases.{lt-or}
 use Rattle.laws.proofs.Padding.{written-long, written-none, written-then}
+use Rattle.head_rules.specs.Heads.{readHead}
 use Rattle.listing_rules.specs.Listing.{listing}
 use Rattle.listing_rules.specs.Machine.{NextEnd, Ready, atStart, nextOf, spareOf, textOf, wantedOf}
 use Rattle.listing_rules.proofs.Rounds.{done, ready-start, rest-start, restOf, step}
@@ -42,7 +43,7 @@ pub record Fed (s out₀ out : List ℕ) (m : Machine) (at said : ℕ) : Type 0 
   pub within : at ≤ length s
   pub room : said + 40 * ((length s - at) / 16) + spareOf m ≤ length out₀
   pub long : length out ≡ length out₀
-  pub rest : (after : List ℕ) (next : ℕ) → Written out said (restOf m (drop at s)) after next → Written out₀ 0 (listing s) after next
+  pub rest : (after : List ℕ) (next : ℕ) → Written out said (restOf m (drop at s)) after next → Written out₀ 0 (listing (readHead s) s) after next
 
 pub fed-start : (s out : List ℕ) {m : Machine} → m ≡ atStart → 40 * (length s / 16) + 80 ≤ length out → Fed s out out m 0 0
 fed-start s out e h =
@@ -71,5 +72,5 @@ module _ {s out₀ out : List ℕ} {m : Machine} {at said : ℕ} (f : Fed s out�
         (written-then (w .text) v));
   }
 
-  pub fed-whole : wantedOf m ≡ 0 → Written out₀ 0 (listing s) out said
+  pub fed-whole : wantedOf m ≡ 0 → Written out₀ 0 (listing (readHead s) s) out said
   fed-whole e = f .rest out said (rw (done m (drop at s) (f .ready) e) written-none)

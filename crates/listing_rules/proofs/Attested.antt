@@ -30,7 +30,7 @@ use Rattle.laws.specs.Text.{ascii, decimal, digitsIn, refusedText}
 use Rattle.listing_rules.specs.Text.{blockText, channels, opacityMark, sheetText}
 use Rattle.opacity_rules.specs.Opacity.{isVisible, opaque, opaqueIn, passes}
 use Rattle.listing_rules.specs.Machine.{runOf}
-use Rattle.listing_rules.specs.Listing.{blockListed, blocksListing, blocksText, listed, listing, listingBy}
+use Rattle.listing_rules.specs.Listing.{blockListed, blocksListing, blocksText, listed, listing}
 
 -- mode 6: all pixels have alpha 255 but pixel 1, in the second column, which has 0
 abbrev block6 : List ℕ
@@ -41,14 +41,15 @@ abbrev sheet : List ℕ → List ℕ
 sheet last = (0x01 ∷ 0x05 ∷ 0x06 ∷ []) ++ block3 ++ block6 ++ block4 ++ last
 
 -- a whole sheet, whose last block is reserved; a byte more; a byte less; a sheet of another form
-pub listings-hold : map listing (sheet (replicate 16 0) ∷ sheet (replicate 17 0) ∷ sheet (replicate 15 0) ∷ (0x03 ∷ []) ∷ [])
+pub listings-hold : map (λ (s : List ℕ). listing (readHead s) s)
+    (sheet (replicate 16 0) ∷ sheet (replicate 17 0) ∷ sheet (replicate 15 0) ∷ (0x03 ∷ []) ∷ [])
     ≡ map text
     (("sheet 5 6" ∷ "0 3 3 5 7 255 o" ∷ "1 6 1 1 1 255 o" ∷ "2 4 11 29 44 28 -" ∷ "3 8 0 0 0 0 -" ∷ []) ∷
     ("sheet 5 6" ∷ "0 3 3 5 7 255 o" ∷ "1 6 1 1 1 255 o" ∷ "2 4 11 29 44 28 -" ∷ "3 8 0 0 0 0 -" ∷ "refused 10" ∷ []) ∷
     ("sheet 5 6" ∷ "0 3 3 5 7 255 o" ∷ "1 6 1 1 1 255 o" ∷ "2 4 11 29 44 28 -" ∷ "refused 10" ∷ []) ∷
     ("refused 8" ∷ []) ∷
     [])
-unfolding text listingBy blocksListing listed blocksText blockListed readHeadUpTo headRefusalUpTo formIn widthIn heightIn readNumber
+unfolding text listing blocksListing listed blocksText blockListed readHeadUpTo headRefusalUpTo formIn widthIn heightIn readNumber
     readGroups raised first sizeRefusalUpTo blocksOf blockAt sheetText refusedText blockText channels opacityMark decimal digitsIn ascii
     table tableFrom digits marks strings2 strings3 subset2 subset3 anchors2 anchors3 weights weightOf drawn promoted eight modeRow
     kindOfMode endpointCount placeAt pos width widths trailing number modeOf splitAt splitOf atPlace opened has valuePlace pPlace indexSetOf
@@ -67,9 +68,10 @@ runs-hold = refl
 
 -- a sheet of form 2, 9 by 8 pixels: the stored order 0 1 3 4 2 5, each block with its number; of block 2, stored fifth, one column is shown,
 -- of block 3, stored third, all four
-pub tiled-holds : listing ((0x02 ∷ 0x09 ∷ 0x08 ∷ 0x01 ∷ []) ++ block3 ++ block4 ++ block6 ++ replicate 16 0 ++ block6 ++ block3)
+pub tiled-holds : let s : List ℕ = (0x02 ∷ 0x09 ∷ 0x08 ∷ 0x01 ∷ []) ++ block3 ++ block4 ++ block6 ++ replicate 16 0 ++ block6 ++ block3 in
+    listing (readHead s) s
     ≡ text ("sheet 9 8" ∷ "0 3 3 5 7 255 o" ∷ "1 4 11 29 44 28 -" ∷ "3 6 1 1 1 255 -" ∷ "4 8 0 0 0 0 -" ∷ "2 6 1 1 1 255 o" ∷ "5 3 3 5 7 255 o" ∷ [])
-unfolding text listingBy blocksListing listed blocksText blockListed readHeadUpTo headRefusalUpTo formIn widthIn heightIn readNumber
+unfolding text listing blocksListing listed blocksText blockListed readHeadUpTo headRefusalUpTo formIn widthIn heightIn readNumber
     readGroups raised first sizeRefusalUpTo blocksOf blockAt sheetText refusedText blockText channels opacityMark decimal digitsIn ascii
     table tableFrom digits marks strings2 strings3 subset2 subset3 anchors2 anchors3 weights weightOf drawn promoted eight modeRow
     kindOfMode endpointCount placeAt pos width widths trailing number modeOf splitAt splitOf atPlace opened has valuePlace pPlace indexSetOf
@@ -78,9 +80,9 @@ unfolding text listingBy blocksListing listed blocksText blockListed readHeadUpT
 tiled-holds = refl
 
 -- by a console of before, of a sheet of 4,097 by 1, and of one of form 2 with all of its blocks
-pub before-holds : map (λ (s : List ℕ). listingBy (oldHead s) s)
+pub before-holds : map (λ (s : List ℕ). listing (oldHead s) s)
     ((0x01 ∷ 0x81 ∷ 0x20 ∷ 0x01 ∷ replicate 16400 0) ∷ (0x02 ∷ 0x04 ∷ 0x04 ∷ 0x00 ∷ block3) ∷ [])
     ≡ map text (("refused 9" ∷ []) ∷ ("refused 8" ∷ []) ∷ [])
-unfolding text listingBy readOfFormUpTo ofFormRefusalUpTo headRefusalUpTo formIn widthIn heightIn colourIn formOf colourRefusal readNumber readGroups
+unfolding text listing readOfFormUpTo ofFormRefusalUpTo headRefusalUpTo formIn widthIn heightIn colourIn formOf colourRefusal readNumber readGroups
     raised first sizeRefusalUpTo refusedText decimal digitsIn ascii
 before-holds = refl

@@ -292,14 +292,14 @@ pub ready-start : Ready atStart
 ready-start = going-start
 
 -- from the start that is the listing
-pub rest-start : (s : List ℕ) → restOf atStart s ≡ listing s
+pub rest-start : (s : List ℕ) → restOf atStart s ≡ listing (readHead s) s
 unfolding restOf restIn fromHead headText behind
 rest-start s =
     ap (λ (h : SheetHead). headText h ++ behind h (readBy atForm s .rest)) (read-head-is-the-fold s) ∙ go (eqb (readHead s .refusal) 0) refl
   where
     go : (t : Bool) → eqb (readHead s .refusal) 0 ≡ t
         → pick t (sheetText (readHead s .width) (readHead s .height)) (refusedText (readHead s .refusal))
-        ++ pick t (blocksListing (readHead s) 0 (blocksOf (readHead s)) (readBy atForm s .rest)) [] ≡ listing s
+        ++ pick t (blocksListing (readHead s) 0 (blocksOf (readHead s)) (readBy atForm s .rest)) [] ≡ listing (readHead s) s
     go true e =
         let z = eqb-true _ 0 e in
         ap (λ (bs : List ℕ). sheetText (readHead s .width)

@@ -10,6 +10,7 @@ use lib.Dec.{eqb}
 use lib.ListN.{length, take, drop, length-append, length-drop}
 use lib.Seq.{drop-append-add, drop-append-le, length-take-le, take-add, take-all, take-append-le}
 use borrow.Author.Tests.{eq-eqb, eqb-false, eqb-true, ne-eqb}
+use Rattle.bcn_format.specs.Block.{blockAt}
 use Rattle.laws.specs.Tables.{pick}
 use Rattle.head_rules.specs.declared.Head.{Head}
 use Rattle.head_rules.specs.Geometry.{across, blocksOf}
@@ -17,8 +18,7 @@ use Rattle.head_rules.specs.Geometry.{numberAt}
 use Rattle.head_rules.specs.Heads.{readHead}
 use Rattle.laws.specs.Text.{refusedText}
 use Rattle.listing_rules.specs.Text.{sheetText}
-use Rattle.bcn_format.specs.Block.{blockAt}
-use Rattle.listing_rules.specs.Listing.{blockListed, blocksListing, blocksText, listed, listing, listingBy}
+use Rattle.listing_rules.specs.Listing.{blockListed, blocksListing, blocksText, listed, listing}
 use Rattle.listing_rules.specs.Machine.{InBlocks, mostInRun, runOf}
 
 -- blocks in the first of two lists, and in the second
@@ -129,13 +129,13 @@ module _ {h : Head} {from : ℕ} (i : InBlocks h from) where
 
 module _ (s : List ℕ) where
   -- a refused head prints only `refused` and the number
-  pub listing-refused : (readHead s .refusal ≡ 0 → ⊥) → listing s ≡ refusedText (readHead s .refusal)
-  unfolding listingBy
+  pub listing-refused : (readHead s .refusal ≡ 0 → ⊥) → listing (readHead s) s ≡ refusedText (readHead s .refusal)
+  unfolding listing
   listing-refused ne = rw (ne-eqb (readHead s .refusal) 0 ne)
 
   -- an accepted one its text, and then the blocks, from the byte behind those of the head on
   pub listing-accepted : readHead s .refusal ≡ 0
-      → listing s
+      → listing (readHead s) s
       ≡ sheetText (readHead s .width) (readHead s .height) ++ blocksListing (readHead s) 0 (blocksOf (readHead s)) (drop (readHead s .start) s)
-  unfolding listingBy
+  unfolding listing
   listing-accepted e = rw (eq-eqb (readHead s .refusal) 0 e)

@@ -29,13 +29,13 @@ use Rattle.laws.specs.Text.{ascii, decimal, digitsIn, newline, refusedText}
 use Rattle.listing_rules.specs.Text.{blockText, channels, opacityMark, sheetText}
 use Rattle.opacity_rules.specs.Opacity.{isVisible, opaque, opaqueIn, passes}
 use Rattle.listing_rules.specs.declared.Machine.{Machine}
-use Rattle.listing_rules.specs.Listing.{blockListed, blocksListing, blocksText, listed, listing, listingBy}
+use Rattle.listing_rules.specs.Listing.{blockListed, blocksListing, blocksText, listed, listing}
 use Rattle.listing_rules.specs.Promises.{GoesOn, Says, SaysListing, SaysNext, Wants}
 use Rattle.listing_rules.specs.Machine.{Run, atStart, over, textOf, round, roundsOf, wantedOf}
 use Rattle.listing_rules.proofs.Rounds.{ready-start, rest-start, runs}
 
 -- a run over each input, and what it says
-pub machine-lists : (s : List ℕ) → Run atStart s (listing s)
+pub machine-lists : (s : List ℕ) → Run atStart s (listing (readHead s) s)
 machine-lists s = subst (λ (t : List ℕ). Run atStart s t) (rest-start s) (runs (roundsOf atStart) atStart s (le-refl _) ready-start)
 
 -- there is no other
@@ -47,16 +47,16 @@ one-run {m} {s} (round n r) (round o q) = ap (λ (t : List ℕ). textOf m (take 
 
 -- MAPS UP TO 16,384, AND TILES: what a console of before accepted is listed as it was; of any other sheet of form 1 that is accepted now such
 -- a console prints `refused 9` and nothing more, and of any sheet of form 2 `refused 8`
-pub stored-sheets-list : (s : List ℕ) → oldHead s .refusal ≡ 0 → listing s ≡ listingBy (oldHead s) s
-stored-sheets-list s e = ap (λ (h : Head). listingBy h s) (stored-heads-keep s e)
+pub stored-sheets-list : (s : List ℕ) → oldHead s .refusal ≡ 0 → listing (readHead s) s ≡ listing (oldHead s) s
+stored-sheets-list s e = ap (λ (h : Head). listing h s) (stored-heads-keep s e)
 
 pub old-console-lists-nothing : (s : List ℕ) → readHead s .refusal ≡ 0 → readHead s .form ≡ Rows
-    → (oldLimit < readHead s .width) ⊎ (oldLimit < readHead s .height) → listingBy (oldHead s) s ≡ refusedText 9
-unfolding listingBy
+    → (oldLimit < readHead s .width) ⊎ (oldLimit < readHead s .height) → listing (oldHead s) s ≡ refusedText 9
+unfolding listing
 old-console-lists-nothing s e f above = rw (old-console-refuses s e f above)
 
-pub old-console-lists-no-tiles : (s : List ℕ) → formIn s .value ≡ formNumber Tiles → listingBy (oldHead s) s ≡ refusedText 8
-unfolding listingBy
+pub old-console-lists-no-tiles : (s : List ℕ) → formIn s .value ≡ formNumber Tiles → listing (oldHead s) s ≡ refusedText 8
+unfolding listing
 old-console-lists-no-tiles s e = rw (old-console-knows-no-tiles s e)
 
 -- any two results that a promise admits coincide: the output whole, and the place behind the text
@@ -69,7 +69,7 @@ determined-list s came = one-text (textOf s came)
 
 pub determined-list-sheet : (sheet before : List ℕ) (at : ℕ) (a b : List ℕ) (m n : ℕ)
     → SaysListing sheet before at a m → SaysListing sheet before at b n → (a ≡ b) × (m ≡ n)
-determined-list-sheet sheet = one-text (listing sheet)
+determined-list-sheet sheet = one-text (listing (readHead sheet) sheet)
 
 pub determined-next : (m : Machine) (came : List ℕ) (a b : Machine) → GoesOn m came a → GoesOn m came b → a ≡ b
 determined-next m came a b p q = p ∙ sym q
@@ -78,9 +78,10 @@ pub determined-wanted : (m : Machine) (a b : ℕ) → Wants m a → Wants m b �
 determined-wanted m a b p q = p ∙ sym q
 
 -- document 01's example: block D and a reserved block
-pub document-lists : listing (0x01 ∷ 0x05 ∷ 0x04 ∷ (0x60 ∷ (replicate 5 0 ++ (0xFC ∷ 0x03 ∷ replicate 24 0))))
+pub document-lists : let s : List ℕ = 0x01 ∷ 0x05 ∷ 0x04 ∷ (0x60 ∷ (replicate 5 0 ++ (0xFC ∷ 0x03 ∷ replicate 24 0))) in
+    listing (readHead s) s
     ≡ (ascii "sheet 5 4" ++ (newline ∷ [])) ++ ((ascii "0 5 255 0 0 0 -" ++ (newline ∷ [])) ++ (ascii "1 8 0 0 0 0 -" ++ (newline ∷ [])))
-unfolding listingBy blocksListing listed blocksText blockListed readHeadUpTo headRefusalUpTo formIn widthIn heightIn readNumber readGroups raised
+unfolding listing blocksListing listed blocksText blockListed readHeadUpTo headRefusalUpTo formIn widthIn heightIn readNumber readGroups raised
     first sizeRefusalUpTo blocksOf blockAt sheetText blockText channels opacityMark decimal digitsIn ascii table tableFrom digits marks strings2
     strings3 subset2 subset3 anchors2 anchors3 weights weightOf drawn promoted eight modeRow kindOfMode endpointCount placeAt pos width widths
     trailing number modeOf splitAt splitOf atPlace opened has valuePlace pPlace indexSetOf indexPlace own lineOf lineBits meansStored rotated

@@ -10,7 +10,6 @@ use Rattle.bc7_format.specs.Modes.{modeOf}
 use Rattle.bc7_format.specs.Lines.{pixels}
 use Rattle.head_rules.specs.declared.Head.{Head}
 use Rattle.head_rules.specs.Geometry.{blocksOf, numberAt}
-use Rattle.head_rules.specs.Heads.{readHead}
 use Rattle.laws.specs.Text.{refusedText}
 use Rattle.listing_rules.specs.Text.{blockText, sheetText}
 use Rattle.opacity_rules.specs.Opacity.{opaqueIn}
@@ -39,11 +38,8 @@ unfoldable pub blocksListing : Head → ℕ → ℕ → List ℕ → List ℕ
 blocksListing h from n bs = listed h from (take (16 * n) bs) ++ unlessExact (eqb (length bs) (16 * n))
 
 -- what is printed of an input whose head was read as h
-unfoldable pub listingBy : Head → List ℕ → List ℕ
-listingBy h s =
+unfoldable pub listing : Head → List ℕ → List ℕ
+listing h s =
     pick (eqb (h .refusal) 0)
     (sheetText (h .width) (h .height) ++ blocksListing h 0 (blocksOf h) (drop (h .start) s))
     (refusedText (h .refusal))
-
-abbrev pub listing : List ℕ → List ℕ
-listing s = listingBy (readHead s) s

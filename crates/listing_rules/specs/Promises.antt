@@ -5,6 +5,7 @@ use Prim.Native.Nat.{ℕ}
 use mathlib.Core.Path.{_≡_}
 use mathlib.Core.List.{List}
 use Rattle.listing_rules.specs.declared.Machine.{Machine}
+use Rattle.head_rules.specs.Heads.{readHead}
 use Rattle.laws.specs.Padding.{Written}
 use Rattle.listing_rules.specs.Listing.{listing}
 use Rattle.listing_rules.specs.Machine.{nextOf, textOf, wantedOf}
@@ -24,4 +25,4 @@ abbrev pub GoesOn : Machine → List ℕ → Machine → Type 0
 GoesOn m came n = n ≡ nextOf m came
 
 abbrev pub SaysListing : List ℕ → List ℕ → ℕ → List ℕ → ℕ → Type 0
-SaysListing sheet = Says (listing sheet)
+SaysListing sheet = Says (listing (readHead sheet) sheet)

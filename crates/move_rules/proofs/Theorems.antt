@@ -179,7 +179,7 @@ module _ (f : Form) (s out : List ℕ) (y : Bytes s) (e : moveRefusal f s (lengt
 
   -- and every call by block number is answered as before: a block is found, or not; a line of it is replaced, or not; and whatever list of
   -- calls is made on both sheets, each block is the same in both afterwards
-  pub same-found : (b : ℕ) → findRefusal t b ≡ findRefusal s b
+  pub same-found : (b : ℕ) → findRefusal (readHead t) t b ≡ findRefusal (readHead s) s b
   same-found b = ⊎-elim
       (λ l. accepted-when (finding t b) .1 (whole-there .told, (whole-there .long, (rw as-many l, tt)))
       ∙ sym (accepted-when (finding s b) .1 (m .told, (m .long, (l, tt)))))
@@ -194,7 +194,7 @@ module _ (f : Form) (s out : List ℕ) (y : Bytes s) (e : moveRefusal f s (lengt
       (λ l. beyond acting t whole-there c (rw as-many l) ∙ sym (beyond acting s whole c l))
       (lt-or (c .block) (blocksOf (readHead s)))
 
-  pub same-answer : (b l : ℕ) (new : Replacement) → sheetRefusal t b l new ≡ sheetRefusal s b l new
+  pub same-answer : (b l : ℕ) (new : Replacement) → sheetRefusal (readHead t) t b l new ≡ sheetRefusal (readHead s) s b l new
   same-answer b l new = same-call (record { block = b; line = l; given = new })
 
   pub same-after-all : (cs : List SheetCall) (b : ℕ) → b < blocksOf (readHead s) → blockIn (sheetWithAll t cs) b ≡ blockIn (sheetWithAll s cs) b
@@ -203,6 +203,6 @@ module _ (f : Form) (s out : List ℕ) (y : Bytes s) (e : moveRefusal f s (lengt
       ∙ sym (all-block acting cs s whole b l)
 
   pub same-after : (a l : ℕ) (new : Replacement) (b : ℕ) → b < blocksOf (readHead s)
-      → blockIn (sheetAfter t a l new) b ≡ blockIn (sheetAfter s a l new) b
+      → blockIn (sheetAfter (readHead t) t a l new) b ≡ blockIn (sheetAfter (readHead s) s a l new) b
   unfolding calls.run
   same-after a l new b lb = same-after-all (record { block = a; line = l; given = new } ∷ []) b lb

@@ -33,6 +33,7 @@ use Rattle.tile_rules.specs.Tiles.{storedInTiles, storedOrder, tiles}
 use Rattle.head_rules.specs.Geometry.{blocksOf, placeOf, storedAt}
 use Rattle.head_rules.specs.Heads.{colourIn, formIn, formOf, headBytes, headRefusalUpTo, heightIn, ofFormRefusalUpTo, readHeadUpTo, readOfFormUpTo}
 use Rattle.head_rules.specs.Heads.{sizeRefusalUpTo, tiledBytes, widthIn, writeHeadUpTo}
+use Rattle.head_rules.specs.Heads.{ofFormRefusalWith, readOfFormWith}
 use Rattle.head_rules.specs.Numbers.{groups, raised, readGroups, readNumber}
 use Rattle.bcn_format.specs.Block.{blockAt}
 use Rattle.head_rules.specs.Whole.{wholeRefusal}
@@ -40,13 +41,13 @@ use Rattle.sheet_rules.specs.Rows.{channel, rowByte, rowBytes, rowOutUpTo, rowR
 use Rattle.sheet_rules.specs.Blocks.{blockRead}
 use Rattle.sheet_rules.specs.Pictures.{blocksAs, byteAs, rowOf}
 use Rattle.sheet_rules.specs.SheetRows.{rowBlocks, sheetRowOut, sheetRowRefusal}
-use Rattle.sheet_rules.specs.Sheets.{blockBy, findRefusalBy, replacedBy, sheetAfterBy, sheetRefusalBy}
+use Rattle.sheet_rules.specs.Sheets.{blockBy, findRefusal, replacedIn, sheetAfter, sheetRefusal}
 use Rattle.sheet_rules.proofs.Attested.{lower, lowerScanlines, small, smallReplaced}
 use Rattle.rinchovek_rules.specs.Promises.{Decodes, Gives, Packs, ReadsLine, Replaces, Unpacks, Versions, DecodesRow, ReadsHead, ReplacesIn}
 use Rattle.rinchovek_rules.specs.Promises.{FindsExact, FindsNearest, ReadsPixel, TellsOpaque, WritesHead}
 use Rattle.laws.specs.Digits.{evenly}
 use Rattle.dds_rules.specs.Header.{canonicalHeader, entries, formatSays, headerNumber, isTexture, numberAt}
-use Rattle.dds_rules.specs.Files.{exportAfterBy, exportLength, exportRefusalBy, fileMadeBy, fileRefusalUpTo, headMade, importAfterUpTo, importLength}
+use Rattle.dds_rules.specs.Files.{exportAfter, exportLength, exportRefusal, fileMade, fileRefusalUpTo, headMade, importAfterUpTo, importLength}
 use Rattle.dds_rules.specs.Files.{importRefusalUpTo, numberedAfter, numberedRefusal, sheetMade}
 use Rattle.dds_rules.proofs.Attested.{file53, header53, sheet53}
 use Rattle.move_rules.specs.Moving.{moveAfter, moveRefusal, movedTo}
@@ -188,11 +189,12 @@ unfolding padded first over table tableFrom weights weightOf drawn promoted eigh
     recordByte recordBytes recordOfBytes replacementOf replacementBytes packedBytes bytesRefusal spelt readHeadUpTo headRefusalUpTo
     colourIn formOf readOfFormUpTo ofFormRefusalUpTo storedAt formIn
     widthIn heightIn readNumber readGroups raised sizeRefusalUpTo writeHeadUpTo headBytes groups blockAt channel rowByte rowBytes rowOutUpTo
-    rowRefusalUpTo blockBy blocksOf findRefusalBy wholeRefusal placeOf putBlock replacedBy sheetAfterBy sheetRefusalBy draws meansShown channelDistance
+    rowRefusalUpTo blockBy blocksOf findRefusal wholeRefusal placeOf putBlock replacedIn sheetAfter sheetRefusal draws meansShown channelDistance
     distance drawnWith exactIndex exactRefusal inLine indexCount leastAt nearestIndex nearestRefusal squared withIndex zeroAt
     implies isVisible passes opaque pixelRefusal pixelRead
     evenly numberAt entries headerNumber canonicalHeader isTexture headMade sheetMade fileRefusalUpTo importRefusalUpTo importAfterUpTo
-    exportRefusalBy fileMadeBy exportAfterBy importLength exportLength formatSays numberedRefusal numberedAfter colourOf colourRefusal
+    exportRefusal fileMade exportAfter importLength exportLength formatSays numberedRefusal numberedAfter colourOf colourRefusal
+    readOfFormWith ofFormRefusalWith
     count kept columnAt columnOfSlot inSheet numberInSlot numberInTiles rowAt rowOfSlot slotIn slotOf slots storedInTiles storedOrder
     tiles tiledBytes blockRead blocksAs byteAs rowOf rowBlocks sheetRowOut sheetRowRefusal moveAfter moveRefusal movedTo
     stateAfter stateRefusal statedAs

@@ -27,7 +27,7 @@ use Rattle.nearest_rules.specs.Nearest.{exactIndex, nearestIndex}
 use Rattle.opacity_rules.specs.Opacity.{opaque}
 use Rattle.pixel_rules.specs.Pixels.{pixelRead}
 use Rattle.dds_rules.specs.Files.{exportAfter, exportLength, exportRefusal, headMade, importAfter, importLength, importRefusal, numberedAfter}
-use Rattle.dds_rules.specs.Files.{numberedRefusal, sheetMade}
+use Rattle.dds_rules.specs.Files.{numberedRefusal, sheetHead, sheetMade}
 use Rattle.move_rules.specs.Moving.{moveAfter, moveRefusal}
 use Rattle.move_rules.specs.Stating.{stateAfter, stateRefusal}
 
@@ -132,14 +132,16 @@ abbrev pub StatesColour : List ℕ → ℕ → ℕ → List ℕ → Type 0
 StatesColour sheet number = Gives (stateRefusal sheet number) (stateAfter sheet number)
 
 abbrev pub ReplacesIn : List ℕ → ℕ → ℕ → List ℕ → ℕ → List ℕ → Type 0
-ReplacesIn sheet block line bytes = Gives (sheetRefusal sheet block line (replacementOf bytes)) (sheetAfter sheet block line (replacementOf bytes))
+ReplacesIn sheet block line bytes =
+    let h = readHead sheet in
+    Gives (sheetRefusal h sheet block line (replacementOf bytes)) (sheetAfter h sheet block line (replacementOf bytes))
 
 -- a DDS file imported, a sheet exported, and how long the output of either has to be
 abbrev pub ImportsDds : List ℕ → List ℕ → ℕ → List ℕ → Type 0
 ImportsDds dds before = Gives (importRefusal dds (length before)) (importAfter dds before)
 
 abbrev pub ExportsDds : List ℕ → List ℕ → ℕ → List ℕ → Type 0
-ExportsDds sheet before = Gives (exportRefusal sheet (length before)) (exportAfter sheet Unspecified before)
+ExportsDds sheet before = Gives (exportRefusal (sheetHead sheet) sheet (length before)) (exportAfter (sheetHead sheet) Unspecified sheet before)
 
 -- imported with the head, which is written beside the sheet; and exported under the number of a colour space
 abbrev pub ImportsColour : List ℕ → List ℕ × List ℕ → ℕ → List ℕ × List ℕ → Type 0

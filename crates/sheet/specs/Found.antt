@@ -16,7 +16,7 @@ abbrev pub foundAt : ℕ → ℕ → Found
 foundAt r at = record { refusal = r; at = at }
 
 unfoldable pub findBlock : List ℕ → ℕ → Found
-findBlock s b = pick (eqb (findRefusal s b) 0) (foundAt 0 (placeOf (readHead s) b)) (foundAt (findRefusal s b) 0)
+findBlock s b = pick (eqb (findRefusal (readHead s) s b) 0) (foundAt 0 (placeOf (readHead s) b)) (foundAt (findRefusal (readHead s) s b) 0)
 
 -- a block of a sheet that is there whole, of so many bytes
 pub record BlockThere (h : Head) (b many : ℕ) : Type 0 where

@@ -4,7 +4,8 @@ ghost use mathlib.Core.Path.{_≡_};
 ghost use Prim.Native.Nat.{_≤_, _<_};
 ghost use lib.ListN.{drop};
 ghost use Rattle.head_rules.specs.Numbers.{found, noNumber, numberBytes, numbersEnd, raised, readGroups, readNumber};
-ghost use Rattle.head_rules.specs.Heads.{ReadsHead, Sized, WritesHead, formNumber, noBytes, readOfForm, sizeRefusal, withBytes, writeForm};
+ghost use Rattle.head_rules.specs.Heads.{ReadsHead, Sized, WritesHead, formNumber, noBytes, readOfForm};
+ghost use Rattle.head_rules.specs.Heads.{readOfFormWith, sizeRefusal, withBytes, writeForm};
 ghost use Rattle.head_rules.specs.Whole.{wholeHead};
 ghost use Rattle.sheet_head.specs.Promised.{Pushes, TakesNumber};
 use crate::geometry::whole_length;
@@ -38,7 +39,7 @@ fn wide(x: u8) -> u32
     x as u32
 }
 
-fn number_of(value: u32, next: usize) -> Number
+fn number_found(value: u32, next: usize) -> Number
     ensures { λ r. ⌜ r ≡ found value next ⌝ }
 {
     Number {
@@ -67,7 +68,7 @@ fn raise(byte: u8, above: Number) -> Number
     if above.value == 0 {
         return no_number();
     }
-    number_of(above.value * 128 + wide(byte % 128), above.next)
+    number_found(above.value * 128 + wide(byte % 128), above.next)
 }
 
 // The number at a place, in one group, in at most two, in at most three. Written out, for a function that calls itself is not
@@ -80,7 +81,7 @@ fn one_group(s: &[u8], at: usize) -> Number
     }
     let byte = s[at];
     if byte < 128 {
-        return number_of(wide(byte), at + 1);
+        return number_found(wide(byte), at + 1);
     }
     no_number()
 }
@@ -93,7 +94,7 @@ fn two_groups(s: &[u8], at: usize) -> Number
     }
     let byte = s[at];
     if byte < 128 {
-        return number_of(wide(byte), at + 1);
+        return number_found(wide(byte), at + 1);
     }
     raise(byte, one_group(s, at + 1))
 }
@@ -106,7 +107,7 @@ fn read_number(s: &[u8], at: usize) -> Number
     }
     let byte = s[at];
     if byte < 128 {
-        return number_of(wide(byte), at + 1);
+        return number_found(wide(byte), at + 1);
     }
     raise(byte, two_groups(s, at + 1))
 }
@@ -179,6 +180,23 @@ pub fn read_of_form(form: Form, sheet: &[u8]) -> Head
         return no_head(8);
     }
     read_head(sheet)
+}
+
+// The same for a call that has a refusal of its own to look at behind the head's others and before 9, the last of them; 0 for none.
+pub fn read_of_form_with(form: Form, refusal: u8, sheet: &[u8]) -> Head
+    ensures { λ r. ⌜ r ≡ readOfFormWith refusal form (now (sheet .entry)) ⌝ }
+{
+    let head = read_of_form(form, sheet);
+    if refusal == 0 {
+        return head;
+    }
+    if head.refusal == 0 {
+        return no_head(refusal);
+    }
+    if head.refusal == 9 {
+        return no_head(refusal);
+    }
+    head
 }
 
 // The head of a sheet that is there whole, with every block that its head says and no byte more; or the first refusal that applies: the

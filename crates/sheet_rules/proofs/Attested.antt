@@ -20,7 +20,7 @@ use Rattle.laws.specs.Counting.{count}
 use Rattle.tile_rules.specs.Tiles.{columnAt, columnOfSlot, inSheet, slotIn, storedInTiles, rowAt, rowOfSlot, slotOf, tiles}
 use Rattle.head_rules.specs.Colours.{colourOf, colourRefusal}
 use Rattle.head_rules.specs.Geometry.{across, blocksOf, placeOf, sideShown, storedAt}
-use Rattle.head_rules.specs.Heads.{colourIn, formIn, formOf, headOf, headRefusalUpTo, heightIn, ofFormRefusalUpTo, oldHead, readHeadUpTo}
+use Rattle.head_rules.specs.Heads.{colourIn, formIn, formOf, headOf, headRefusalUpTo, heightIn, ofFormRefusalUpTo, oldHead, readHead, readHeadUpTo}
 use Rattle.head_rules.specs.Heads.{readOfFormUpTo, sizeRefusalUpTo, widthIn}
 use Rattle.head_rules.specs.Numbers.{raised, readGroups, readNumber}
 use Rattle.head_rules.specs.Whole.{wholeRefusal}
@@ -28,10 +28,9 @@ use Rattle.line_rules.specs.Replace.{after, indexFits, lineFits, lineGiven, ori
 use Rattle.sheet_rules.specs.Blocks.{ReadsBlock, blockRead}
 use Rattle.sheet_rules.specs.Pictures.{blocksAs, byteAs, picture, pictureByte, rowOf}
 use Rattle.sheet_rules.specs.SheetRows as whole
-use Rattle.sheet_rules.specs.SheetRows.{sheetRowOut, sheetRowRefusal, DecodesSheetRow}
-use Rattle.sheet_rules.specs.Rows.{channel, rowByte, rowBytes, rowOut, rowOutUpTo, rowRefusal, rowRefusalUpTo, DecodesRow}
-use Rattle.sheet_rules.specs.Sheets.{blockIn, blockBy, findRefusalBy, replacedBy, sheetAfter}
-use Rattle.sheet_rules.specs.Sheets.{sheetAfterBy, sheetRefusal, sheetRefusalBy, ReplacesInSheet}
+use Rattle.sheet_rules.specs.SheetRows.{DecodesSheetRow, sheetRowOut, sheetRowRefusal}
+use Rattle.sheet_rules.specs.Rows.{DecodesRow, channel, rowByte, rowBytes, rowOut, rowOutUpTo, rowRefusal, rowRefusalUpTo}
+use Rattle.sheet_rules.specs.Sheets.{ReplacesInSheet, blockIn, blockBy, findRefusal, replacedIn, sheetAfter, sheetRefusal}
 
 -- blocks of mode 6: red from 0 to 120, blue 7, alpha 127, and a green of 10, 20, 30 or 40; p 0 and 0; pixel q has index q
 abbrev shade : ℕ → ℕ → ℕ → List ℕ
@@ -222,14 +221,15 @@ pub record Sheets : Type 0 where
   pub rows : map (λ c. rowOut (c .wide) (c .high) (c .row) (c .blocks) (c .out)) rowClaims ≡ map (λ c. c .left) rowClaims
   pub sheet-row-answers : map (λ c. sheetRowRefusal (c .sheet) (c .row) (length (c .out))) sheetRowClaims ≡ map (λ c. c .answer) sheetRowClaims
   pub sheet-rows : map (λ c. sheetRowOut (c .sheet) (c .row) (c .out)) sheetRowClaims ≡ map (λ c. c .left) sheetRowClaims
-  pub answers : map (λ c. sheetRefusal (c .before) (c .block) (c .of-block) given) sheetClaims ≡ map (λ c. c .answer) sheetClaims
-  pub sheets : map (λ c. sheetAfter (c .before) (c .block) (c .of-block) given) sheetClaims ≡ map (λ c. c .left) sheetClaims
+  pub answers : map (λ c. sheetRefusal (readHead (c .before)) (c .before) (c .block) (c .of-block) given) sheetClaims
+      ≡ map (λ c. c .answer) sheetClaims
+  pub sheets : map (λ c. sheetAfter (readHead (c .before)) (c .before) (c .block) (c .of-block) given) sheetClaims ≡ map (λ c. c .left) sheetClaims
 
 pub sheets-hold : Sheets
 unfolding over table tableFrom weights weightOf drawn promoted eight modeRow kindOfMode endpointCount placeAt pos width widths trailing number modeOf
     splitAt splitOf atPlace opened has valuePlace pPlace indexSetOf indexPlace own lineOf lineBits meansStored rotated lineAt shown pixel pixels
-    picture pictureByte blockAt channel rowByte rowBytes rowOutUpTo rowRefusalUpTo blockBy blocksOf findRefusalBy wholeRefusal placeOf putBlock
-    replacedBy sheetAfterBy sheetRefusalBy first sizeRefusalUpTo readHeadUpTo headRefusalUpTo formIn widthIn heightIn readNumber
+    picture pictureByte blockAt channel rowByte rowBytes rowOutUpTo rowRefusalUpTo blockBy blocksOf findRefusal wholeRefusal placeOf putBlock
+    replacedIn sheetAfter sheetRefusal first sizeRefusalUpTo readHeadUpTo headRefusalUpTo formIn widthIn heightIn readNumber
     readGroups raised replaced after refusal refusalIn lineFits valueFits pFits indexFits ownWidth lineGiven put oriented withLine laid
     turned anchorOf blockOf listOf bytesOf colourIn formOf colourOf colourRefusal storedAt storedInTiles count slotOf slotIn inSheet columnAt
     columnOfSlot rowAt rowOfSlot tiles blockRead blocksAs byteAs rowOf sheetRowOut sheetRowRefusal whole.rowBlocks
@@ -254,14 +254,14 @@ abbrev larger : List ℕ
 larger = 0x01 ∷ 0x81 ∷ 0x20 ∷ 0x01 ∷ replicate 16400 0
 
 pub record Before : Type 0 where
-  pub answers : map (λ (s : List ℕ). sheetRefusalBy (oldHead s) s 2 0 given) (small ∷ larger ∷ tiles3 shade30 ∷ []) ≡ 0 ∷ 9 ∷ 8 ∷ []
-  pub sheets : map (λ (s : List ℕ). sheetAfterBy (oldHead s) s 2 0 given) (small ∷ larger ∷ tiles3 shade30 ∷ [])
+  pub answers : map (λ (s : List ℕ). sheetRefusal (oldHead s) s 2 0 given) (small ∷ larger ∷ tiles3 shade30 ∷ []) ≡ 0 ∷ 9 ∷ 8 ∷ []
+  pub sheets : map (λ (s : List ℕ). sheetAfter (oldHead s) s 2 0 given) (small ∷ larger ∷ tiles3 shade30 ∷ [])
       ≡ smallReplaced ∷ larger ∷ tiles3 shade30 ∷ []
 
 pub before-holds : Before
 unfolding over table tableFrom modeRow kindOfMode endpointCount placeAt pos width widths trailing number modeOf splitAt splitOf atPlace opened has
-    valuePlace pPlace indexSetOf indexPlace own lineOf lineBits lineAt blockAt blockBy blocksOf findRefusalBy wholeRefusal placeOf putBlock replacedBy
-    sheetAfterBy sheetRefusalBy first sizeRefusalUpTo readHeadUpTo headRefusalUpTo readOfFormUpTo ofFormRefusalUpTo formIn widthIn heightIn
+    valuePlace pPlace indexSetOf indexPlace own lineOf lineBits lineAt blockAt blockBy blocksOf findRefusal wholeRefusal placeOf putBlock replacedIn
+    sheetAfter sheetRefusal first sizeRefusalUpTo readHeadUpTo headRefusalUpTo readOfFormUpTo ofFormRefusalUpTo formIn widthIn heightIn
     readNumber readGroups raised replaced after refusal refusalIn lineFits valueFits pFits indexFits ownWidth lineGiven put oriented withLine laid
     turned anchorOf blockOf listOf bytesOf colourIn formOf colourOf colourRefusal storedAt meansStored
 before-holds = record { answers = refl; sheets = refl }
@@ -307,10 +307,10 @@ pub record Promised : Type 0 where
   pub no-sheet-touched : ReplacesInSheet small 4 0 given 12 smallReplaced → ⊥
 
 pub promises-hold : Promised
-unfolding wholeRefusal over table tableFrom weights weightOf drawn promoted eight modeRow kindOfMode endpointCount placeAt pos width widths trailing number modeOf
+unfolding over table tableFrom weights weightOf drawn promoted eight modeRow kindOfMode endpointCount placeAt pos width widths trailing number modeOf
     splitAt splitOf atPlace opened has valuePlace pPlace indexSetOf indexPlace own lineOf lineBits meansStored rotated lineAt shown pixel pixels
-    blockAt channel rowByte rowBytes rowOutUpTo rowRefusalUpTo blockBy blocksOf findRefusalBy placeOf putBlock
-    replacedBy sheetAfterBy sheetRefusalBy first sizeRefusalUpTo readHeadUpTo headRefusalUpTo formIn widthIn heightIn readNumber
+    blockAt channel rowByte rowBytes rowOutUpTo rowRefusalUpTo blockBy blocksOf findRefusal wholeRefusal placeOf putBlock
+    replacedIn sheetAfter sheetRefusal first sizeRefusalUpTo readHeadUpTo headRefusalUpTo formIn widthIn heightIn readNumber
     readGroups raised replaced after refusal refusalIn lineFits valueFits pFits indexFits ownWidth lineGiven put oriented withLine laid
     turned anchorOf blockOf listOf bytesOf colourIn formOf colourOf colourRefusal storedAt storedInTiles count slotOf slotIn inSheet columnAt
     columnOfSlot rowAt rowOfSlot tiles blockRead blocksAs byteAs rowOf sheetRowOut sheetRowRefusal whole.rowBlocks

@@ -6,6 +6,7 @@ use mathlib.Core.Logic.{_≢_, _↔_}
 use mathlib.Core.List.{List}
 use borrow.Author.Tests.{ne-eqb}
 use lib.ListN.{replicate}
+use Rattle.head_rules.specs.Heads.{readHead}
 use Rattle.sheet_rules.specs.declared.BlockRead.{BlockRead}
 use Rattle.laws.specs.Refusals.{Given}
 use Rattle.laws.proofs.Refusals.{answer-0, exactly}
@@ -20,11 +21,11 @@ module _ (s : List ℕ) (b : ℕ) where
   block-refused-when = exactly (finding-in-words s b)
 
   -- what is answered where it is accepted, and where not
-  pub block-accepted : findRefusal s b ≡ 0 → record { refusal = 0; block = blockIn s b } ≡ blockRead s b
+  pub block-accepted : findRefusal (readHead s) s b ≡ 0 → record { refusal = 0; block = blockIn s b } ≡ blockRead s b
   unfolding blockRead
   block-accepted e = sym (λ j. record { refusal = e j; block = answer-0 (blockIn s b) (replicate 16 0) e j })
 
-  pub block-refused : findRefusal s b ≢ 0 → record { refusal = findRefusal s b; block = replicate 16 0 } ≡ blockRead s b
+  pub block-refused : findRefusal (readHead s) s b ≢ 0 → record { refusal = findRefusal (readHead s) s b; block = replicate 16 0 } ≡ blockRead s b
   unfolding blockRead
   block-refused ne = rw (ne-eqb _ 0 ne)
 

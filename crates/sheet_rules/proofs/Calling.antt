@@ -16,7 +16,7 @@ use Rattle.line_rules.proofs.Blocks.{after-sixteen}
 use Rattle.line_rules.proofs.Theorems.{refused-same}
 use Rattle.bcn_format.specs.Block.{putBlock}
 use Rattle.sheet_rules.specs.Calls.{SheetCall, onBlock, refusalOn, sheetWith}
-use Rattle.sheet_rules.specs.Sheets.{blockIn, replacedBy, replacedIn, sheetRefusal, sheetRefusalBy, sheetRules}
+use Rattle.sheet_rules.specs.Sheets.{blockIn, replacedIn, sheetRefusal, sheetRules}
 use Rattle.sheet_rules.proofs.OnBlocks.{Acting, sixteen}
 use Rattle.sheet_rules.proofs.Finding.{finding-in-words}
 use Rattle.sheet_rules.proofs.Replacing.{accepted-is, refused-is, replacing}
@@ -24,13 +24,13 @@ use Rattle.sheet_rules.proofs.Replacing.{accepted-is, refused-is, repla
 pub unchanged : (s : List ℕ) (c : SheetCall) → refusalOn s c ≢ 0 → sheetWith s c ≡ s
 unchanged s c = refused-is s (c .block) (c .line) (c .given)
 
-block-is : (s : List ℕ) (c : SheetCall) → replacedIn s (c .block) (c .line) (c .given) .block ≡ after (blockIn s (c .block)) (onBlock c)
-unfolding replacedBy replaced
+block-is : (s : List ℕ) (c : SheetCall) → replacedIn (readHead s) s (c .block) (c .line) (c .given) .block ≡ after (blockIn s (c .block)) (onBlock c)
+unfolding replacedIn replaced
 block-is s c = refl
 
 -- a call on a sheet acts on the block that it names, as the block's call does
 pub acting : Acting refusalOn sheetWith (λ (c : SheetCall). c .block) onBlock refusal after
-unfolding replacedBy replaced
+unfolding replacedIn replaced
 acting = record {
   answers = λ s c. replacing s (c .block) (c .line) (c .given);
   accepted = λ s c e. accepted-is s (c .block) (c .line) (c .given) e ∙ ap (putBlock s (placeOf (readHead s) (c .block))) (block-is s c);
@@ -40,8 +40,8 @@ acting = record {
 }
 
 -- the rules of a call on a sheet
-pub in-words : (s : List ℕ) → Bytes s → (b l : ℕ) (new : Replacement) → Answers (sheetRefusal s b l new) (sheetRules s b l new)
-unfolding sheetRefusalBy replacedBy replaced
+pub in-words : (s : List ℕ) → Bytes s → (b l : ℕ) (new : Replacement) → Answers (sheetRefusal (readHead s) s b l new) (sheetRules s b l new)
+unfolding sheetRefusal replacedIn replaced
 in-words s y b l new = answers (
     rules (finding-in-words s b) λ (f, (o, (w, (h, (k, (v, (z, (long, (n, u))))))))).
     rules (on-block (blockIn s b)

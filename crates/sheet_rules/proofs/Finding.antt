@@ -15,22 +15,22 @@ use Rattle.head_rules.proofs.Orders.{blocks-within, each-place}
 use Rattle.head_rules.proofs.Theorems.{head-answers}
 use Rattle.bcn_format.specs.Block.{blockAt}
 use Rattle.head_rules.proofs.Whole.{whole-handed, whole-rules}
-use Rattle.sheet_rules.specs.Sheets.{behindHead, blockBy, blockIn, findRefusal, findRefusalBy, findRules}
+use Rattle.sheet_rules.specs.Sheets.{behindHead, blockBy, blockIn, findRefusal, findRules}
 
-pub finding : (s : List ℕ) (b : ℕ) → Answers (findRefusal s b) (findRules (readHead s) s b)
-unfolding findRefusalBy
+pub finding : (s : List ℕ) (b : ℕ) → Answers (findRefusal (readHead s) s b) (findRules (readHead s) s b)
+unfolding findRefusal
 finding s b = answers (rules (whole-handed (readHead s) s) λ w. rule (by-leb tt (blocksOf (readHead s)) b) λ n. none)
 
 -- the same down to the numbers of the head
 pub finding-in-words : (s : List ℕ) (b : ℕ)
-    → Answers (findRefusal s b) (headRules s ++ behindHead (readHead s) s b)
-unfolding findRefusalBy
+    → Answers (findRefusal (readHead s) s b) (headRules s ++ behindHead (readHead s) s b)
+unfolding findRefusal
 finding-in-words s b = answers (rules (whole-rules (readHead s) s (head-answers s)) λ w. rule (by-leb tt (blocksOf (readHead s)) b) λ n. none)
 
 -- and of a sheet whose wholeness was answered
 pub finding-handed : (s : List ℕ) (b : ℕ)
-    → Answers (findRefusal s b) (handed (wholeRefusal (readHead s) s) ∷ unless 12 (b < blocksOf (readHead s)) ∷ [])
-unfolding findRefusalBy
+    → Answers (findRefusal (readHead s) s b) (handed (wholeRefusal (readHead s) s) ∷ unless 12 (b < blocksOf (readHead s)) ∷ [])
+unfolding findRefusal
 finding-handed s b = answers (rule by-answer λ w. rule (by-leb tt (blocksOf (readHead s)) b) λ n. none)
 
 -- what a block that is found has
@@ -39,7 +39,7 @@ pub record Inside (s : List ℕ) (b : ℕ) : Type 0 where
   pub whole : length s ≡ readHead s .start + 16 * blocksOf (readHead s)
   pub number : b < blocksOf (readHead s)
 
-pub inside : (s : List ℕ) (b : ℕ) → findRefusal s b ≡ 0 → Inside s b
+pub inside : (s : List ℕ) (b : ℕ) → findRefusal (readHead s) s b ≡ 0 → Inside s b
 inside s b e = let (h, (l, (n, u))) = finding s b .met e in record { head-told = h; whole = l; number = n }
 
 -- sixteen bytes are there

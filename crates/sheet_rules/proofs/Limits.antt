@@ -17,24 +17,25 @@ use Rattle.head_rules.proofs.Heading.{size-0, size-9}
 use Rattle.head_rules.proofs.Limits.{wider}
 use Rattle.head_rules.proofs.Theorems.{old-console-knows-no-tiles, old-console-refuses, old-head-empty, stored-heads-keep}
 use Rattle.sheet_rules.specs.Rows.{rowOut, rowOutUpTo, rowRefusal, rowRefusalUpTo}
-use Rattle.sheet_rules.specs.Sheets.{findRefusalBy, sheetAfter, sheetAfterBy, sheetRefusal, sheetRefusalBy}
+use Rattle.sheet_rules.specs.Sheets.{findRefusal, sheetAfter, sheetRefusal}
 
 module _ (s : List ℕ) (b l : ℕ) (new : Replacement) where
   pub stored-sheets-keep : oldHead s .refusal ≡ 0
-      → (sheetRefusal s b l new ≡ sheetRefusalBy (oldHead s) s b l new) × (sheetAfter s b l new ≡ sheetAfterBy (oldHead s) s b l new)
+      → (sheetRefusal (readHead s) s b l new ≡ sheetRefusal (oldHead s) s b l new)
+      × (sheetAfter (readHead s) s b l new ≡ sheetAfter (oldHead s) s b l new)
   stored-sheets-keep e =
       let k = stored-heads-keep s e in
-      (ap (λ (h : Head). sheetRefusalBy h s b l new) k, ap (λ (h : Head). sheetAfterBy h s b l new) k)
+      (ap (λ (h : Head). sheetRefusal h s b l new) k, ap (λ (h : Head). sheetAfter h s b l new) k)
 
   pub old-console-corrects-nothing : readHead s .refusal ≡ 0 → readHead s .form ≡ Rows
       → (oldLimit < readHead s .width) ⊎ (oldLimit < readHead s .height)
-      → (sheetRefusalBy (oldHead s) s b l new ≡ 9) × (sheetAfterBy (oldHead s) s b l new ≡ s)
-  unfolding sheetAfterBy sheetRefusalBy findRefusalBy wholeRefusal first
+      → (sheetRefusal (oldHead s) s b l new ≡ 9) × (sheetAfter (oldHead s) s b l new ≡ s)
+  unfolding sheetAfter sheetRefusal findRefusal wholeRefusal first
   old-console-corrects-nothing e f above = rw (old-console-refuses s e f above) (refl, refl)
 
   pub old-console-corrects-no-tiles : formIn s .value ≡ formNumber Tiles
-      → (sheetRefusalBy (oldHead s) s b l new ≡ 8) × (sheetAfterBy (oldHead s) s b l new ≡ s)
-  unfolding sheetAfterBy sheetRefusalBy findRefusalBy wholeRefusal first
+      → (sheetRefusal (oldHead s) s b l new ≡ 8) × (sheetAfter (oldHead s) s b l new ≡ s)
+  unfolding sheetAfter sheetRefusal findRefusal wholeRefusal first
   old-console-corrects-no-tiles e = rw (old-console-knows-no-tiles s e) (refl, refl)
 
 module _ (w h row : ℕ) (blocks out : List ℕ) where

@@ -13,7 +13,7 @@ use Rattle.sheet_rules.specs.Sheets.{behindHead, blockIn, findRefusal}
 
 -- the head's refusals, 10, 12; and the block's bytes, zeros where it is refused
 unfoldable pub blockRead : List ℕ → ℕ → BlockRead
-blockRead s b = record { refusal = findRefusal s b; block = pick (eqb (findRefusal s b) 0) (blockIn s b) (replicate 16 0) }
+blockRead s b = record { refusal = findRefusal (readHead s) s b; block = pick (eqb (findRefusal (readHead s) s b) 0) (blockIn s b) (replicate 16 0) }
 
 -- in words, down to the numbers of the head
 abbrev pub blockRules : List ℕ → ℕ → List Rule

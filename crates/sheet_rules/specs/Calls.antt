@@ -20,10 +20,10 @@ pub record SheetCall : Type 0 where
 
 -- what it is answered, and the sheet it leaves
 abbrev pub refusalOn : List ℕ → SheetCall → ℕ
-refusalOn s c = sheetRefusal s (c .block) (c .line) (c .given)
+refusalOn s c = sheetRefusal (readHead s) s (c .block) (c .line) (c .given)
 
 abbrev pub sheetWith : List ℕ → SheetCall → List ℕ
-sheetWith s c = sheetAfter s (c .block) (c .line) (c .given)
+sheetWith s c = sheetAfter (readHead s) s (c .block) (c .line) (c .given)
 
 -- the sheet after a list of calls
 abbrev pub sheetWithAll : List ℕ → List SheetCall → List ℕ

@@ -22,7 +22,7 @@ returns : tie.Need-returns
 returns c =
     let e = c .before .before .replace-in-sheet .ensures in
     let given = c .before .before .before .replacement-of .ensures in
-    record { answers = e .0 ∙ ap (sheetRefusal _ _ _) given; leaves = e .1 ∙ ap (sheetAfter _ _ _) given }
+    record { answers = e .0 ∙ ap (sheetRefusal _ _ _ _) given; leaves = e .1 ∙ ap (sheetAfter _ _ _ _) given }
 
 pub rinchovek-sheet-replace-line-spec : {M : Type 1} → statement M
 rinchovek-sheet-replace-line-spec =

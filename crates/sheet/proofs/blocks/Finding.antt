@@ -21,13 +21,13 @@ use Rattle.sheet_rules.proofs.Finding.{finding-handed, inside, room}
 use Rattle.sheet.specs.Found.{findBlock, foundAt}
 
 module _ (s : List ℕ) (b : ℕ) where
-  none : {r : ℕ} → findRefusal s b ≡ r → (r ≡ 0 → ⊥) → foundAt r 0 ≡ findBlock s b
+  none : {r : ℕ} → findRefusal (readHead s) s b ≡ r → (r ≡ 0 → ⊥) → foundAt r 0 ≡ findBlock s b
   unfolding findBlock
   none {r} e ne = rw (e, ne-eqb r 0 ne)
 
-  one : findRefusal s b ≡ 0 → foundAt 0 (placeOf (readHead s) b) ≡ findBlock s b
+  one : findRefusal (readHead s) s b ≡ 0 → foundAt 0 (placeOf (readHead s) b) ≡ findBlock s b
   unfolding findBlock
-  one e = rw (eq-eqb (findRefusal s b) 0 e)
+  one e = rw (eq-eqb (findRefusal (readHead s) s b) 0 e)
 
   -- the ways of `find_block`: x is the head of the sheet, if it is whole
   module _ {x : Head} (ex : x ≡ wholeHead (readHead s) s) where
@@ -57,15 +57,15 @@ module _ (s : List ℕ) (b : ℕ) where
 
 -- what `find_block` answered
 module _ (s : List ℕ) (b : ℕ) {f : Found} (ef : f ≡ findBlock s b) where
-  pub refusal-is : f .refusal ≡ findRefusal s b
+  pub refusal-is : f .refusal ≡ findRefusal (readHead s) s b
   refusal-is =
       ap (λ (g : Found). g .refusal) ef
       ∙ ⊎-elim (λ z. sym (ap (λ (g : Found). g .refusal) (one s b z)) ∙ sym z)
       (λ p. sym (ap (λ (g : Found). g .refusal) (none s b refl (λ q. omega arith))))
-      (eq-zero-or-pos (findRefusal s b))
+      (eq-zero-or-pos (findRefusal (readHead s) s b))
 
   module _ (a : f .refusal ≡ 0) where
-    pub told : findRefusal s b ≡ 0
+    pub told : findRefusal (readHead s) s b ≡ 0
     told = sym refusal-is ∙ a
 
     pub at-is : f .at ≡ placeOf (readHead s) b

@@ -12,20 +12,20 @@ no-number-requires c κs = search needs
 returns : tie.Need-returns
 returns c = c .no-number .ensures ∙ sym (raised-none _ _ (c .before .if1 .taken))
 
-mul-number-of : tie.Need-mul-number-of
-mul-number-of c = search needs
+mul-number-found : tie.Need-mul-number-found
+mul-number-found c = search needs
 
 wide-requires : tie.Need-wide-requires
 wide-requires c κs = search needs
 
-add-number-of : tie.Need-add-number-of
-add-number-of c = search needs
+add-number-found : tie.Need-add-number-found
+add-number-found c = search needs
 
-number-of-requires : tie.Need-number-of-requires
-number-of-requires c κs = search needs
+number-found-requires : tie.Need-number-found-requires
+number-found-requires c κs = search needs
 
 returns-2 : tie.Need-returns-2
-returns-2 c = c .number-of .ensures ∙ rw (c .before .wide .ensures) (sym (raised-some _ _ (c .before .before .before .if1 .left)))
+returns-2 c = c .number-found .ensures ∙ rw (c .before .wide .ensures) (sym (raised-some _ _ (c .before .before .before .if1 .left)))
 
 pub raise-spec : {M : Type 1} → statement M
 raise-spec =
@@ -33,8 +33,8 @@ raise-spec =
     (tie.spec
     no-number-requires
     returns
-    mul-number-of
+    mul-number-found
     wide-requires
-    add-number-of
-    number-of-requires
+    add-number-found
+    number-found-requires
     returns-2)
