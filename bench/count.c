@@ -360,6 +360,9 @@ typedef u32 export_colour(const u8 *from, u64 length, u32 colour_space, u8 *to, 
 typedef u32 show_row(const u8 *all, u64 length, u32 row, u8 *to, u64 room);
 typedef u32 block_of(const u8 *all, u64 length, u32 block, u8 *bytes);
 typedef u32 state_colour(u8 *all, u64 length, u32 colour_space);
+typedef u32 count_sheet(const u8 *sheet, u64 length, u32 *counts);
+typedef u32 line_counted(u8 *sheet, u64 length, u32 *counts, u32 block, u32 line, const u8 *replacement);
+typedef u32 block_counted(u8 *sheet, u64 length, u32 *counts, u32 block, const u8 *bytes);
 
 two_buffers rinchovek_bc7_unpack, rinchovek_bc7_pack;
 read_one rinchovek_bc7_read_line;
@@ -378,6 +381,9 @@ __attribute__((weak)) show_row rinchovek_sheet_show_row;
 __attribute__((weak)) block_of rinchovek_sheet_block;
 __attribute__((weak)) state_colour rinchovek_sheet_state_colour;
 __attribute__((weak)) read_head rinchovek_sheet_open;
+__attribute__((weak)) count_sheet rinchovek_sheet_count;
+__attribute__((weak)) line_counted rinchovek_sheet_replace_line_counted;
+__attribute__((weak)) block_counted rinchovek_sheet_replace_block_counted;
 replace_in rinchovek_sheet_replace_line;
 read_head rinchovek_sheet_read_head;
 write_head rinchovek_sheet_write_head;
@@ -411,6 +417,9 @@ static show_row *volatile show_row_call;
 static block_of *volatile block_of_call;
 static state_colour *volatile state_colour_call;
 static read_head *volatile open_call;
+static count_sheet *volatile count_call;
+static line_counted *volatile line_counted_call;
+static block_counted *volatile block_counted_call;
 
 static u32 no_two_buffers(const u8 *from, u8 *to) {
     __asm__ volatile("" ::"r"(from), "r"(to) : "memory");
@@ -494,6 +503,21 @@ static u32 no_state_colour(u8 *all, u64 length, u32 colour_space) {
     return 0;
 }
 
+static u32 no_count(const u8 *all, u64 length, u32 *counts) {
+    __asm__ volatile("" ::"r"(all), "r"(length), "r"(counts) : "memory");
+    return 0;
+}
+
+static u32 no_line_counted(u8 *all, u64 length, u32 *counts, u32 block, u32 line, const u8 *replacement) {
+    __asm__ volatile("" ::"r"(all), "r"(length), "r"(counts), "r"(block), "r"(line), "r"(replacement) : "memory");
+    return 0;
+}
+
+static u32 no_block_counted(u8 *all, u64 length, u32 *counts, u32 block, const u8 *bytes) {
+    __asm__ volatile("" ::"r"(all), "r"(length), "r"(counts), "r"(block), "r"(bytes) : "memory");
+    return 0;
+}
+
 typedef u32 one_call(u32 i);
 
 static u32 unpack_one(u32 i) { return two_buffers_call(sheet_blocks + 16 * i, records + RECORD * i); }
@@ -563,6 +587,7 @@ enum { MOST_OF_A_SHEET = 4096, LONGEST_SHEET = 8 + 16 * MOST_OF_A_SHEET };
 static u8 in_rows[LONGEST_SHEET], in_tiles[LONGEST_SHEET], moved[LONGEST_SHEET], kept_in_rows[LONGEST_SHEET], kept_in_tiles[LONGEST_SHEET];
 static u64 rows_length, tiles_length;
 static u32 block_count, asked_row;
+static int sheets_mode = MIXED;
 
 static u32 move_it(u32 i) { return (void)i, convert_call(given, given_length, moved, room); }
 static u32 show_it(u32 i) { return (void)i, show_row_call(given, given_length, asked_row, out, room); }
@@ -574,6 +599,13 @@ static u32 state_a_colour(u32 i) { return state_colour_call(in_tiles, tiles_leng
 static u32 state_no_colour(u32 i) { return (void)i, state_colour_call(in_tiles, tiles_length, SRGB + 1); }
 static u32 state_in_rows(u32 i) { return (void)i, state_colour_call(in_rows, rows_length, SRGB); }
 static u32 replace_in_rows(u32 i) { return replace_in_call(in_rows, rows_length, i, line_numbers[i], lines + LINE * i); }
+/* with counts, which are handed on from call to call; a whole block becomes its neighbour */
+static u32 counts[10], kept_counts[10];
+static u32 count_it(u32 i) { return (void)i, count_call(given, given_length, counts); }
+static u32 line_in_rows(u32 i) { return line_counted_call(in_rows, rows_length, counts, i, line_numbers[i], lines + LINE * i); }
+static u32 line_in_tiles(u32 i) { return line_counted_call(in_tiles, tiles_length, counts, i, line_numbers[i], lines + LINE * i); }
+static u32 block_in_rows(u32 i) { return block_counted_call(in_rows, rows_length, counts, i, sheet_blocks + 16 * ((i + 1) % COUNTED)); }
+static u32 block_in_tiles(u32 i) { return block_counted_call(in_tiles, tiles_length, counts, i, sheet_blocks + 16 * ((i + 1) % COUNTED)); }
 static u32 replace_in_tiles(u32 i) { return replace_in_call(in_tiles, tiles_length, i, line_numbers[i], lines + LINE * i); }
 
 static void point_at_calls(int at_none) {
@@ -581,6 +613,9 @@ static void point_at_calls(int at_none) {
     block_of_call = at_none ? no_block_of : rinchovek_sheet_block;
     state_colour_call = at_none ? no_state_colour : rinchovek_sheet_state_colour;
     open_call = at_none ? no_read_head : rinchovek_sheet_open;
+    count_call = at_none ? no_count : rinchovek_sheet_count;
+    line_counted_call = at_none ? no_line_counted : rinchovek_sheet_replace_line_counted;
+    block_counted_call = at_none ? no_block_counted : rinchovek_sheet_replace_block_counted;
     import_colour_call = at_none ? no_import_colour : rinchovek_dds_import_colour;
     export_colour_call = at_none ? no_export_colour : rinchovek_dds_export_colour;
     read_colour_head_call = at_none ? no_read_head : rinchovek_sheet_read_colour_head;
@@ -608,6 +643,7 @@ static void restore_sheets(void) {
     memcpy(sheet, kept_sheet, sizeof sheet);
     memcpy(in_rows, kept_in_rows, rows_length);
     memcpy(in_tiles, kept_in_tiles, tiles_length);
+    memcpy(counts, kept_counts, sizeof counts);
 }
 
 /* The blocks stay as they are: each count starts from the same sheet. Every call must answer this refusal. */
@@ -758,12 +794,12 @@ static void fail_forms(const char *what, u32 width, u32 height) {
     leave(1);
 }
 
-/* Mixed blocks as a sheet of this size in both forms; each block is the same by its number. */
+/* Blocks of one mode, or mixed, as a sheet of this size in both forms; each block is the same by its number. */
 static void make_forms(u32 width, u32 height) {
     u32 start = 0;
     rinchovek_sheet_write_head(width, height, in_rows, &start);
     block_count = blocks_of_row(width) * blocks_of_row(height);
-    make_blocks(in_rows + start, block_count, MIXED);
+    make_blocks(in_rows + start, block_count, sheets_mode);
     rows_length = start + 16 * block_count, tiles_length = rows_length + 1;
     if (rinchovek_sheet_to_tiles(in_rows, rows_length, in_tiles, tiles_length)) fail_forms("REFUSED: the move to tiles", width, height);
     if (rinchovek_sheet_to_rows(in_tiles, tiles_length, moved, rows_length)) fail_forms("REFUSED: the move to rows", width, height);
@@ -887,6 +923,44 @@ static void count_stating(void) {
     say_call("rinchovek_sheet_state_colour, 32 by 32", state_a_colour, 0);
 }
 
+/* Of a sheet of mixed blocks, the first of them replaced: what counting takes a block, and a replacement with counts beside one without. */
+static void say_counted(const char *name, u32 width, u32 height) {
+    make_forms(width, height);
+    const u32 replaced = block_count < COUNTED ? block_count : COUNTED;
+    say_left(name, 36);
+    give(in_rows, rows_length, 0);
+    u64 rows = cost_of_calls(count_it, 1, 0);
+    give(in_tiles, tiles_length, 0);
+    u64 tiles = cost_of_calls(count_it, 1, 0);
+    rinchovek_sheet_count(in_rows, rows_length, kept_counts);
+    memcpy(counts, kept_counts, sizeof counts);
+    say_number(rows / block_count, 6);
+    say_number(tiles / block_count, 8);
+    say_number(cost_of_calls(replace_in_rows, replaced, 0) / replaced, 8);
+    say_number(cost_of_calls(line_in_rows, replaced, 0) / replaced, 8);
+    say_number(cost_of_calls(line_in_tiles, replaced, 0) / replaced, 8);
+    say_number(cost_of_calls(block_in_rows, replaced, 0) / replaced, 8);
+    say_number(cost_of_calls(block_in_tiles, replaced, 0) / replaced, 8);
+    say("\n");
+}
+
+static void count_counts(void) {
+    say("\nInstructions with counts: a block counted, a line and a whole block replaced\n");
+    say("                                    form 1  form 2   plain    line  form 2   block  form 2\n");
+    say_counted("one block, 4 by 4", 4, 4);
+    say_counted("one whole tile, 32 by 32", 32, 32);
+    say_counted("a row, 256 by 4", 256, 4);
+    say_counted("64 whole tiles, 256 by 256", 256, 256);
+    say_counted("cut at both sides, 244 by 268", 244, 268);
+    for (int mode = 0; mode < 8; mode++) {
+        make_sheet(mode);
+        make_lines();
+        sheets_mode = mode;
+        say_counted(column_names[mode], 32, 32);
+    }
+    sheets_mode = MIXED;
+}
+
 /* Sheets in rows beside the same in tiles: whole tiles, and tiles that are cut at the right, at the bottom and at both. */
 static void count_forms(void) {
     make_sheet(MIXED);
@@ -917,6 +991,7 @@ static void count_forms(void) {
     say_both("rinchovek_sheet_replace_line, 28 by 40, kept", call_cost(replace_in_rows, 0), call_cost(replace_in_tiles, 0));
     count_refused_forms();
     if (rinchovek_sheet_state_colour) count_stating();
+    if (rinchovek_sheet_count) count_counts();
 }
 
 #endif

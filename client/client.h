@@ -180,6 +180,7 @@ struct place place_of(const struct sheet *sheet, uint32_t block, uint32_t pixel)
 void check_same_size(const struct sheet *old, const struct sheet *new);
 
 int show_info(struct given given);
+int show_counts(struct given given);
 int show_place(struct given given);
 int show_block(struct given given);
 int show_difference(struct given given);

@@ -22,6 +22,7 @@ static const struct command {
     {"picture", "SHEET FILE.png|FILE.pam [--mask GREY|none] [--grid] [--region X Y WIDTH HEIGHT] [--scale N]", "rw", "mgrso",
      "draws a sheet", draw_picture},
     {"info", "SHEET", "r", "", "prints size, form, colour space, how many blocks there are, and how many of each mode", show_info},
+    {"counts", "SHEET", "r", "", "prints how many blocks have each mode, how many are reserved, and how many are opaque", show_counts},
     {"at", "SHEET X Y", "rnn", "", "prints what stands at a pixel: block, number in it, mode, the lines that draw it, colour", show_place},
     {"block", "SHEET BLOCK", "rn", "", "prints a block: where it stands, mode, lines, bytes, and what its pixels show", show_block},
     {"diff", "OLD NEW [--picture FILE.png|FILE.pam]", "rr", "pmgrso",

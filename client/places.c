@@ -36,24 +36,27 @@ struct place place_of(const struct sheet *sheet, uint32_t block, uint32_t pixel)
 
 /* ---- the commands */
 
+static void print_counts(const struct sheet *sheet) {
+    uint32_t counts[RINCHOVEK_COUNTS];
+    check_sheet(sheet->name, sheet->file, rinchovek_sheet_count(sheet->file.at, sheet->file.length, counts));
+    for (uint32_t mode = 0; mode < MODES; mode++) printf("mode %u: %u\n", mode, counts[RINCHOVEK_COUNT_MODE_0 + mode]);
+    printf("reserved: %u\nopaque: %u\n", counts[RINCHOVEK_COUNT_RESERVED], counts[RINCHOVEK_COUNT_OPAQUE]);
+}
+
+int show_counts(struct given given) {
+    const struct sheet sheet = read_sheet(given.file[0]);
+    print_counts(&sheet);
+    release(sheet.file);
+    return DONE;
+}
+
 int show_info(struct given given) {
     const struct sheet sheet = read_sheet(given.file[0]);
     const uint32_t *numbers = sheet.numbers;
-    uint32_t modes[MODES + 1] = {0}, opaque = 0;
-    for (uint32_t block = 0; block < numbers[RINCHOVEK_OPEN_BLOCKS]; block++) {
-        uint8_t bytes[RINCHOVEK_BLOCK_BYTES];
-        read_block(&sheet, block, bytes);
-        const uint32_t columns = rinchovek_shown(numbers[RINCHOVEK_OPEN_WIDTH], block % numbers[RINCHOVEK_OPEN_COLUMNS]);
-        const uint32_t rows = rinchovek_shown(numbers[RINCHOVEK_OPEN_HEIGHT], block / numbers[RINCHOVEK_OPEN_COLUMNS]);
-        modes[mode_of(bytes)]++;
-        opaque += rinchovek_bc7_is_opaque(bytes, columns, rows);
-        show_progress("looked at", block + 1, numbers[RINCHOVEK_OPEN_BLOCKS]);
-    }
     printf("size %u %u\nform %u\ncolour space %s\nblocks %u, %u by %u\n", numbers[RINCHOVEK_OPEN_WIDTH], numbers[RINCHOVEK_OPEN_HEIGHT],
            numbers[RINCHOVEK_OPEN_FORM], colour_spaces[numbers[RINCHOVEK_OPEN_COLOUR_SPACE]], numbers[RINCHOVEK_OPEN_BLOCKS],
            numbers[RINCHOVEK_OPEN_COLUMNS], numbers[RINCHOVEK_OPEN_ROWS]);
-    for (uint32_t mode = 0; mode < MODES; mode++) printf("mode %u: %u\n", mode, modes[mode]);
-    printf("reserved: %u\nopaque: %u\n", modes[no_mode], opaque);
+    print_counts(&sheet);
     release(sheet.file);
     return DONE;
 }

@@ -352,6 +352,59 @@ def some_sheet_call(dice, largest=20, form=model.ROWS):
     return head + blocks, block, line, new
 
 
+def some_counted_block(dice):
+    """A block whose opacity is easily told and easily changed, or any."""
+    return some_opacity(dice)[0] if dice.chance(70) else some_block(dice, reserved_percent=10)
+
+
+def some_counted_sheet(dice, largest=20, form=model.ROWS):
+    head, blocks = of_form(form)[1](dice, largest)
+    return head, b"".join(some_counted_block(dice) for _ in range(len(blocks) // 16))
+
+
+def false_counts(dice, counts):
+    """One or two of the ten changed: by one, to the other end, or so that the nine sum to the same, also modulo 2 ** 32."""
+    counts = list(counts)
+    sort = dice.below(6)
+    if sort == 0:  # one mode's blocks said to be another's
+        source = dice.one_of([mode for mode in range(model.COUNTED_MODES) if counts[mode]] or [0])
+        moved, counts[source] = counts[source], 0
+        counts[dice.below(model.COUNTED_MODES)] += moved
+    elif sort == 1:  # a sum that comes round
+        first, second = dice.below(model.COUNTED_MODES), dice.below(model.COUNTED_MODES)
+        counts[first] = 2**32 - 1
+        counts[second] = min(2**32 - 1, counts[second] + 1)
+    elif sort == 2:
+        counts[model.COUNTED_MODES] = dice.one_of((0, sum(counts[: model.COUNTED_MODES]), sum(counts[: model.COUNTED_MODES]) + 1, *LARGE))
+    elif sort == 3:
+        counts = [dice.below(4) for _ in counts]
+    else:
+        at = dice.below(model.COUNTED_MODES + 1)
+        counts[at] = max(0, counts[at] + dice.one_of((-1, 1)))
+    return tuple(counts)
+
+
+def some_counted_call(dice, whole, largest=20, form=model.ROWS):
+    """The arguments of a replacement with counts: of a whole block, or of a line."""
+    head_of = of_form(form)[0]
+    head, blocks = some_counted_sheet(dice, largest, form)
+    count = len(blocks) // 16
+    counts = model.count(head + blocks)[1]
+    if dice.chance(25):
+        counts = false_counts(dice, counts)
+    block = dice.below(count)
+    rest = [some_counted_block(dice)] if whole else some_replacement(dice, model.block_in_sheet(head + blocks, block)[1])
+    wrong = dice.below(100)
+    if wrong < 6:
+        block = dice.one_of((count, count + 1, *LARGE))
+    if wrong % 20 == 3:
+        head = head_of(dice)
+    if wrong % 20 == 4:
+        length = near(dice, len(blocks), 100)
+        blocks = blocks[:length] + dice.bytes(max(0, length - len(blocks)))
+    return head + blocks, counts, block, *rest
+
+
 def either_form(dice, percent=50):
     return model.TILES if dice.chance(percent) else model.ROWS
 

@@ -30,6 +30,7 @@ from cases import (
     bits_of_style,
     block_of,
     either_form,
+    false_counts,
     fitting_replacement,
     nearly_opaque,
     sheet_of,
@@ -38,6 +39,9 @@ from cases import (
     some_dds,
     some_head,
     some_block_number,
+    some_counted_block,
+    some_counted_call,
+    some_counted_sheet,
     some_listed,
     some_move,
     some_opacity,
@@ -966,6 +970,109 @@ def needing_for_tiles(dice, shared):
     return [("s", sheet) for sheet in tiles_to_export(dice)]
 
 
+def some_of(dice, mode):
+    """A block of that mode, under the first of its splits."""
+    return block_of(mode, list(model.splits(mode))[0], bits_of_style(dice, "random"))
+
+
+def counting(dice, shared):
+    """Every pair of sides around a tile, in both forms, with blocks that are opaque but at the edge. One sheet of each mode alone, and of reserved
+    blocks. What is refused: heads, bytes missing and too many, under each colour space. The largest sheets, and by chance."""
+    del shared
+    sheets = []
+    for turn, (width, height) in enumerate((width, height) for width in TILE_SIDES for height in (1, 2, 5, 8, 33, 38)):
+        for form in model.FORMS:
+            blocks = (edge_blocks, drawn_blocks, edge_blocks, dice_blocks)[turn % 4](dice)
+            sheets.append(sheet_of(form, width, height, blocks, turn % 3))
+    for form in model.FORMS:
+        for mode in range(9):
+            alone = bytes(16) if mode == model.RESERVED else some_of(dice, mode)
+            sheets.append(sheet_of(form, 7, 6, lambda count, block=alone: block * count))
+        for blocks in ((document_01.C, document_01.D), (document_01.D, document_01.C)):
+            sheets.append(sheet_of(form, 5, 4, lambda count, pair=blocks: b"".join(pair)))
+    sheets += refused_sheets(dice)
+    sheets += [sheet_of(model.TILES, *sides, marked) for sides in ((16380, 1), (252, 256))]
+    sheets.append(sheet_of(model.ROWS, 1, 16380, marked))
+    return [("C", sheet) for sheet in sheets] + [("C", some_listed(dice, 44, either_form(dice))) for _ in range(60)]
+
+
+def grounds(counts, blocks):
+    """Counts beside true ones: each ground of 19 alone and with others, and what is false and not asked about. `blocks` is how many there are."""
+    found = [counts]
+    for mode in range(model.COUNTED_MODES):
+        for more in (-1, 1):
+            if counts[mode] + more >= 0:
+                found.append((*counts[:mode], counts[mode] + more, *counts[mode + 1 :]))
+        for other in range(model.COUNTED_MODES):
+            if other != mode and counts[mode]:  # the sum stays
+                moved = list(counts)
+                moved[other] += moved[mode]
+                moved[mode] = 0
+                found.append(tuple(moved))
+    for opaque in (0, 1, blocks - 1, blocks, blocks + 1, 2**32 - 1):
+        found.append((*counts[: model.COUNTED_MODES], opaque))
+    round_about = list(counts)  # sums to 2 ** 32 more
+    round_about[0], round_about[1] = 2**32 - 1, round_about[0] + round_about[1] + 1
+    return found + [tuple(round_about), model.NO_COUNTS, (2**32 - 1,) * 10]
+
+
+def changing_counted(letter):
+    """Every ground of 19 over a sheet of four blocks, one of them reserved and one at the edge, in both forms, for a block that is opaque, one that isn't
+    and the reserved one; 19 together with 12 before it, and with 1, 2, 3, 4 behind it. Each mode put over each, opaque or not; every block of a
+    sheet of cut tiles. What is refused before: heads, bytes missing and too many, numbers beyond. Sequences on one sheet that hand the counts on,
+    and by chance."""
+
+    def given(dice, block):
+        return [some_counted_block(dice)] if letter == "K" else some_replacement(dice, block, wrong_percent=0)
+
+    def calls(dice, shared):
+        del shared
+        found = []
+        edge = nearly_opaque(dice, 6, ("whole",), [7])
+        mode1 = block_of(1, ("two", 13), bits_of_style(dice, "random"))
+        four = bytes(16) + mode1 + nearly_opaque(dice, 6, ("whole",), [0]) + edge
+        wrong_value, wrong_p = bytes([255] + [0] * 25), bytes([0] * 8 + [0, 1] + [0] * 16)
+        for form in model.FORMS:
+            sheet = sheet_of(form, 7, 6, lambda count: four, 1)
+            counts = model.count(sheet)[1]
+            blocks = model.blocks_of(sheet, model.read_head(sheet)[1])
+            for turn, came in enumerate(grounds(counts, 4)):
+                found += [(letter, sheet, came, block, *given(dice, blocks[block])) for block in (0, 1, 2, 3)[turn % 2 :: 2]]
+                found += [(letter, sheet, came, block, *given(dice, mode1)) for block in (4, *LARGE)[turn % 3 :: 9]]
+            for came in (counts, model.NO_COUNTS):
+                for more in (-64, -17, -16, -1, 1, 16, 17):
+                    cut = sheet[: len(sheet) + more] if more < 0 else sheet + dice.bytes(more)
+                    found += [(letter, cut, came, block, *given(dice, mode1)) for block in (0, 4)]
+                if letter == "L":
+                    for block in range(5):
+                        found += [("L", sheet, came, block, line, new) for line in (0, 1, 2) for new in (bytes(26), wrong_value, wrong_p)]
+            if letter == "K":
+                of_each = [bytes(16), *(some_of(dice, mode) for mode in range(8)), edge]
+                for old in of_each:
+                    sheet = sheet_of(form, 5, 4, lambda count: old + edge)
+                    found += [("K", sheet, model.count(sheet)[1], 0, new) for new in of_each]
+            sheet = sheet_of(form, 37, 9, edge_blocks(dice), 2)
+            counts = model.count(sheet)[1]
+            found += [(letter, sheet, counts, block, *given(dice, model.block_in_sheet(sheet, block)[1])) for block in range(30)]
+            head, blocks = some_counted_sheet(dice, 30, form)
+            sheet, counts = head + blocks, model.count(head + blocks)[1]
+            for turn in range(40):
+                block = dice.below(len(blocks) // 16 + 1)
+                came = false_counts(dice, counts) if turn % 8 == 7 else counts
+                call = (letter, sheet, came, block, *given(dice, model.block_in_sheet(sheet, block)[1]))
+                found.append(call)
+                if came == counts:
+                    _, sheet, counts = (model.replace_line_counted if letter == "L" else model.replace_block_counted)(*call[1:])
+                    assert counts == model.count(sheet)[1]
+        for sheet in refused_sheets(dice):
+            found.append((letter, sheet, (1,) * 10, len(sheet) % 5, *given(dice, mode1)))
+        large = sheet_of(model.TILES, 252, 256, lambda count: edge * count)
+        found.append((letter, large, model.count(large)[1], 4030, *given(dice, edge)))
+        return found + [(letter, *some_counted_call(dice, letter == "K", 44, either_form(dice))) for _ in range(80)]
+
+    return calls
+
+
 # Who makes the calls of a letter, in the order of the list. What a request adds for letters that are there stands behind, so that the
 # older calls keep their places and their bytes.
 MAKERS = (
@@ -1004,6 +1111,9 @@ MAKERS = (
     ("x", exporting_tiles("x")),
     ("s", needing_for_tiles),
     ("c", stating),
+    ("C", counting),
+    ("L", changing_counted("L")),
+    ("K", changing_counted("K")),
 )
 
 

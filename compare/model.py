@@ -542,6 +542,68 @@ def replace_in_sheet(sheet, block, line, new):
     return refusal, laid_out(head, blocks)
 
 
+# ---------------------------------------------------------------------------------------------------------------------
+# M-109: counts kept beside the sheet. Ten numbers: how many blocks have mode 0, 1, .., 8, and how many are opaque.
+COUNTED_MODES = 9
+NO_COUNTS = (0,) * (COUNTED_MODES + 1)
+
+
+def is_opaque_in(head, number, block):
+    """By the pixels that the sheet shows of it: by the column and row of its number, in either form."""
+    row, column = divmod(number, in_blocks(head.width))
+    return is_opaque(block, head.width - 4 * column, head.height - 4 * row)
+
+
+def tally(head, number, block):
+    """What the block adds to the counts."""
+    return [int(mode_of(block) == mode) for mode in range(COUNTED_MODES)] + [int(is_opaque_in(head, number, block))]
+
+
+def count(sheet):
+    """refusal, the counts"""
+    refusal, head = read_sheet(sheet)
+    if refusal:
+        return refusal, NO_COUNTS
+    tallies = [tally(head, number, block) for number, block in enumerate(blocks_of(sheet, head))]
+    return 0, tuple(map(sum, zip(*tallies)))
+
+
+def counts_are_false(head, number, block, counts):
+    """The four grounds of 19."""
+    *modes, opaque = counts
+    if sum(modes) != count_of(head) or modes[mode_of(block)] == 0:
+        return True
+    return opaque == 0 if is_opaque_in(head, number, block) else opaque >= count_of(head)
+
+
+def change_counted(sheet, counts, number, change):
+    """refusal, the sheet and the counts afterwards; `change` answers a refusal and a block for a block"""
+    sheet, counts = bytes(sheet), tuple(counts)
+    refusal, head = read_sheet(sheet)
+    if refusal == 0 and number >= count_of(head):
+        refusal = 12
+    if refusal:
+        return refusal, sheet, counts
+    blocks = blocks_of(sheet, head)
+    old = blocks[number]
+    if counts_are_false(head, number, old, counts):
+        return 19, sheet, counts
+    refusal, new = change(old)
+    if refusal:
+        return refusal, sheet, counts
+    blocks[number] = new
+    out, into = tally(head, number, old), tally(head, number, new)
+    return 0, laid_out(head, blocks), tuple(n - o + i for n, o, i in zip(counts, out, into))
+
+
+def replace_line_counted(sheet, counts, block, line, new):
+    return change_counted(sheet, counts, block, lambda old: replace(old, line, new))
+
+
+def replace_block_counted(sheet, counts, block, new):
+    return change_counted(sheet, counts, block, lambda old: (0, bytes(new)))
+
+
 def block_in_sheet(sheet, block):
     """refusal, the block's sixteen bytes"""
     refusal, head = read_sheet(sheet)

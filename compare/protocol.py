@@ -30,10 +30,13 @@ A call is (letter, arguments..):
   o sheet            open a sheet: the eight numbers of its head
   b sheet block      a block of a sheet
   c colour sheet     state the colour space of a form 2 sheet; any number
+  C sheet            count a sheet
+  L sheet counts block line new      replace a line, with counts; ten numbers
+  K sheet counts block new           replace a whole block, with counts; new is 16 bytes
 """
 import model
 
-LETTERS = "DUPRHWOSlrNEA" + "IXds" + "Q" + "B" + "hix" + "TZVob" + "c"
+LETTERS = "DUPRHWOSlrNEA" + "IXds" + "Q" + "B" + "hix" + "TZVob" + "c" + "CLK"
 KINDS = ("whole", "two", "three", "vector")
 RECORD, REPLACEMENT, READ = 66, 26, 11
 LARGEST_LENGTH = 65536  # a longer slice ends the run
@@ -88,6 +91,10 @@ def call_bytes(call):
         sheet, block, line, new = given
         assert len(sheet) <= LARGEST_LENGTH
         body = number(len(sheet)) + sheet + number(block) + number(line) + bytes(new)
+    elif letter in "LK":
+        sheet, counts, block, *line, new = given
+        assert len(sheet) <= LARGEST_LENGTH and len(counts) == model.COUNTED_MODES + 1
+        body = number(len(sheet)) + sheet + b"".join(map(number, (*counts, block, *line))) + bytes(new)
     elif letter in "IXixTZV":
         *first, data, out = given
         assert len(data) <= LARGEST_LENGTH and len(out) <= LARGEST_LENGTH
@@ -96,7 +103,7 @@ def call_bytes(call):
     elif letter == "c":
         assert len(given[1]) <= LARGEST_LENGTH
         body = number(given[0]) + number(len(given[1])) + given[1]
-    elif letter in "ldsob":
+    elif letter in "ldsobC":
         assert len(given[0]) <= LARGEST_LENGTH
         body = number(len(given[0])) + given[0] + b"".join(map(number, given[1:]))
     else:  # D, U, P
@@ -142,6 +149,12 @@ def model_answer(call):
         refusal, rest = model.block_in_sheet(*given)
     elif letter == "c":
         refusal, rest = model.state_colour(*given)
+    elif letter == "C":
+        refusal, counts = model.count(given[0])
+        rest = b"".join(map(number, counts))
+    elif letter in "LK":
+        refusal, sheet, counts = (model.replace_line_counted if letter == "L" else model.replace_block_counted)(*given)
+        rest = sheet + b"".join(map(number, counts))
     elif letter in "TZ":
         refusal, rest = (model.to_tiles if letter == "T" else model.to_rows)(*given)
     elif letter == "V":

@@ -90,6 +90,9 @@ static void try_sizes(void) {
     expect("a head's numbers", numbers_written(rinchovek_sheet_read_head, head, sizeof head), RINCHOVEK_HEAD_NUMBERS);
     expect("with its colour space", numbers_written(rinchovek_sheet_read_colour_head, head, sizeof head), RINCHOVEK_COLOUR_HEAD_NUMBERS);
 
+    static const uint8_t counted[3 + RINCHOVEK_BLOCK_BYTES] = {0x01, 4, 4};
+    expect("counts", numbers_written(rinchovek_sheet_count, counted, sizeof counted), RINCHOVEK_COUNTS);
+
     static const uint8_t sheet[3 + 16] = {0x01, 4, 4};
     expect("a file's length", rinchovek_dds_export_length(sheet, sizeof sheet, &count), RINCHOVEK_ACCEPTED);
     expect("a file's header", count - RINCHOVEK_BLOCK_BYTES, RINCHOVEK_DDS_HEADER_BYTES);
@@ -229,6 +232,33 @@ static void try_rows(void) {
         }
 }
 
+/* Two blocks, of mode 4 and of mode 1, which is opaque; then the first is reserved. */
+static void try_counts(void) {
+    static const uint8_t reserved[RINCHOVEK_BLOCK_BYTES];
+    uint8_t sheet[3 + 2 * RINCHOVEK_BLOCK_BYTES] = {RINCHOVEK_FORM_ROWS, 8, 4};
+    for (int i = 0; i < RINCHOVEK_BLOCK_BYTES; i++) sheet[3 + i] = block4[i];
+    sheet[3 + RINCHOVEK_BLOCK_BYTES] = 0x02;
+    uint32_t counts[RINCHOVEK_COUNTS];
+    expect("counted", rinchovek_sheet_count(sheet, sizeof sheet, counts), RINCHOVEK_ACCEPTED);
+    expect("of mode 4", counts[RINCHOVEK_COUNT_MODE_0 + 4], 1);
+    expect("of mode 1", counts[RINCHOVEK_COUNT_MODE_0 + 1], 1);
+    expect("reserved", counts[RINCHOVEK_COUNT_RESERVED], 0);
+    expect("opaque", counts[RINCHOVEK_COUNT_OPAQUE], 1);
+    uint32_t block = 0;
+    expect("a block", rinchovek_sheet_replace_block_counted(sheet, sizeof sheet, counts, block, reserved), RINCHOVEK_ACCEPTED);
+    expect("no more of mode 4", counts[RINCHOVEK_COUNT_MODE_0 + 4], 0);
+    expect("one reserved", counts[RINCHOVEK_COUNT_RESERVED], 1);
+    expect("one opaque", counts[RINCHOVEK_COUNT_OPAQUE], 1);
+    uint8_t held[RINCHOVEK_LINE_BYTES], widths[RINCHOVEK_LINE_BYTES];
+    const uint32_t line = 0;
+    block = 1;
+    rinchovek_bc7_read_line(sheet + 3 + RINCHOVEK_BLOCK_BYTES, line, held, widths);
+    counts[RINCHOVEK_COUNT_OPAQUE] = 0;
+    expect("19", rinchovek_sheet_replace_line_counted(sheet, sizeof sheet, counts, block, line, held), RINCHOVEK_FALSE_COUNTS);
+    counts[RINCHOVEK_COUNT_OPAQUE] = 1;
+    expect("a line", rinchovek_sheet_replace_line_counted(sheet, sizeof sheet, counts, block, line, held), RINCHOVEK_ACCEPTED);
+}
+
 /* Each refusal by a call that is refused for this alone. */
 static void try_refusals(void) {
     static const uint8_t reserved[16], mode1[16] = {0x46}, half[2] = {0x01, 0x80}, form9[3] = {9, 4, 4}, no_width[3] = {1, 0, 4};
@@ -278,6 +308,7 @@ int main(void) {
     try_heads();
     try_forms();
     try_rows();
+    try_counts();
     try_refusals();
     return wrong;
 }

@@ -84,6 +84,13 @@ static void show_opened(const uint8_t *bytes, size_t length) {
            numbers[RINCHOVEK_OPEN_ROWS], numbers[RINCHOVEK_OPEN_BLOCKS]);
 }
 
+/* The counts of a sheet: modes 0 to 8, and the opaque blocks. */
+static void show_counts(const uint32_t counts[RINCHOVEK_COUNTS]) {
+    printf("counts");
+    for (int i = 0; i < RINCHOVEK_COUNTS; i++) printf(" %u", counts[i]);
+    printf("\n");
+}
+
 int main(void) {
     const uint32_t version = rinchovek_version();
     if (version / 10000 != RINCHOVEK_VERSION_MAJOR || version < RINCHOVEK_VERSION) return 1; /* an archive of another header */
@@ -209,9 +216,27 @@ int main(void) {
     show_refusal("3 stated", rinchovek_sheet_state_colour(in_tiles, sizeof in_tiles, 3));
     show_refusal("sRGB to rows", rinchovek_sheet_to_rows(in_tiles, sizeof in_tiles, back, sizeof back));
 
+    /* counts kept beside the sheet: six blocks of mode 6, none of them opaque; block 2 becomes reserved, and a line of block 3 stays as it is */
+    static const uint8_t reserved[RINCHOVEK_BLOCK_BYTES];
+    uint32_t counts[RINCHOVEK_COUNTS];
+    show_refusal("counted", rinchovek_sheet_count(in_tiles, sizeof in_tiles, counts));
+    show_counts(counts);
+    block = 2;
+    show_refusal("block 2 replaced", rinchovek_sheet_replace_block_counted(in_tiles, sizeof in_tiles, counts, block, reserved));
+    show_counts(counts);
+    block = 3;
+    line = 0;
+    rinchovek_sheet_block(in_tiles, sizeof in_tiles, block, one);
+    rinchovek_bc7_read_line(one, line, held, widths);
+    show_refusal("line 0 of block 3 replaced", rinchovek_sheet_replace_line_counted(in_tiles, sizeof in_tiles, counts, block, line, held));
+    show_counts(counts);
+    counts[RINCHOVEK_COUNT_MODE_0 + 6]++;
+    show_refusal("one too many", rinchovek_sheet_replace_line_counted(in_tiles, sizeof in_tiles, counts, block, line, held));
+
     for (uint32_t number = RINCHOVEK_RESERVED_BLOCK; number <= RINCHOVEK_COLOUR_SPACE_STATED; number++)
         printf("%u: %s\n", number, rinchovek_refusal_text(number));
     printf("%u: %s\n", RINCHOVEK_BAD_COLOUR_SPACE, rinchovek_refusal_text(RINCHOVEK_BAD_COLOUR_SPACE));
+    printf("%u: %s\n", RINCHOVEK_FALSE_COUNTS, rinchovek_refusal_text(RINCHOVEK_FALSE_COUNTS));
     printf("%u: %s\n", RINCHOVEK_NO_SUCH_PIXEL, rinchovek_refusal_text(RINCHOVEK_NO_SUCH_PIXEL));
     return 0;
 }

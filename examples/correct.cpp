@@ -153,6 +153,19 @@ uint32_t to_rows(const std::vector<uint8_t> &sheet, std::vector<uint8_t> &rows) 
     return rinchovek_sheet_to_rows(sheet.data(), sheet.size(), rows.data(), rows.size());
 }
 
+// Counts kept beside a sheet of either form: modes 0 to 8, and the opaque blocks.
+using Counts = std::array<uint32_t, RINCHOVEK_COUNTS>;
+
+uint32_t count(const std::vector<uint8_t> &sheet, Counts &counts) { return rinchovek_sheet_count(sheet.data(), sheet.size(), counts.data()); }
+
+uint32_t replace_line(std::vector<uint8_t> &sheet, Counts &counts, BlockNumber block, LineNumber line, const Replacement &replacement) {
+    return rinchovek_sheet_replace_line_counted(sheet.data(), sheet.size(), counts.data(), uint32_t(block), uint32_t(line), replacement.data());
+}
+
+uint32_t replace_block(std::vector<uint8_t> &sheet, Counts &counts, BlockNumber block, const Block &bytes) {
+    return rinchovek_sheet_replace_block_counted(sheet.data(), sheet.size(), counts.data(), uint32_t(block), bytes.data());
+}
+
 uint32_t state_colour(std::vector<uint8_t> &tiles, ColourSpace colour_space) {
     return rinchovek_sheet_state_colour(tiles.data(), tiles.size(), uint32_t(colour_space));
 }
@@ -249,6 +262,12 @@ static void show_opened(const std::vector<uint8_t> &sheet) {
     std::printf("opened: %u, %u by %u, blocks from %u, colour space %u, form %u, %u columns, %u rows, %u blocks\n", refusal,
                 opened.head.width, opened.head.height, opened.head.start, uint32_t(opened.head.colour_space), uint32_t(opened.form),
                 opened.columns, opened.rows, opened.blocks);
+}
+
+static void show_counts(const Counts &counts) {
+    std::printf("counts");
+    for (const uint32_t count : counts) std::printf(" %u", count);
+    std::printf("\n");
 }
 
 int main() {
@@ -359,8 +378,21 @@ int main() {
     show_refusal("3 stated", state_colour(in_tiles, ColourSpace(3)));
     show_refusal("sRGB to rows", to_rows(in_tiles, back));
 
+    Counts counts = {};
+    show_refusal("counted", count(in_tiles, counts));
+    show_counts(counts);
+    show_refusal("block 2 replaced", replace_block(in_tiles, counts, BlockNumber(2), Block()));
+    show_counts(counts);
+    read_block(in_tiles, BlockNumber(3), one);
+    read_line(one, LineNumber(0), held, widths);
+    show_refusal("line 0 of block 3 replaced", replace_line(in_tiles, counts, BlockNumber(3), LineNumber(0), held));
+    show_counts(counts);
+    counts[RINCHOVEK_COUNT_MODE_0 + 6]++;
+    show_refusal("one too many", replace_line(in_tiles, counts, BlockNumber(3), LineNumber(0), held));
+
     for (uint32_t number = RINCHOVEK_RESERVED_BLOCK; number <= RINCHOVEK_COLOUR_SPACE_STATED; number++)
         std::printf("%u: %s\n", number, rinchovek_refusal_text(number));
     std::printf("%u: %s\n", unsigned(RINCHOVEK_BAD_COLOUR_SPACE), rinchovek_refusal_text(RINCHOVEK_BAD_COLOUR_SPACE));
+    std::printf("%u: %s\n", unsigned(RINCHOVEK_FALSE_COUNTS), rinchovek_refusal_text(RINCHOVEK_FALSE_COUNTS));
     std::printf("%u: %s\n", unsigned(RINCHOVEK_NO_SUCH_PIXEL), rinchovek_refusal_text(RINCHOVEK_NO_SUCH_PIXEL));
 }

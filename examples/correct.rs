@@ -61,6 +61,11 @@ fn show_one(block: &Block, pixel: u32) {
 }
 
 /// What a sheet of either form says of itself.
+fn show_counts(counts: &Counts) {
+    let words: Vec<String> = counts.modes.iter().map(u32::to_string).collect();
+    println!("counts {} {}", words.join(" "), counts.opaque);
+}
+
 fn show_opened(sheet: &[u8]) -> Result<Opened, Refusal> {
     let opened = open(sheet)?;
     let Head { width, height, start } = opened.head;
@@ -178,6 +183,18 @@ fn main() -> Result<(), Refusal> {
     show_opened(&in_tiles)?;
     show_refusal("3 stated", &state_colour(&mut in_tiles, ColourSpace(3)));
     show_refusal("sRGB to rows", &to_rows(&in_tiles));
+
+    let mut counts = count(&in_tiles)?;
+    println!("counted: 0, accepted");
+    show_counts(&counts);
+    show_refusal("block 2 replaced", &replace_block_counted(&mut in_tiles, &mut counts, BlockNumber(2), &[0; 16]));
+    show_counts(&counts);
+    let (line, _) = read_line(&block_in_sheet(&in_tiles, BlockNumber(3))?, LineNumber(0))?;
+    let replaced = replace_line_counted(&mut in_tiles, &mut counts, BlockNumber(3), LineNumber(0), &line);
+    show_refusal("line 0 of block 3 replaced", &replaced);
+    show_counts(&counts);
+    counts.modes[6] += 1;
+    show_refusal("one too many", &replace_line_counted(&mut in_tiles, &mut counts, BlockNumber(3), LineNumber(0), &line));
 
     for refusal in Refusal::ALL {
         println!("{}: {refusal}", refusal.number());

@@ -43,6 +43,10 @@ static void try_null(void) {
     expect("no sheet", rinchovek_sheet_to_tiles(NULL, 0, NULL, 0), RINCHOVEK_BAD_NUMBER);
     expect("no sheet", rinchovek_sheet_to_rows(NULL, 0, NULL, 0), RINCHOVEK_BAD_NUMBER);
     expect("no sheet", rinchovek_sheet_state_colour(NULL, 0, 3), RINCHOVEK_BAD_NUMBER);
+    uint32_t counts[RINCHOVEK_COUNTS] = {0};
+    expect("no sheet", rinchovek_sheet_count(NULL, 0, counts), RINCHOVEK_BAD_NUMBER);
+    expect("no sheet", rinchovek_sheet_replace_line_counted(NULL, 0, counts, 0, 0, replacement), RINCHOVEK_BAD_NUMBER);
+    expect("no sheet", rinchovek_sheet_replace_block_counted(NULL, 0, counts, 0, block), RINCHOVEK_BAD_NUMBER);
     expect("no output", rinchovek_sheet_show_row(one, sizeof one, 0, NULL, 0), RINCHOVEK_WRONG_OUTPUT_LENGTH);
     expect("no output", rinchovek_sheet_to_tiles(one, sizeof one, NULL, 0), RINCHOVEK_WRONG_OUTPUT_LENGTH);
     expect("no sheet", rinchovek_sheet_read_head(NULL, 0, head), RINCHOVEK_BAD_NUMBER);
@@ -201,6 +205,11 @@ static __attribute__((noinline)) void make_calls(uint8_t first, uint8_t others) 
         rinchovek_sheet_block(tiles, count + RINCHOVEK_BLOCK_BYTES + 1, 0, record);
         rinchovek_sheet_to_rows(tiles, count + RINCHOVEK_BLOCK_BYTES + 1, sheet, count + RINCHOVEK_BLOCK_BYTES);
         rinchovek_sheet_state_colour(tiles, count + RINCHOVEK_BLOCK_BYTES + 1, RINCHOVEK_SRGB);
+    }
+    uint32_t counts[RINCHOVEK_COUNTS];
+    if (rinchovek_sheet_count(sheet, count + RINCHOVEK_BLOCK_BYTES, counts) == RINCHOVEK_ACCEPTED) {
+        rinchovek_sheet_replace_line_counted(sheet, count + RINCHOVEK_BLOCK_BYTES, counts, 0, 0, widths);
+        rinchovek_sheet_replace_block_counted(sheet, count + RINCHOVEK_BLOCK_BYTES, counts, 0, block);
     }
     uint8_t file[RINCHOVEK_DDS_HEADER_BYTES + RINCHOVEK_BLOCK_BYTES];
     if (rinchovek_dds_export_length(sheet, count + RINCHOVEK_BLOCK_BYTES, &index) == RINCHOVEK_ACCEPTED && index == sizeof file)

@@ -35,6 +35,16 @@ extern "C" {
     fn rinchovek_sheet_to_tiles(sheet: *const u8, length: u64, out: *mut u8, out_length: u64) -> u32;
     fn rinchovek_sheet_to_rows(sheet: *const u8, length: u64, out: *mut u8, out_length: u64) -> u32;
     fn rinchovek_sheet_state_colour(sheet: *mut u8, length: u64, colour_space: u32) -> u32;
+    fn rinchovek_sheet_count(sheet: *const u8, length: u64, counts: *mut u32) -> u32;
+    fn rinchovek_sheet_replace_line_counted(
+        sheet: *mut u8,
+        length: u64,
+        counts: *mut u32,
+        block: u32,
+        line: u32,
+        replacement: *const u8,
+    ) -> u32;
+    fn rinchovek_sheet_replace_block_counted(sheet: *mut u8, length: u64, counts: *mut u32, block: u32, bytes: *const u8) -> u32;
     fn rinchovek_sheet_replace_line(
         sheet: *mut u8,
         length: u64,
@@ -83,11 +93,12 @@ pub enum Refusal {
     NotABc7Texture = 15,
     ColourSpaceStated = 16,
     BadColourSpace = 18,
+    FalseCounts = 19,
     NoSuchPixel = 21,
 }
 
 impl Refusal {
-    pub const ALL: [Refusal; 18] = [
+    pub const ALL: [Refusal; 19] = [
         Refusal::ReservedBlock,
         Refusal::NoSuchLine,
         Refusal::ValueTooWide,
@@ -105,6 +116,7 @@ impl Refusal {
         Refusal::NotABc7Texture,
         Refusal::ColourSpaceStated,
         Refusal::BadColourSpace,
+        Refusal::FalseCounts,
         Refusal::NoSuchPixel,
     ];
 
@@ -133,6 +145,7 @@ impl fmt::Display for Refusal {
             Refusal::NotABc7Texture => "the file is not a DDS file of one BC7 texture with one level",
             Refusal::ColourSpaceStated => "the sheet states a colour space, and form 1 has no room for it",
             Refusal::BadColourSpace => "there is no such colour space",
+            Refusal::FalseCounts => "the counts are not those of the sheet",
             Refusal::NoSuchPixel => "the block has no such pixel",
         })
     }
@@ -446,6 +459,53 @@ pub fn state_colour(sheet: &mut [u8], colour_space: ColourSpace) -> Result<(), R
 pub fn replace_in_sheet(sheet: &mut [u8], block: BlockNumber, line: LineNumber, new: &Line) -> Result<(), Refusal> {
     let (lent, length) = (sheet.as_mut_ptr(), sheet.len() as u64);
     answer(unsafe { rinchovek_sheet_replace_line(lent, length, block.0, line.0, new.bytes().as_ptr()) }, ())
+}
+
+/// How many blocks of a sheet have mode 0 to 8, where 8 is reserved, and how many are opaque.
+#[derive(Clone, Copy, Debug, PartialEq, Eq)]
+pub struct Counts {
+    pub modes: [u32; 9],
+    pub opaque: u32,
+}
+
+impl Counts {
+    fn ten(&self) -> [u32; 10] {
+        let m = self.modes;
+        [m[0], m[1], m[2], m[3], m[4], m[5], m[6], m[7], m[8], self.opaque]
+    }
+
+    fn of(ten: [u32; 10]) -> Counts {
+        Counts { modes: std::array::from_fn(|mode| ten[mode]), opaque: ten[9] }
+    }
+}
+
+/// The counts of a sheet of either form.
+pub fn count(sheet: &[u8]) -> Result<Counts, Refusal> {
+    let mut ten = [0; 10];
+    let refusal = unsafe { rinchovek_sheet_count(sheet.as_ptr(), sheet.len() as u64, ten.as_mut_ptr()) };
+    answer(refusal, Counts::of(ten))
+}
+
+/// In a sheet of either form, with the counts beside it; refused, both stay as they are.
+pub fn replace_line_counted(
+    sheet: &mut [u8],
+    counts: &mut Counts,
+    block: BlockNumber,
+    line: LineNumber,
+    new: &Line,
+) -> Result<(), Refusal> {
+    let (lent, length, mut ten) = (sheet.as_mut_ptr(), sheet.len() as u64, counts.ten());
+    let bytes = new.bytes();
+    let refusal = unsafe { rinchovek_sheet_replace_line_counted(lent, length, ten.as_mut_ptr(), block.0, line.0, bytes.as_ptr()) };
+    *counts = Counts::of(ten);
+    answer(refusal, ())
+}
+
+pub fn replace_block_counted(sheet: &mut [u8], counts: &mut Counts, block: BlockNumber, bytes: &Block) -> Result<(), Refusal> {
+    let (lent, length, mut ten) = (sheet.as_mut_ptr(), sheet.len() as u64, counts.ten());
+    let refusal = unsafe { rinchovek_sheet_replace_block_counted(lent, length, ten.as_mut_ptr(), block.0, bytes.as_ptr()) };
+    *counts = Counts::of(ten);
+    answer(refusal, ())
 }
 
 /// The bytes of the sheet that a DDS file makes.

@@ -1,6 +1,6 @@
 /* rinchovek.h: BC7 blocks, and sheets of them, decoded, taken apart, packed and corrected; which index gives a wanted colour,
- * which blocks are opaque, and what one pixel shows; sheets stored row by row or in tiles, and moved between the two; DDS files in and
- * out.
+ * which blocks are opaque, and what one pixel shows; sheets stored row by row or in tiles, and moved between the two; counts kept beside a
+ * sheet; DDS files in and out.
  *
  * WORDS
  * A block is 16 bytes that draw 4 by 4 pixels. A pixel is 4 bytes: red, green, blue, alpha. The pixel in column x and row y of a
@@ -50,7 +50,7 @@
 /* The version of this file. The major number is raised where a call goes, or answers otherwise what it accepted before; the minor
  * one where a call comes, or accepts what it refused before; the patch where neither is so. */
 #define RINCHOVEK_VERSION_MAJOR 1
-#define RINCHOVEK_VERSION_MINOR 8
+#define RINCHOVEK_VERSION_MINOR 9
 #define RINCHOVEK_VERSION_PATCH 0
 #define RINCHOVEK_VERSION (10000 * RINCHOVEK_VERSION_MAJOR + 100 * RINCHOVEK_VERSION_MINOR + RINCHOVEK_VERSION_PATCH)
 
@@ -66,6 +66,7 @@
 #define RINCHOVEK_HEAD_NUMBERS 3 /* uint32_t */
 #define RINCHOVEK_COLOUR_HEAD_NUMBERS 4 /* uint32_t: those three, and the colour space */
 #define RINCHOVEK_OPEN_NUMBERS 8 /* uint32_t: those four, the form, and how many columns, rows and blocks there are */
+#define RINCHOVEK_COUNTS 10 /* uint32_t: the counts of a sheet */
 #define RINCHOVEK_LARGEST_SIDE 16384 /* pixels, of a sheet; 4,096 before version 1.4.0 */
 #define RINCHOVEK_DDS_HEADER_BYTES 148
 #define RINCHOVEK_STACK_BYTES 4096 /* found: 2,080 in rinchovek_bc7_pixel; below 2,048 in every other call, and in all before 1.5.0 */
@@ -148,6 +149,15 @@ enum rinchovek_open_number {
     RINCHOVEK_OPEN_BLOCKS = 7        /* columns * rows; the whole sheet has start + 16 * blocks bytes */
 };
 
+/* The counts of a sheet: how many of its blocks have each mode, and how many are opaque. Mode m is counted at RINCHOVEK_COUNT_MODE_0 + m, where
+ * a reserved block has mode 8; opaque is a block whose every pixel that the sheet shows has alpha 255 (rinchovek_bc7_is_opaque). The nine counts
+ * of modes sum to the number of blocks. */
+enum rinchovek_count {
+    RINCHOVEK_COUNT_MODE_0 = 0,   /* + mode: 0 to 7 */
+    RINCHOVEK_COUNT_RESERVED = 8, /* blocks whose first byte is 0 */
+    RINCHOVEK_COUNT_OPAQUE = 9
+};
+
 /* What a call answers. */
 enum rinchovek_refusal {
     RINCHOVEK_ACCEPTED = 0,
@@ -168,6 +178,7 @@ enum rinchovek_refusal {
     RINCHOVEK_NOT_A_BC7_TEXTURE = 15,   /* the DDS file isn't one texture of two dimensions in BC7 with one level */
     RINCHOVEK_COLOUR_SPACE_STATED = 16, /* the sheet states a colour space, and the form that it is moved to has no room for it */
     RINCHOVEK_BAD_COLOUR_SPACE = 18,    /* the number of a colour space, in a head or given to a call, is above 2 */
+    RINCHOVEK_FALSE_COUNTS = 19,        /* the counts can't be those of the sheet, by what the named block shows of it: see the calls */
     RINCHOVEK_NO_SUCH_PIXEL = 21        /* the pixel number isn't below 16 */
 };
 
@@ -287,6 +298,31 @@ uint32_t rinchovek_sheet_block(const uint8_t *sheet, uint64_t length, uint32_t b
 uint32_t rinchovek_sheet_replace_line(uint8_t *sheet, uint64_t length, uint32_t block, uint32_t line,
                                       const uint8_t replacement[RINCHOVEK_LINE_BYTES]);
 
+/* COUNTS KEPT BESIDE A SHEET, so that a status line needn't count a large map again after each correction. Count once; then hand the counts to the
+ * two calls that follow, which change sheet and counts together. Whatever calls of these two follow each other, refused ones among them, the
+ * counts are those that counting the sheet again would write, as long as nothing else writes to it; and 19 is never answered on the way.
+ *
+ * Counts a whole sheet, of either form: writes its counts (enum rinchovek_count). A sheet that was moved to the other form has the same. The
+ * length is exact: the head and 16 bytes for each block of the sheet.
+ * Refusals: 7 and 8 on the form, 7 on width, height and (in form 2) the number of the colour space, 18, 9, 10. */
+uint32_t rinchovek_sheet_count(const uint8_t *sheet, uint64_t length, uint32_t counts[RINCHOVEK_COUNTS]);
+
+/* Replaces one line of one block in a whole sheet, as rinchovek_sheet_replace_line does, and changes the counts with it; refused, it writes
+ * neither. 19 where the counts can't be true: the nine counts of modes don't sum to the number of blocks; or the count of the mode that the named
+ * block has is 0; or that of opaque blocks is 0 while the block is opaque, or not below the number of blocks while it isn't. Counts that are false
+ * in any other way are not found out, and carried along. BEWARE: block and line stand side by side and have one type. Hand them over in variables of
+ * these names.
+ * Refusals: 7 and 8 on the form, 7 on width, height and (in form 2) the number of the colour space, 18, 9, 10, 12, 19; then the block's 1, 2,
+ * 3, 4. */
+uint32_t rinchovek_sheet_replace_line_counted(uint8_t *sheet, uint64_t length, uint32_t counts[RINCHOVEK_COUNTS], uint32_t block, uint32_t line,
+                                              const uint8_t replacement[RINCHOVEK_LINE_BYTES]);
+
+/* Replaces one whole block in a whole sheet by any 16 bytes, also by a reserved block, also where a reserved block stands, and changes the counts
+ * with it: the 16 bytes are the named block then, and no other byte of the sheet has changed. 19 as above.
+ * Refusals: 7 and 8 on the form, 7 on width, height and (in form 2) the number of the colour space, 18, 9, 10, 12, 19. */
+uint32_t rinchovek_sheet_replace_block_counted(uint8_t *sheet, uint64_t length, uint32_t counts[RINCHOVEK_COUNTS], uint32_t block,
+                                               const uint8_t bytes[RINCHOVEK_BLOCK_BYTES]);
+
 /* Moves a sheet of form 1 to form 2, which leaves the colour space unspecified: writes the whole sheet in tiles. It shows the same
  * picture, and every call by the number of a row or a block answers the same for both. Both lengths are exact: the sheet has its head
  * and 16 bytes for each block (10 otherwise), and the output is one byte longer than the sheet (11 otherwise). A sheet of form 2 is refused
@@ -391,6 +427,7 @@ static inline const char *rinchovek_refusal_text(uint32_t refusal) {
     case RINCHOVEK_NOT_A_BC7_TEXTURE: return "the file is not a DDS file of one BC7 texture with one level";
     case RINCHOVEK_COLOUR_SPACE_STATED: return "the sheet states a colour space, and form 1 has no room for it";
     case RINCHOVEK_BAD_COLOUR_SPACE: return "there is no such colour space";
+    case RINCHOVEK_FALSE_COUNTS: return "the counts are not those of the sheet";
     case RINCHOVEK_NO_SUCH_PIXEL: return "the block has no such pixel";
     default: return "no refusal of this version";
     }

@@ -9,7 +9,7 @@ import { readFileSync, writeFileSync } from 'node:fs'
 import * as face from './rinchovek.js'
 
 const { BLOCK_BYTES, LINE_BYTES, PIXEL_BYTES, PIXELS_BYTES, RECORD_BYTES, HEAD_BYTES } = face
-const { HEAD_NUMBERS, COLOUR_HEAD_NUMBERS, OPEN_NUMBERS, VERSION } = face
+const { HEAD_NUMBERS, COLOUR_HEAD_NUMBERS, OPEN_NUMBERS, COUNTS, VERSION } = face
 const LONGEST = 65536
 const module = readFileSync(new URL('rinchovek.wasm', import.meta.url))
 const { instance } = await WebAssembly.instantiate(module)
@@ -33,6 +33,7 @@ function takeLength() {
   return length
 }
 const takeSheet = () => take(takeLength())
+const takeCounts = () => Uint32Array.from({ length: COUNTS }, takeNumber)
 
 const give = (bytes) => answer.push(bytes)
 const giveSmall = (number) => give(Uint8Array.of(Math.min(number, 255)))
@@ -175,6 +176,25 @@ const LETTERS = {
     const sheet = takeSheet()
     giveSmall(rinchovek.sheetStateColour(sheet, colourSpace))
     give(sheet)
+  },
+  C() {
+    const counts = new Uint32Array(COUNTS)
+    giveSmall(rinchovek.sheetCount(takeSheet(), counts))
+    giveNumbers(...counts)
+  },
+  L() {
+    const sheet = takeSheet()
+    const counts = takeCounts()
+    giveSmall(rinchovek.sheetReplaceLineCounted(sheet, counts, takeNumber(), takeNumber(), take(LINE_BYTES)))
+    give(sheet)
+    giveNumbers(...counts)
+  },
+  K() {
+    const sheet = takeSheet()
+    const counts = takeCounts()
+    giveSmall(rinchovek.sheetReplaceBlockCounted(sheet, counts, takeNumber(), take(BLOCK_BYTES)))
+    give(sheet)
+    giveNumbers(...counts)
   },
 }
 

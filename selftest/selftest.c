@@ -303,6 +303,38 @@ static int state_colour(void) {
     return 1;
 }
 
+static void give_counts(const uint32_t counts[RINCHOVEK_COUNTS]) {
+    for (int i = 0; i < RINCHOVEK_COUNTS; i++) give_number(counts[i]);
+}
+
+static int count_sheet(void) {
+    uint32_t length, counts[RINCHOVEK_COUNTS] = {0};
+    if (!take_length(&length)) return 0;
+    const uint8_t *const sheet = lend_taken(length);
+    if (sheet == NULL) return 0;
+    give_small(rinchovek_sheet_count(sheet, length, counts));
+    give_counts(counts);
+    return 1;
+}
+
+/* A line or a whole block replaced in a sheet that comes with counts. */
+static int replace_counted(int whole) {
+    uint32_t length, counts[RINCHOVEK_COUNTS], block, line = 0;
+    if (!take_length(&length)) return 0;
+    uint8_t *const sheet = lend_taken(length);
+    if (sheet == NULL) return 0;
+    for (int i = 0; i < RINCHOVEK_COUNTS; i++)
+        if (!take_number(&counts[i])) return 0;
+    if (!take_number(&block) || (!whole && !take_number(&line))) return 0;
+    const uint8_t *const given = lend_taken(whole ? RINCHOVEK_BLOCK_BYTES : RINCHOVEK_LINE_BYTES);
+    if (given == NULL) return 0;
+    give_small(whole ? rinchovek_sheet_replace_block_counted(sheet, length, counts, block, given)
+                     : rinchovek_sheet_replace_line_counted(sheet, length, counts, block, line, given));
+    give(sheet, length);
+    give_counts(counts);
+    return 1;
+}
+
 static int call(uint8_t letter) {
     switch (letter) {
     case 'D': return decode();
@@ -331,6 +363,9 @@ static int call(uint8_t letter) {
     case 'o': return open_sheet();
     case 'b': return block_of_sheet();
     case 'c': return state_colour();
+    case 'C': return count_sheet();
+    case 'L': return replace_counted(0);
+    case 'K': return replace_counted(1);
     default: return 0;
     }
 }

@@ -6,6 +6,7 @@ ghost use Rattle.bc7_format.specs.Modes.{modeOf};
 ghost use Rattle.opacity.specs.Drawn.{InSheet, alphaPasses, opaqueDrawn};
 ghost use Rattle.opacity_rules.specs.Opacity.{opaqueIn};
 ghost use Rattle.opacity_rules.specs.Promises.{TellsOpaque};
+ghost use Rattle.sheet_head.specs.Asked.{BlockAsked};
 use bc7::decode_bc7_block;
 use bc7_modes::mode_of;
 use head_rules::Head;
@@ -69,4 +70,15 @@ pub fn is_opaque_in(head: Head, number: u32, block: [u8; 16], drawn: [[u8; 4]; 1
     let columns = shown_in(head.width as usize, n % across);
     let rows = shown_in(head.height as usize, n / across);
     all_pass(drawn, columns, rows)
+}
+
+// The same of a block that isn't drawn yet; where the mode tells, it isn't drawn at all.
+pub fn is_opaque_at(head: Head, number: u32, block: [u8; 16]) -> bool
+    requires { ⌜ BlockAsked head number ⌝ }
+    ensures { λ r. ⌜ r ≡ opaqueIn (head .width) (head .height) number block ⌝ }
+{
+    if stores_no_alpha(block) {
+        return true;
+    }
+    is_opaque_in(head, number, block, decode_bc7_block(block))
 }

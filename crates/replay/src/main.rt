@@ -25,9 +25,12 @@ use rinchovek::rinchovek_dds_import;
 use rinchovek::rinchovek_dds_import_colour;
 use rinchovek::rinchovek_dds_import_length;
 use rinchovek::rinchovek_sheet_block;
+use rinchovek::rinchovek_sheet_count;
 use rinchovek::rinchovek_sheet_decode_row;
 use rinchovek::rinchovek_sheet_open;
+use rinchovek::rinchovek_sheet_replace_block_counted;
 use rinchovek::rinchovek_sheet_replace_line;
+use rinchovek::rinchovek_sheet_replace_line_counted;
 use rinchovek::rinchovek_sheet_show_row;
 use rinchovek::rinchovek_sheet_state_colour;
 use rinchovek::rinchovek_sheet_to_rows;
@@ -249,6 +252,9 @@ enum SheetCall {
     Open,
     Block,
     ReplaceLine,
+    Count,
+    ReplaceLineCounted,
+    ReplaceBlockCounted,
     StateColour(u32),
     List,
     ImportLength,
@@ -314,6 +320,78 @@ fn replace_in(sheet: &mut [u8]) -> bool {
     io::write_all(STDOUT_FILENO, sheet)
 }
 
+fn write_counts(counts: [u32; 10]) {
+    write_size(counts[0], counts[1], counts[2]);
+    write_size(counts[3], counts[4], counts[5]);
+    write_size(counts[6], counts[7], counts[8]);
+    write_u32(counts[9]);
+}
+
+fn counts_in(bytes: &[u8; 40]) -> [u32; 10] {
+    [
+        number(bytes, 0),
+        number(bytes, 4),
+        number(bytes, 8),
+        number(bytes, 12),
+        number(bytes, 16),
+        number(bytes, 20),
+        number(bytes, 24),
+        number(bytes, 28),
+        number(bytes, 32),
+        number(bytes, 36),
+    ]
+}
+
+fn count_of(sheet: &[u8]) -> bool {
+    let mut counts = [0u32; 10];
+    write_small(rinchovek_sheet_count(sheet, &mut counts));
+    write_counts(counts);
+    true
+}
+
+fn replace_line_in(sheet: &mut [u8]) -> bool {
+    let mut came = [0u8; 40];
+    if !filled(&mut came) {
+        return false;
+    }
+    let mut place = [0u8; 8];
+    if !filled(&mut place) {
+        return false;
+    }
+    let mut given = [0u8; 26];
+    if !filled(&mut given) {
+        return false;
+    }
+    let mut counts = counts_in(&came);
+    let block = number(&place, 0);
+    let line = number(&place, 4);
+    write_small(rinchovek_sheet_replace_line_counted(sheet, &mut counts, block, line, &given));
+    io::write_all(STDOUT_FILENO, sheet);
+    write_counts(counts);
+    true
+}
+
+fn replace_block_in(sheet: &mut [u8]) -> bool {
+    let mut came = [0u8; 40];
+    if !filled(&mut came) {
+        return false;
+    }
+    let mut place = [0u8; 4];
+    if !filled(&mut place) {
+        return false;
+    }
+    let mut given = [0u8; 16];
+    if !filled(&mut given) {
+        return false;
+    }
+    let mut counts = counts_in(&came);
+    let block = number(&place, 0);
+    write_small(rinchovek_sheet_replace_block_counted(sheet, &mut counts, block, &given));
+    io::write_all(STDOUT_FILENO, sheet);
+    write_counts(counts);
+    true
+}
+
 fn state_colour_in(sheet: &mut [u8], colour_space: u32) -> bool {
     write_small(rinchovek_sheet_state_colour(sheet, colour_space));
     io::write_all(STDOUT_FILENO, sheet)
@@ -354,6 +432,9 @@ fn sheet_call_of(asked: SheetCall, sheet: &mut [u8]) -> bool
         SheetCall::Open => open_of(sheet),
         SheetCall::Block => block_of(sheet),
         SheetCall::ReplaceLine => replace_in(sheet),
+        SheetCall::Count => count_of(sheet),
+        SheetCall::ReplaceLineCounted => replace_line_in(sheet),
+        SheetCall::ReplaceBlockCounted => replace_block_in(sheet),
         SheetCall::StateColour(colour_space) => state_colour_in(sheet, colour_space),
         SheetCall::List => list_of(sheet),
         SheetCall::ImportLength => length_of(false, sheet),
@@ -597,6 +678,9 @@ fn call(letter: u8) -> bool {
         b'b' => sheet_call(SheetCall::Block),
         b'S' => sheet_call(SheetCall::ReplaceLine),
         b'c' => state_colour_call(),
+        b'C' => sheet_call(SheetCall::Count),
+        b'L' => sheet_call(SheetCall::ReplaceLineCounted),
+        b'K' => sheet_call(SheetCall::ReplaceBlockCounted),
         b'l' => sheet_call(SheetCall::List),
         b'd' => sheet_call(SheetCall::ImportLength),
         b's' => sheet_call(SheetCall::ExportLength),

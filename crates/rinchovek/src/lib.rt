@@ -1,13 +1,19 @@
 // The C face: the public calls of blocks and sheets, for the consoles' display code. A refused call changes nothing that it
 // was lent. What a call promises has one name, in specs/Promises. include/rinchovek.h declares these functions and says what a
 // C caller has to know; `rt staticlib rinchovek` writes the archive.
+ghost use mathlib.Core.Path.{_≡_};
 ghost use Rattle.rinchovek_rules.specs.Promises.{Decodes, Packs, ReadsLine, Replaces, Unpacks, Versions, DecodesRow, ReadsHead, ReplacesIn};
 ghost use Rattle.rinchovek_rules.specs.Promises.{FindsExact, FindsNearest, ReadsPixel, TellsOpaque, WritesHead};
+ghost use Rattle.rinchovek_rules.specs.Promises.{CountsSheet, ReplacesBlockCounted, ReplacesLineCounted, countsOfTen, tenOf};
 ghost use Rattle.rinchovek_rules.specs.Promises.{MovesToRows, MovesToTiles, OpensSheet, ReadsBlock, ShowsRow, StatesColour};
 ghost use Rattle.rinchovek_rules.specs.Promises.{ExportNeeds, ExportsColour, ExportsDds, ImportNeeds, ImportsColour, ImportsDds, ReadsColourHead};
 use bc7::decode_bc7_block;
 use bc7_places::places::PLACES;
 use bc7_plain::pixel_of;
+use count_rules::Counts;
+use counts::count_sheet;
+use counts::replace_block_counted;
+use counts::replace_line_counted;
 use dds::export_dds;
 use dds::export_length;
 use dds::export_numbered;
@@ -42,7 +48,7 @@ use sheet_head::write_head;
 
 // Which version of the calls and their answers this is: 10000 times the major number, 100 times the minor one, and the patch. The
 // header has the same three.
-const VERSION: u32 = 10800;
+const VERSION: u32 = 10900;
 
 #[no_mangle]
 pub extern "C" fn rinchovek_version() -> u32
@@ -405,5 +411,91 @@ pub extern "C" fn rinchovek_dds_export_length(sheet: &[u8], length: &mut u32) ->
         return needed.refusal as u32;
     }
     *length = needed.length;
+    0
+}
+
+// Counts as C has them, in ten numbers: modes 0 to 8, and the opaque blocks.
+fn ten_of(counts: Counts) -> [u32; 10]
+    ensures { λ r. ⌜ r ≡ tenOf counts ⌝ }
+{
+    let m = counts.modes;
+    [
+        m[0],
+        m[1],
+        m[2],
+        m[3],
+        m[4],
+        m[5],
+        m[6],
+        m[7],
+        m[8],
+        counts.opaque,
+    ]
+}
+
+fn counts_of(c: [u32; 10]) -> Counts
+    ensures { λ r. ⌜ r ≡ countsOfTen c ⌝ }
+{
+    Counts {
+        modes: [c[0], c[1], c[2], c[3], c[4], c[5], c[6], c[7], c[8]],
+        opaque: c[9],
+    }
+}
+
+// The counts of a sheet of either form: how many of its blocks have mode 0, 1, .., 8, and how many are opaque.
+#[no_mangle]
+pub extern "C" fn rinchovek_sheet_count(sheet: &[u8], counts: &mut [u32; 10]) -> u32
+    ensures { λ r. ⌜ CountsSheet (now (sheet .entry)) (now (counts .entry)) r (now (counts .exit)) ⌝ }
+{
+    let counted = count_sheet(sheet);
+    if counted.refusal != 0 {
+        return counted.refusal as u32;
+    }
+    let found = counted.counts;
+    *counts = ten_of(found);
+    0
+}
+
+// A line of one block replaced in a sheet, and with it the counts beside the sheet.
+#[no_mangle]
+pub extern "C" fn rinchovek_sheet_replace_line_counted(
+    sheet: &mut [u8],
+    counts: &mut [u32; 10],
+    block: u32,
+    line: u32,
+    replacement: &[u8; 26],
+) -> u32
+    ensures { λ r. ⌜ ReplacesLineCounted (now (sheet .entry), now (counts .entry)) block line (now (replacement .entry)) r
+        (now (sheet .exit), now (counts .exit)) ⌝ }
+{
+    let came = counts_of(*counts);
+    let new = replacement_of(*replacement);
+    let answer = replace_line_counted(sheet, came, block, line, new);
+    if answer.refusal != 0 {
+        return answer.refusal as u32;
+    }
+    let left = answer.counts;
+    *counts = ten_of(left);
+    0
+}
+
+// A whole block of a sheet replaced by any sixteen bytes, and with it the counts beside the sheet.
+#[no_mangle]
+pub extern "C" fn rinchovek_sheet_replace_block_counted(
+    sheet: &mut [u8],
+    counts: &mut [u32; 10],
+    block: u32,
+    bytes: &[u8; 16],
+) -> u32
+    ensures { λ r. ⌜ ReplacesBlockCounted (now (sheet .entry), now (counts .entry)) block (now (bytes .entry)) r
+        (now (sheet .exit), now (counts .exit)) ⌝ }
+{
+    let came = counts_of(*counts);
+    let answer = replace_block_counted(sheet, came, block, *bytes);
+    if answer.refusal != 0 {
+        return answer.refusal as u32;
+    }
+    let left = answer.counts;
+    *counts = ten_of(left);
     0
 }

@@ -24,10 +24,10 @@ use Rattle.line_rules.specs.Replace.{after, indexFits, lineFits, lineGiven, ori
 use Rattle.line_rules.proofs.Attested.{after7, bytesGiven}
 use Rattle.nearest_rules.specs.Nearest.{channelDistance, distance, drawnWith, exactIndex, exactRefusal, inLine, indexCount, leastAt, nearestIndex}
 use Rattle.nearest_rules.specs.Nearest.{nearestRefusal, squared, withIndex, zeroAt}
-use Rattle.opacity_rules.specs.Opacity.{isVisible, opaque, passes}
+use Rattle.opacity_rules.specs.Opacity.{isVisible, opaque, opaqueIn, passes}
 use Rattle.head_rules.specs.Colours.{colourOf, colourRefusal}
 use Rattle.pixel_rules.specs.Pixels.{pixelRead, pixelRefusal}
-use Rattle.laws.specs.Counting.{count, kept}
+use Rattle.laws.specs.Counting.{count, kept, sum}
 use Rattle.tile_rules.specs.Tiles.{columnAt, columnOfSlot, inSheet, numberInSlot, numberInTiles, rowAt, rowOfSlot, slotIn, slotOf, slots}
 use Rattle.tile_rules.specs.Tiles.{storedInTiles, storedOrder, tiles}
 use Rattle.head_rules.specs.Geometry.{blocksOf, placeOf, storedAt}
@@ -35,7 +35,6 @@ use Rattle.head_rules.specs.Heads.{colourIn, formIn, formOf, headBytes, headRef
 use Rattle.head_rules.specs.Heads.{sizeRefusalUpTo, tiledBytes, widthIn, writeHeadUpTo}
 use Rattle.head_rules.specs.Heads.{ofFormRefusalWith, readOfFormWith}
 use Rattle.head_rules.specs.Numbers.{groups, raised, readGroups, readNumber}
-use Rattle.bcn_format.specs.Block.{blockAt}
 use Rattle.head_rules.specs.Whole.{wholeRefusal}
 use Rattle.sheet_rules.specs.Rows.{channel, rowByte, rowBytes, rowOutUpTo, rowRefusalUpTo}
 use Rattle.sheet_rules.specs.Blocks.{blockRead}
@@ -52,6 +51,9 @@ use Rattle.dds_rules.specs.Files.{importRefusalUpTo, numberedAfter, numberedRef
 use Rattle.dds_rules.proofs.Attested.{file53, header53, sheet53}
 use Rattle.move_rules.specs.Moving.{moveAfter, moveRefusal, movedTo}
 use Rattle.move_rules.specs.Stating.{stateAfter, stateRefusal, statedAs}
+use Rattle.count_rules.specs.Counts.{countedOf, countsBelow, hasMode, isOpaque}
+use Rattle.count_rules.specs.Keeping.{falseOf, keptCounts, keptRefusal, keptSheet, ofAllModes, recountedAs}
+use Rattle.rinchovek_rules.specs.Promises.{CountsSheet, ReplacesBlockCounted, ReplacesLineCounted}
 use Rattle.rinchovek_rules.specs.Promises.{MovesToRows, MovesToTiles, OpensSheet, ReadsBlock, ShowsRow, StatesColour}
 use Rattle.rinchovek_rules.specs.Promises.{ExportNeeds, ExportsColour, ExportsDds, ImportNeeds, ImportsColour, ImportsDds, ReadsColourHead}
 
@@ -104,6 +106,20 @@ wide2 = 0x02 ∷ 0x80 ∷ 0x80 ∷ 0x01 ∷ 0x80 ∷ 0x80 ∷ 0x01 ∷ 0x80 ∷ 
 abbrev graded6 : List ℕ
 graded6 = 0x40 ∷ (zeros 5 ++ (0xFE ∷ 0x80 ∷ 0x00 ∷ 0x00 ∷ 0x00 ∷ 0x0F ∷ zeros 4))
 
+-- a sheet of 6 by 4 pixels in form 2: a reserved block, and one of which the left two columns are shown; and its counts, of which so many are opaque
+abbrev edge : List ℕ → List ℕ
+edge right = (0x02 ∷ 0x06 ∷ 0x04 ∷ 0x00 ∷ zeros 16) ++ right
+
+abbrev ofEdge : ℕ → List ℕ
+ofEdge o = 0 ∷ 0 ∷ 0 ∷ 0 ∷ 0 ∷ 0 ∷ 1 ∷ 0 ∷ 1 ∷ o ∷ []
+
+-- mode 6 with nothing but the alphas 127 and 0 and no p bit: 254 and less
+abbrev clear6 : List ℕ
+clear6 = 0x40 ∷ (zeros 5 ++ (0xFE ∷ 0x00 ∷ zeros 8))
+
+abbrev clearGiven : List ℕ
+clearGiven = 0 ∷ 0 ∷ 0 ∷ 127 ∷ zeros 22
+
 -- the file of the small DDS example in sRGB
 abbrev srgb53 : List ℕ
 srgb53 = set file53 128 99
@@ -113,7 +129,7 @@ computed : {A : Type 0} {refusal : ℕ} {left : A} → Gives refusal left refusa
 computed = record { answers = refl; leaves = refl }
 
 pub record Calls : Type 0 where
-  pub version : Versions (10000 * 1 + 100 * 8 + 0)
+  pub version : Versions (10000 * 1 + 100 * 9 + 0)
   pub decodes : Decodes block4 (half4 ++ half4)
   pub decodes-reserved : Decodes (zeros 16) (replicate 16 (rgba 0 0 0 0))
   pub unpacks : Unpacks block4 (nines 66) 0 (bytes4 3)
@@ -163,6 +179,13 @@ pub record Calls : Type 0 where
   pub states-colour-not-rows : StatesColour inRows 2 8 inRows
   pub replaces-in : ReplacesIn small 2 0 bytesGiven6 0 smallReplaced
   pub replaces-in-not : ReplacesIn small 0 2 bytesGiven6 2 small
+  pub counts-sheet : CountsSheet (edge graded6) (nines 10) 0 (0 ∷ 0 ∷ 0 ∷ 0 ∷ 0 ∷ 0 ∷ 1 ∷ 0 ∷ 1 ∷ 1 ∷ [])
+  pub counts-sheet-not : CountsSheet (edge graded6 ++ (0x00 ∷ [])) (nines 10) 10 (nines 10)
+  pub replaces-line-counted : ReplacesLineCounted (edge graded6, ofEdge 1) 1 0 clearGiven 0 (edge clear6, ofEdge 0)
+  pub replaces-line-counted-not : ReplacesLineCounted (edge graded6, ofEdge 1) 0 1 clearGiven 1 (edge graded6, ofEdge 1)
+  pub replaces-line-counted-not-19 : ReplacesLineCounted (edge graded6, ofEdge 0) 1 0 clearGiven 19 (edge graded6, ofEdge 0)
+  pub replaces-block-counted : ReplacesBlockCounted (edge clear6, ofEdge 0) 1 graded6 0 (edge graded6, ofEdge 1)
+  pub replaces-block-counted-not : ReplacesBlockCounted (edge clear6, ofEdge 0) 2 graded6 12 (edge clear6, ofEdge 0)
   pub imports-dds : ImportsDds file53 (nines 35) 0 sheet53
   pub imports-dds-not : ImportsDds header53 (nines 35) 10 (nines 35)
   pub exports-dds : ExportsDds sheet53 (nines 180) 0 file53
@@ -198,6 +221,7 @@ unfolding padded first over table tableFrom weights weightOf drawn promoted eigh
     count kept columnAt columnOfSlot inSheet numberInSlot numberInTiles rowAt rowOfSlot slotIn slotOf slots storedInTiles storedOrder
     tiles tiledBytes blockRead blocksAs byteAs rowOf rowBlocks sheetRowOut sheetRowRefusal moveAfter moveRefusal movedTo
     stateAfter stateRefusal statedAs
+    sum opaqueIn countedOf countsBelow hasMode isOpaque falseOf keptCounts keptRefusal keptSheet ofAllModes recountedAs
 calls-hold = record {
   version = refl;
   decodes = refl;
@@ -249,6 +273,13 @@ calls-hold = record {
   states-colour-not-rows = computed;
   replaces-in = computed;
   replaces-in-not = computed;
+  counts-sheet = computed;
+  counts-sheet-not = computed;
+  replaces-line-counted = computed;
+  replaces-line-counted-not = computed;
+  replaces-line-counted-not-19 = computed;
+  replaces-block-counted = computed;
+  replaces-block-counted-not = computed;
   imports-dds = computed;
   imports-dds-not = computed;
   exports-dds = computed;

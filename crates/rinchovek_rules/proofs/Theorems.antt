@@ -21,6 +21,7 @@ use Rattle.sheet_rules.specs.SheetRows.{sheetRowOut}
 use Rattle.dds_rules.proofs.Theorems.{refused-export-leaves, refused-numbered-leaves}
 use Rattle.rinchovek_rules.specs.Promises.{Decodes, Determined, Gives, Packs, ReadsLine, Replaces, Unpacks, Versions, Writes, DecodesRow}
 use Rattle.rinchovek_rules.specs.Promises.{ReadsHead, ReadsPixel, FindsExact, FindsNearest, ReplacesIn, TellsOpaque, WritesHead}
+use Rattle.rinchovek_rules.specs.Promises.{CountsSheet, ReplacesBlockCounted, ReplacesLineCounted}
 use Rattle.rinchovek_rules.specs.Promises.{MovesToRows, MovesToTiles, OpensSheet, ReadsBlock, ShowsRow, StatesColour}
 use Rattle.rinchovek_rules.specs.Promises.{ExportNeeds, ExportsColour, ExportsDds, ImportNeeds, ImportsColour, ImportsDds, ReadsColourHead}
 
@@ -91,6 +92,17 @@ determined-sheet-state-colour sheet number = one-given _ _
 
 pub determined-sheet-replace-line : (sheet : List ℕ) (block line : ℕ) (bytes : List ℕ) → Determined (ReplacesIn sheet block line bytes)
 determined-sheet-replace-line sheet block line bytes = one-given _ _
+
+pub determined-sheet-count : (sheet before : List ℕ) → Determined (CountsSheet sheet before)
+determined-sheet-count sheet before = one-given _ _
+
+pub determined-sheet-replace-line-counted : (lent : List ℕ × List ℕ) (block line : ℕ) (bytes : List ℕ)
+    → Determined (ReplacesLineCounted lent block line bytes)
+determined-sheet-replace-line-counted lent block line bytes = one-given _ _
+
+pub determined-sheet-replace-block-counted : (lent : List ℕ × List ℕ) (block : ℕ) (bytes : List ℕ)
+    → Determined (ReplacesBlockCounted lent block bytes)
+determined-sheet-replace-block-counted lent block bytes = one-given _ _
 
 pub determined-dds-import : (dds before : List ℕ) → Determined (ImportsDds dds before)
 determined-dds-import dds before = one-given _ _
@@ -180,6 +192,17 @@ refused-sheet-state-colour-leaves sheet number = refused-leaves _ _ sheet
 pub refused-sheet-replace-line-leaves : (sheet : List ℕ) (block line : ℕ) (bytes : List ℕ) → Leaves sheet (ReplacesIn sheet block line bytes)
 refused-sheet-replace-line-leaves sheet block line bytes answer after p ne =
     refused-sheet-leaves sheet (record { block = block; line = line; given = replacementOf bytes }) answer after (p .answers, p .leaves) ne
+
+pub refused-sheet-count-leaves : (sheet before : List ℕ) → Leaves before (CountsSheet sheet before)
+refused-sheet-count-leaves sheet before = refused-leaves _ _ before
+
+pub refused-sheet-replace-line-counted-leaves : (lent : List ℕ × List ℕ) (block line : ℕ) (bytes : List ℕ)
+    → Leaves lent (ReplacesLineCounted lent block line bytes)
+refused-sheet-replace-line-counted-leaves lent block line bytes = refused-leaves _ _ lent
+
+pub refused-sheet-replace-block-counted-leaves : (lent : List ℕ × List ℕ) (block : ℕ) (bytes : List ℕ)
+    → Leaves lent (ReplacesBlockCounted lent block bytes)
+refused-sheet-replace-block-counted-leaves lent block bytes = refused-leaves _ _ lent
 
 pub refused-dds-import-leaves : (dds before : List ℕ) → Leaves before (ImportsDds dds before)
 unfolding importAfterUpTo

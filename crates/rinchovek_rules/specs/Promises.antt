@@ -5,7 +5,7 @@ use Prim.Native.Nat.{ℕ}
 use mathlib.Core.Path.{_≡_}
 use mathlib.Core.List.{List, [], _∷_}
 use lib.Dec.{eqb}
-use lib.ListN.{length}
+use lib.ListN.{getD, length}
 use Rattle.laws.specs.Tables.{pick}
 use Rattle.bc7_format.specs.Lines.{pixels}
 use Rattle.head_rules.specs.declared.ColourSpace.the-variants.{Unspecified}
@@ -15,6 +15,7 @@ use Rattle.head_rules.specs.Colours.{colourNumber}
 use Rattle.head_rules.specs.Geometry.{across, blocksOf}
 use Rattle.head_rules.specs.Heads.{formNumber, readHead, readOfForm, writeHead}
 use Rattle.line_rules.specs.declared.LineRead.{LineRead}
+use Rattle.line_rules.specs.declared.Replaced.{Replaced}
 use Rattle.line_rules.specs.Read.{lineRead, replacementBytes, replacementOf}
 use Rattle.line_rules.specs.Replace.{replaced}
 use Rattle.record_rules.specs.Records.{takenApart}
@@ -22,7 +23,7 @@ use Rattle.record_rules.specs.Wire.{packedBytes, recordBytes}
 use Rattle.sheet_rules.specs.Blocks.{blockRead}
 use Rattle.sheet_rules.specs.Rows.{rowOut, rowRefusal}
 use Rattle.sheet_rules.specs.SheetRows.{sheetRowOut, sheetRowRefusal}
-use Rattle.sheet_rules.specs.Sheets.{sheetAfter, sheetRefusal}
+use Rattle.sheet_rules.specs.Sheets.{replacedIn, sheetAfter, sheetRefusal}
 use Rattle.nearest_rules.specs.Nearest.{exactIndex, nearestIndex}
 use Rattle.opacity_rules.specs.Opacity.{opaque}
 use Rattle.pixel_rules.specs.Pixels.{pixelRead}
@@ -30,6 +31,9 @@ use Rattle.dds_rules.specs.Files.{exportAfter, exportLength, exportRefusal, hea
 use Rattle.dds_rules.specs.Files.{numberedRefusal, sheetHead, sheetMade}
 use Rattle.move_rules.specs.Moving.{moveAfter, moveRefusal}
 use Rattle.move_rules.specs.Stating.{stateAfter, stateRefusal}
+use Rattle.count_rules.specs.declared.Counts.{Counts}
+use Rattle.count_rules.specs.Counts.{countedOf}
+use Rattle.count_rules.specs.Keeping.{blockMade, keptCounts, keptRefusal, keptSheet, ofMode}
 
 -- this number is answered, and this is left
 pub record Gives {A : Type 0} (refusal : ℕ) (left : A) (answer : ℕ) (after : A) : Type 0 where
@@ -40,9 +44,9 @@ pub record Gives {A : Type 0} (refusal : ℕ) (left : A) (answer : ℕ) (after :
 abbrev pub Writes : {A : Type 0} → ℕ → A → A → ℕ → A → Type 0
 Writes refusal value before = Gives refusal (pick (eqb refusal 0) value before)
 
--- version 1.8.0: major, minor and patch, with two digits for each of the last two
+-- version 1.9.0: major, minor and patch, with two digits for each of the last two
 abbrev pub Versions : ℕ → Type 0
-Versions answer = answer ≡ 10800
+Versions answer = answer ≡ 10900
 
 abbrev pub Decodes : List ℕ → List (List ℕ) → Type 0
 Decodes block after = after ≡ pixels block
@@ -135,6 +139,35 @@ abbrev pub ReplacesIn : List ℕ → ℕ → ℕ → List ℕ → ℕ → List �
 ReplacesIn sheet block line bytes =
     let h = readHead sheet in
     Gives (sheetRefusal h sheet block line (replacementOf bytes)) (sheetAfter h sheet block line (replacementOf bytes))
+
+-- the counts as ten numbers: modes 0 to 8, and the opaque blocks
+abbrev pub tenOf : Counts → List ℕ
+tenOf n =
+    ofMode n 0 ∷ ofMode n 1 ∷ ofMode n 2 ∷ ofMode n 3 ∷ ofMode n 4 ∷ ofMode n 5 ∷ ofMode n 6 ∷ ofMode n 7 ∷ ofMode n 8 ∷
+    n .opaque ∷
+    []
+
+abbrev pub countsOfTen : List ℕ → Counts
+countsOfTen c =
+    let at : ℕ → ℕ = λ m. getD c m 0 in
+    record { modes = at 0 ∷ at 1 ∷ at 2 ∷ at 3 ∷ at 4 ∷ at 5 ∷ at 6 ∷ at 7 ∷ at 8 ∷ []; opaque = at 9 }
+
+-- a sheet of either form counted
+abbrev pub CountsSheet : List ℕ → List ℕ → ℕ → List ℕ → Type 0
+CountsSheet sheet before = Writes (countedOf (readHead sheet) sheet .refusal) (tenOf (countedOf (readHead sheet) sheet .counts)) before
+
+-- a block of a sheet changed with the counts beside it, both lent: `made` is the block's own answer, and the block that it makes
+abbrev pub Keeps : List ℕ × List ℕ → ℕ → Replaced → ℕ → List ℕ × List ℕ → Type 0
+Keeps lent block made =
+    let h = readHead (lent .0) in
+    let n = countsOfTen (lent .1) in
+    Writes (keptRefusal h (lent .0) n block made) (keptSheet h (lent .0) n block made, tenOf (keptCounts h (lent .0) n block made)) lent
+
+abbrev pub ReplacesLineCounted : List ℕ × List ℕ → ℕ → ℕ → List ℕ → ℕ → List ℕ × List ℕ → Type 0
+ReplacesLineCounted lent block line bytes = Keeps lent block (replacedIn (readHead (lent .0)) (lent .0) block line (replacementOf bytes))
+
+abbrev pub ReplacesBlockCounted : List ℕ × List ℕ → ℕ → List ℕ → ℕ → List ℕ × List ℕ → Type 0
+ReplacesBlockCounted lent block bytes = Keeps lent block (blockMade bytes)
 
 -- a DDS file imported, a sheet exported, and how long the output of either has to be
 abbrev pub ImportsDds : List ℕ → List ℕ → ℕ → List ℕ → Type 0

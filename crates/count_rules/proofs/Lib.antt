@@ -1,0 +1,10 @@
+pub mod Attested
+pub mod Tallies
+pub mod Refusing
+pub mod Taking
+pub mod Fitting
+pub mod Forms
+pub mod Plain
+pub mod Stretches
+pub mod Ways
+pub mod Theorems

@@ -1,0 +1,4 @@
+pub mod Counting
+pub mod Falseness
+pub mod Naming
+pub mod Recounting

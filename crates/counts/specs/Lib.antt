@@ -1,0 +1,2 @@
+-- The definitions that only the code's own contracts cite.
+pub mod Blocks
