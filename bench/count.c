@@ -238,6 +238,94 @@ static void count_blocks(void) {
     say("\n");
 }
 
+/* ---- BC6H, compared and counted */
+
+#ifdef BC6H
+
+typedef unsigned short u16;
+typedef void decode_halves(const u8 *block, u32 is_signed, u16 *halves);
+decode_halves rust_decode_bc6h, rinchovek_bc6h_decode_block;
+
+/* the modes with two subsets, those with one, and last a reserved one; mixed: each of the fourteen equally likely */
+enum { HALVES = 48, FORMATS = 14, HALF_MIXED = 15, HALF_COLUMNS = 16 };
+static const u8 half_modes[HALF_MIXED] = {0x00, 0x01, 0x02, 0x06, 0x0A, 0x0E, 0x12, 0x16, 0x1A, 0x1E, 0x03, 0x07, 0x0B, 0x0F, 0x13};
+static const char *const half_names[HALF_COLUMNS] = {"00", "01", "02", "06", "0a", "0e", "12", "16",   "1a",
+                                                     "1e", "03", "07", "0b", "0f", "reserved", "mixed"};
+static u16 half_out[HALVES * COUNTED], half_expected[HALVES];
+
+/* random bits above the mode's two or five */
+static void make_half_block(u8 *block, int column) {
+    make_block(block, 0);
+    const u8 low = (u8)random_number(), mode = half_modes[column];
+    block[0] = (u8)(mode < 2 ? (low & ~3) | mode : (low & ~31) | mode);
+}
+
+static void make_half_blocks(int column) {
+    random_state = seed;
+    for (u32 i = 0; i < COUNTED; i++) make_half_block(blocks + 16 * i, column == HALF_MIXED ? (int)(random_number() % FORMATS) : column);
+}
+
+static void compare_halves(void) {
+    random_state = seed;
+    for (int column = 0; column < HALF_MIXED; column++)
+        for (int i = 0; i < COMPARED; i++)
+            for (u32 is_signed = 0; is_signed < 2; is_signed++) {
+                make_half_block(blocks, column);
+                memset(half_out, 1, sizeof half_expected);
+                memset(half_expected, 2, sizeof half_expected);
+                rust_decode_bc6h(blocks, is_signed, half_expected);
+                rinchovek_bc6h_decode_block(blocks, is_signed, half_out);
+                if (memcmp(half_expected, half_out, sizeof half_expected)) {
+                    say("DIFFERENT halves from a BC6H block of the mode ");
+                    say(half_names[column]);
+                    say(is_signed ? ", signed\n" : ", unsigned\n");
+                    leave(1);
+                }
+            }
+    say("\nequal to the Rust on ");
+    say_number(COMPARED, 0);
+    say(" BC6H blocks of each mode, in both signs\n");
+}
+
+static __attribute__((noinline)) void no_halves(const u8 *block, u32 is_signed, u16 *halves) {
+    __asm__ volatile("" ::"r"(block), "r"(is_signed), "r"(halves) : "memory");
+}
+
+static __attribute__((noinline)) u64 steps_of_halves(decode_halves *decode, u32 is_signed) {
+    start_counting();
+    for (u32 i = 0; i < COUNTED; i++) decode(blocks + 16 * i, is_signed, half_out + HALVES * i);
+    return stop_counting();
+}
+
+static u64 halves_cost(decode_halves *decode, u32 is_signed) {
+    return (steps_of_halves(decode, is_signed) - steps_of_halves(no_halves, is_signed)) / COUNTED;
+}
+
+static void count_halves(void) {
+    static u64 rust[2][HALF_COLUMNS], here[2][HALF_COLUMNS];
+    for (int column = 0; column < HALF_COLUMNS; column++) {
+        make_half_blocks(column);
+        for (u32 is_signed = 0; is_signed < 2; is_signed++) {
+            rust[is_signed][column] = halves_cost(rust_decode_bc6h, is_signed);
+            here[is_signed][column] = halves_cost(rinchovek_bc6h_decode_block, is_signed);
+        }
+    }
+    say("\nInstructions a BC6H block, over ");
+    say_number(COUNTED, 0);
+    say(" blocks of each mode, and of the fourteen mixed\n                     unsigned               signed\nmode        Rust  here  ratio   Rust  here  ratio\n");
+    for (int column = 0; column < HALF_COLUMNS; column++) {
+        say_left(half_names[column], 10);
+        for (int is_signed = 0; is_signed < 2; is_signed++) {
+            say_number(rust[is_signed][column], is_signed ? 7 : 6);
+            say_number(here[is_signed][column], 6);
+            say_ratio(here[is_signed][column], rust[is_signed][column], 7);
+        }
+        say("\n");
+    }
+}
+
+#endif
+
 /* ---- rows, compared and counted */
 
 #ifdef ROWS
@@ -1082,6 +1170,12 @@ void run(void) {
     compare_blocks();
     prepare_counting();
     count_blocks();
+#ifdef BC6H
+    compare_halves();
+    count_halves();
+#else
+    say("\nno BC6H: the archive has no rinchovek_bc6h_decode_block, or the Rust isn't there\n");
+#endif
 #ifdef ROWS
     compare_rows();
     count_rows();

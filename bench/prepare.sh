@@ -11,6 +11,7 @@
 #       has_colours  yes where it has rinchovek_dds_import_colour, else empty
 #       has_forms  yes where it has rinchovek_sheet_to_tiles, else empty
 #       has_stating  yes where it has rinchovek_sheet_state_colour, else empty
+#       has_halves  yes where it has rinchovek_bc6h_decode_block and the Rust that it is counted beside stands below PUBLISHED, else empty
 #       kit        the folder of the kit's clang and linker for this machine
 #       work       a fresh folder, removed at exit, with the published sources and reference.rs in it
 
@@ -48,6 +49,9 @@ prepare() {
     has_stating=
     if grep -qaw rinchovek_sheet_state_colour "$archive"; then has_stating=yes; fi
 
+    has_halves=
+    if grep -qaw rinchovek_bc6h_decode_block "$archive"; then has_halves=yes; fi
+
     place=${2:-$repository/../shared}
     for published in "$place/docs/src/src" "$place/src" "$place"; do
         [ ! -f "$published/decode/bc7.rs" ] || break
@@ -63,16 +67,18 @@ prepare() {
     mkdir "$work/decode"
     cp "$published/bcn_data.rs" "$work/"
     cp "$published/decode/bc7.rs" "$published/decode/bcn_util.rs" "$work/decode/"
+    # the BC6H decoder of the same author: it takes from the same two files, of which one has tests behind it
+    if [ -f "$place/outside/bc6h/rust/decode/bc6.rs" ]; then cp "$place/outside/bc6h/rust/decode/bc6.rs" "$work/decode/"; else has_halves=; fi
     # what was copied may be read-only
     chmod -R u+w "$work"
     cp "$bench/reference.rs" "$bench/count.c" "$bench/time.rs" "$work/"
     cd "$work"
 }
 
-# compile_reference block|row WORDS..: the published decoder behind rust_decode_block or rust_decode_row
+# compile_reference block|row|halves WORDS..: the published decoder behind rust_decode_block, rust_decode_row or rust_decode_bc6h
 compile_reference() {
     local part=$1
     shift
-    rustc --edition 2021 --crate-name "reference_$part" --cfg "$part" --check-cfg 'cfg(block, row)' \
+    rustc --edition 2021 --crate-name "reference_$part" --cfg "$part" --check-cfg 'cfg(block, row, halves)' \
         -C opt-level=3 -C codegen-units=1 "$@" reference.rs
 }

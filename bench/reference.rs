@@ -1,8 +1,8 @@
 //! The published Rust decoder behind a C name, with the signature of the function it is measured against.
 //! `prepare.sh` puts this file beside a copy of the published sources, whose modules it declares.
 //!
-//! It is compiled twice, with `--cfg block` and with `--cfg row`: a decoder with one caller is inlined into it, and neither
-//! measured function should cost more because the other stands beside it.
+//! It is compiled with `--cfg block` and with `--cfg row`, and with `--cfg halves` where the BC6H decoder of the same author stands beside it: a
+//! decoder with one caller is inlined into it, and no measured function should cost more because another stands beside it.
 
 #![allow(dead_code)]
 
@@ -16,11 +16,25 @@ mod util {
 }
 
 mod decode {
+    #[cfg(halves)]
+    pub(crate) mod bc6;
+    #[cfg(not(halves))]
     pub(crate) mod bc7;
     pub(crate) mod bcn_util;
 }
 
+#[cfg(halves)]
+use decode::bc6::{decode_bc6_block, BC6HFormat};
+#[cfg(not(halves))]
 use decode::bc7::decode_bc7_block;
+
+/// The sign is known when it runs, as in the function it is measured against.
+#[cfg(halves)]
+#[no_mangle]
+pub extern "C" fn rust_decode_bc6h(block: &[u8; 16], is_signed: u32, halves: &mut [[u16; 3]; 16]) {
+    let format = if is_signed == 0 { BC6HFormat::UnsignedF16 } else { BC6HFormat::SignedF16 };
+    *halves = decode_bc6_block(*block, format);
+}
 
 #[cfg(block)]
 #[no_mangle]

@@ -115,6 +115,8 @@ mod writing {
         fn rinchovek_bc7_exact_index(block: &Block, line: u32, pixel: u32, wanted: &[u8; 4], index: &mut u32) -> u32;
         #[cfg(opacity)]
         fn rinchovek_bc7_is_opaque(block: &Block, columns: u32, rows: u32) -> u32;
+        #[cfg(halves)]
+        fn rinchovek_bc6h_decode_block(block: &Block, is_signed: u32, halves: &mut [[u16; 3]; 16]);
         #[cfg(pixels)]
         fn rinchovek_bc7_pixel(block: &Block, pixel: u32, rgba: &mut [u8; 4]) -> u32;
         fn rinchovek_sheet_replace_line(sheet: *mut u8, length: usize, block: u32, line: u32, replacement: &Line) -> u32;
@@ -258,6 +260,14 @@ mod writing {
             let mut pixels = [[0; 4]; 16];
             every(&mut |i| unsafe { rinchovek_bc7_decode_block(black_box(&blocks[i]), black_box(&mut pixels)); 0 })
         });
+        // the same bytes as BC6H blocks: three of four have two subsets, and one in eight is reserved
+        #[cfg(halves)]
+        for (name, is_signed) in [("unsigned", 0), ("signed", 1)] {
+            nanoseconds(&format!("rinchovek_bc6h_decode_block, {name}"), SMALL, || {
+                let mut halves = [[0; 3]; 16];
+                every(&mut |i| unsafe { rinchovek_bc6h_decode_block(black_box(&blocks[i]), is_signed, black_box(&mut halves)); 0 })
+            });
+        }
         nanoseconds("rinchovek_bc7_unpack", SMALL, || {
             every(&mut |i| unsafe { rinchovek_bc7_unpack(&blocks[i], &mut records[i]) })
         });

@@ -1,5 +1,6 @@
 """Inputs for the calls, made with Dice: blocks, records, replacements, heads, rows and sheets, right ones and ones
 that are wrong in one or two places. Used by make_list.py for the fixed list and by run for comparison at scale."""
+import halves
 import model
 import protocol
 
@@ -44,6 +45,42 @@ def some_split(dice, mode):
 def some_block(dice, reserved_percent=3):
     mode = model.RESERVED if dice.chance(reserved_percent) else dice.below(8)
     return block_of(mode, some_split(dice, mode), bits_of_style(dice, dice.one_of(BIT_STYLES)))
+
+
+# ---------------------------------------------------------------------------------------------------------------------
+# BC6H blocks.
+def halves_block(mode, rest, **fields):
+    """The BC6H block of that mode whose fields are as given, by their names in halves.py, and whose other bits are those of the number `rest`."""
+    if mode in halves.RESERVED:
+        return (rest >> 5 << 5 | mode).to_bytes(16, "little")
+    number = rest
+    for place, (name, bit) in enumerate(halves.bits_of(mode)):
+        value = mode if name == "m" else fields.get(name)
+        if value is not None:
+            number = number & ~(1 << place) | (value >> bit & 1) << place
+    return number.to_bytes(16, "little")
+
+
+def halves_fields(mode):
+    """The names of a mode's endpoint fields, in the order of the channels."""
+    return [channel + end for channel in "rgb" for end in "0123"[: 2 * halves.lines_of(mode)]]
+
+
+def extreme_fields(dice, mode):
+    """Each field at an end of its range, beside one, or anywhere: 0, 1, all bits, the sign bit alone, all but it."""
+    found = {}
+    for name in halves_fields(mode):
+        top = 1 << halves.widths(mode)[name] - 1
+        found[name] = dice.one_of((0, 1, 2 * top - 1, 2 * top - 2, top, top + 1, top - 1, top - 2, dice.below(2 * top)))
+    return found
+
+
+def some_halves_block(dice, reserved_percent=3):
+    mode = dice.one_of(halves.RESERVED) if dice.chance(reserved_percent) else dice.one_of(sorted(halves.STORED))
+    rest = bits_of_style(dice, dice.one_of(BIT_STYLES))
+    if mode in halves.RESERVED or dice.chance(60):
+        return halves_block(mode, rest)
+    return halves_block(mode, rest, **extreme_fields(dice, mode))
 
 
 # ---------------------------------------------------------------------------------------------------------------------

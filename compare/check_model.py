@@ -5,6 +5,7 @@ from collections import Counter
 
 import chart
 import document_01
+import halves
 import model
 import partitions
 import protocol
@@ -40,6 +41,16 @@ def check_tables(bcn_data):
         for split in model.splits(mode):
             model.layout(mode, split)  # asserts that the widths sum to 128
     return 128
+
+
+def check_halves_tables(definitions, rust):
+    """The table of BC6H's modes in the three places where it was written down apart: every bit of every mode, and the widths."""
+    own, defined, read = halves.table(), halves.table_of_definitions(definitions), halves.table_of_rust(rust)
+    assert own.keys() == defined.keys() == read.keys() and len(own) == 14
+    for mode in own:
+        assert own[mode] == defined[mode], "mode %02x: the model has %s, the definitions %s" % (mode, own[mode], defined[mode])
+        assert read[mode] == defined[mode], "mode %02x: the Rust has %s, the definitions %s" % (mode, read[mode], defined[mode])
+    return sum(len(halves.bits_of(mode)) for mode in own)
 
 
 def check_round_trips(seed, count):

@@ -2,7 +2,7 @@
 """make_list.py LETTERS.. OUT [--shared DIR]: writes OUT/stdin and OUT/stdout, the fixed list of calls of the program
 `replay` and its answers. LETTERS are the calls to include, as `D` or `D UP R HWOSl`.
 
-The list is the same each time (dice.py with a fixed seed for each letter). Its answers are the model's; those of D are
+The list is the same each time (dice.py with a fixed seed for each letter). Its answers are the model's; those of D and G are
 the Rust's, and the model must agree with each. Every call is there for a reason: the functions below say which."""
 import sys
 
@@ -13,6 +13,7 @@ from collections import Counter
 from pathlib import Path
 
 import document_01
+import halves
 import model
 import protocol
 import tools
@@ -31,7 +32,10 @@ from cases import (
     block_of,
     either_form,
     false_counts,
+    extreme_fields,
     fitting_replacement,
+    halves_block,
+    halves_fields,
     nearly_opaque,
     sheet_of,
     shown_length,
@@ -1073,6 +1077,40 @@ def changing_counted(letter):
     return calls
 
 
+# ---------------------------------------------------------------------------------------------------------------------
+# M-110: BC6H. Each block is decoded in both signs.
+def decoding_halves(dice, shared):
+    """Every mode with bits of every style and, with two lines, every partition, under indexes that go up; each field alone at each end of its range
+    over zeros, which shows a bit that is exchanged; differences that wrap over either end; values that scale to zero; the lowest and the highest
+    value; reserved blocks; the outside blocks."""
+    blocks = []
+    for mode in halves.STORED:
+        blocks += [halves_block(mode, bits_of_style(dice, style)) for style in STYLES]
+        blocks += [halves_block(mode, bits_of_style(dice, "random"), **extreme_fields(dice, mode)) for _ in range(6)]
+        width = halves.widths(mode)
+        low, top = {}, {}
+        for name in halves_fields(mode):
+            half = 1 << width[name] - 1
+            first = name[1] == "0"
+            # the first endpoint at an end of its range, and the differences as far over it as they reach
+            low[name], top[name] = (half if first else half), (2 * half - 1 if first else half - 1)
+            for value in (1, half, half - 1, 2 * half - 1):
+                blocks.append(halves_block(mode, dice.number(46) << 82, **{**dict.fromkeys(halves_fields(mode), 0), name: value}))
+        blocks += [halves_block(mode, dice.number(128), **low), halves_block(mode, dice.number(128), **top)]
+        if halves.lines_of(mode) == 2:
+            blocks += [halves_block(mode, dice.number(128), d=partition) for partition in range(32)]
+    # mode 0f, whose values are as wide as a half: those about zero, the lowest and the highest, without a difference
+    for value in (0, 1, 2, 3, 0x7FFE, 0x7FFF, 0x8000, 0x8001, 0xFFFD, 0xFFFE, 0xFFFF):
+        blocks.append(halves_block(0x0F, dice.number(128), r0=value, g0=value, b0=value, r1=0, g1=0xF, b1=1))
+    for mode in halves.RESERVED:
+        blocks += [halves_block(mode, bits_of_style(dice, style)) for style in STYLES]
+    piglit = (shared / "outside/piglit/bc6h_blocks.bin").read_bytes()
+    blocks += [piglit[at : at + 16] for at in range(0, len(piglit), 16)]
+    data = tools.outside_blocks(shared / "outside/bc6h/pillow_bc6h.dds")[2]
+    blocks += [data[at : at + 16] for at in range(0, len(data), 16 * 16)]
+    return [("G", sign, block) for block in blocks for sign in (0, 1)]
+
+
 # Who makes the calls of a letter, in the order of the list. What a request adds for letters that are there stands behind, so that the
 # older calls keep their places and their bytes.
 MAKERS = (
@@ -1114,6 +1152,7 @@ MAKERS = (
     ("C", counting),
     ("L", changing_counted("L")),
     ("K", changing_counted("K")),
+    ("G", decoding_halves),
 )
 
 
@@ -1133,6 +1172,12 @@ def answers(letter, calls, oracle):
         for number, call in enumerate(calls):
             drawn = pixels[64 * number : 64 * number + 64]
             assert drawn == found[number], "the Rust and the model differ: " + call[1].hex()
+    if letter == "G":
+        for sign, name in enumerate(halves.SIGNS):
+            asked = [number for number, call in enumerate(calls) if call[1] == sign]
+            drawn = tools.through([*oracle, name], b"".join(calls[number][2] for number in asked))
+            for at, number in enumerate(asked):
+                assert drawn[96 * at : 96 * at + 96] == found[number], "the Rust and the model differ: %s %s" % (name, calls[number][2].hex())
     return found
 
 
@@ -1146,10 +1191,11 @@ def main():
     if not asked <= set(protocol.LETTERS):
         sys.exit("letters are of %s; the last argument is the folder" % protocol.LETTERS)
     shared = tools.shared_folder(given.shared)
-    oracle = tools.build_oracle(shared / "docs/src") if "D" in asked else None
+    oracles = {"D": tools.build_oracle(shared / "docs/src") if "D" in asked else None}
+    oracles["G"] = tools.build_halves_oracle(shared / "outside/bc6h/rust") if "G" in asked else None
     stdin, stdout = [], []
     for letter, calls in made(asked, shared):
-        replies = answers(letter, calls, oracle)
+        replies = answers(letter, calls, oracles.get(letter))
         stdin += map(protocol.call_bytes, calls)
         stdout += replies
         counts = Counter(protocol.refusal_in(letter, reply) for reply in replies)

@@ -17,6 +17,7 @@ from collections import namedtuple
 from functools import lru_cache
 from itertools import islice
 
+import halves
 import partitions
 
 # ---------------------------------------------------------------------------------------------------------------------
@@ -267,6 +268,11 @@ def pixel(block, number):
     if number >= 16:
         return 21, bytes(4)
     return 0, decode(block)[4 * number : 4 * number + 4]
+
+
+def decode_bc6h(block, signed):
+    """M-110: the sixteen pixels of a BC6H block, three halves each, in 96 bytes. The format has its own page, halves.py."""
+    return halves.decode(block, signed)
 
 
 # ---------------------------------------------------------------------------------------------------------------------

@@ -33,10 +33,11 @@ A call is (letter, arguments..):
   C sheet            count a sheet
   L sheet counts block line new      replace a line, with counts; ten numbers
   K sheet counts block new           replace a whole block, with counts; new is 16 bytes
+  G sign block       decode a BC6H block; the sign is 0, unsigned, or 1
 """
 import model
 
-LETTERS = "DUPRHWOSlrNEA" + "IXds" + "Q" + "B" + "hix" + "TZVob" + "c" + "CLK"
+LETTERS = "DUPRHWOSlrNEA" + "IXds" + "Q" + "B" + "hix" + "TZVob" + "c" + "CLK" + "G"
 KINDS = ("whole", "two", "three", "vector")
 RECORD, REPLACEMENT, READ = 66, 26, 11
 LARGEST_LENGTH = 65536  # a longer slice ends the run
@@ -77,6 +78,8 @@ def call_bytes(call):
         body = block + number(line) + number(pixel) + bytes(wanted)
     elif letter == "A":
         body = given[0] + number(given[1]) + number(given[2])
+    elif letter == "G":
+        body = bytes([given[0]]) + given[1]
     elif letter == "B":
         body = given[0] + bytes([len(given[1])]) + bytes(given[1])
     elif letter in "Hh":
@@ -117,6 +120,8 @@ def model_answer(call):
     letter, *given = call
     if letter == "D":
         return model.decode(given[0])
+    if letter == "G":
+        return model.decode_bc6h(given[1], given[0] == 1)
     if letter == "U":
         refusal, record = model.unpack(given[0])
         return bytes([refusal]) + record_bytes(record)
@@ -183,7 +188,7 @@ def model_answer(call):
 
 def refusal_in(letter, reply):
     """The refusal number that an answer gives: 0 where there is none. A listing's stands in its last line."""
-    if letter in "DA":
+    if letter in "DAG":
         return 0
     if letter == "B":  # of any of its reads
         return max(reply[::READ], default=0)

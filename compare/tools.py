@@ -22,6 +22,13 @@ def build_oracle(docs_src):
     return [str(out)]
 
 
+def build_halves_oracle(folder):
+    """The Rust's BC6H decoder as a filter: a word behind the command says which sign (halves.SIGNS)."""
+    out = BUILT / "oracle_bc6h"
+    subprocess.run([str(HERE / "oracle_bc6h"), str(out), str(folder)], check=True)
+    return [str(out)]
+
+
 def toolchain():
     """The folder of the kit's compiler, linker, C library and emulator for this machine."""
     guide = subprocess.run(["rt", "doc"], stdout=subprocess.PIPE, check=True, text=True).stdout.strip()
@@ -80,7 +87,7 @@ def over_archive(name):
     lib, headers, part = kit / "lib", BUILT / "include", out.with_suffix(".o")
     headers.mkdir(parents=True, exist_ok=True)
     (headers / "stddef.h").write_text("typedef unsigned long size_t;\n")
-    (headers / "stdint.h").write_text("typedef unsigned char uint8_t; typedef unsigned uint32_t; typedef unsigned long uint64_t;\n")
+    (headers / "stdint.h").write_text("typedef unsigned char uint8_t; typedef unsigned short uint16_t; typedef unsigned uint32_t; typedef unsigned long uint64_t;\n")
     compile_words = ["--target=x86_64-linux-gnu", "-nostdinc", "-isystem", headers, "-I", ROOT / "include", "-O2"]
     subprocess.run([kit / "bin" / "clang", *compile_words, "-c", HERE / (name + ".c"), "-o", part], check=True)
     before = [lib / name for name in ("Scrt1.o", "crti.o", "crtbeginS.o")]

@@ -76,6 +76,15 @@ static void try_sizes(void) {
     expect("a pixel", written(zeros, ones), RINCHOVEK_PIXEL_BYTES);
     expect("a pixel more", rinchovek_bc7_pixel(block7, RINCHOVEK_BLOCK_PIXELS, zeros), RINCHOVEK_NO_SUCH_PIXEL);
 
+    uint16_t half_zeros[64] = {0}, half_ones[64];
+    uint32_t halves = 0;
+    for (int i = 0; i < 64; i++) half_ones[i] = 0xFFFF;
+    rinchovek_bc6h_decode_block(block7, 0, half_zeros);
+    rinchovek_bc6h_decode_block(block7, 0, half_ones);
+    for (int i = 0; i < 64; i++)
+        if (half_zeros[i] == half_ones[i]) halves++;
+    expect("halves of a block", halves, RINCHOVEK_HALVES);
+
     clear();
     uint32_t count = 0;
     const uint32_t side = RINCHOVEK_LARGEST_SIDE;

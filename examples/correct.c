@@ -1,7 +1,7 @@
 /* Every call of include/rinchovek.h, from C: a row of a small sheet is decoded, one of its blocks is corrected, and the row is
  * decoded again; the other way round, which index gives a red; the same correction on the block alone; what happens to calls that
- * are refused; records and heads; which blocks are opaque; single pixels; the sheet as a DDS file and back, in sRGB too; a sheet moved
- * to tiles and back. */
+ * are refused; records and heads; which blocks are opaque; single pixels; a block of a backdrop in both signs; the sheet as a DDS file and
+ * back, in sRGB too; a sheet moved to tiles and back. */
 #include "rinchovek.h"
 
 int printf(const char *format, ...);
@@ -72,6 +72,15 @@ static void show_one(const uint8_t block[RINCHOVEK_BLOCK_BYTES], uint32_t pixel)
     if (refusal == RINCHOVEK_ACCEPTED)
         printf(", %u %u %u %u", rgba[RINCHOVEK_RED], rgba[RINCHOVEK_GREEN], rgba[RINCHOVEK_BLUE], rgba[RINCHOVEK_ALPHA]);
     printf("\n");
+}
+
+/* The first pixel of a BC6H block, as the bits of three half floats, unsigned and signed. */
+static void show_halves(const char *what, const uint8_t block[RINCHOVEK_BLOCK_BYTES]) {
+    uint16_t unsigned_halves[RINCHOVEK_HALVES], signed_halves[RINCHOVEK_HALVES];
+    rinchovek_bc6h_decode_block(block, 0, unsigned_halves);
+    rinchovek_bc6h_decode_block(block, 1, signed_halves);
+    printf("%s: unsigned %04X %04X %04X, signed %04X %04X %04X\n", what, unsigned_halves[RINCHOVEK_RED], unsigned_halves[RINCHOVEK_GREEN],
+           unsigned_halves[RINCHOVEK_BLUE], signed_halves[RINCHOVEK_RED], signed_halves[RINCHOVEK_GREEN], signed_halves[RINCHOVEK_BLUE]);
 }
 
 /* The numbers of a sheet of either form. */
@@ -157,6 +166,11 @@ int main(void) {
     show_opaque(corner, 7, 4, 1);
     show_opaque(sheet + HEAD + RINCHOVEK_BLOCK_BYTES, WIDTH, HEIGHT, 1);
     for (uint32_t pixel = 14; pixel <= 16; pixel++) show_one(corner, pixel);
+
+    /* BC6H, mode 03: red 512 of ten bits, which signed is the lowest value, and all else 0; and a reserved mode. */
+    static const uint8_t backdrop[RINCHOVEK_BLOCK_BYTES] = {0x03, 0x40}, reserved_backdrop[RINCHOVEK_BLOCK_BYTES] = {0xF3, 0xFF};
+    show_halves("backdrop", backdrop);
+    show_halves("reserved", reserved_backdrop);
 
     /* The sheet as a DDS file, of which the sides are shown, height first; the file as a sheet again; and what is no such file. */
     uint8_t file[RINCHOVEK_DDS_HEADER_BYTES + 2 * RINCHOVEK_BLOCK_BYTES] = {0}, again[sizeof sheet] = {0};

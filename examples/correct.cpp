@@ -14,6 +14,8 @@ using Record = std::array<uint8_t, RINCHOVEK_RECORD_BYTES>;
 using Replacement = std::array<uint8_t, RINCHOVEK_LINE_BYTES>;
 using Pixel = std::array<uint8_t, RINCHOVEK_PIXEL_BYTES>;
 using Pixels = std::array<Pixel, RINCHOVEK_BLOCK_PIXELS>;
+using Halves = std::array<std::array<uint16_t, 3>, RINCHOVEK_BLOCK_PIXELS>;
+static_assert(sizeof(Halves) == sizeof(uint16_t) * RINCHOVEK_HALVES, "three halves a pixel");
 
 // In C all are uint32_t, and two of them side by side in one call; here they can't be exchanged.
 enum class BlockNumber : uint32_t {};
@@ -51,6 +53,15 @@ Pixels decode_block(const Block &block) {
     Pixels pixels;
     rinchovek_bc7_decode_block(block.data(), pixels[0].data());
     return pixels;
+}
+
+// A BC6H block, whose format says whether it is signed.
+enum class Sign : uint32_t { without = 0, with = 1 };
+
+Halves decode_bc6h_block(const Block &block, Sign sign) {
+    Halves halves;
+    rinchovek_bc6h_decode_block(block.data(), uint32_t(sign), halves[0].data());
+    return halves;
 }
 
 bool is_opaque(const Block &block, Shown shown) { return rinchovek_bc7_is_opaque(block.data(), shown.columns, shown.rows) != 0; }
@@ -256,6 +267,12 @@ static void show_one(const Block &block, PixelNumber pixel) {
     std::printf("\n");
 }
 
+static void show_halves(const char *what, const Block &block) {
+    const auto plain = decode_bc6h_block(block, Sign::without)[0], with_sign = decode_bc6h_block(block, Sign::with)[0];
+    std::printf("%s: unsigned %04X %04X %04X, signed %04X %04X %04X\n", what, plain[0], plain[1], plain[2], with_sign[0], with_sign[1],
+                with_sign[2]);
+}
+
 static void show_opened(const std::vector<uint8_t> &sheet) {
     Opened opened;
     const uint32_t refusal = open(sheet, opened);
@@ -329,6 +346,9 @@ int main() {
     show_opaque(corner, 7, 4, BlockNumber(1));
     show_opaque(reserved, 8, 4, BlockNumber(1));
     for (uint32_t pixel = 14; pixel <= 16; pixel++) show_one(corner, PixelNumber(pixel));
+
+    show_halves("backdrop", {0x03, 0x40});
+    show_halves("reserved", {0xF3, 0xFF});
 
     std::vector<uint8_t> file, again;
     refusal = export_dds(sheet, file);

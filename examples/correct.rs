@@ -60,6 +60,15 @@ fn show_one(block: &Block, pixel: u32) {
     println!("pixel {pixel}: {}, {text}", number(&read));
 }
 
+/// The first pixel of a BC6H block, as the bits of three half floats, unsigned and signed.
+fn show_halves(what: &str, block: &Block) {
+    let shown = |sign| {
+        let [red, green, blue] = decode_bc6h_block(block, sign)[0];
+        format!("{red:04X} {green:04X} {blue:04X}")
+    };
+    println!("{what}: unsigned {}, signed {}", shown(Sign::Unsigned), shown(Sign::Signed));
+}
+
 /// What a sheet of either form says of itself.
 fn show_counts(counts: &Counts) {
     let words: Vec<String> = counts.modes.iter().map(u32::to_string).collect();
@@ -139,6 +148,10 @@ fn main() -> Result<(), Refusal> {
     for pixel in 14..=16 {
         show_one(&corner, pixel);
     }
+
+    // BC6H, mode 03: red 512 of ten bits, which signed is the lowest value, and all else 0; and a reserved mode
+    show_halves("backdrop", &[0x03, 0x40, 0, 0, 0, 0, 0, 0, 0, 0, 0, 0, 0, 0, 0, 0]);
+    show_halves("reserved", &[0xF3, 0xFF, 0, 0, 0, 0, 0, 0, 0, 0, 0, 0, 0, 0, 0, 0]);
 
     // the sheet as a DDS file, of which the sides are shown, height first; the file as a sheet again; and what is no such file
     println!("exported: 0, {} bytes", export_length(&sheet)?);

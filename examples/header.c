@@ -172,6 +172,25 @@ static void try_moves(void) {
         }
 }
 
+/* Any number but 0 is signed, in every mode; and a reserved mode writes zeros. */
+static void try_signs(void) {
+    for (uint32_t low = 0; low < 32; low++) {
+        uint8_t block[RINCHOVEK_BLOCK_BYTES];
+        uint16_t with[RINCHOVEK_HALVES], without[RINCHOVEK_HALVES], again[RINCHOVEK_HALVES];
+        for (int i = 0; i < RINCHOVEK_BLOCK_BYTES; i++) block[i] = (uint8_t)(i == 0 ? low : 0xFF);
+        rinchovek_bc6h_decode_block(block, 0, without);
+        rinchovek_bc6h_decode_block(block, 1, with);
+        uint32_t differ = 0;
+        for (int i = 0; i < RINCHOVEK_HALVES; i++) differ |= with[i] != without[i];
+        expect("the signs differ", differ, low % 4 != 3 || low < 16);
+        for (int i = 0; i < RINCHOVEK_HALVES && !differ; i++) expect("a reserved mode", with[i], 0);
+        for (uint32_t number = 2; number != 0; number <<= 1) {
+            rinchovek_bc6h_decode_block(block, number, again);
+            for (int i = 0; i < RINCHOVEK_HALVES; i++) expect("signed", again[i], with[i]);
+        }
+    }
+}
+
 /* ---- the stack */
 
 /* Every call, on a sheet of one block whose first byte is this, so of this mode, whose lines are read and put back. */
@@ -191,6 +210,12 @@ static __attribute__((noinline)) void make_calls(uint8_t first, uint8_t others) 
         }
         rinchovek_bc7_replace_line(block, line, held);
         rinchovek_sheet_replace_line(sheet, count + RINCHOVEK_BLOCK_BYTES, 0, line, held);
+    }
+    for (uint32_t low = 0; low < 64; low++) {
+        uint8_t backdrop[RINCHOVEK_BLOCK_BYTES];
+        uint16_t halves[RINCHOVEK_HALVES];
+        for (int i = 0; i < RINCHOVEK_BLOCK_BYTES; i++) backdrop[i] = i == 0 ? (uint8_t)(low % 32) : others;
+        rinchovek_bc6h_decode_block(backdrop, low / 32, halves);
     }
     rinchovek_bc7_is_opaque(block, 4, 3);
     for (uint32_t pixel = 0; pixel <= RINCHOVEK_BLOCK_PIXELS; pixel++) rinchovek_bc7_pixel(block, pixel, widths);
@@ -244,6 +269,7 @@ int main(void) {
     try_files();
     try_tiles();
     try_moves();
+    try_signs();
     const uint32_t deep = deepest();
     if (deep >= RINCHOVEK_STACK_BYTES) {
         printf("header: the calls took %u bytes of stack\n", deep);

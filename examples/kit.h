@@ -4,6 +4,7 @@
 #define KIT_H
 
 typedef unsigned char uint8_t;
+typedef unsigned short uint16_t;
 typedef unsigned uint32_t, mode_t, uid_t, gid_t;
 typedef unsigned long uint64_t, size_t, dev_t, ino_t;
 typedef long ssize_t, off_t, time_t;

@@ -9,6 +9,7 @@ use std::fmt;
 extern "C" {
     fn rinchovek_version() -> u32;
     fn rinchovek_bc7_decode_block(block: *const u8, pixels: *mut u8);
+    fn rinchovek_bc6h_decode_block(block: *const u8, is_signed: u32, halves: *mut u16);
     fn rinchovek_bc7_unpack(block: *const u8, record: *mut u8) -> u32;
     fn rinchovek_bc7_pack(record: *const u8, block: *mut u8) -> u32;
     fn rinchovek_bc7_read_line(block: *const u8, line: u32, replacement: *mut u8, widths: *mut u8) -> u32;
@@ -308,6 +309,20 @@ pub fn exact_index(block: &Block, line: LineNumber, pixel: PixelNumber, wanted: 
 pub struct Shown {
     pub columns: u32,
     pub rows: u32,
+}
+
+/// Whether a BC6H block is signed: its format says so.
+#[derive(Clone, Copy, Debug, PartialEq, Eq)]
+pub enum Sign {
+    Unsigned,
+    Signed,
+}
+
+/// The sixteen pixels of a BC6H block, red green blue each, as the bits of half floats.
+pub fn decode_bc6h_block(block: &Block, sign: Sign) -> [[u16; 3]; 16] {
+    let mut halves = [[0; 3]; 16];
+    unsafe { rinchovek_bc6h_decode_block(block.as_ptr(), (sign == Sign::Signed) as u32, halves.as_mut_ptr().cast()) };
+    halves
 }
 
 /// Whether every shown pixel of the block has alpha 255.

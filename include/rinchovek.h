@@ -1,6 +1,6 @@
 /* rinchovek.h: BC7 blocks, and sheets of them, decoded, taken apart, packed and corrected; which index gives a wanted colour,
  * which blocks are opaque, and what one pixel shows; sheets stored row by row or in tiles, and moved between the two; counts kept beside a
- * sheet; DDS files in and out.
+ * sheet; DDS files in and out; and BC6H blocks, decoded.
  *
  * WORDS
  * A block is 16 bytes that draw 4 by 4 pixels. A pixel is 4 bytes: red, green, blue, alpha. The pixel in column x and row y of a
@@ -29,14 +29,14 @@
  *
  * WHAT HOLDS FOR EVERY CALL
  * - It answers 0, RINCHOVEK_ACCEPTED, or the number of a refusal: of those that its comment lists, the first that applies, in that
- *   order. Three calls refuse nothing: rinchovek_version answers the version, rinchovek_bc7_decode_block nothing, and
- *   rinchovek_bc7_is_opaque yes or no.
+ *   order. Four calls refuse nothing: rinchovek_version answers the version, rinchovek_bc7_decode_block and rinchovek_bc6h_decode_block
+ *   nothing, and rinchovek_bc7_is_opaque yes or no.
  * - A refused call writes nothing at all. An accepted one writes what its comment says, all of it, and no other byte.
  * - Of the arguments an input stands before an output, what is changed in place stands first of all, and a length behind its pointer.
  * - An array has the length that is shown, also where the call is refused. A pointer has the length that is given behind it. Where
  *   that must be exact the comment says so, and any other length is refused.
  * - NULL is allowed where the length behind it is 0, and nowhere else.
- * - What one call is lent must not overlap. Bytes need no alignment, uint32_t the usual one. No pointer is kept.
+ * - What one call is lent must not overlap. Bytes need no alignment, uint16_t and uint32_t the usual one. No pointer is kept.
  * - There is no state: no variable outside the stack, no heap, no lock, no file, no errno. Any number of threads may call, and signal
  *   handlers too, as long as what one call writes no other reads or writes at the same time.
  * - A call takes less than RINCHOVEK_STACK_BYTES of stack, whatever it is given, and what memcpy takes.
@@ -50,7 +50,7 @@
 /* The version of this file. The major number is raised where a call goes, or answers otherwise what it accepted before; the minor
  * one where a call comes, or accepts what it refused before; the patch where neither is so. */
 #define RINCHOVEK_VERSION_MAJOR 1
-#define RINCHOVEK_VERSION_MINOR 9
+#define RINCHOVEK_VERSION_MINOR 10
 #define RINCHOVEK_VERSION_PATCH 0
 #define RINCHOVEK_VERSION (10000 * RINCHOVEK_VERSION_MAJOR + 100 * RINCHOVEK_VERSION_MINOR + RINCHOVEK_VERSION_PATCH)
 
@@ -59,6 +59,7 @@
 #define RINCHOVEK_PIXEL_BYTES 4
 #define RINCHOVEK_BLOCK_PIXELS 16 /* pixels */
 #define RINCHOVEK_PIXELS_BYTES 64
+#define RINCHOVEK_HALVES 48 /* uint16_t, of a BC6H block: three of each pixel */
 #define RINCHOVEK_RECORD_BYTES 66
 #define RINCHOVEK_LINE_BYTES 26
 #define RINCHOVEK_HEAD_BYTES 7 /* the most that a head of form 1 has */
@@ -192,6 +193,14 @@ uint32_t rinchovek_version(void);
 
 /* Writes the sixteen pixels of a block: pixel p in pixels[4 * p ..], red, green, blue, alpha. */
 void rinchovek_bc7_decode_block(const uint8_t block[RINCHOVEK_BLOCK_BYTES], uint8_t pixels[RINCHOVEK_PIXELS_BYTES]);
+
+/* Writes the sixteen pixels of a BC6H block, in which backdrops of high range are stored: pixel p in halves[3 * p ..], red, green, blue, each
+ * the sixteen bits of a half float. The same 16 bytes are a signed or an unsigned block, as the file that they come from says (BC6H_SF16 or
+ * BC6H_UF16): is_signed 0 is unsigned, any other number signed. An unsigned pixel is never negative or infinite; a signed one may be FC00, minus
+ * infinity, in the mode 0F alone; neither is ever something that isn't a number. A block of the reserved modes (13, 17, 1B and 1F in its low five
+ * bits) gives 0 in all 48. Nothing else in this file takes BC6H: a BC7 call draws such a block as if it were BC7.
+ * Refusals: none. */
+void rinchovek_bc6h_decode_block(const uint8_t block[RINCHOVEK_BLOCK_BYTES], uint32_t is_signed, uint16_t halves[RINCHOVEK_HALVES]);
 
 /* Takes a block apart: writes the 66 bytes of its record. Packing them again gives the block.
  * Refusals: 1. */

@@ -8,7 +8,7 @@
 import { readFileSync, writeFileSync } from 'node:fs'
 import * as face from './rinchovek.js'
 
-const { BLOCK_BYTES, LINE_BYTES, PIXEL_BYTES, PIXELS_BYTES, RECORD_BYTES, HEAD_BYTES } = face
+const { BLOCK_BYTES, LINE_BYTES, PIXEL_BYTES, PIXELS_BYTES, RECORD_BYTES, HEAD_BYTES, HALVES } = face
 const { HEAD_NUMBERS, COLOUR_HEAD_NUMBERS, OPEN_NUMBERS, COUNTS, VERSION } = face
 const LONGEST = 65536
 const module = readFileSync(new URL('rinchovek.wasm', import.meta.url))
@@ -89,6 +89,14 @@ const LETTERS = {
     const pixels = new Uint8Array(PIXELS_BYTES)
     rinchovek.bc7DecodeBlock(take(BLOCK_BYTES), pixels)
     give(pixels)
+  },
+  G() {
+    const sign = take(1)[0]
+    if (sign > 1) throw new Ended()
+    const block = take(BLOCK_BYTES)
+    const halves = new Uint16Array(HALVES)
+    rinchovek.bc6hDecodeBlock(block, sign ? 2 ** (block[BLOCK_BYTES - 1] % 32) : 0, halves)
+    halves.forEach((half) => give(Uint8Array.of(half, half >>> 8)))
   },
   U() {
     const record = new Uint8Array(RECORD_BYTES)

@@ -92,6 +92,23 @@ static int decode(void) {
     return 1;
 }
 
+/* Halves have the alignment of a uint16_t, and margins of their own. Any number but 0 is signed: each of its bits in turn. */
+static int decode_bc6h(void) {
+    uint8_t sign;
+    uint16_t halves[MARGIN + RINCHOVEK_HALVES + MARGIN];
+    if (!take(&sign, 1) || sign > 1) return 0;
+    const uint8_t *const block = lend_taken(RINCHOVEK_BLOCK_BYTES);
+    if (block == NULL) return 0;
+    for (int i = 0; i < MARGIN + RINCHOVEK_HALVES + MARGIN; i++) halves[i] = PAINT;
+    rinchovek_bc6h_decode_block(block, sign ? (uint32_t)1 << block[RINCHOVEK_BLOCK_BYTES - 1] % 32 : 0, halves + MARGIN);
+    for (int i = 0; i < MARGIN; i++) torn |= halves[i] != PAINT || halves[MARGIN + RINCHOVEK_HALVES + i] != PAINT;
+    for (int i = 0; i < RINCHOVEK_HALVES; i++) {
+        const uint8_t bytes[2] = {(uint8_t)halves[MARGIN + i], (uint8_t)(halves[MARGIN + i] >> 8)};
+        give(bytes, sizeof bytes);
+    }
+    return 1;
+}
+
 static int unpack(void) {
     const uint8_t *const block = lend_taken(RINCHOVEK_BLOCK_BYTES);
     uint8_t *const record = lend(RINCHOVEK_RECORD_BYTES);
@@ -338,6 +355,7 @@ static int replace_counted(int whole) {
 static int call(uint8_t letter) {
     switch (letter) {
     case 'D': return decode();
+    case 'G': return decode_bc6h();
     case 'U': return unpack();
     case 'P': return pack();
     case 'R': return replace_line();

@@ -1,6 +1,6 @@
 // The test program: calls in on standard input, their answers out on standard output, until the input ends. A letter names
 // the call; docs/REPLAY.md has the bytes of each. A call that C has is made through the function for C, so that what is replayed
-// is what is shipped; the listing goes through its machine. Here only lengths, kinds and colour spaces that end the run are looked at.
+// is what is shipped; the listing goes through its machine. Here only lengths, kinds, signs and colour spaces that end the run are looked at.
 ghost use Prim.Native.Nat.{_+_, _≤_, _<_};
 ghost use lib.ListN.{length};
 use bc7_places::places::PLACES;
@@ -9,6 +9,7 @@ use bits::stream::Read;
 use libc::STDIN_FILENO;
 use libc::STDOUT_FILENO;
 use listing::list_sheet;
+use rinchovek::rinchovek_bc6h_decode_block;
 use rinchovek::rinchovek_bc7_decode_block;
 use rinchovek::rinchovek_bc7_exact_index;
 use rinchovek::rinchovek_bc7_is_opaque;
@@ -111,6 +112,40 @@ fn decode_call() -> bool {
     let mut pixels = [[0u8; 4]; 16];
     rinchovek_bc7_decode_block(&block, &mut pixels);
     let bytes = flat(pixels);
+    io::write_all(STDOUT_FILENO, &bytes)
+}
+
+// Two bytes for each half, the low byte first.
+fn half_byte(half: u16, place: usize) -> u8 {
+    if place == 0 {
+        return (half % 256) as u8;
+    }
+    (half / 256) as u8
+}
+
+fn half_bytes(halves: [[u16; 3]; 16]) -> [u8; 96] {
+    let mut bytes = [0u8; 96];
+    for i in 0..96usize {
+        bytes[i] = half_byte(halves[i / 6][i / 2 % 3], i % 2);
+    }
+    bytes
+}
+
+fn decode_bc6h_call() -> bool {
+    let mut sign = [0u8; 1];
+    if !filled(&mut sign) {
+        return false;
+    }
+    if 1 < sign[0] {
+        return false;
+    }
+    let mut block = [0u8; 16];
+    if !filled(&mut block) {
+        return false;
+    }
+    let mut halves = [[0u16; 3]; 16];
+    rinchovek_bc6h_decode_block(&block, wide(sign[0]), &mut halves);
+    let bytes = half_bytes(halves);
     io::write_all(STDOUT_FILENO, &bytes)
 }
 
@@ -662,6 +697,7 @@ fn reads_call() -> bool {
 fn call(letter: u8) -> bool {
     match letter {
         b'D' => decode_call(),
+        b'G' => decode_bc6h_call(),
         b'U' => unpack_call(),
         b'P' => pack_call(),
         b'R' => replace_call(),

@@ -2,11 +2,13 @@
 // was lent. What a call promises has one name, in specs/Promises. include/rinchovek.h declares these functions and says what a
 // C caller has to know; `rt staticlib rinchovek` writes the archive.
 ghost use mathlib.Core.Path.{_≡_};
+ghost use Rattle.rinchovek_rules.specs.Promises.{DecodesBc6h};
 ghost use Rattle.rinchovek_rules.specs.Promises.{Decodes, Packs, ReadsLine, Replaces, Unpacks, Versions, DecodesRow, ReadsHead, ReplacesIn};
 ghost use Rattle.rinchovek_rules.specs.Promises.{FindsExact, FindsNearest, ReadsPixel, TellsOpaque, WritesHead};
 ghost use Rattle.rinchovek_rules.specs.Promises.{CountsSheet, ReplacesBlockCounted, ReplacesLineCounted, countsOfTen, tenOf};
 ghost use Rattle.rinchovek_rules.specs.Promises.{MovesToRows, MovesToTiles, OpensSheet, ReadsBlock, ShowsRow, StatesColour};
 ghost use Rattle.rinchovek_rules.specs.Promises.{ExportNeeds, ExportsColour, ExportsDds, ImportNeeds, ImportsColour, ImportsDds, ReadsColourHead};
+use bc6h::decode_into;
 use bc7::decode_bc7_block;
 use bc7_places::places::PLACES;
 use bc7_plain::pixel_of;
@@ -48,7 +50,7 @@ use sheet_head::write_head;
 
 // Which version of the calls and their answers this is: 10000 times the major number, 100 times the minor one, and the patch. The
 // header has the same three.
-const VERSION: u32 = 10900;
+const VERSION: u32 = 11000;
 
 #[no_mangle]
 pub extern "C" fn rinchovek_version() -> u32
@@ -63,6 +65,19 @@ pub extern "C" fn rinchovek_bc7_decode_block(block: &[u8; 16], out: &mut [[u8; 4
     ensures { λ _. ⌜ Decodes (now (block .entry)) (now (out .exit)) ⌝ }
 {
     *out = decode_bc7_block(*block);
+}
+
+// The sixteen pixels of a BC6H block, red green blue each, as the bits of half floats. Any number but 0 asks for the signed format: a `bool` from C
+// would ask something of the caller.
+#[no_mangle]
+pub extern "C" fn rinchovek_bc6h_decode_block(
+    block: &[u8; 16],
+    is_signed: u32,
+    halves: &mut [[u16; 3]; 16],
+)
+    ensures { λ _. ⌜ DecodesBc6h (now (block .entry)) «is_signed» (now (halves .exit)) ⌝ }
+{
+    decode_into(block, is_signed != 0, halves);
 }
 
 // A block taken apart into the 66 bytes of its record.

@@ -1,5 +1,6 @@
 pub mod Attested
 pub mod Counting
+pub mod AttestedHalves
 pub mod Importing
 pub mod Opening
 pub mod Theorems

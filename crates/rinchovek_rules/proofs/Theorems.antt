@@ -19,6 +19,7 @@ use Rattle.move_rules.specs.Moving.{moveAfter}
 use Rattle.move_rules.specs.Stating.{stateAfter}
 use Rattle.sheet_rules.specs.SheetRows.{sheetRowOut}
 use Rattle.dds_rules.proofs.Theorems.{refused-export-leaves, refused-numbered-leaves}
+use Rattle.rinchovek_rules.specs.Promises.{DecodesBc6h}
 use Rattle.rinchovek_rules.specs.Promises.{Decodes, Determined, Gives, Packs, ReadsLine, Replaces, Unpacks, Versions, Writes, DecodesRow}
 use Rattle.rinchovek_rules.specs.Promises.{ReadsHead, ReadsPixel, FindsExact, FindsNearest, ReplacesIn, TellsOpaque, WritesHead}
 use Rattle.rinchovek_rules.specs.Promises.{CountsSheet, ReplacesBlockCounted, ReplacesLineCounted}
@@ -33,6 +34,13 @@ determined-version a b p q = p ∙ sym q
 
 pub determined-bc7-decode-block : (block : List ℕ) (x y : List (List ℕ)) → Decodes block x → Decodes block y → x ≡ y
 determined-bc7-decode-block block x y p q = p ∙ sym q
+
+pub determined-bc6h-decode-block : (block : List ℕ) (sign : ℕ) (x y : List (List ℕ)) → DecodesBc6h block sign x → DecodesBc6h block sign y → x ≡ y
+determined-bc6h-decode-block block sign x y p q = p ∙ sym q
+
+-- every number but 0 is the same sign
+pub any-sign-but-0 : (block : List ℕ) (s t : ℕ) (x : List (List ℕ)) → s ≢ 0 → t ≢ 0 → DecodesBc6h block s x → DecodesBc6h block t x
+any-sign-but-0 block s t x hs ht p = rw (ne-eqb t 0 ht) (rw (ne-eqb s 0 hs) at p)
 
 pub determined-bc7-unpack : (block before : List ℕ) → Determined (Unpacks block before)
 determined-bc7-unpack block before = one-given _ _

@@ -3,11 +3,13 @@
 -- Assumes nothing.
 use Prim.Native.Nat.{ℕ}
 use mathlib.Core.Path.{_≡_}
+use mathlib.Core.Bool.{not}
 use mathlib.Core.List.{List, [], _∷_}
 use lib.Dec.{eqb}
 use lib.ListN.{getD, length}
 use Rattle.laws.specs.Tables.{pick}
 use Rattle.bc7_format.specs.Lines.{pixels}
+use Rattle.bc6h_format.specs.Halves.{halves}
 use Rattle.head_rules.specs.declared.ColourSpace.the-variants.{Unspecified}
 use Rattle.head_rules.specs.declared.Form.the-variants.{Rows, Tiles}
 use Rattle.head_rules.specs.declared.Head.{Head}
@@ -44,12 +46,16 @@ pub record Gives {A : Type 0} (refusal : ℕ) (left : A) (answer : ℕ) (after :
 abbrev pub Writes : {A : Type 0} → ℕ → A → A → ℕ → A → Type 0
 Writes refusal value before = Gives refusal (pick (eqb refusal 0) value before)
 
--- version 1.9.0: major, minor and patch, with two digits for each of the last two
+-- version 1.10.0: major, minor and patch, with two digits for each of the last two
 abbrev pub Versions : ℕ → Type 0
-Versions answer = answer ≡ 10900
+Versions answer = answer ≡ 11000
 
 abbrev pub Decodes : List ℕ → List (List ℕ) → Type 0
 Decodes block after = after ≡ pixels block
+
+-- a BC6H block's halves, signed under any number but 0
+abbrev pub DecodesBc6h : List ℕ → ℕ → List (List ℕ) → Type 0
+DecodesBc6h block sign after = after ≡ halves (not (eqb sign 0)) block
 
 abbrev pub Unpacks : List ℕ → List ℕ → ℕ → List ℕ → Type 0
 Unpacks block before = Writes (takenApart block .refusal) (recordBytes (takenApart block .«record»)) before

@@ -1,0 +1,4 @@
+pub mod Steps
+pub mod Pictures
+pub mod Blocks
+pub mod Theorems

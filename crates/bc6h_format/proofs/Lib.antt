@@ -1,0 +1,12 @@
+pub mod Attested
+pub mod Rows
+pub mod Reading
+pub mod Raising
+pub mod Reserved
+pub mod Wrapping
+pub mod Bounds
+pub mod Signs
+pub mod Claims
+pub mod Examples
+pub mod Sampled
+pub mod Theorems
