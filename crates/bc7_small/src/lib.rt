@@ -6,6 +6,7 @@ use bc7_unpartitioned::mode_4;
 use bc7_unpartitioned::mode_5;
 use bc7_unpartitioned::mode_6;
 use bits::stream::BitStream;
+use refusals::PROFILE_BLOCK;
 
 // The sixteen pixels of a block that the profile admits, and 0; of any other sixteen times 0 0 0 0, and 20. They are written here and not
 // answered, for then a call takes fewer instructions than one of the main decoder.
@@ -29,7 +30,7 @@ pub fn decode_small(block: [u8; 16], out: &mut [[u8; 4]; 16]) -> u8
         }
         _ => {
             *out = [[0u8; 4]; 16];
-            return 20;
+            return PROFILE_BLOCK;
         }
     }
 }

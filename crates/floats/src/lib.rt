@@ -5,6 +5,8 @@ ghost use Rattle.float_rules.specs.Promises.{FindsChannel, FindsChannelOf, Floa
 ghost use Rattle.floats.specs.Candidates.{candidateOf};
 use float_rules::ChannelFound;
 use float_rules::FloatPixel;
+use refusals::NOT_A_CHANNEL;
+use refusals::WRONG_OUTPUT_LENGTH;
 
 // One division, rounded once. A product with 1 / 255 would be rounded twice, and is another float for many channels.
 pub fn channel_float(channel: u8) -> f32
@@ -44,7 +46,7 @@ fn no_channel() -> ChannelFound
     ensures { λ r. ⌜ r ≡ noChannel ⌝ }
 {
     ChannelFound {
-        refusal: 23,
+        refusal: NOT_A_CHANNEL,
         channel: 0,
     }
 }
@@ -79,7 +81,7 @@ pub fn row_floats(pixels: &[u8], floats: &mut [f32]) -> u8
 {
     let count = pixels.len();
     if count != floats.len() {
-        return 11;
+        return WRONG_OUTPUT_LENGTH;
     }
     for i in 0..count {
         floats[i] = channel_float(pixels[i]);

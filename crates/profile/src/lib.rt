@@ -10,6 +10,8 @@ use bc7_modes::mode_of;
 use block_bytes::load;
 use head_rules::Head;
 use profile_rules::Checked;
+use refusals::PROFILE_BLOCK;
+use refusals::PROFILE_SIDES;
 use sheet_head::geometry::blocks_across;
 use sheet_head::geometry::blocks_of;
 use sheet_head::geometry::number_at;
@@ -33,10 +35,10 @@ pub fn sides_refusal(head: Head) -> u8
     ensures { λ r. ⌜ r ≡ sidesRefusal head ⌝ }
 {
     if head.width % 4 != 0 {
-        return 17;
+        return PROFILE_SIDES;
     }
     if head.height % 4 != 0 {
-        return 17;
+        return PROFILE_SIDES;
     }
     0
 }
@@ -107,7 +109,7 @@ pub fn check_profile(sheet: &[u8]) -> Checked
     let first = first_breaking(head, sheet);
     if first < blocks_of(head) {
         return Checked {
-            refusal: 20,
+            refusal: PROFILE_BLOCK,
             block: first,
         };
     }
