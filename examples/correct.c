@@ -97,6 +97,7 @@ static void show_opened(const uint8_t *bytes, size_t length) {
 static void show_counts(const uint32_t counts[RINCHOVEK_COUNTS]) {
     printf("counts");
     for (int i = 0; i < RINCHOVEK_COUNTS; i++) printf(" %u", counts[i]);
+    printf("\n");
 }
 
 static void show_floats(const char *what, const float *floats, uint32_t count) {

@@ -350,6 +350,7 @@ static int replace_counted(int whole) {
                      : rinchovek_sheet_replace_line_counted(sheet, length, counts, block, line, given));
     give(sheet, length);
     give_counts(counts);
+    return 1;
 }
 
 static float float_of(const uint8_t *bytes) {
