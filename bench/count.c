@@ -451,6 +451,9 @@ typedef u32 state_colour(u8 *all, u64 length, u32 colour_space);
 typedef u32 count_sheet(const u8 *sheet, u64 length, u32 *counts);
 typedef u32 line_counted(u8 *sheet, u64 length, u32 *counts, u32 block, u32 line, const u8 *replacement);
 typedef u32 block_counted(u8 *sheet, u64 length, u32 *counts, u32 block, const u8 *bytes);
+typedef void pixel_floats(const u8 *pixel, float *floats);
+typedef u32 float_channel(u32 bits, u32 *channel);
+typedef u32 row_floats(const u8 *pixels, u64 length, float *floats, u64 count);
 
 two_buffers rinchovek_bc7_unpack, rinchovek_bc7_pack;
 read_one rinchovek_bc7_read_line;
@@ -472,6 +475,9 @@ __attribute__((weak)) read_head rinchovek_sheet_open;
 __attribute__((weak)) count_sheet rinchovek_sheet_count;
 __attribute__((weak)) line_counted rinchovek_sheet_replace_line_counted;
 __attribute__((weak)) block_counted rinchovek_sheet_replace_block_counted;
+__attribute__((weak)) pixel_floats rinchovek_pixel_floats;
+__attribute__((weak)) float_channel rinchovek_float_channel;
+__attribute__((weak)) row_floats rinchovek_row_floats;
 replace_in rinchovek_sheet_replace_line;
 read_head rinchovek_sheet_read_head;
 write_head rinchovek_sheet_write_head;
@@ -508,6 +514,9 @@ static read_head *volatile open_call;
 static count_sheet *volatile count_call;
 static line_counted *volatile line_counted_call;
 static block_counted *volatile block_counted_call;
+static pixel_floats *volatile pixel_floats_call;
+static float_channel *volatile float_channel_call;
+static row_floats *volatile row_floats_call;
 
 static u32 no_two_buffers(const u8 *from, u8 *to) {
     __asm__ volatile("" ::"r"(from), "r"(to) : "memory");
@@ -555,6 +564,18 @@ static u32 no_write_head(u32 width, u32 height, u8 *bytes, u32 *count) {
 }
 
 static u32 no_version(void) { return 0; }
+
+static void no_pixel_floats(const u8 *pixel, float *to) { __asm__ volatile("" ::"r"(pixel), "r"(to) : "memory"); }
+
+static u32 no_float_channel(u32 bits, u32 *channel) {
+    __asm__ volatile("" ::"r"(bits), "r"(channel) : "memory");
+    return 0;
+}
+
+static u32 no_row_floats(const u8 *pixels, u64 length, float *to, u64 count) {
+    __asm__ volatile("" ::"r"(pixels), "r"(length), "r"(to), "r"(count) : "memory");
+    return 0;
+}
 
 static u32 no_convert(const u8 *from, u64 length, u8 *to, u64 room) {
     __asm__ volatile("" ::"r"(from), "r"(length), "r"(to), "r"(room) : "memory");
@@ -696,7 +717,20 @@ static u32 block_in_rows(u32 i) { return block_counted_call(in_rows, rows_length
 static u32 block_in_tiles(u32 i) { return block_counted_call(in_tiles, tiles_length, counts, i, sheet_blocks + 16 * ((i + 1) % COUNTED)); }
 static u32 replace_in_tiles(u32 i) { return replace_in_call(in_tiles, tiles_length, i, line_numbers[i], lines + LINE * i); }
 
+/* pixels as floats: any bytes are channels; the patterns are asked back for */
+enum { LONGEST_ROW = 1024 };
+static float floats[LONGEST_ROW + 1];
+static u32 patterns[COUNTED], found_channel;
+static u64 row_length;
+static u32 float_a_pixel(u32 i) { return pixel_floats_call(sheet_blocks + 16 * i, floats), 0; }
+static u32 find_a_channel(u32 i) { return float_channel_call(patterns[i], &found_channel); }
+static u32 float_a_row(u32 i) { return (void)i, row_floats_call(sheet_blocks, row_length, floats, row_length); }
+static u32 float_no_row(u32 i) { return (void)i, row_floats_call(sheet_blocks, row_length, floats, row_length + 1); }
+
 static void point_at_calls(int at_none) {
+    pixel_floats_call = at_none ? no_pixel_floats : rinchovek_pixel_floats;
+    float_channel_call = at_none ? no_float_channel : rinchovek_float_channel;
+    row_floats_call = at_none ? no_row_floats : rinchovek_row_floats;
     show_row_call = at_none ? no_show_row : rinchovek_sheet_show_row;
     block_of_call = at_none ? no_block_of : rinchovek_sheet_block;
     state_colour_call = at_none ? no_state_colour : rinchovek_sheet_state_colour;
@@ -1084,6 +1118,36 @@ static void count_forms(void) {
 
 #endif
 
+static void say_float_row(const char *name, u64 length) {
+    row_length = length;
+    const u64 cost = cost_of_calls(float_a_row, 1, 0);
+    say_left(name, 58);
+    say_number(cost, 8);
+    say_ratio(cost, length, 9);
+    say("\n");
+}
+
+static void count_floats(void) {
+    say_call("rinchovek_pixel_floats", float_a_pixel, 0);
+    for (u32 i = 0; i < COUNTED; i++) {
+        rinchovek_pixel_floats(sheet_blocks + 16 * i, floats);
+        memcpy(patterns + i, floats, sizeof *floats);
+    }
+    say_call("rinchovek_float_channel, of channels", find_a_channel, 0);
+    for (u32 i = 0; i < COUNTED; i++) patterns[i]++;
+    say_call("rinchovek_float_channel, refused with 23: beside a channel's", find_a_channel, 23);
+    for (u32 i = 0; i < COUNTED; i++) patterns[i] = 0x7FC00000 + i;
+    say_call("rinchovek_float_channel, refused with 23: a NaN", find_a_channel, 23);
+    row_length = 64;
+    say_call("rinchovek_row_floats, refused with 11", float_no_row, 11);
+    say("\nInstructions of a row as floats, and a channel\n");
+    say_float_row("3 bytes", 3);
+    say_float_row("4 bytes", 4);
+    say_float_row("64 bytes", 64);
+    say_float_row("67 bytes", 67);
+    say_float_row("1,024 bytes", LONGEST_ROW);
+}
+
 static void count_writing(void) {
     make_sheet(MIXED);
     make_lines();
@@ -1138,6 +1202,9 @@ static void count_writing(void) {
         make_opaque();
         say_call("rinchovek_bc7_is_opaque, mode 6, opaque", tell_a_block, 0);
     }
+
+    make_sheet(MIXED);
+    if (rinchovek_pixel_floats) count_floats();
 
     say("\nThe same by mode\nmode                        ");
     for (int mode = 0; mode < 8; mode++) say_right(column_names[mode], 7);

@@ -12,6 +12,7 @@
 #       has_forms  yes where it has rinchovek_sheet_to_tiles, else empty
 #       has_stating  yes where it has rinchovek_sheet_state_colour, else empty
 #       has_halves  yes where it has rinchovek_bc6h_decode_block and the Rust that it is counted beside stands below PUBLISHED, else empty
+#       has_floats  yes where it has rinchovek_row_floats, else empty
 #       kit        the folder of the kit's clang and linker for this machine
 #       work       a fresh folder, removed at exit, with the published sources and reference.rs in it
 
@@ -48,6 +49,8 @@ prepare() {
     if grep -qaw rinchovek_sheet_to_tiles "$archive"; then has_forms=yes; fi
     has_stating=
     if grep -qaw rinchovek_sheet_state_colour "$archive"; then has_stating=yes; fi
+    has_floats=
+    if grep -qaw rinchovek_row_floats "$archive"; then has_floats=yes; fi
 
     has_halves=
     if grep -qaw rinchovek_bc6h_decode_block "$archive"; then has_halves=yes; fi

@@ -119,6 +119,12 @@ mod writing {
         fn rinchovek_bc6h_decode_block(block: &Block, is_signed: u32, halves: &mut [[u16; 3]; 16]);
         #[cfg(pixels)]
         fn rinchovek_bc7_pixel(block: &Block, pixel: u32, rgba: &mut [u8; 4]) -> u32;
+        #[cfg(floats)]
+        fn rinchovek_pixel_floats(pixel: *const u8, floats: &mut [f32; 4]);
+        #[cfg(floats)]
+        fn rinchovek_float_channel(bits: u32, channel: &mut u32) -> u32;
+        #[cfg(floats)]
+        fn rinchovek_row_floats(pixels: *const u8, length: usize, floats: *mut f32, count: usize) -> u32;
         fn rinchovek_sheet_replace_line(sheet: *mut u8, length: usize, block: u32, line: u32, replacement: &Line) -> u32;
         #[cfg(files)]
         fn rinchovek_dds_import(dds: *const u8, dds_length: usize, sheet: *mut u8, sheet_length: usize) -> u32;
@@ -288,6 +294,20 @@ mod writing {
         nanoseconds("rinchovek_bc7_pixel", SMALL, || {
             every(&mut |i| unsafe { rinchovek_bc7_pixel(&blocks[i], i as u32 % 16, &mut [0; 4]) })
         });
+        #[cfg(floats)]
+        {
+            let bytes = blocks.as_flattened();
+            let (mut row, mut four) = (vec![0.0; bytes.len()], [0.0; 4]);
+            nanoseconds("rinchovek_pixel_floats", SMALL, || {
+                every(&mut |i| unsafe { rinchovek_pixel_floats(blocks[i].as_ptr(), black_box(&mut four)); 0 })
+            });
+            nanoseconds("rinchovek_row_floats, a channel", bytes.len(), || unsafe {
+                rinchovek_row_floats(bytes.as_ptr(), bytes.len(), row.as_mut_ptr(), row.len())
+            });
+            nanoseconds("rinchovek_float_channel", SMALL, || {
+                every(&mut |i| unsafe { rinchovek_float_channel(row[i].to_bits(), black_box(&mut 0)) })
+            });
+        }
         #[cfg(files)]
         time_files(&sheet);
         #[cfg(colours)]

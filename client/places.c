@@ -36,27 +36,37 @@ struct place place_of(const struct sheet *sheet, uint32_t block, uint32_t pixel)
 
 /* ---- the commands */
 
-static void print_counts(const struct sheet *sheet) {
-    uint32_t counts[RINCHOVEK_COUNTS];
-    check_sheet(sheet->name, sheet->file, rinchovek_sheet_count(sheet->file.at, sheet->file.length, counts));
-    for (uint32_t mode = 0; mode < MODES; mode++) printf("mode %u: %u\n", mode, counts[RINCHOVEK_COUNT_MODE_0 + mode]);
-    printf("reserved: %u\nopaque: %u\n", counts[RINCHOVEK_COUNT_RESERVED], counts[RINCHOVEK_COUNT_OPAQUE]);
+struct counts {
+    uint32_t of[RINCHOVEK_COUNTS]; /* by enum rinchovek_count */
+};
+
+static struct counts count(const struct sheet *sheet) {
+    struct counts counts;
+    check_sheet(sheet->name, sheet->file, rinchovek_sheet_count(sheet->file.at, sheet->file.length, counts.of));
+    return counts;
+}
+
+static void print_counts(struct counts counts) {
+    for (uint32_t mode = 0; mode < MODES; mode++) printf("mode %u: %u\n", mode, counts.of[RINCHOVEK_COUNT_MODE_0 + mode]);
+    printf("reserved: %u\nopaque: %u\n", counts.of[RINCHOVEK_COUNT_RESERVED], counts.of[RINCHOVEK_COUNT_OPAQUE]);
 }
 
 int show_counts(struct given given) {
     const struct sheet sheet = read_sheet(given.file[0]);
-    print_counts(&sheet);
+    print_counts(count(&sheet));
     release(sheet.file);
     return DONE;
 }
 
+/* A sheet that isn't whole is refused before anything is printed. */
 int show_info(struct given given) {
     const struct sheet sheet = read_sheet(given.file[0]);
     const uint32_t *numbers = sheet.numbers;
+    const struct counts counts = count(&sheet);
     printf("size %u %u\nform %u\ncolour space %s\nblocks %u, %u by %u\n", numbers[RINCHOVEK_OPEN_WIDTH], numbers[RINCHOVEK_OPEN_HEIGHT],
            numbers[RINCHOVEK_OPEN_FORM], colour_spaces[numbers[RINCHOVEK_OPEN_COLOUR_SPACE]], numbers[RINCHOVEK_OPEN_BLOCKS],
            numbers[RINCHOVEK_OPEN_COLUMNS], numbers[RINCHOVEK_OPEN_ROWS]);
-    print_counts(&sheet);
+    print_counts(counts);
     release(sheet.file);
     return DONE;
 }

@@ -523,3 +523,29 @@ def some_export(dice, largest=20, form=model.ROWS):
     """The arguments of exporting a sheet."""
     sheet = some_listed(dice, largest, form)
     return sheet, some_output(dice, model.export_length(sheet)[1] or dice.below(200))
+
+
+def some_bits(dice):
+    """Bits of a float: a channel's, beside one, one of its bits turned, or its float made by a product with 1 / 255 rounded twice; NaNs and
+    infinities; what lies below 2^-126; any."""
+    bits = model.float_bits(dice.below(256))
+    kind = dice.below(8)
+    if kind < 2:
+        return bits
+    if kind == 2:
+        return (bits + dice.one_of((-1, 1, -2, 2, dice.within(-300, 300)))) % (1 << 32)
+    if kind == 3:
+        return bits ^ 1 << dice.below(32)
+    if kind == 4:
+        return dice.below(2) << 31 | 255 << 23 | dice.one_of((0, 1, 1 << 22, dice.number(23)))
+    if kind == 5:
+        return dice.below(2) << 31 | dice.one_of((0, 1, dice.number(23)))
+    if kind == 6:
+        return dice.within(119, 127) << 23 | dice.number(23)
+    return dice.number(32)
+
+
+def some_float_row(dice, largest=40):
+    """Bytes, and what stands in the floats before: any bits, NaNs too; now and then one too few or too many."""
+    pixels = dice.bytes(dice.below(largest + 1))
+    return pixels, dice.bytes(4 * min(near(dice, len(pixels)), protocol.LARGEST_LENGTH))

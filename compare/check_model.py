@@ -1,6 +1,7 @@
 """Holds the model itself against document 01's list, against document 002's tables, and against what must be true of
 any right reading: round trips, lines that keep to themselves, the last call of a line deciding, a pixel that shows the
 colour whose distance was measured, marks that go by what a picture shows, and sheets that show the same in both forms."""
+import struct
 from collections import Counter
 
 import chart
@@ -216,3 +217,15 @@ def check_moves(seed, count):
             assert model.state_colour(colour_space, tiles) == (0, stated) and model.state_colour(0, stated) == (0, tiles)
             assert model.to_rows(stated, bytes(len(rows)))[0] == 16 and model.to_rows(stated, b"")[0] == 11
     return count
+
+
+def check_floats():
+    """Python divides in 53 digits, and rounding its quotient of two small numbers to 24 is the one rounding: so its own packing says the same."""
+    for channel in range(256):
+        bits = model.float_bits(channel)
+        assert struct.pack("<I", bits) == struct.pack("<f", channel / 255), channel
+        assert model.channel_of_bits(bits) == (0, channel)
+        assert channel == 0 or bits > model.float_bits(channel - 1)
+    for bits, answer in ((0, (0, 0)), (0x3F800000, (0, 255)), (0x3E4CCCCD, (0, 51)), (0x3E4CCCCC, (23, 0)), (1 << 31, (23, 0)), (0x7FC00000, (23, 0))):
+        assert model.channel_of_bits(bits) == answer, hex(bits)
+    return 256 + 6

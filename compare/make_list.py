@@ -40,7 +40,9 @@ from cases import (
     sheet_of,
     shown_length,
     some_block,
+    some_bits,
     some_dds,
+    some_float_row,
     some_head,
     some_block_number,
     some_counted_block,
@@ -1111,6 +1113,44 @@ def decoding_halves(dice, shared):
     return [("G", sign, block) for block in blocks for sign in (0, 1)]
 
 
+def floats_of_pixels(dice, shared):
+    """Every channel in each of the four places, with three others that are none like it."""
+    del shared
+    calls = [("F", bytes((channel, 255 - channel, (channel + 85) % 256, channel ^ 1))) for channel in range(256)]
+    return calls + [("F", dice.bytes(4)) for _ in range(64)]
+
+
+def channels_of_floats(dice, shared):
+    """Every channel's bits, both beside them, and both with the sign set; 0.0 and -0.0; the least above zero; the powers of two; 0.5, 255.0;
+    the infinities and NaNs of either kind and sign; each bit alone; then what chance adds."""
+    del shared
+    calls = []
+    for channel in range(256):
+        bits = model.float_bits(channel)
+        calls += [("Y", bits), ("Y", bits - 1 if bits else 1 << 31), ("Y", bits + 1), ("Y", bits | 1 << 31)]
+    calls += [("Y", exponent << 23) for exponent in range(256)]
+    for sign in (0, 1 << 31):
+        for digits in (0, 1, 1 << 22, (1 << 22) - 1, (1 << 22) + 1, (1 << 23) - 1):
+            calls += [("Y", sign | 255 << 23 | digits), ("Y", sign | digits)]
+    calls += [("Y", 0x437F0000), ("Y", 0xFFFFFFFF)] + [("Y", 1 << bit) for bit in range(32)]
+    return calls + [("Y", some_bits(dice)) for _ in range(500)]
+
+
+def floats_of_rows(dice, shared):
+    """Every length to 70, so that each remainder of a vector is there, with as many floats, one less and one more, over NaNs and over zeros; none
+    at all; all channels; the longest; then what chance adds."""
+    del shared
+    calls = [("f", b"", b""), ("f", b"", bytes(4)), ("f", bytes(4), b""), ("f", bytes(4), bytes(4))]
+    for length in range(1, 71):
+        pixels = dice.bytes(length)
+        calls += [("f", pixels, before * count) for before, count in ((b"\xff" * 4, length), (bytes(4), length - 1), (b"\1\0\xa0\x7f", length + 1))]
+    every = bytes(range(256))
+    calls += [("f", every, dice.bytes(4 * count)) for count in (64, 255, 256, 257, 1024)]
+    calls += [("f", bytes(protocol.LARGEST_LENGTH), bytes(4)), ("f", bytes(1), b"\xa5" * 4 * 4096)]
+    calls += [("f", every * 16, bytes(4 * 4096))]
+    return calls + [("f", *some_float_row(dice)) for _ in range(100)]
+
+
 # Who makes the calls of a letter, in the order of the list. What a request adds for letters that are there stands behind, so that the
 # older calls keep their places and their bytes.
 MAKERS = (
@@ -1153,6 +1193,9 @@ MAKERS = (
     ("L", changing_counted("L")),
     ("K", changing_counted("K")),
     ("G", decoding_halves),
+    ("F", floats_of_pixels),
+    ("Y", channels_of_floats),
+    ("f", floats_of_rows),
 )
 
 

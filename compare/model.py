@@ -14,6 +14,7 @@ Values are plain integers and tuples:
 """
 import struct
 from collections import namedtuple
+from fractions import Fraction
 from functools import lru_cache
 from itertools import islice
 
@@ -754,6 +755,39 @@ def export_colour(colour_space, sheet, out):
         numbers = DDS_STRUCT.unpack_from(file)
         file = DDS_STRUCT.pack(*numbers[:-5], BC7_SRGB, *numbers[-4:]) + file[DDS_HEADER:]
     return refusal, file
+
+
+# ---------------------------------------------------------------------------------------------------------------------
+# M-111: pixels as floats. An f32 that isn't below 2^-126 is 24 digits, the first of them a one that isn't stored, over a power of two: its bits are
+# 150 less the power, in eight bits, then 23 digits. The quotient by 255 is rounded once, to the nearest, at a tie to the even one. By whole
+# numbers and fractions: no float of Python's, or of the machine's, has a part in it.
+@lru_cache(256)
+def float_bits(channel):
+    """The bits of the channel's float."""
+    if channel == 0:
+        return 0
+    quotient, power = Fraction(channel, 255), 0
+    while quotient * 2**power < 1 << 23:
+        power += 1
+    digits = round(quotient * 2**power)
+    if digits == 1 << 24:
+        digits, power = 1 << 23, power - 1
+    return 150 - power << 23 | digits - (1 << 23)
+
+
+def pixel_floats(pixel):
+    return b"".join(float_bits(channel).to_bytes(4, "little") for channel in pixel)
+
+
+def channel_of_bits(bits):
+    """refusal, the channel whose float has these bits"""
+    found = [channel for channel in range(256) if float_bits(channel) == bits]
+    return (0, found[0]) if found else (23, 0)
+
+
+def row_floats(pixels, out):
+    """refusal, the output afterwards: four bytes for each float"""
+    return (0, pixel_floats(pixels)) if len(out) == 4 * len(pixels) else (11, bytes(out))
 
 
 # ---------------------------------------------------------------------------------------------------------------------

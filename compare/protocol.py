@@ -34,10 +34,13 @@ A call is (letter, arguments..):
   L sheet counts block line new      replace a line, with counts; ten numbers
   K sheet counts block new           replace a whole block, with counts; new is 16 bytes
   G sign block       decode a BC6H block; the sign is 0, unsigned, or 1
+  F pixel            a pixel as floats; 4 bytes
+  Y bits             the channel of a float
+  f pixels out       a row as floats; out is 4 bytes for each
 """
 import model
 
-LETTERS = "DUPRHWOSlrNEA" + "IXds" + "Q" + "B" + "hix" + "TZVob" + "c" + "CLK" + "G"
+LETTERS = "DUPRHWOSlrNEA" + "IXds" + "Q" + "B" + "hix" + "TZVob" + "c" + "CLK" + "G" + "FYf"
 KINDS = ("whole", "two", "three", "vector")
 RECORD, REPLACEMENT, READ = 66, 26, 11
 LARGEST_LENGTH = 65536  # a longer slice ends the run
@@ -106,10 +109,16 @@ def call_bytes(call):
     elif letter == "c":
         assert len(given[1]) <= LARGEST_LENGTH
         body = number(given[0]) + number(len(given[1])) + given[1]
+    elif letter == "Y":
+        body = number(given[0])
+    elif letter == "f":
+        data, out = given
+        assert len(data) <= LARGEST_LENGTH and len(out) % 4 == 0 and len(out) // 4 <= LARGEST_LENGTH
+        body = number(len(data)) + number(len(out) // 4) + data + out
     elif letter in "ldsobC":
         assert len(given[0]) <= LARGEST_LENGTH
         body = number(len(given[0])) + given[0] + b"".join(map(number, given[1:]))
-    else:  # D, U, P
+    else:  # D, U, P, F
         body = bytes(given[0])
     return letter.encode() + body
 
@@ -127,6 +136,8 @@ def model_answer(call):
         return bytes([refusal]) + record_bytes(record)
     if letter == "A":
         return bytes([model.is_opaque(*given)])
+    if letter == "F":
+        return model.pixel_floats(given[0])
     if letter == "B":
         return b"".join(bytes([r]) + value.to_bytes(8, "little") + bytes([first, left]) for r, value, first, left in model.reads(*given))
     if letter == "l":
@@ -177,6 +188,11 @@ def model_answer(call):
         rest = head_bytes(head) + out
     elif letter == "x":
         refusal, rest = model.export_colour(*given)
+    elif letter == "Y":
+        refusal, channel = model.channel_of_bits(given[0])
+        rest = bytes([channel])
+    elif letter == "f":
+        refusal, rest = model.row_floats(*given)
     elif letter in "ds":
         refusal, length = (model.import_length if letter == "d" else model.export_length)(*given)
         rest = number(length)
@@ -188,7 +204,7 @@ def model_answer(call):
 
 def refusal_in(letter, reply):
     """The refusal number that an answer gives: 0 where there is none. A listing's stands in its last line."""
-    if letter in "DAG":
+    if letter in "DAGF":
         return 0
     if letter == "B":  # of any of its reads
         return max(reply[::READ], default=0)

@@ -268,6 +268,24 @@ static void try_counts(void) {
     expect("a line", rinchovek_sheet_replace_line_counted(sheet, sizeof sheet, counts, block, line, held), RINCHOVEK_ACCEPTED);
 }
 
+/* A pixel's floats by their bits: how many are written, and each channel's in its place. 0.2, 1.0, 0.0, 0.6. */
+static void try_floats(void) {
+    static const uint8_t pixel[RINCHOVEK_PIXEL_BYTES] = {51, 255, 0, 153};
+    float ones[16], twos[16];
+    uint32_t count = 0, channel = 0;
+    for (int i = 0; i < 16; i++) ones[i] = 1.0f, twos[i] = 2.0f;
+    rinchovek_pixel_floats(pixel, ones);
+    rinchovek_pixel_floats(pixel, twos);
+    for (int i = 0; i < 16; i++)
+        if (rinchovek_float_bits(ones[i]) == rinchovek_float_bits(twos[i])) count++;
+    expect("a pixel's floats", count, RINCHOVEK_PIXEL_FLOATS);
+    expect("red as a float", rinchovek_float_bits(ones[RINCHOVEK_RED]), 0x3E4CCCCD);
+    expect("green as a float", rinchovek_float_bits(ones[RINCHOVEK_GREEN]), 0x3F800000);
+    expect("blue as a float", rinchovek_float_bits(ones[RINCHOVEK_BLUE]), 0);
+    expect("alpha as a float", rinchovek_float_bits(ones[RINCHOVEK_ALPHA]), 0x3F19999A);
+    expect("23", rinchovek_float_channel(0x80000000, &channel), RINCHOVEK_NOT_A_CHANNEL);
+}
+
 /* Each refusal by a call that is refused for this alone. */
 static void try_refusals(void) {
     static const uint8_t reserved[16], mode1[16] = {0x46}, half[2] = {0x01, 0x80}, form9[3] = {9, 4, 4}, no_width[3] = {1, 0, 4};
@@ -318,6 +336,7 @@ int main(void) {
     try_forms();
     try_rows();
     try_counts();
+    try_floats();
     try_refusals();
     return wrong;
 }

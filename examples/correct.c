@@ -1,7 +1,7 @@
 /* Every call of include/rinchovek.h, from C: a row of a small sheet is decoded, one of its blocks is corrected, and the row is
  * decoded again; the other way round, which index gives a red; the same correction on the block alone; what happens to calls that
  * are refused; records and heads; which blocks are opaque; single pixels; a block of a backdrop in both signs; the sheet as a DDS file and
- * back, in sRGB too; a sheet moved to tiles and back. */
+ * back, in sRGB too; a sheet moved to tiles and back, and counted; pixels as floats and back. */
 #include "rinchovek.h"
 
 int printf(const char *format, ...);
@@ -97,6 +97,21 @@ static void show_opened(const uint8_t *bytes, size_t length) {
 static void show_counts(const uint32_t counts[RINCHOVEK_COUNTS]) {
     printf("counts");
     for (int i = 0; i < RINCHOVEK_COUNTS; i++) printf(" %u", counts[i]);
+    printf("\n");
+}
+
+static void show_floats(const char *what, const float *floats, uint32_t count) {
+    printf("%s", what);
+    for (uint32_t i = 0; i < count; i++) printf(" %08X", rinchovek_float_bits(floats[i]));
+    printf("\n");
+}
+
+/* Which channel a float is. */
+static void show_channel(const char *what, float value) {
+    uint32_t channel = 0;
+    const uint32_t refusal = rinchovek_channel_of(value, &channel);
+    printf("%s: %u, %s", what, refusal, rinchovek_refusal_text(refusal));
+    if (refusal == RINCHOVEK_ACCEPTED) printf(", channel %u", channel);
     printf("\n");
 }
 
@@ -247,10 +262,25 @@ int main(void) {
     counts[RINCHOVEK_COUNT_MODE_0 + 6]++;
     show_refusal("one too many", rinchovek_sheet_replace_line_counted(in_tiles, sizeof in_tiles, counts, block, line, held));
 
+    /* Two pixels as floats, by their bits: one alone, and both as a row. -0.0 and 0.5 are no channel's; by its bits neither is a NaN. */
+    static const uint8_t two[2 * RINCHOVEK_PIXEL_BYTES] = {135, 0, 51, 255, 254, 1, 2, 3};
+    float floats[2 * RINCHOVEK_PIXEL_FLOATS] = {0};
+    rinchovek_pixel_floats(two, floats);
+    show_floats("floats", floats, RINCHOVEK_PIXEL_FLOATS);
+    show_refusal("room for 7", rinchovek_row_floats(two, sizeof two, floats, 7));
+    show_refusal("room for 8", rinchovek_row_floats(two, sizeof two, floats, 8));
+    show_floats("row", floats, 8);
+    show_channel("0.2", 0.2f);
+    show_channel("-0.0", -0.0f);
+    show_channel("0.5", 0.5f);
+    uint32_t channel = 0;
+    show_refusal("bits 7FC00000", rinchovek_float_channel(0x7FC00000, &channel));
+
     for (uint32_t number = RINCHOVEK_RESERVED_BLOCK; number <= RINCHOVEK_COLOUR_SPACE_STATED; number++)
         printf("%u: %s\n", number, rinchovek_refusal_text(number));
     printf("%u: %s\n", RINCHOVEK_BAD_COLOUR_SPACE, rinchovek_refusal_text(RINCHOVEK_BAD_COLOUR_SPACE));
     printf("%u: %s\n", RINCHOVEK_FALSE_COUNTS, rinchovek_refusal_text(RINCHOVEK_FALSE_COUNTS));
     printf("%u: %s\n", RINCHOVEK_NO_SUCH_PIXEL, rinchovek_refusal_text(RINCHOVEK_NO_SUCH_PIXEL));
+    printf("%u: %s\n", RINCHOVEK_NOT_A_CHANNEL, rinchovek_refusal_text(RINCHOVEK_NOT_A_CHANNEL));
     return 0;
 }

@@ -16,6 +16,7 @@ using Pixel = std::array<uint8_t, RINCHOVEK_PIXEL_BYTES>;
 using Pixels = std::array<Pixel, RINCHOVEK_BLOCK_PIXELS>;
 using Halves = std::array<std::array<uint16_t, 3>, RINCHOVEK_BLOCK_PIXELS>;
 static_assert(sizeof(Halves) == sizeof(uint16_t) * RINCHOVEK_HALVES, "three halves a pixel");
+using FloatPixel = std::array<float, RINCHOVEK_PIXEL_FLOATS>;
 
 // In C all are uint32_t, and two of them side by side in one call; here they can't be exchanged.
 enum class BlockNumber : uint32_t {};
@@ -64,6 +65,12 @@ Halves decode_bc6h_block(const Block &block, Sign sign) {
     return halves;
 }
 
+FloatPixel pixel_floats(const Pixel &pixel) {
+    FloatPixel floats;
+    rinchovek_pixel_floats(pixel.data(), floats.data());
+    return floats;
+}
+
 bool is_opaque(const Block &block, Shown shown) { return rinchovek_bc7_is_opaque(block.data(), shown.columns, shown.rows) != 0; }
 
 // Each of these answers 0, or the number of the refusal, and then what was handed over is as it was.
@@ -73,6 +80,13 @@ uint32_t pack(const Record &record, Block &block) { return rinchovek_bc7_pack(re
 uint32_t read_line(const Block &block, LineNumber line, Replacement &replacement, Replacement &widths) {
     return rinchovek_bc7_read_line(block.data(), uint32_t(line), replacement.data(), widths.data());
 }
+
+uint32_t row_floats(const std::vector<uint8_t> &pixels, std::vector<float> &floats) {
+    return rinchovek_row_floats(pixels.data(), pixels.size(), floats.data(), floats.size());
+}
+
+uint32_t channel_of(float value, uint32_t &channel) { return rinchovek_channel_of(value, &channel); }
+uint32_t channel_of_bits(uint32_t bits, uint32_t &channel) { return rinchovek_float_channel(bits, &channel); }
 
 uint32_t one_pixel(const Block &block, PixelNumber pixel, Pixel &rgba) {
     return rinchovek_bc7_pixel(block.data(), uint32_t(pixel), rgba.data());
@@ -273,6 +287,20 @@ static void show_halves(const char *what, const Block &block) {
                 with_sign[2]);
 }
 
+static void show_floats(const char *what, const float *floats, size_t count) {
+    std::printf("%s", what);
+    for (size_t i = 0; i < count; i++) std::printf(" %08X", rinchovek_float_bits(floats[i]));
+    std::printf("\n");
+}
+
+static void show_channel(const char *what, float value) {
+    uint32_t channel = 0;
+    const uint32_t refusal = channel_of(value, channel);
+    std::printf("%s: %u, %s", what, refusal, rinchovek_refusal_text(refusal));
+    if (refusal == RINCHOVEK_ACCEPTED) std::printf(", channel %u", channel);
+    std::printf("\n");
+}
+
 static void show_opened(const std::vector<uint8_t> &sheet) {
     Opened opened;
     const uint32_t refusal = open(sheet, opened);
@@ -410,9 +438,24 @@ int main() {
     counts[RINCHOVEK_COUNT_MODE_0 + 6]++;
     show_refusal("one too many", replace_line(in_tiles, counts, BlockNumber(3), LineNumber(0), held));
 
+    const FloatPixel four = pixel_floats({135, 0, 51, 255});
+    show_floats("floats", four.data(), four.size());
+    const std::vector<uint8_t> two = {135, 0, 51, 255, 254, 1, 2, 3};
+    std::vector<float> floats(7);
+    show_refusal("room for 7", row_floats(two, floats));
+    floats.resize(8);
+    show_refusal("room for 8", row_floats(two, floats));
+    show_floats("row", floats.data(), floats.size());
+    show_channel("0.2", 0.2f);
+    show_channel("-0.0", -0.0f);
+    show_channel("0.5", 0.5f);
+    uint32_t channel = 0;
+    show_refusal("bits 7FC00000", channel_of_bits(0x7FC00000, channel));
+
     for (uint32_t number = RINCHOVEK_RESERVED_BLOCK; number <= RINCHOVEK_COLOUR_SPACE_STATED; number++)
         std::printf("%u: %s\n", number, rinchovek_refusal_text(number));
     std::printf("%u: %s\n", unsigned(RINCHOVEK_BAD_COLOUR_SPACE), rinchovek_refusal_text(RINCHOVEK_BAD_COLOUR_SPACE));
     std::printf("%u: %s\n", unsigned(RINCHOVEK_FALSE_COUNTS), rinchovek_refusal_text(RINCHOVEK_FALSE_COUNTS));
     std::printf("%u: %s\n", unsigned(RINCHOVEK_NO_SUCH_PIXEL), rinchovek_refusal_text(RINCHOVEK_NO_SUCH_PIXEL));
+    std::printf("%u: %s\n", unsigned(RINCHOVEK_NOT_A_CHANNEL), rinchovek_refusal_text(RINCHOVEK_NOT_A_CHANNEL));
 }

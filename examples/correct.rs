@@ -86,6 +86,18 @@ fn show_opened(sheet: &[u8]) -> Result<Opened, Refusal> {
     Ok(opened)
 }
 
+fn show_floats(what: &str, floats: &[f32]) {
+    let shown: Vec<String> = floats.iter().map(|float| format!("{:08X}", float.to_bits())).collect();
+    println!("{what} {}", shown.join(" "));
+}
+
+fn show_channel(what: &str, value: f32) {
+    match channel_of(value) {
+        Ok(channel) => println!("{what}: 0, accepted, channel {channel}"),
+        refused => show_refusal(what, &refused),
+    }
+}
+
 fn main() -> Result<(), Refusal> {
     let (major, minor, patch) = version();
     println!("version {major}.{minor}.{patch}");
@@ -208,6 +220,17 @@ fn main() -> Result<(), Refusal> {
     show_counts(&counts);
     counts.modes[6] += 1;
     show_refusal("one too many", &replace_line_counted(&mut in_tiles, &mut counts, BlockNumber(3), LineNumber(0), &line));
+    // two pixels as floats, by their bits: one alone, and both as a row; -0.0 and 0.5 are no channel's, and neither is a NaN
+    let two = [135, 0, 51, 255, 254, 1, 2, 3];
+    let mut floats = [0.0; 8];
+    show_floats("floats", &pixel_floats(&[135, 0, 51, 255]));
+    show_refusal("room for 7", &row_floats(&two, &mut floats[..7]));
+    show_refusal("room for 8", &row_floats(&two, &mut floats));
+    show_floats("row", &floats);
+    show_channel("0.2", 0.2);
+    show_channel("-0.0", -0.0);
+    show_channel("0.5", 0.5);
+    show_refusal("bits 7FC00000", &channel_of_bits(0x7FC00000));
 
     for refusal in Refusal::ALL {
         println!("{}: {refusal}", refusal.number());

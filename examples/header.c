@@ -60,6 +60,42 @@ static void try_null(void) {
     expect("no sheet", rinchovek_dds_export(NULL, 0, NULL, 0), RINCHOVEK_BAD_NUMBER);
     expect("no sheet", rinchovek_dds_export_colour(NULL, 0, 3, NULL, 0), RINCHOVEK_BAD_NUMBER);
     expect("no sheet", rinchovek_dds_export_length(NULL, 0, head), RINCHOVEK_BAD_NUMBER);
+    expect("no row", rinchovek_row_floats(NULL, 0, NULL, 0), RINCHOVEK_ACCEPTED);
+    expect("no floats", rinchovek_row_floats(one, sizeof one, NULL, 0), RINCHOVEK_WRONG_OUTPUT_LENGTH);
+}
+
+/* Every channel there and back, by the float and by its bits: the float is the compiler's own division, alone and in a row; what has the bits
+ * beside is no channel's, and writes nothing. A row of every length from 0 on, with room for one less and one more, and what stands behind. */
+static void try_floats(void) {
+    enum { CHANNELS = 256 };
+    static uint8_t all[CHANNELS];
+    static float row[CHANNELS + 1];
+    for (uint32_t c = 0; c < CHANNELS; c++) {
+        const uint8_t pixel[RINCHOVEK_PIXEL_BYTES] = {(uint8_t)c, 0, (uint8_t)(255 - c), 255};
+        float floats[RINCHOVEK_PIXEL_FLOATS];
+        const float divided = (float)c / 255.0f;
+        const uint32_t bits = rinchovek_float_bits(divided);
+        all[c] = (uint8_t)c;
+        rinchovek_pixel_floats(pixel, floats);
+        expect("a float", rinchovek_float_bits(floats[RINCHOVEK_RED]), bits);
+        for (uint32_t off = 0; off <= 2; off++) {
+            uint32_t channel = 999;
+            expect("a channel", rinchovek_float_channel(bits - 1 + off, &channel), off == 1 ? RINCHOVEK_ACCEPTED : RINCHOVEK_NOT_A_CHANNEL);
+            expect("the channel", channel, off == 1 ? c : 999);
+        }
+        uint32_t channel = 999;
+        expect("a float's channel", rinchovek_channel_of(divided, &channel), RINCHOVEK_ACCEPTED);
+        expect("the float's channel", channel, c);
+    }
+    for (uint32_t length = 0; length < CHANNELS; length++) {
+        for (uint32_t i = 0; i <= CHANNELS; i++) row[i] = 9.0f;
+        expect("a row", rinchovek_row_floats(all, length, row, length + 1), RINCHOVEK_WRONG_OUTPUT_LENGTH);
+        if (length > 0) expect("a row", rinchovek_row_floats(all, length, row, length - 1), RINCHOVEK_WRONG_OUTPUT_LENGTH);
+        for (uint32_t i = 0; i <= CHANNELS; i++) expect("a refused row", rinchovek_float_bits(row[i]), rinchovek_float_bits(9.0f));
+        expect("a row", rinchovek_row_floats(all, length, row, length), RINCHOVEK_ACCEPTED);
+        for (uint32_t i = 0; i <= CHANNELS; i++)
+            expect("a row's float", rinchovek_float_bits(row[i]), rinchovek_float_bits(i < length ? (float)i / 255.0f : 9.0f));
+    }
 }
 
 /* A sheet is exported and imported with the lengths that the calls for them write, and with a byte less or more in neither. */
@@ -245,6 +281,10 @@ static __attribute__((noinline)) void make_calls(uint8_t first, uint8_t others) 
         rinchovek_dds_import(file, sizeof file, sheet, count + RINCHOVEK_BLOCK_BYTES);
         rinchovek_dds_import_colour(file, sizeof file, sheet, count + RINCHOVEK_BLOCK_BYTES, head);
     }
+    float floats[RINCHOVEK_PIXEL_FLOATS];
+    rinchovek_pixel_floats(block, floats);
+    for (int i = 0; i < RINCHOVEK_PIXEL_FLOATS; i++) rinchovek_channel_of(floats[i], &index);
+    rinchovek_row_floats(block, RINCHOVEK_PIXEL_FLOATS, floats, RINCHOVEK_PIXEL_FLOATS);
     rinchovek_version();
 }
 
@@ -270,6 +310,7 @@ int main(void) {
     try_tiles();
     try_moves();
     try_signs();
+    try_floats();
     const uint32_t deep = deepest();
     if (deep >= RINCHOVEK_STACK_BYTES) {
         printf("header: the calls took %u bytes of stack\n", deep);

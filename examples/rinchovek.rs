@@ -71,6 +71,9 @@ extern "C" {
     ) -> u32;
     fn rinchovek_dds_import_length(dds: *const u8, dds_length: u64, sheet_length: *mut u32) -> u32;
     fn rinchovek_dds_export_length(sheet: *const u8, sheet_length: u64, dds_length: *mut u32) -> u32;
+    fn rinchovek_pixel_floats(pixel: *const u8, floats: *mut f32);
+    fn rinchovek_float_channel(bits: u32, channel: *mut u32) -> u32;
+    fn rinchovek_row_floats(pixels: *const u8, length: u64, floats: *mut f32, count: u64) -> u32;
 }
 
 /// Why a call was refused. It then has changed nothing.
@@ -96,10 +99,11 @@ pub enum Refusal {
     BadColourSpace = 18,
     FalseCounts = 19,
     NoSuchPixel = 21,
+    NotAChannel = 23,
 }
 
 impl Refusal {
-    pub const ALL: [Refusal; 19] = [
+    pub const ALL: [Refusal; 20] = [
         Refusal::ReservedBlock,
         Refusal::NoSuchLine,
         Refusal::ValueTooWide,
@@ -119,6 +123,7 @@ impl Refusal {
         Refusal::BadColourSpace,
         Refusal::FalseCounts,
         Refusal::NoSuchPixel,
+        Refusal::NotAChannel,
     ];
 
     pub fn number(self) -> u32 {
@@ -148,6 +153,7 @@ impl fmt::Display for Refusal {
             Refusal::BadColourSpace => "there is no such colour space",
             Refusal::FalseCounts => "the counts are not those of the sheet",
             Refusal::NoSuchPixel => "the block has no such pixel",
+            Refusal::NotAChannel => "no channel has this float",
         })
     }
 }
@@ -565,4 +571,29 @@ pub fn export_colour(sheet: &[u8], colour_space: ColourSpace) -> Result<Vec<u8>,
     let mut dds = vec![0; export_length(sheet).unwrap_or(0)];
     let (lent, length) = (dds.as_mut_ptr(), dds.len() as u64);
     answer(unsafe { rinchovek_dds_export_colour(sheet.as_ptr(), sheet.len() as u64, colour_space.0, lent, length) }, dds)
+}
+
+/// A pixel as four floats: each channel divided by 255.
+pub fn pixel_floats(pixel: &Color) -> [f32; 4] {
+    let mut floats = [0.0; 4];
+    unsafe { rinchovek_pixel_floats(pixel.as_ptr(), floats.as_mut_ptr()) };
+    floats
+}
+
+/// The channel whose float has these bits.
+pub fn channel_of_bits(bits: u32) -> Result<u8, Refusal> {
+    let mut channel = 0;
+    let refusal = unsafe { rinchovek_float_channel(bits, &mut channel) };
+    answer(refusal, channel as u8)
+}
+
+/// The channel that a float is.
+pub fn channel_of(value: f32) -> Result<u8, Refusal> {
+    channel_of_bits(value.to_bits())
+}
+
+/// A float for each byte: there are exactly as many.
+pub fn row_floats(pixels: &[u8], floats: &mut [f32]) -> Result<(), Refusal> {
+    let (lent, count) = (floats.as_mut_ptr(), floats.len() as u64);
+    answer(unsafe { rinchovek_row_floats(pixels.as_ptr(), pixels.len() as u64, lent, count) }, ())
 }

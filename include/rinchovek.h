@@ -1,6 +1,6 @@
 /* rinchovek.h: BC7 blocks, and sheets of them, decoded, taken apart, packed and corrected; which index gives a wanted colour,
  * which blocks are opaque, and what one pixel shows; sheets stored row by row or in tiles, and moved between the two; counts kept beside a
- * sheet; DDS files in and out; and BC6H blocks, decoded.
+ * sheet; DDS files in and out; BC6H blocks, decoded; and pixels as floats.
  *
  * WORDS
  * A block is 16 bytes that draw 4 by 4 pixels. A pixel is 4 bytes: red, green, blue, alpha. The pixel in column x and row y of a
@@ -29,14 +29,15 @@
  *
  * WHAT HOLDS FOR EVERY CALL
  * - It answers 0, RINCHOVEK_ACCEPTED, or the number of a refusal: of those that its comment lists, the first that applies, in that
- *   order. Four calls refuse nothing: rinchovek_version answers the version, rinchovek_bc7_decode_block and rinchovek_bc6h_decode_block
- *   nothing, and rinchovek_bc7_is_opaque yes or no.
+ *   order. Five calls refuse nothing: rinchovek_version answers the version, rinchovek_bc7_decode_block, rinchovek_bc6h_decode_block and
+ *   rinchovek_pixel_floats nothing, and rinchovek_bc7_is_opaque yes or no.
  * - A refused call writes nothing at all. An accepted one writes what its comment says, all of it, and no other byte.
  * - Of the arguments an input stands before an output, what is changed in place stands first of all, and a length behind its pointer.
  * - An array has the length that is shown, also where the call is refused. A pointer has the length that is given behind it. Where
  *   that must be exact the comment says so, and any other length is refused.
  * - NULL is allowed where the length behind it is 0, and nowhere else.
- * - What one call is lent must not overlap. Bytes need no alignment, uint16_t and uint32_t the usual one. No pointer is kept.
+ * - What one call is lent must not overlap. Bytes need no alignment, uint16_t, uint32_t and float the usual one. No pointer is kept.
+ * - A float has the 32 bits of IEEE 754, and divisions round to the nearest: the processor's rounding is as a program finds it at its start.
  * - There is no state: no variable outside the stack, no heap, no lock, no file, no errno. Any number of threads may call, and signal
  *   handlers too, as long as what one call writes no other reads or writes at the same time.
  * - A call takes less than RINCHOVEK_STACK_BYTES of stack, whatever it is given, and what memcpy takes.
@@ -50,7 +51,7 @@
 /* The version of this file. The major number is raised where a call goes, or answers otherwise what it accepted before; the minor
  * one where a call comes, or accepts what it refused before; the patch where neither is so. */
 #define RINCHOVEK_VERSION_MAJOR 1
-#define RINCHOVEK_VERSION_MINOR 10
+#define RINCHOVEK_VERSION_MINOR 11
 #define RINCHOVEK_VERSION_PATCH 0
 #define RINCHOVEK_VERSION (10000 * RINCHOVEK_VERSION_MAJOR + 100 * RINCHOVEK_VERSION_MINOR + RINCHOVEK_VERSION_PATCH)
 
@@ -70,6 +71,7 @@
 #define RINCHOVEK_COUNTS 10 /* uint32_t: the counts of a sheet */
 #define RINCHOVEK_LARGEST_SIDE 16384 /* pixels, of a sheet; 4,096 before version 1.4.0 */
 #define RINCHOVEK_DDS_HEADER_BYTES 148
+#define RINCHOVEK_PIXEL_FLOATS 4 /* float */
 #define RINCHOVEK_STACK_BYTES 4096 /* found: 2,080 in rinchovek_bc7_pixel; below 2,048 in every other call, and in all before 1.5.0 */
 
 /* A channel in a pixel and in an endpoint. */
@@ -180,7 +182,8 @@ enum rinchovek_refusal {
     RINCHOVEK_COLOUR_SPACE_STATED = 16, /* the sheet states a colour space, and the form that it is moved to has no room for it */
     RINCHOVEK_BAD_COLOUR_SPACE = 18,    /* the number of a colour space, in a head or given to a call, is above 2 */
     RINCHOVEK_FALSE_COUNTS = 19,        /* the counts can't be those of the sheet, by what the named block shows of it: see the calls */
-    RINCHOVEK_NO_SUCH_PIXEL = 21        /* the pixel number isn't below 16 */
+    RINCHOVEK_NO_SUCH_PIXEL = 21,       /* the pixel number isn't below 16 */
+    RINCHOVEK_NOT_A_CHANNEL = 23        /* the bits are those of no channel's float */
 };
 
 #ifdef __cplusplus
@@ -398,6 +401,24 @@ uint32_t rinchovek_dds_export_colour(const uint8_t *sheet, uint64_t sheet_length
 uint32_t rinchovek_dds_import_length(const uint8_t *dds, uint64_t dds_length, uint32_t *sheet_length);
 uint32_t rinchovek_dds_export_length(const uint8_t *sheet, uint64_t sheet_length, uint32_t *dds_length);
 
+/* PIXELS AS FLOATS, as blending code takes them. The float of a channel is the channel divided by 255 in one division of two floats, so 0 gives
+ * 0.0 and 255 gives 1.0: the same bits on every processor. No two channels have the same float, and the floats rise with the channel. (A product
+ * with 1 / 255 is rounded twice, and is another float for 126 of the 256.)
+ *
+ * Writes the four floats of a pixel: red, green, blue, alpha.
+ * Refusals: none. */
+void rinchovek_pixel_floats(const uint8_t pixel[RINCHOVEK_PIXEL_BYTES], float floats[RINCHOVEK_PIXEL_FLOATS]);
+
+/* The way back from the bits of one float: writes the channel, 0 to 255, whose float has exactly these bits. Any other float is refused: -0.0,
+ * every NaN, infinities, what lies beside a channel's float or would only round to it. rinchovek_channel_of takes the float itself.
+ * Refusals: 23. */
+uint32_t rinchovek_float_channel(uint32_t bits, uint32_t *channel);
+
+/* Writes the floats of a row of pixels, or of any number of bytes: one for each byte, in their order. `count` is how many floats there is room
+ * for, and is exact: length of them (11 otherwise). What rinchovek_sheet_show_row wrote can be handed over as it is.
+ * Refusals: 11. */
+uint32_t rinchovek_row_floats(const uint8_t *pixels, uint64_t length, float *floats, uint64_t count);
+
 #ifdef __cplusplus
 }
 #endif
@@ -413,6 +434,17 @@ static inline size_t rinchovek_row_blocks(uint32_t width) { return (size_t)RINCH
 
 static inline size_t rinchovek_row_pixels(uint32_t width, uint32_t height, uint32_t row) {
     return (size_t)RINCHOVEK_PIXEL_BYTES * width * rinchovek_shown(height, row);
+}
+
+/* The bits of a float, and by them the way back from the float itself. */
+static inline uint32_t rinchovek_float_bits(float value) {
+    uint32_t bits = 0;
+    for (size_t i = 0; i < sizeof bits; i++) ((unsigned char *)&bits)[i] = ((const unsigned char *)&value)[i];
+    return bits;
+}
+
+static inline uint32_t rinchovek_channel_of(float value, uint32_t *channel) {
+    return rinchovek_float_channel(rinchovek_float_bits(value), channel);
 }
 
 /* What a refusal means, in a few words that last as long as the program. */
@@ -438,6 +470,7 @@ static inline const char *rinchovek_refusal_text(uint32_t refusal) {
     case RINCHOVEK_BAD_COLOUR_SPACE: return "there is no such colour space";
     case RINCHOVEK_FALSE_COUNTS: return "the counts are not those of the sheet";
     case RINCHOVEK_NO_SUCH_PIXEL: return "the block has no such pixel";
+    case RINCHOVEK_NOT_A_CHANNEL: return "no channel has this float";
     default: return "no refusal of this version";
     }
 }

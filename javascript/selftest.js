@@ -8,7 +8,7 @@
 import { readFileSync, writeFileSync } from 'node:fs'
 import * as face from './rinchovek.js'
 
-const { BLOCK_BYTES, LINE_BYTES, PIXEL_BYTES, PIXELS_BYTES, RECORD_BYTES, HEAD_BYTES, HALVES } = face
+const { BLOCK_BYTES, LINE_BYTES, PIXEL_BYTES, PIXELS_BYTES, RECORD_BYTES, HEAD_BYTES, HALVES, PIXEL_FLOATS } = face
 const { HEAD_NUMBERS, COLOUR_HEAD_NUMBERS, OPEN_NUMBERS, COUNTS, VERSION } = face
 const LONGEST = 65536
 const module = readFileSync(new URL('rinchovek.wasm', import.meta.url))
@@ -203,6 +203,24 @@ const LETTERS = {
     giveSmall(rinchovek.sheetReplaceBlockCounted(sheet, counts, takeNumber(), take(BLOCK_BYTES)))
     give(sheet)
     giveNumbers(...counts)
+  },
+  F() {
+    const floats = new Float32Array(PIXEL_FLOATS)
+    rinchovek.pixelFloats(take(PIXEL_BYTES), floats)
+    give(new Uint8Array(floats.buffer))
+  },
+  Y() {
+    const channel = new Uint32Array(1)
+    giveSmall(rinchovek.floatChannel(takeNumber(), channel))
+    giveSmall(channel[0])
+  },
+  f() {
+    const length = takeLength()
+    const count = takeLength()
+    const pixels = take(length)
+    const floats = new Float32Array(take(4 * count).buffer)
+    giveSmall(rinchovek.rowFloats(pixels, floats))
+    give(new Uint8Array(floats.buffer))
   },
 }
 

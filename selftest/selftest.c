@@ -21,6 +21,7 @@ static void give(const void *bytes, size_t count);
 
 enum { LONGEST = 65536, MARGIN = 32, PAINT = 0xA5, MOST_LENT = 4 };
 static uint8_t room[2 * LONGEST + 1024];
+static float floats[1 + LONGEST + 1];
 static struct { size_t at, count; } lent[MOST_LENT];
 static size_t used;
 static int lends, torn;
@@ -352,6 +353,47 @@ static int replace_counted(int whole) {
     return 1;
 }
 
+static float float_of(const uint8_t *bytes) {
+    float value;
+    for (size_t i = 0; i < sizeof value; i++) ((uint8_t *)&value)[i] = bytes[i];
+    return value;
+}
+
+/* Floats as their bits. */
+static void give_floats(const float *from, size_t count) {
+    for (size_t i = 0; i < count; i++) give_number(rinchovek_float_bits(from[i]));
+}
+
+static int pixel_floats(void) {
+    const uint8_t *const pixel = lend_taken(RINCHOVEK_PIXEL_BYTES);
+    if (pixel == NULL) return 0;
+    rinchovek_pixel_floats(pixel, floats);
+    give_floats(floats, RINCHOVEK_PIXEL_FLOATS);
+    return 1;
+}
+
+static int float_channel(void) {
+    uint32_t bits, channel = 0;
+    if (!take_number(&bits)) return 0;
+    give_small(rinchovek_float_channel(bits, &channel));
+    give_small(channel);
+    return 1;
+}
+
+/* What stands in the floats before goes in and out as bytes, a NaN's too. A float on either side has to stay. */
+static int row_floats(void) {
+    static const uint8_t margin[4] = {PAINT, PAINT, PAINT, PAINT};
+    uint32_t length, count;
+    if (!take_length(&length) || !take_length(&count)) return 0;
+    const uint8_t *const pixels = lend_taken(length);
+    if (pixels == NULL || !take(floats + 1, count * sizeof *floats)) return 0;
+    for (size_t i = 0; i < 2; i++) floats[i * (1 + count)] = float_of(margin);
+    give_small(rinchovek_row_floats(pixels, length, floats + 1, count));
+    give_floats(floats + 1, count);
+    for (size_t i = 0; i < 2; i++) torn |= rinchovek_float_bits(floats[i * (1 + count)]) != rinchovek_float_bits(float_of(margin));
+    return 1;
+}
+
 static int call(uint8_t letter) {
     switch (letter) {
     case 'D': return decode();
@@ -384,6 +426,9 @@ static int call(uint8_t letter) {
     case 'C': return count_sheet();
     case 'L': return replace_counted(0);
     case 'K': return replace_counted(1);
+    case 'F': return pixel_floats();
+    case 'Y': return float_channel();
+    case 'f': return row_floats();
     default: return 0;
     }
 }

@@ -16,6 +16,7 @@ ghost use Rattle.bc7_plain.specs.Asked.{Bits, Byte, ChannelAsked, Channe
 ghost use Rattle.bc7_plain.specs.Asked.{IndexModeOf, TwoBytes, PixelAsked, PixelOf, Promoted, Rotatable, SetAsked, SetOf};
 ghost use Rattle.bc7_plain.specs.Asked.{ShortField, SplitRead};
 use pixel_rules::PixelRead;
+use refusals::NO_SUCH_PIXEL;
 use strings::anchors_before;
 use strings::is_anchor;
 use strings::one;
@@ -415,7 +416,7 @@ pub fn pixel_of(block: [u8; 16], pixel: u32) -> PixelRead
 {
     if 16 <= pixel {
         return PixelRead {
-            refusal: 21,
+            refusal: NO_SUCH_PIXEL,
             rgba: [0u8; 4],
         };
     }

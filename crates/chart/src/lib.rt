@@ -22,6 +22,8 @@ use bc7_places::splits::anchors_of;
 use bc7_places::splits::read_lead;
 use block_bytes::load;
 use chart_rules::Chart;
+use refusals::RESERVED_BLOCK;
+use refusals::WRONG_BLOCK_BYTES;
 use text::put;
 use text::put_few;
 use text::put_spaced;
@@ -167,12 +169,12 @@ pub fn chart(input: &[u8]) -> Chart
     ensures { λ r. ⌜ ChartsWithin (now (input .entry)) r ⌝ }
 {
     if input.len() != 16 {
-        return refused(10);
+        return refused(WRONG_BLOCK_BYTES);
     }
     let block = load(input, 0);
     let mode = mode_of(block);
     if mode == 8 {
-        return refused(1);
+        return refused(RESERVED_BLOCK);
     }
     accepted(block, mode)
 }

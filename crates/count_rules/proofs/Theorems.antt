@@ -154,7 +154,8 @@ nineteen-when s n c found = (
     not-own : falseRefusal (readHead s) s (c .block) n ≡ 0 → answerOn (s, n) c ≢ 19
     not-own z e =
         let own = tell (blockIn s (c .block)) (c .edit) in
-        let is : answerOn (s, n) c ≡ own = first-skip (findRefusal (readHead s) s (c .block)) _ found ∙ first-skip (falseRefusal (readHead s) s (c .block) n) _ z
+        let is : answerOn (s, n) c ≡ own = first-skip (findRefusal (readHead s) s (c .block)) _ found
+        ∙ first-skip (falseRefusal (readHead s) s (c .block) n) _ z
         ∙ first-last own in
         omega (arith, is, e, own-small (blockIn s (c .block)) (c .edit))
 

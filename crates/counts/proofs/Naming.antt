@@ -133,13 +133,15 @@ module _ (s : List ℕ) (n : Counts) (b : ℕ) (made : Replaced) where
 
   pub not-named-as : {r : NamedBlock} → Names s n b r → r .refusal ≢ 0 → {a : Counted} → a ≡ counted (r .refusal) n → Keeps s n b made a s
   unfolding keptRefusal
-  not-named-as k ne ea = refused-as (given-before (findRefusal (readHead s) s b) (falseRefusal (readHead s) s b n) (made .refusal ∷ []) (k .refusal) ne) ne ea
+  not-named-as k ne ea =
+      refused-as (given-before (findRefusal (readHead s) s b) (falseRefusal (readHead s) s b n) (made .refusal ∷ []) (k .refusal) ne) ne ea
 
   module _ {r : NamedBlock} (k : Here s n b r) where
     own-answer : keptRefusal (readHead s) s n b made ≡ made .refusal
     unfolding keptRefusal
     own-answer =
-        first-skip (findRefusal (readHead s) s b) _ (k .found) ∙ first-skip (falseRefusal (readHead s) s b n) _ (k .true-of-it) ∙ first-last (made .refusal)
+        first-skip (findRefusal (readHead s) s b) _ (k .found) ∙ first-skip (falseRefusal (readHead s) s b n) _ (k .true-of-it)
+        ∙ first-last (made .refusal)
 
     pub block-refused : made .refusal ≢ 0 → {a : Counted} → a ≡ counted (made .refusal) n → Keeps s n b made a s
     block-refused ne ea = refused-as own-answer ne ea

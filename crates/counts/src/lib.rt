@@ -17,6 +17,7 @@ use count_rules::Counts;
 use head_rules::Head;
 use line_rules::Replacement;
 use opacity::is_opaque_at;
+use refusals::FALSE_COUNTS;
 use sheet::blocks::block_of;
 use sheet_head::geometry::blocks_of;
 use sheet_head::geometry::place_of;
@@ -129,20 +130,20 @@ fn false_refusal(counts: Counts, blocks: u32, mode: u8, opaque: bool) -> u8
     ensures { λ r. ⌜ r ≡ falseOf blocks mode opaque counts ⌝ }
 {
     if sum_of(counts) != blocks as u64 {
-        return 19;
+        return FALSE_COUNTS;
     }
     let modes = counts.modes;
     if modes[mode as usize] == 0 {
-        return 19;
+        return FALSE_COUNTS;
     }
     if opaque {
         if counts.opaque == 0 {
-            return 19;
+            return FALSE_COUNTS;
         }
         return 0;
     }
     if counts.opaque >= blocks {
-        return 19;
+        return FALSE_COUNTS;
     }
     0
 }

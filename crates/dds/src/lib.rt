@@ -15,6 +15,9 @@ use dds_rules::Length;
 use head_rules::ColourSpace;
 use head_rules::Form;
 use head_rules::Head;
+use refusals::NOT_A_BC7_TEXTURE;
+use refusals::WRONG_BLOCK_BYTES;
+use refusals::WRONG_OUTPUT_LENGTH;
 use sheet_head::colours::colour_of;
 use sheet_head::colours::colour_refusal;
 use sheet_head::colours::under;
@@ -153,7 +156,7 @@ fn read_file(dds: &[u8]) -> Head
     ensures { λ r. ⌜ r ≡ importHead (now (dds .entry)) ⌝ }
 {
     if !is_texture(dds) {
-        return no_head(15);
+        return no_head(NOT_A_BC7_TEXTURE);
     }
     let height = number_at(dds, HEIGHT);
     let width = number_at(dds, WIDTH);
@@ -171,7 +174,7 @@ fn read_file(dds: &[u8]) -> Head
         colour_space: colour_space,
     };
     if dds.len() != file_length(head) {
-        return no_head(10);
+        return no_head(WRONG_BLOCK_BYTES);
     }
     head
 }
@@ -257,7 +260,7 @@ pub fn import_dds(dds: &[u8], out: &mut [u8]) -> Head
         return head;
     }
     if out.len() != whole_length(head) {
-        return no_head(11);
+        return no_head(WRONG_OUTPUT_LENGTH);
     }
     let written = write_head(head.width, head.height);
     let bytes = written.bytes;
@@ -274,7 +277,7 @@ pub fn export_dds(sheet: &[u8], colour_space: ColourSpace, out: &mut [u8]) -> u8
         return head.refusal;
     }
     if out.len() != file_length(head) {
-        return 11;
+        return WRONG_OUTPUT_LENGTH;
     }
     let header = bytes_of(numbers_of(under(colour_space, head)));
     fill(&header, HEADER, sheet, head.start as usize, out);

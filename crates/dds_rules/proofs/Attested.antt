@@ -255,7 +255,8 @@ pub record Files : Type 0 where
   pub import-answers : map (λ c. importRefusal (c .given) (c .room)) imports ≡ map (λ c. c .answer) imports
   pub export-answers : map (λ c. exportRefusal (sheetHead (c .given)) (c .given) (c .room)) exports ≡ map (λ c. c .answer) exports
   -- the larger map by every call; and by a console of before, which takes neither it nor form 2
-  pub larger-taken : importRefusal largerFile 16404 ∷ exportRefusal (sheetHead larger) larger 16548 ∷ numberedRefusal larger 2 16548 ∷ [] ≡ 0 ∷ 0 ∷ 0 ∷ []
+  pub larger-taken : importRefusal largerFile 16404 ∷ exportRefusal (sheetHead larger) larger 16548 ∷ numberedRefusal larger 2 16548 ∷ []
+      ≡ 0 ∷ 0 ∷ 0 ∷ []
   pub larger-answered : importAnswer largerFile 16404 ≡ head Linear 4097 1 4
   pub larger-imported : take 5 (importAfter largerFile (nines 16404)) ≡ 0x01 ∷ 0x81 ∷ 0x20 ∷ 0x01 ∷ 0 ∷ []
   pub larger-lengths : importLength largerFile ∷ exportLength larger ∷ []

@@ -31,6 +31,10 @@ use indexes::sets::word_of;
 use line_rules::LineRead;
 use line_rules::Replaced;
 use line_rules::Replacement;
+use refusals::NO_SUCH_LINE;
+use refusals::P_BITS_DIFFER;
+use refusals::RESERVED_BLOCK;
+use refusals::VALUE_TOO_WIDE;
 
 pub mod fields;
 pub mod parts;
@@ -97,26 +101,26 @@ pub fn replace_line(block: [u8; 16], line: u32, new: Replacement) -> Replaced
 {
     let mode = mode_of(block);
     if mode == 8 {
-        return refused(1, block);
+        return refused(RESERVED_BLOCK, block);
     }
     let row = mode_row(mode);
     if line >= row.lines {
-        return refused(2, block);
+        return refused(NO_SUCH_LINE, block);
     }
     let opened = open_line(block, mode, row, line);
     let part = opened.part;
     if !parts_fit(part, new) {
-        return refused(3, block);
+        return refused(VALUE_TOO_WIDE, block);
     }
     let given = new.indexes;
     let indexes = word_of(given, part.index);
     let pixels = part.pixels;
     let mask = mask_of(pixels, part.index);
     if !only_own(indexes, mask) {
-        return refused(3, block);
+        return refused(VALUE_TOO_WIDE, block);
     }
     if p_bits_differ(mode, new) {
-        return refused(4, block);
+        return refused(P_BITS_DIFFER, block);
     }
     let stored = oriented(part, new, indexes, mask);
     let after = put_line(opened.stream, mode, row, line, part, mask, stored);
@@ -156,11 +160,11 @@ pub fn read_line(block: [u8; 16], line: u32) -> LineRead
 {
     let mode = mode_of(block);
     if mode == 8 {
-        return unread(1);
+        return unread(RESERVED_BLOCK);
     }
     let row = mode_row(mode);
     if line >= row.lines {
-        return unread(2);
+        return unread(NO_SUCH_LINE);
     }
     let opened = open_line(block, mode, row, line);
     let part = opened.part;

@@ -27,6 +27,8 @@ use head_rules::HeadReader;
 use listing_rules::Machine;
 use listing_rules::Phase;
 use opacity::is_opaque_in;
+use refusals::BAD_NUMBER;
+use refusals::WRONG_BLOCK_BYTES;
 use sheet_head::geometry::blocks_across;
 use sheet_head::geometry::blocks_of;
 use sheet_head::geometry::number_at;
@@ -46,7 +48,7 @@ fn take_next(reader: HeadReader, came: &[u8]) -> HeadReader
     ensures { λ r. ⌜ TakesNext reader (now (came .entry)) r ⌝ }
 {
     if came.len() == 0 {
-        return refused_with(7);
+        return refused_with(BAD_NUMBER);
     }
     take_byte(reader, came[0])
 }
@@ -230,7 +232,7 @@ fn refuse_unless(exact: bool, at: usize, out: &mut [u8]) -> usize
     if exact {
         return at;
     }
-    refused_text(10, at, out)
+    refused_text(WRONG_BLOCK_BYTES, at, out)
 }
 
 // What is said of a head.

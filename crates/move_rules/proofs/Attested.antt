@@ -51,7 +51,8 @@ pub record Moves : Type 0 where
   pub refused-leaves : moveAfter Rows (inTiles 2) (replicate 99 9) ≡ replicate 99 9
 
 pub moves-hold : Moves
-unfolding moveAfter moveRefusal movedTo readOfFormUpTo ofFormRefusalUpTo wholeRefusal first groups readGroups readNumber raised readHeadUpTo headRefusalUpTo
+unfolding moveAfter moveRefusal movedTo readOfFormUpTo ofFormRefusalUpTo wholeRefusal first groups readGroups readNumber raised readHeadUpTo
+    headRefusalUpTo
     formIn widthIn heightIn colourIn sizeRefusalUpTo headBytes tiledBytes blocksOf colourOf colourRefusal formOf storedInTiles count slotOf
     slotIn inSheet columnAt columnOfSlot rowAt rowOfSlot tiles blocksAs byteAs blockBy blockAt placeOf storedAt table tableFrom
     numberInTiles storedOrder kept numberInSlot slots
@@ -90,7 +91,8 @@ pub record Promised : Type 0 where
   pub no-output-touched : MovesTo Rows (inTiles 2) (nines 99) 16 (set (nines 99) 98 0) → ⊥
 
 pub promise-holds : Promised
-unfolding wholeRefusal moveAfter moveRefusal movedTo readOfFormUpTo ofFormRefusalUpTo first groups readGroups readNumber raised readHeadUpTo headRefusalUpTo
+unfolding wholeRefusal moveAfter moveRefusal movedTo readOfFormUpTo ofFormRefusalUpTo first groups readGroups readNumber raised
+    readHeadUpTo headRefusalUpTo
     formIn widthIn heightIn colourIn sizeRefusalUpTo headBytes tiledBytes blocksOf colourOf colourRefusal formOf storedInTiles count slotOf
     slotIn inSheet columnAt columnOfSlot rowAt rowOfSlot tiles blocksAs byteAs blockBy blockAt placeOf storedAt table tableFrom
     numberInTiles storedOrder kept numberInSlot slots

@@ -30,7 +30,8 @@ pub record States : Type 0 where
   pub refused-leaves : stateAfter (sheet 1) 258 ∷ stateAfter (longer (sheet 1)) 2 ∷ [] ≡ sheet 1 ∷ longer (sheet 1) ∷ []
 
 pub states-hold : States
-unfolding stateAfter stateRefusal statedAs readOfFormUpTo ofFormRefusalUpTo wholeRefusal first groups readGroups readNumber raised readHeadUpTo headRefusalUpTo
+unfolding stateAfter stateRefusal statedAs readOfFormUpTo ofFormRefusalUpTo wholeRefusal first groups readGroups readNumber raised readHeadUpTo
+    headRefusalUpTo
     formIn widthIn heightIn colourIn sizeRefusalUpTo tiledBytes blocksOf colourOf colourRefusal formOf
 states-hold = record { stated = refl; stated-anew = refl; answers = refl; numbers = refl; refused-leaves = refl }
 
@@ -51,7 +52,8 @@ pub record Promised : Type 0 where
   pub no-sheet-touched : StatesColour (sheet 1) 258 18 (sheet 2) → ⊥
 
 pub promise-holds : Promised
-unfolding wholeRefusal stateAfter stateRefusal statedAs readOfFormUpTo ofFormRefusalUpTo first groups readGroups readNumber raised readHeadUpTo headRefusalUpTo
+unfolding wholeRefusal stateAfter stateRefusal statedAs readOfFormUpTo ofFormRefusalUpTo first groups readGroups readNumber raised
+    readHeadUpTo headRefusalUpTo
     formIn widthIn heightIn colourIn sizeRefusalUpTo tiledBytes blocksOf colourOf colourRefusal formOf
 promise-holds = record {
   states-colour = (refl, refl);

@@ -14,6 +14,8 @@ use block_bytes::load;
 use block_bytes::store;
 use head_rules::Form;
 use head_rules::Head;
+use refusals::COLOUR_SPACE_STATED;
+use refusals::WRONG_OUTPUT_LENGTH;
 use sheet_head::colours::colour_refusal;
 use sheet_head::colours::number_of;
 use sheet_head::geometry::blocks_across;
@@ -90,11 +92,11 @@ fn move_to(form: Form, sheet: &[u8], out: &mut [u8]) -> u8
         return head.refusal;
     }
     if out.len() != length_as(form, head) {
-        return 11;
+        return WRONG_OUTPUT_LENGTH;
     }
     let colour_space = head.colour_space;
     if number_of(colour_space) != 0 {
-        return 16;
+        return COLOUR_SPACE_STATED;
     }
     lay(form, head, sheet, out);
     0

@@ -18,6 +18,8 @@ use bc7_places::splits::rotation_of;
 use line::read_line;
 use line_rules::Replacement;
 use nearest_rules::Found;
+use refusals::NO_EXACT_INDEX;
+use refusals::PIXEL_NOT_IN_LINE;
 use weights::weight_64;
 
 // A shown channel of a pixel: what the line's endpoints have there as eight bits, and what is wanted. A channel that the line doesn't
@@ -223,13 +225,13 @@ fn try_indexes(block: [u8; 16], line: u32, pixel: u32, wanted: [u8; 4]) -> Tried
         return untried(read.refusal);
     }
     if pixel >= 16 {
-        return untried(13);
+        return untried(PIXEL_NOT_IN_LINE);
     }
     let stands = read.line;
     let widths = read.widths;
     let bits = widths.indexes[pixel as usize];
     if bits == 0 {
-        return untried(13);
+        return untried(PIXEL_NOT_IN_LINE);
     }
     let found = nearest_of(stands, widths, rotation_in(block), bits, wanted);
     Tried {
@@ -259,7 +261,7 @@ pub fn exact_index(block: [u8; 16], line: u32, pixel: u32, wanted: [u8; 4]) -> F
     if tried.refusal == 0 {
         if tried.distance != 0 {
             return Found {
-                refusal: 14,
+                refusal: NO_EXACT_INDEX,
                 index: 0,
             };
         }

@@ -15,6 +15,10 @@ use bc7_places::splits::kind_of;
 use record_rules::Packed;
 use record_rules::Record;
 use record_rules::Unpacked;
+use refusals::ANCHOR_BIT_SET;
+use refusals::RESERVED_BLOCK;
+use refusals::VALUE_TOO_WIDE;
+use refusals::WRONG_KIND;
 
 pub mod fits;
 pub mod reading;
@@ -42,7 +46,7 @@ pub fn unpack(block: [u8; 16]) -> Unpacked
     if mode == 8 {
         let zero = zero_record();
         return Unpacked {
-            refusal: 1,
+            refusal: RESERVED_BLOCK,
             record: zero,
         };
     }
@@ -69,19 +73,19 @@ pub fn pack(record: Record) -> Packed
 {
     let mode = record.mode;
     if mode > 7 {
-        return refused(5);
+        return refused(WRONG_KIND);
     }
     let split = record.split;
     let row = mode_row(mode);
     if kind_of(split) != row.kind {
-        return refused(5);
+        return refused(WRONG_KIND);
     }
     if !record_fits(record, row) {
-        return refused(3);
+        return refused(VALUE_TOO_WIDE);
     }
     let anchors = anchors_of(split);
     if !anchors_fit(record, row, anchors) {
-        return refused(6);
+        return refused(ANCHOR_BIT_SET);
     }
     let block = write_record(record, row, anchors);
     Packed {

@@ -26,6 +26,8 @@ use line_rules::Replacement;
 use record::pack;
 use record_rules::Packed;
 use record_rules::Record;
+use refusals::VALUE_TOO_WIDE;
+use refusals::WRONG_KIND;
 
 // The partition or the rotation, whichever the split has.
 fn split_byte(split: Split) -> u8
@@ -122,18 +124,18 @@ pub fn pack_bytes(bytes: [u8; PLACES]) -> Packed
     ensures { λ r. ⌜ PacksBytes bytes r ⌝ }
 {
     if 3 < bytes[1] {
-        return refused(5);
+        return refused(WRONG_KIND);
     }
     let record = record_of_bytes(bytes);
     let packed = pack(record);
-    if packed.refusal == 5 {
+    if packed.refusal == WRONG_KIND {
         return packed;
     }
     let split = record.split;
     if spells(split, bytes[2], bytes[3]) {
         return packed;
     }
-    refused(3)
+    refused(VALUE_TOO_WIDE)
 }
 
 // The replacement of 26 bytes: 8 endpoint values, 2 p bits, 16 indexes.

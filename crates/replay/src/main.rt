@@ -1,7 +1,8 @@
 // The test program: calls in on standard input, their answers out on standard output, until the input ends. A letter names
 // the call; docs/REPLAY.md has the bytes of each. A call that C has is made through the function for C, so that what is replayed
 // is what is shipped; the listing goes through its machine. Here only lengths, kinds, signs and colour spaces that end the run are looked at.
-ghost use Prim.Native.Nat.{_+_, _≤_, _<_};
+ghost use mathlib.Core.Path.{_≡_};
+ghost use Prim.Native.Nat.{_+_, _*_, _≤_, _<_};
 ghost use lib.ListN.{length};
 use bc7_places::places::PLACES;
 use bits::stream::BitStream;
@@ -25,6 +26,9 @@ use rinchovek::rinchovek_dds_export_length;
 use rinchovek::rinchovek_dds_import;
 use rinchovek::rinchovek_dds_import_colour;
 use rinchovek::rinchovek_dds_import_length;
+use rinchovek::rinchovek_float_channel;
+use rinchovek::rinchovek_pixel_floats;
+use rinchovek::rinchovek_row_floats;
 use rinchovek::rinchovek_sheet_block;
 use rinchovek::rinchovek_sheet_count;
 use rinchovek::rinchovek_sheet_decode_row;
@@ -577,20 +581,51 @@ fn out_call_within(asked: OutCall, n: usize, m: usize) -> bool
     out_call_of(asked, &mut given[..n], &mut out[..m])
 }
 
-fn out_call(asked: OutCall) -> bool {
-    let mut lengths = [0u8; 8];
-    if !filled(&mut lengths) {
-        return false;
+// Both lengths of a call with an output, or none where one is too long or the input ends.
+struct Lengths {
+    taken: bool,
+    given: usize,
+    room: usize,
+}
+
+fn no_lengths() -> Lengths
+    ensures { λ r. ⌜ (r .given ≤ 65536) × (r .room ≤ 65536) ⌝ }
+{
+    Lengths {
+        taken: false,
+        given: 0,
+        room: 0,
     }
-    let n = number(&lengths, 0);
+}
+
+fn take_lengths() -> Lengths
+    ensures { λ r. ⌜ (r .given ≤ 65536) × (r .room ≤ 65536) ⌝ }
+{
+    let mut bytes = [0u8; 8];
+    if !filled(&mut bytes) {
+        return no_lengths();
+    }
+    let n = number(&bytes, 0);
     if MOST < n {
-        return false;
+        return no_lengths();
     }
-    let m = number(&lengths, 4);
+    let m = number(&bytes, 4);
     if MOST < m {
+        return no_lengths();
+    }
+    Lengths {
+        taken: true,
+        given: n as usize,
+        room: m as usize,
+    }
+}
+
+fn out_call(asked: OutCall) -> bool {
+    let both = take_lengths();
+    if !both.taken {
         return false;
     }
-    out_call_within(asked, n as usize, m as usize)
+    out_call_within(asked, both.given, both.room)
 }
 
 fn decode_row_call() -> bool {
@@ -693,6 +728,117 @@ fn reads_call() -> bool {
     reads_of(block, &mut kinds[..n])
 }
 
+// The float of these bits. Every pattern of a NaN is the one NaN.
+fn float_of(bits: u32) -> f32 {
+    if 0x7f80_0000 < bits % 0x8000_0000 {
+        return 0.0 / 0.0;
+    }
+    f32::from_bits(bits)
+}
+
+// Its bits again. No call here writes a NaN; one that did would show.
+fn bits_of(value: f32) -> u32 {
+    if value != value {
+        return 0x7fc0_0000;
+    }
+    f32::to_bits(value)
+}
+
+fn pixel_floats_call() -> bool {
+    let mut pixel = [0u8; 4];
+    if !filled(&mut pixel) {
+        return false;
+    }
+    let mut floats = [0.0f32; 4];
+    rinchovek_pixel_floats(&pixel, &mut floats);
+    write_u32(bits_of(floats[0]));
+    write_u32(bits_of(floats[1]));
+    write_u32(bits_of(floats[2]));
+    write_u32(bits_of(floats[3]));
+    true
+}
+
+fn channel_call() -> bool {
+    let mut bits = [0u8; 4];
+    if !filled(&mut bits) {
+        return false;
+    }
+    let mut channel: u32 = 0;
+    write_small(rinchovek_float_channel(number(&bits, 0), &mut channel));
+    write_small(channel);
+    true
+}
+
+fn floats_from(bytes: &[u8], floats: &mut [f32])
+    requires { ⌜ length (now bytes) ≡ 4 * length (now floats) ⌝ }
+{
+    for i in 0..floats.len() {
+        floats[i] = float_of(number(bytes, 4 * i));
+    }
+}
+
+fn put_number(n: u32, at: usize, bytes: &mut [u8])
+    requires { ⌜ at + 4 ≤ length (now bytes) ⌝ }
+{
+    bytes[at] = (n % 256) as u8;
+    bytes[at + 1] = (n / 256 % 256) as u8;
+    bytes[at + 2] = (n / 65536 % 256) as u8;
+    bytes[at + 3] = (n / 16777216) as u8;
+}
+
+// A NaN, which has no bits of its own, keeps the bytes that it came from.
+fn put_float(value: f32, at: usize, bytes: &mut [u8])
+    requires { ⌜ at + 4 ≤ length (now bytes) ⌝ }
+{
+    if value != value {
+        return;
+    }
+    put_number(bits_of(value), at, bytes);
+}
+
+fn floats_to(floats: &[f32], bytes: &mut [u8])
+    requires { ⌜ length (now bytes) ≡ 4 * length (now floats) ⌝ }
+{
+    for i in 0..floats.len() {
+        put_float(floats[i], 4 * i, bytes);
+    }
+}
+
+// What stands in the floats before is read too, four bytes each.
+fn row_floats_of(pixels: &mut [u8], bytes: &mut [u8], floats: &mut [f32]) -> bool
+    requires { ⌜ length (now bytes) ≡ 4 * length (now floats) ⌝ }
+{
+    if !filled(pixels) {
+        return false;
+    }
+    if !filled(bytes) {
+        return false;
+    }
+    floats_from(bytes, floats);
+    write_small(rinchovek_row_floats(pixels, floats));
+    floats_to(floats, bytes);
+    io::write_all(STDOUT_FILENO, bytes)
+}
+
+// The row is n bytes, and there is room for m floats.
+fn row_floats_within(n: usize, m: usize) -> bool
+    requires { ⌜ (n ≤ 65536) × (m ≤ 65536) ⌝ }
+{
+    let mut pixels = [0u8; 65536];
+    let mut bytes = [0u8; 262144];
+    let mut floats = [0.0f32; 65536];
+    let end = 4 * m;
+    row_floats_of(&mut pixels[..n], &mut bytes[..end], &mut floats[..m])
+}
+
+fn row_floats_call() -> bool {
+    let both = take_lengths();
+    if !both.taken {
+        return false;
+    }
+    row_floats_within(both.given, both.room)
+}
+
 // One call: whether another may follow.
 fn call(letter: u8) -> bool {
     match letter {
@@ -728,6 +874,9 @@ fn call(letter: u8) -> bool {
         b'x' => export_colour_call(),
         b'T' => out_call(OutCall::ToTiles),
         b'Z' => out_call(OutCall::ToRows),
+        b'F' => pixel_floats_call(),
+        b'Y' => channel_call(),
+        b'f' => row_floats_call(),
         _ => false,
     }
 }

@@ -8,6 +8,7 @@ ghost use Rattle.rinchovek_rules.specs.Promises.{FindsExact, FindsNearest, Read
 ghost use Rattle.rinchovek_rules.specs.Promises.{CountsSheet, ReplacesBlockCounted, ReplacesLineCounted, countsOfTen, tenOf};
 ghost use Rattle.rinchovek_rules.specs.Promises.{MovesToRows, MovesToTiles, OpensSheet, ReadsBlock, ShowsRow, StatesColour};
 ghost use Rattle.rinchovek_rules.specs.Promises.{ExportNeeds, ExportsColour, ExportsDds, ImportNeeds, ImportsColour, ImportsDds, ReadsColourHead};
+ghost use Rattle.rinchovek_rules.specs.Promises.{FindsChannel, FloatsPixel, FloatsRow};
 use bc6h::decode_into;
 use bc7::decode_bc7_block;
 use bc7_places::places::PLACES;
@@ -21,6 +22,9 @@ use dds::export_length;
 use dds::export_numbered;
 use dds::import_dds;
 use dds::import_length;
+use floats::channel_of_bits;
+use floats::pixel_floats;
+use floats::row_floats;
 use head_rules::ColourSpace;
 use head_rules::Form;
 use line::read_line;
@@ -50,7 +54,7 @@ use sheet_head::write_head;
 
 // Which version of the calls and their answers this is: 10000 times the major number, 100 times the minor one, and the patch. The
 // header has the same three.
-const VERSION: u32 = 11000;
+const VERSION: u32 = 11100;
 
 #[no_mangle]
 pub extern "C" fn rinchovek_version() -> u32
@@ -513,4 +517,34 @@ pub extern "C" fn rinchovek_sheet_replace_block_counted(
     let left = answer.counts;
     *counts = ten_of(left);
     0
+}
+
+// A pixel as four floats, red green blue alpha.
+#[no_mangle]
+pub extern "C" fn rinchovek_pixel_floats(pixel: &[u8; 4], floats: &mut [f32; 4])
+    ensures { λ _. ⌜ FloatsPixel (now (pixel .entry)) (now (floats .exit)) ⌝ }
+{
+    let made = pixel_floats(*pixel);
+    *floats = [made.red, made.green, made.blue, made.alpha];
+}
+
+// The channel whose float has these bits.
+#[no_mangle]
+pub extern "C" fn rinchovek_float_channel(bits: u32, channel: &mut u32) -> u32
+    ensures { λ r. ⌜ FindsChannel bits (now (channel .entry)) r (now (channel .exit)) ⌝ }
+{
+    let found = channel_of_bits(bits);
+    if found.refusal != 0 {
+        return found.refusal as u32;
+    }
+    *channel = found.channel as u32;
+    0
+}
+
+// The channels of a row as floats, one for each byte.
+#[no_mangle]
+pub extern "C" fn rinchovek_row_floats(pixels: &[u8], floats: &mut [f32]) -> u32
+    ensures { λ r. ⌜ FloatsRow (now (pixels .entry)) (now (floats .entry)) r (now (floats .exit)) ⌝ }
+{
+    row_floats(pixels, floats) as u32
 }

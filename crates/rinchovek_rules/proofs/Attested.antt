@@ -125,11 +125,11 @@ abbrev srgb53 : List ℕ
 srgb53 = set file53 128 99
 
 -- both sides of each clause compute to the same
-computed : {A : Type 0} {refusal : ℕ} {left : A} → Gives refusal left refusal left
+pub computed : {A : Type 0} {refusal : ℕ} {left : A} → Gives refusal left refusal left
 computed = record { answers = refl; leaves = refl }
 
 pub record Calls : Type 0 where
-  pub version : Versions (10000 * 1 + 100 * 10 + 0)
+  pub version : Versions (10000 * 1 + 100 * 11 + 0)
   pub decodes : Decodes block4 (half4 ++ half4)
   pub decodes-reserved : Decodes (zeros 16) (replicate 16 (rgba 0 0 0 0))
   pub unpacks : Unpacks block4 (nines 66) 0 (bytes4 3)

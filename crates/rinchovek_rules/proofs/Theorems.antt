@@ -24,6 +24,9 @@ use Rattle.rinchovek_rules.specs.Promises.{Decodes, Determined, Gives, P
 use Rattle.rinchovek_rules.specs.Promises.{ReadsHead, ReadsPixel, FindsExact, FindsNearest, ReplacesIn, TellsOpaque, WritesHead}
 use Rattle.rinchovek_rules.specs.Promises.{CountsSheet, ReplacesBlockCounted, ReplacesLineCounted}
 use Rattle.rinchovek_rules.specs.Promises.{MovesToRows, MovesToTiles, OpensSheet, ReadsBlock, ShowsRow, StatesColour}
+use lib.Ieee.{Float}
+use Rattle.float_rules.specs.Floats.{floatsAfter}
+use Rattle.rinchovek_rules.specs.Promises.{FindsChannel, FloatsPixel, FloatsRow}
 use Rattle.rinchovek_rules.specs.Promises.{ExportNeeds, ExportsColour, ExportsDds, ImportNeeds, ImportsColour, ImportsDds, ReadsColourHead}
 
 one-given : {A : Type 0} (refusal : ℕ) (left : A) → Determined (Gives refusal left)
@@ -130,6 +133,15 @@ determined-dds-import-length dds before = one-given _ _
 pub determined-dds-export-length : (sheet : List ℕ) (before : ℕ) → Determined (ExportNeeds sheet before)
 determined-dds-export-length sheet before = one-given _ _
 
+pub determined-pixel-floats : (pixel : List ℕ) (x y : List Float) → FloatsPixel pixel x → FloatsPixel pixel y → x ≡ y
+determined-pixel-floats pixel x y p q = p ∙ sym q
+
+pub determined-float-channel : (bits before : ℕ) → Determined (FindsChannel bits before)
+determined-float-channel bits before = one-given _ _
+
+pub determined-row-floats : (pixels : List ℕ) (before : List Float) → Determined (FloatsRow pixels before)
+determined-row-floats pixels before = one-given _ _
+
 -- where the answer is not 0, what is left is what was
 abbrev pub Leaves : {A : Type 0} → A → (ℕ → A → Type 0) → Type 0
 Leaves {A} before promise = (answer : ℕ) (after : A) → promise answer after → answer ≢ 0 → after ≡ before
@@ -231,6 +243,13 @@ refused-dds-import-length-leaves dds before = refused-leaves _ _ before
 
 pub refused-dds-export-length-leaves : (sheet : List ℕ) (before : ℕ) → Leaves before (ExportNeeds sheet before)
 refused-dds-export-length-leaves sheet before = refused-leaves _ _ before
+
+pub refused-float-channel-leaves : (bits before : ℕ) → Leaves before (FindsChannel bits before)
+refused-float-channel-leaves bits before = refused-leaves _ _ before
+
+pub refused-row-floats-leaves : (pixels : List ℕ) (before : List Float) → Leaves before (FloatsRow pixels before)
+unfolding floatsAfter
+refused-row-floats-leaves pixels before = refused-leaves _ _ before
 
 -- what one pixel's call leaves is what decoding the block leaves there, whatever stood before
 pub pixel-is-the-decoded : (block : List ℕ) (pixel : ℕ) (before after : List ℕ) (answer : ℕ) (sixteen : List (List ℕ))

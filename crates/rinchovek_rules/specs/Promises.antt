@@ -36,6 +36,8 @@ use Rattle.move_rules.specs.Stating.{stateAfter, stateRefusal}
 use Rattle.count_rules.specs.declared.Counts.{Counts}
 use Rattle.count_rules.specs.Counts.{countedOf}
 use Rattle.count_rules.specs.Keeping.{blockMade, keptCounts, keptRefusal, keptSheet, ofMode}
+use lib.Ieee.{Float}
+use Rattle.float_rules.specs.Floats.{channelFound, floatsAfter, floatsOf, floatsRefusal}
 
 -- this number is answered, and this is left
 pub record Gives {A : Type 0} (refusal : ℕ) (left : A) (answer : ℕ) (after : A) : Type 0 where
@@ -46,9 +48,9 @@ pub record Gives {A : Type 0} (refusal : ℕ) (left : A) (answer : ℕ) (after :
 abbrev pub Writes : {A : Type 0} → ℕ → A → A → ℕ → A → Type 0
 Writes refusal value before = Gives refusal (pick (eqb refusal 0) value before)
 
--- version 1.10.0: major, minor and patch, with two digits for each of the last two
+-- version 1.11.0: major, minor and patch, with two digits for each of the last two
 abbrev pub Versions : ℕ → Type 0
-Versions answer = answer ≡ 11000
+Versions answer = answer ≡ 11100
 
 abbrev pub Decodes : List ℕ → List (List ℕ) → Type 0
 Decodes block after = after ≡ pixels block
@@ -194,6 +196,16 @@ ImportNeeds dds before = Writes (importLength dds .refusal) (importLength dds .l
 
 abbrev pub ExportNeeds : List ℕ → ℕ → ℕ → ℕ → Type 0
 ExportNeeds sheet before = Writes (exportLength sheet .refusal) (exportLength sheet .length) before
+
+-- a pixel as four floats: a call that refuses nothing; the channel of a float by its bits; and a row, a float for each byte
+abbrev pub FloatsPixel : List ℕ → List Float → Type 0
+FloatsPixel pixel after = after ≡ floatsOf 4 pixel
+
+abbrev pub FindsChannel : ℕ → ℕ → ℕ → ℕ → Type 0
+FindsChannel bits before = Writes (channelFound bits .refusal) (channelFound bits .channel) before
+
+abbrev pub FloatsRow : List ℕ → List Float → ℕ → List Float → Type 0
+FloatsRow pixels before = Gives (floatsRefusal (length pixels) (length before)) (floatsAfter pixels before)
 
 -- a promise admits one answer, and one state of what was lent
 abbrev pub Determined : {A : Type 0} → (ℕ → A → Type 0) → Type 0

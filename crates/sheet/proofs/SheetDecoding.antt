@@ -39,7 +39,8 @@ module _ (s : List ℕ) (row : ℕ) (out : List ℕ) {x : Head} (ex : x ≡ whol
 
     pub not-drawn : {n : ℕ} → Given (rowBehindWhole x row (length out)) n → n ≢ 0 → DecodesSheetRow s row out n out
     not-drawn {n} g ne =
-        undrawn (exactly (handing s row (length out)) n .1 (then fits (subst (λ (h : Head). Given (rowBehindWhole h row (length out)) n) head-is g))) ne
+        undrawn (exactly (handing s row (length out)) n .1
+        (then fits (subst (λ (h : Head). Given (rowBehindWhole h row (length out)) n) head-is g))) ne
 
     pub is-drawn : Met (rowBehindWhole x row (length out)) → {scan : ℕ} → scan ≡ sideShown (x .height) row
         → {after : List ℕ} → after ≡ rowBytes (x .width) scan (rowBlocks s row) → DecodesSheetRow s row out 0 after

@@ -10,6 +10,8 @@ use crate::rows::put_sheet_row;
 use crate::rows::row_refusal;
 use block_bytes::load;
 use block_bytes::store;
+use refusals::BEYOND_SHEET;
+use refusals::WRONG_OUTPUT_LENGTH;
 use sheet_head::geometry::blocks_across;
 use sheet_head::geometry::out_length;
 use sheet_head::geometry::shown_in;
@@ -47,11 +49,11 @@ pub fn decode_sheet_row(sheet: &[u8], row: u32, out: &mut [u8]) -> u8
         return head.refusal;
     }
     if row >= blocks_across(head.height) {
-        return 12;
+        return BEYOND_SHEET;
     }
     let scanlines = shown_in(head.height as usize, row as usize);
     if out.len() != out_length(head.width as usize, scanlines) {
-        return 11;
+        return WRONG_OUTPUT_LENGTH;
     }
     put_sheet_row(head, row, scanlines, sheet, out);
     0

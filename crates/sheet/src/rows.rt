@@ -8,6 +8,9 @@ ghost use Rattle.sheet.specs.Columns.{SheetRow, WholeRow};
 use crate::output::put_block;
 use block_bytes::load;
 use head_rules::Head;
+use refusals::BEYOND_SHEET;
+use refusals::WRONG_BLOCK_BYTES;
+use refusals::WRONG_OUTPUT_LENGTH;
 use sheet_head::geometry::blocks_across;
 use sheet_head::geometry::out_length;
 use sheet_head::geometry::place_of;
@@ -23,13 +26,13 @@ pub fn row_refusal(width: u32, height: u32, row: u32, given: usize, room: usize)
         return size;
     }
     if row >= blocks_across(height) {
-        return 12;
+        return BEYOND_SHEET;
     }
     if given != row_length(width) {
-        return 10;
+        return WRONG_BLOCK_BYTES;
     }
     if room != out_length(width as usize, shown_in(height as usize, row as usize)) {
-        return 11;
+        return WRONG_OUTPUT_LENGTH;
     }
     0
 }

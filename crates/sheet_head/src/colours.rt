@@ -4,6 +4,7 @@ ghost use Rattle.head_rules.specs.Colours.{colourNumber, colourOf, colourRefusa
 ghost use Rattle.head_rules.specs.Heads.{under};
 use head_rules::ColourSpace;
 use head_rules::Head;
+use refusals::BAD_COLOUR_SPACE;
 
 // The numbers of the colour spaces: unspecified is 0.
 const LINEAR: u32 = 1;
@@ -38,7 +39,7 @@ pub fn colour_refusal(number: u32) -> u8
     ensures { λ r. ⌜ r ≡ colourRefusal number ⌝ }
 {
     if number > SRGB {
-        return 18;
+        return BAD_COLOUR_SPACE;
     }
     0
 }

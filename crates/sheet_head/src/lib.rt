@@ -20,6 +20,10 @@ use head_rules::Head;
 use head_rules::HeadBytes;
 use head_rules::HeadReader;
 use head_rules::Number;
+use refusals::BAD_NUMBER;
+use refusals::BAD_SIDE;
+use refusals::UNKNOWN_FORM;
+use refusals::WRONG_BLOCK_BYTES;
 
 pub mod colours;
 pub mod geometry;
@@ -53,7 +57,7 @@ fn no_number() -> Number
     ensures { λ r. ⌜ r ≡ noNumber ⌝ }
 {
     Number {
-        refusal: 7,
+        refusal: BAD_NUMBER,
         value: 0,
         next: 0,
     }
@@ -117,16 +121,16 @@ pub fn size_refusal(width: u32, height: u32) -> u8
     ensures { λ r. ⌜ r ≡ sizeRefusal width height ⌝ }
 {
     if width < 1 {
-        return 9;
+        return BAD_SIDE;
     }
     if width > LIMIT {
-        return 9;
+        return BAD_SIDE;
     }
     if height < 1 {
-        return 9;
+        return BAD_SIDE;
     }
     if height > LIMIT {
-        return 9;
+        return BAD_SIDE;
     }
     0
 }
@@ -177,7 +181,7 @@ pub fn read_of_form(form: Form, sheet: &[u8]) -> Head
         return no_head(number.refusal);
     }
     if number.value != number_of_form(form) {
-        return no_head(8);
+        return no_head(UNKNOWN_FORM);
     }
     read_head(sheet)
 }
@@ -193,7 +197,7 @@ pub fn read_of_form_with(form: Form, refusal: u8, sheet: &[u8]) -> Head
     if head.refusal == 0 {
         return no_head(refusal);
     }
-    if head.refusal == 9 {
+    if head.refusal == BAD_SIDE {
         return no_head(refusal);
     }
     head
@@ -209,7 +213,7 @@ pub fn whole(head: Head, sheet: &[u8]) -> Head
         return no_head(head.refusal);
     }
     if sheet.len() != whole_length(head) {
-        return no_head(10);
+        return no_head(WRONG_BLOCK_BYTES);
     }
     head
 }

@@ -18,6 +18,8 @@ use head_rules::Form;
 use head_rules::Head;
 use head_rules::HeadReader;
 use head_rules::Stage;
+use refusals::BAD_NUMBER;
+use refusals::UNKNOWN_FORM;
 
 // Before a number.
 fn at_stage(stage: Stage, head: Head) -> HeadReader
@@ -101,7 +103,7 @@ fn take_form(n: u32, next: u32) -> HeadReader
             known(Form::Tiles, ColourSpace::Unspecified, 0, 0, next),
         );
     }
-    refused_with(8)
+    refused_with(UNKNOWN_FORM)
 }
 
 // All numbers of a head have come.
@@ -188,7 +190,7 @@ fn take_last(reader: HeadReader, byte: u8) -> HeadReader
     ensures { λ r. ⌜ r ≡ lastTaken reader byte ⌝ }
 {
     if empty_above(byte, reader.groups) {
-        return refused_with(7);
+        return refused_with(BAD_NUMBER);
     }
     let head = reader.head;
     let n = reader.low + group(wide(byte), reader.groups);
@@ -201,7 +203,7 @@ fn take_group(reader: HeadReader, byte: u8) -> HeadReader
     ensures { λ r. ⌜ r ≡ groupTaken reader byte ⌝ }
 {
     if reader.groups == 2 {
-        return refused_with(7);
+        return refused_with(BAD_NUMBER);
     }
     let stage = reader.stage;
     let head = reader.head;

@@ -52,7 +52,8 @@ at-hand : (c : tie.After-struct-known2)
 at-hand c =
     let i = c .before .before .before in
     let w = i .before .before in
-    ready _ _ (head-of w) (i .if1 .left) (c .before .before .colour-refusal .ensures) (λ k. w .before .before .before .before .slice-known .given k .fits)
+    ready _ _ (head-of w) (i .if1 .left) (c .before .before .colour-refusal .ensures)
+    (λ k. w .before .before .before .before .slice-known .given k .fits)
     (c .before .if2 .left)
 
 sub-at : tie.Need-sub-at

@@ -51,7 +51,10 @@ cast-out-length c = search needs
 out-length-requires : tie.Need-out-length-requires
 out-length-requires c κs =
     let told = c .before .before .before .before .before in
-    record { wide = size-is _ 0 [] (head-of (told .before .before)) (told .if1 .left) .within-wide; few = omega (arith, c .before .shown-in .ensures) }
+    record {
+      wide = size-is _ 0 [] (head-of (told .before .before)) (told .if1 .left) .within-wide;
+      few = omega (arith, c .before .shown-in .ensures);
+    }
 
 returns-3 : tie.Need-returns-3
 returns-3 c =

@@ -1,0 +1,2 @@
+-- What looking for the first block that breaks the profile asks, and what it keeps.
+pub mod Looking

@@ -1,0 +1,3 @@
+-- What the profile admits, and what its calls answer.
+pub mod Profile
+pub mod Small
