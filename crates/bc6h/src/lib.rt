@@ -2,6 +2,9 @@
 // that none is below zero; the weights of a drawing sum to 64, so what is drawn is as much more.
 //
 // Sixteen endpoint lanes and 64 palette lanes of sixteen bits are worked on in loops without branches, which the compiler turns into vectors.
+
+#![tactic(auto)]
+
 ghost use Rattle.std.specs.Prelude.{◌≡◌, ◌+◌, ◌*◌, ◌^◌, true, false, T};
 ghost use Rattle.bcn_format.specs.Partitions.{among};
 ghost use Rattle.bc6h_format.specs.Halves.{halves};

@@ -1,5 +1,8 @@
 // One block to sixteen pixels: the port of the Rust's src/decode/bc7.rs, whose modes stand in bc7_unpartitioned and bc7_subsets. Here the
 // mode is found and its function called.
+
+#![tactic(auto)]
+
 ghost use Rattle.std.specs.Prelude.{◌≡◌};
 ghost use Rattle.bcn_format.specs.Block.{field, trailing};
 ghost use Rattle.bits.specs.Stream.{Room, held};

@@ -13,7 +13,7 @@ ghost use Rattle.bc7_drawing.specs.Words.{laned, lanes_of, word_bytes, woven, bl
 ghost use Rattle.bc7_drawing.specs.Words.{plain, with_alpha, with_p};
 
 // What a block stores of a colour: each value has a channel of both endpoints, the first one's in the low bits, and p both p bits.
-#[derive(Drop)]
+#[derive(Clone, Copy)]
 pub struct Stored {
     pub r: u64,
     pub g: u64,
@@ -23,7 +23,7 @@ pub struct Stored {
 }
 
 // Both endpoints of two colours: red and blue of the first endpoint, green and alpha, and the same of the second.
-#[derive(Drop)]
+#[derive(Clone, Copy)]
 pub struct Ends {
     pub rb0: u64,
     pub ga0: u64,

@@ -1,11 +1,14 @@
 // The table of modes by rows, and the mode of a block.
+
+#![tactic(auto)]
+
 ghost use Rattle.std.specs.Prelude.{◌≡◌, ◌<◌};
 ghost use Rattle.bc7_format.specs.Modes.{mode_of};
 ghost use Rattle.bc7_modes.specs.Modes.{mode_row_as, mode_row_of};
 
 // A row of the table. The kind of split: 0 whole, 1 two subsets, 2 three subsets, 3 vector and scalar. `indexes` asks for the number of
 // fix-ups, and is told the kind: kinds 1 and 2 have as many, the others none.
-#[derive(Drop)]
+#[derive(Clone, Copy)]
 pub struct ModeRow {
     pub lines: u32,
     pub kind: u8,

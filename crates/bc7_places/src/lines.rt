@@ -10,14 +10,14 @@ use bc7_format::Split;
 use bc7_modes::ModeRow;
 
 // The pixels of a line: those whose subset is `subset`.
-#[derive(Drop)]
+#[derive(Clone, Copy)]
 pub struct Pixels {
     pub subsets: Subsets,
     pub subset: u32,
 }
 
 // Widths are 0 where the line hasn't got the part.
-#[derive(Drop)]
+#[derive(Clone, Copy)]
 pub struct LinePart {
     pub colour: u32,
     pub alpha: u32,

@@ -116,7 +116,7 @@ pub fn width_of(mode: u8, row: ModeRow, anchors: Anchors, place: Place) -> u32
 }
 
 // Where the fields of a line start: the pair of each channel, the p bits of the mode, the set of the line's indexes.
-#[derive(Drop)]
+#[derive(Clone, Copy)]
 pub struct Fields {
     pub red: u32,
     pub green: u32,

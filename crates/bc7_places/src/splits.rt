@@ -87,7 +87,7 @@ pub fn split_of_kind(kind: u8, partition: u8, rotation: u8, index_mode: u8) -> S
 }
 
 // The pixels that are anchors, as three numbers: pixel 0 again where a split has fewer.
-#[derive(Drop)]
+#[derive(Clone, Copy)]
 pub struct Anchors {
     pub a: usize,
     pub b: usize,
@@ -125,7 +125,7 @@ pub fn anchors_of(split: Split) -> Anchors
 }
 
 // The subsets of the pixels: pixel q's has `bits` bits of the map, from bit q * bits on.
-#[derive(Drop)]
+#[derive(Clone, Copy)]
 pub struct Subsets {
     pub map: u32,
     pub bits: u32,
@@ -165,7 +165,7 @@ pub fn subset_of(subsets: Subsets, pixel: usize) -> u32
 }
 
 // The split, and the stream past it.
-#[derive(Drop)]
+#[derive(Clone, Copy)]
 pub struct ReadSplit {
     pub split: Split,
     pub stream: BitStream,

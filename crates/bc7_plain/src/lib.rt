@@ -2,6 +2,9 @@
 // partition's string walked for subset and anchors. It names no other crate with code, so that what it has in common with the decoder are
 // the sixteen bytes and the definition of the format. In the order of the page: bits, mode, split, where a field starts, endpoint,
 // promotion, index, weight, channel, rotation.
+
+#![tactic(auto)]
+
 ghost use Rattle.std.specs.Prelude.{◌≡◌, ◌+◌, ◌*◌, ◌<◌};
 ghost use Rattle.laws.specs.Tables.{table};
 ghost use Rattle.bcn_format.specs.Block.{field, number};
@@ -98,7 +101,7 @@ fn column(mode: usize, name: usize) -> usize
 }
 
 // The split: what stands behind the marker. What a mode hasn't got has no bits, and is 0.
-#[derive(Drop)]
+#[derive(Clone, Copy)]
 struct SplitBits {
     partition: usize,
     rotation: usize,

@@ -1,5 +1,8 @@
 // The small decoder of the hand-held unit: the modes 4, 5 and 6, which have no partitions, and 20 for a block of any other. It stands on no
 // partition table, and needs no vector instructions.
+
+#![tactic(auto)]
+
 ghost use Rattle.profile_rules.specs.Small.{DecodesSmall};
 
 use bc7_modes::mode_of;

@@ -1,4 +1,7 @@
 // The modes whose blocks are split into subsets by a partition: two subsets in modes 1, 3 and 7, three in modes 0 and 2.
+
+#![tactic(auto)]
+
 ghost use Rattle.bits.specs.Stream.{Taken};
 ghost use Rattle.bc7_subsets.specs.Asked.{PartitionAhead, partition_width};
 

@@ -1,6 +1,9 @@
 // The modes without partitions: 4 and 5, a vector and its scalar, and 6, which is whole. In 4 and 5 each pixel takes red, green and
 // blue by one index and alpha by the other, and the rotation comes last. A channel of both endpoints is read as one value, for they are
 // stored side by side: ten bits of it are two values of five.
+
+#![tactic(auto)]
+
 ghost use Rattle.std.specs.Prelude.{◌≡◌, ◌++◌, ◌+◌, ◌*◌, ◌/◌, ◌%◌, ◌<◌, drop, get_or, replicate, take};
 ghost use Rattle.laws.specs.Digits.{join};
 ghost use Rattle.laws.specs.Tables.{pick, table};

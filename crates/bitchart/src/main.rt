@@ -3,6 +3,9 @@
 //
 // A program has no exit status. Started with an argument, whatever it is, it says `refused` on standard error where the input was
 // refused, so that the one who started it can tell.
+
+#![tactic(auto)]
+
 ghost use Rattle.std.specs.Prelude.{◌≤◌, length};
 ghost use Rattle.chart_rules.specs.Charts.{wanted_bytes};
 
@@ -10,7 +13,7 @@ use libc::STDERR_FILENO;
 use pipes::{read_wanted, write_whole};
 
 // How a run ends.
-#[derive(Drop)]
+#[derive(Clone, Copy)]
 enum Outcome {
     Charted,
     Refused,

@@ -28,7 +28,7 @@ in_order {n} {a} {s} o (w ∷ ws) h none zero l =
       leaves = rw (add-zero a) (left o w e);
     }
 in_order {n} {a} {s} o (w ∷ ws) h none (suc i) l =
-    let behind = in_order (on_read o w (accepts o w (omega arith) refl)) ws (omega arith) none i (le_of_suc-le-suc l) in
+    let behind = in_order {a = a + w} (on_read o w (accepts o w (omega arith) refl)) ws (omega arith) none i (le_of_suc-le-suc l) in
     let before : a + w + total (take i ws) ≡ a + (total (take i ws) + w) = omega arith in
     record {
       accepted = behind.accepted;

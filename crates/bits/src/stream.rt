@@ -6,7 +6,7 @@ ghost use Rattle.bcn_format.specs.Block.{number};
 ghost use Rattle.bits.specs.Stream.{answered, On, Reads, Room, short_read, skipped, Taken};
 
 // Bits count from the lowest of `low`, which is byte 0's, to the highest of `high`.
-#[derive(Drop)]
+#[derive(Clone, Copy)]
 pub struct BitStream {
     pub low: u64,
     pub high: u64,
@@ -15,7 +15,7 @@ pub struct BitStream {
 
 // What every read answers: 0, or 22 where it wants more bits than remain; the value; the number of its first bit; how many of the 128
 // bits remain afterwards; and the stream behind it. A refused read has the value 0, and leaves the stream where it stands.
-#[derive(Drop)]
+#[derive(Clone, Copy)]
 pub struct Read {
     pub refusal: u32,
     pub value: u64,

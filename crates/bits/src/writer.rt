@@ -5,7 +5,7 @@ ghost use Rattle.bits.specs.Writer.{Pushable, pushed, writer_of, written};
 
 use crate::stream::BitStream;
 
-#[derive(Drop)]
+#[derive(Clone, Copy)]
 pub struct BitWriter {
     pub low: u64,
     pub high: u64,

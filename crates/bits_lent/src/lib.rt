@@ -1,6 +1,9 @@
 // The reader lent, as in the Rust: each function moves its caller's stream forward, or leaves it where the read is refused. It takes the
 // stream out, calls the function by value of `bits`, stores the stream that comes back, and hands on the answer; its promise names
 // what that function gives. The decoder reads by value.
+
+#![tactic(auto)]
+
 ghost use Rattle.std.specs.Prelude.{◌≡◌, ◌+◌, ◌≤◌, ◌<◌};
 ghost use Rattle.bcn_format.specs.Block.{number};
 ghost use Rattle.bits.specs.Stream.{read_of, skipped};
@@ -43,7 +46,7 @@ pub fn consume_bits_64(stream: &mut BitStream, count: u32) -> Read
 
 // How a mode 4 block opens, past its marker: the reads of the rotation, the index mode, and the eight endpoint values as one word, the
 // first lowest.
-#[derive(Drop)]
+#[derive(Clone, Copy)]
 pub struct Opening {
     pub rotation: Read,
     pub index_mode: Read,

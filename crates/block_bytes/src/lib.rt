@@ -1,4 +1,7 @@
 // A block among bytes: taken from its place, and stored there. What the bytes are, a sheet or a part of one, isn't known here.
+
+#![tactic(auto)]
+
 ghost use Rattle.std.specs.Prelude.{◌≡◌, ◌+◌, ◌≤◌, length};
 ghost use Rattle.bcn_format.specs.Block.{block_at, put_block};
 

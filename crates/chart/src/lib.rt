@@ -1,5 +1,8 @@
 // The bit chart of a block: where each of its fields stands. One walk over the places in stored order: a place that has bits gets a
 // text, and the next one starts behind its bits. All that decides what is printed stands here; a program only reads and writes.
+
+#![tactic(auto)]
+
 ghost use Rattle.std.specs.Prelude.{◌≡◌, length};
 ghost use Rattle.laws.specs.Padding.{Written};
 ghost use Rattle.bc7_format.specs.Places.{place_count};

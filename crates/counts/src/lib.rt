@@ -1,5 +1,8 @@
 // Counts kept beside a sheet: how many blocks have each mode and how many are opaque, counted once, and handed on by the calls that replace a
 // line of a block or a whole block. Each call takes every input and says why it refuses one.
+
+#![tactic(auto)]
+
 ghost use Rattle.std.specs.Prelude.{◌≡◌, true, ◌≢◌, ◌+◌, ◌-◌, ◌<◌};
 ghost use Rattle.laws.specs.Tables.{pick};
 ghost use Rattle.count_rules.specs.Counts.{CountsSheet, counted, counts_below, counts_of, no_counts};
@@ -143,7 +146,7 @@ fn false_refusal(counts: Counts, blocks: u32, mode: u8, opaque: bool) -> u8
 }
 
 // The block that a call names, and what it is counted as, with the head of its sheet; or why there is none.
-#[derive(Drop)]
+#[derive(Clone, Copy)]
 pub struct NamedBlock {
     pub refusal: u8,
     pub head: Head,

@@ -1,6 +1,9 @@
 // DDS files with the DX10 extension, in and out: a file imported to a sheet, a sheet exported to a file, and how long the output of either
 // has to be. Every call takes every input and says why it refuses one. Where the fields of the header stand, and what they have to be, is
 // named here and nowhere else in the code.
+
+#![tactic(auto)]
+
 ghost use Rattle.std.specs.Prelude.{◌≡◌, ◌++◌, ◌+◌, ◌≤◌, drop, length, take};
 ghost use Rattle.head_rules.specs.Heads.{Sized};
 ghost use Rattle.laws.specs.Tables.{table};

@@ -1,8 +1,10 @@
 // DDS files with the DX10 extension: what the 148 bytes of their header are, what importing one to a sheet and exporting a sheet to one
 // mean, and that the way there and back restores the bytes. Definitions and theorems, no code.
 
+#![tactic(auto)]
+
 // How many bytes a call needs for its output; 0 where it would be refused whatever the output's length.
-#[derive(Drop)]
+#[derive(Clone, Copy)]
 pub struct Length {
     pub refusal: u8,
     pub length: u32,

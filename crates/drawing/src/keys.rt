@@ -12,7 +12,7 @@ ghost use Rattle.drawing.specs.Asked.{IsKey, Key, Moved};
 ghost use Rattle.drawing.specs.Keys.{keys_of};
 
 // Those of the eight even and of the eight odd pixels.
-#[derive(Drop)]
+#[derive(Clone, Copy)]
 pub struct Keys {
     pub even: u64,
     pub odd: u64,

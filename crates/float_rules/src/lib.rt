@@ -1,7 +1,9 @@
 // What a pixel is as floats, and which channel a float is: definitions and theorems, no code. The crate `floats` has it.
 
+#![tactic(auto)]
+
 // A pixel as the blending code takes it.
-#[derive(Drop)]
+#[derive(Clone, Copy)]
 pub struct FloatPixel {
     pub red: f32,
     pub green: f32,
@@ -10,7 +12,7 @@ pub struct FloatPixel {
 }
 
 // The channel that a float is. A refusal has 0.
-#[derive(Drop)]
+#[derive(Clone, Copy)]
 pub struct ChannelFound {
     pub refusal: u8,
     pub channel: u8,

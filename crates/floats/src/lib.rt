@@ -1,4 +1,7 @@
 // Pixels as floats, for blending, and the way back from one float to its channel.
+
+#![tactic(auto)]
+
 ghost use Rattle.std.specs.Prelude.{◌≡◌};
 ghost use Rattle.float_rules.specs.Floats.{no_channel};
 ghost use Rattle.float_rules.specs.Promises.{FindsChannel, FindsChannelOf, FloatsChannel, FloatsPixel, FloatsRow};

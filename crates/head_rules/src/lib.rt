@@ -1,8 +1,10 @@
 // The head of a sheet and its geometry, as definitions (specs/) and their laws (proofs/), and no code: how a number is spelt, what is read
 // of bytes and what is written, the reader that takes them one by one, how many blocks a sheet has and where each stands.
 
+#![tactic(auto)]
+
 // A number, and the place behind its last byte; zeros where it is refused.
-#[derive(Drop)]
+#[derive(Clone, Copy)]
 pub struct Number {
     pub refusal: u8,
     pub value: u32,
@@ -10,14 +12,14 @@ pub struct Number {
 }
 
 // The form of a sheet: 1 stores its blocks row by row; 2 stores them in tiles, and behind the height the number of its colour space.
-#[derive(Drop)]
+#[derive(Clone, Copy)]
 pub enum Form {
     Rows,
     Tiles,
 }
 
 // What is known of a sheet's colours. Bytes of form 1 have no room for it.
-#[derive(Drop)]
+#[derive(Clone, Copy)]
 pub enum ColourSpace {
     Unspecified,
     Linear,
@@ -26,7 +28,7 @@ pub enum ColourSpace {
 
 // The form, width and height in pixels, the place of the first block, and the colour space; form 1, zeros and unspecified where the head is
 // refused.
-#[derive(Drop)]
+#[derive(Clone, Copy)]
 pub struct Head {
     pub refusal: u8,
     pub form: Form,
@@ -37,7 +39,7 @@ pub struct Head {
 }
 
 // The bytes of a head and their count, with zeros behind; zeros where the head is refused.
-#[derive(Drop)]
+#[derive(Clone, Copy)]
 pub struct HeadBytes {
     pub refusal: u8,
     pub bytes: [u8; 7],
@@ -45,14 +47,14 @@ pub struct HeadBytes {
 }
 
 // The same of either form, whose head is of a size that there is.
-#[derive(Drop)]
+#[derive(Clone, Copy)]
 pub struct FormBytes {
     pub bytes: [u8; 8],
     pub count: u8,
 }
 
 // Which number of the head is to come; or the head has ended, accepted or refused.
-#[derive(Drop)]
+#[derive(Clone, Copy)]
 pub enum Stage {
     Form,
     Width,
@@ -63,7 +65,7 @@ pub enum Stage {
 
 // The stage; how many groups of its number have come, and what they spell; and what is known of the head, whose `start` is the
 // place behind the last number that came whole.
-#[derive(Drop)]
+#[derive(Clone, Copy)]
 pub struct HeadReader {
     pub stage: Stage,
     pub low: u32,

@@ -1,6 +1,9 @@
 // The index expansion of the Rust's `bcn_util.rs`: sixteen indexes of one width in one number. They are stored with a bit less
 // at each anchor, and expanded whole before use, as the Rust does, so that drawing is a loop over equal parts. The Rust keeps
 // a mask beside the width; here an index is the rest by `1 << bits`.
+
+#![tactic(auto)]
+
 ghost use Rattle.std.specs.Prelude.{◌≡◌, [], ◌∷◌, ◌+◌, ◌-◌, ◌*◌, ◌≤◌, ◌<◌};
 ghost use Rattle.laws.specs.Digits.{inserted};
 ghost use Rattle.bcn_format.specs.Indexes.{IndexWidth};
@@ -12,14 +15,14 @@ pub mod sets;
 pub mod storing;
 
 // Index i is the i-th part of `bits` bits of the word.
-#[derive(Drop)]
+#[derive(Clone, Copy)]
 pub struct Indexes {
     pub uncompressed: u64,
     pub bits: u32,
 }
 
 // Indexes read from a stream, and the stream past them.
-#[derive(Drop)]
+#[derive(Clone, Copy)]
 pub struct NewIndexes {
     pub indexes: Indexes,
     pub stream: BitStream,

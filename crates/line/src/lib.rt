@@ -1,6 +1,9 @@
 // Replacing a line of a block and reading one: an endpoint pair with its p bits and its indexes. Of the block only the lead is read,
 // which says where the line's own fields stand. They are put into the block's number, turned where the index at the line's anchor has
 // its top bit set, and nothing else changes; or they are taken out of it.
+
+#![tactic(auto)]
+
 ghost use Rattle.std.specs.Prelude.{◌≡◌, not, eqb, get_or};
 ghost use Rattle.laws.specs.Tables.{both};
 ghost use Rattle.bcn_format.specs.Block.{bytes_of};
@@ -27,7 +30,7 @@ pub mod parts;
 pub mod reading;
 
 // A block's number, with the stream where its values start, and the parts of a line of it.
-#[derive(Drop)]
+#[derive(Clone, Copy)]
 pub struct Opened {
     pub stream: BitStream,
     pub part: LinePart,

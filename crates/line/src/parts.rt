@@ -83,7 +83,7 @@ pub fn only_own(indexes: u64, mask: u64) -> bool
 }
 
 // A line as it is stored, its indexes in one word.
-#[derive(Drop)]
+#[derive(Clone, Copy)]
 pub struct StoredLine {
     pub endpoints: [u8; 8],
     pub p: [u8; 2],

@@ -16,7 +16,7 @@ use indexes::sets::{parts_of, read_indexes};
 use line_rules::Replacement;
 
 // What the first and the second endpoint have.
-#[derive(Drop)]
+#[derive(Clone, Copy)]
 pub struct PerEndpoint {
     pub first: u8,
     pub second: u8,

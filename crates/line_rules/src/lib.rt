@@ -1,9 +1,11 @@
 // Reading and replacing a line of a block, as definitions (specs/) and their laws (proofs/), and no code: which calls are refused,
 // what block a call leaves, what any list of calls leaves and draws, and what is read of it (proofs/Theorems).
 
+#![tactic(auto)]
+
 // A line as it is given: endpoint k, channel c at 4 * k + c; an index of the line's full width for each pixel. What the line
 // hasn't got is zero.
-#[derive(Drop)]
+#[derive(Clone, Copy)]
 pub struct Replacement {
     pub endpoints: [u8; 8],
     pub p: [u8; 2],
@@ -11,7 +13,7 @@ pub struct Replacement {
 }
 
 // A refusal hands back the block that was given.
-#[derive(Drop)]
+#[derive(Clone, Copy)]
 pub struct Replaced {
     pub refusal: u8,
     pub block: [u8; 16],
@@ -19,7 +21,7 @@ pub struct Replaced {
 
 // A line as it stands, and how many bits each of its parts has, in the same order: none where the line hasn't got the part. A
 // refusal has zeros in both.
-#[derive(Drop)]
+#[derive(Clone, Copy)]
 pub struct LineRead {
     pub refusal: u8,
     pub line: Replacement,

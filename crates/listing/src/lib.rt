@@ -1,6 +1,9 @@
 // The listing of a sheet that comes in pieces, as a machine: it says how many bytes it wants next, takes what came (fewer than
 // it wanted where the input ended), and answers its next state and the text to write. All that decides what is printed stands
 // here and below; a program only reads and writes.
+
+#![tactic(auto)]
+
 ghost use Rattle.std.specs.Prelude.{◌≡◌, ◌+◌, ◌*◌, ◌/◌, ◌≤◌, eqb, length};
 ghost use Rattle.laws.specs.Tables.{pick};
 ghost use Rattle.head_rules.specs.Geometry.{number_at};

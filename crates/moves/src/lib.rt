@@ -1,5 +1,8 @@
 // Moves of a sheet between its forms: from form 1 to form 2 with number 0, and back where nothing is lost; and the colour space of a sheet
 // of form 2 stated, which is what a move back would lose. Each call takes every input and says why it refuses one.
+
+#![tactic(auto)]
+
 ghost use Rattle.std.specs.Prelude.{◌≡◌, length};
 ghost use Rattle.head_rules.specs.declared.Form.TheVariants.{Rows, Tiles};
 ghost use Rattle.head_rules.specs.Geometry.{whole_length};

@@ -1,5 +1,8 @@
 // Which index of a line draws a wanted colour at a pixel: the nearest one, and the one that hits it. The line is read as it stands;
 // then every index of its width is tried.
+
+#![tactic(auto)]
+
 ghost use Rattle.std.specs.Prelude.{◌≡◌, true, ◌+◌, ◌-◌, ◌*◌, ◌^◌, ◌≤◌, ◌<◌};
 ghost use Rattle.bcn_format.specs.Drawing.{drawn, promoted};
 ghost use Rattle.bc7_format.specs.Lines.{rotated as rotatedChannel};
@@ -20,7 +23,7 @@ use weights::weight_64;
 
 // A shown channel of a pixel: what the line's endpoints have there as eight bits, and what is wanted. A channel that the line doesn't
 // draw doesn't count.
-#[derive(Drop)]
+#[derive(Clone, Copy)]
 pub struct Channel {
     pub counts: bool,
     pub first: u32,
@@ -29,14 +32,14 @@ pub struct Channel {
 }
 
 // The nearest index, and how far it is.
-#[derive(Drop)]
+#[derive(Clone, Copy)]
 pub struct Nearest {
     pub index: u32,
     pub distance: u32,
 }
 
 // The same, or a refusal.
-#[derive(Drop)]
+#[derive(Clone, Copy)]
 pub struct Tried {
     pub refusal: u8,
     pub index: u8,

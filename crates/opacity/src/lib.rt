@@ -1,5 +1,8 @@
 // Is a block opaque, by what is visible of it? Modes 0 to 3 store no alpha, so their blocks are, and aren't decoded for it. Any other is
 // drawn once, and looked at up to the first visible pixel whose alpha isn't 255.
+
+#![tactic(auto)]
+
 ghost use Rattle.std.specs.Prelude.{◌≡◌, ltb};
 ghost use Rattle.bc7_format.specs.Modes.{mode_of};
 ghost use Rattle.opacity.specs.Drawn.{InSheet, alpha_passes, opaque_drawn};

@@ -1,6 +1,9 @@
 // The partition tables of the Rust's src/bcn_data.rs: the subset of each pixel, the anchors, and how many pixels a subset has.
 // The Rust's parsers of byte strings are constant tables here, and that they say what the strings say is proved. The decoder reads
 // the words of `words`, which say the same.
+
+#![tactic(auto)]
+
 ghost use Rattle.std.specs.Prelude.{◌≡◌, ◌+◌, ◌*◌, ◌<◌};
 ghost use Rattle.bcn_format.specs.Block.{field};
 ghost use Rattle.bcn_format.specs.Partitions.{how_many};
@@ -10,7 +13,7 @@ pub mod words;
 
 // The subset of each pixel for modes with 2 subsets: bit i is that of pixel i. `fixup_index_2` is the second anchor; the first
 // is always 0.
-#[derive(Drop)]
+#[derive(Clone, Copy)]
 pub struct Subset2Map {
     pub subset_indexes: u16,
     pub fixup_index_2: u8,
@@ -42,7 +45,7 @@ impl Subset2Map {
 // The subset of each pixel for modes with 3 subsets: the bits 2 * i and 2 * i + 1 are those of pixel i, and no pixel has 3.
 // `fixup_index_2` and `fixup_index_3` are the second and the third anchor in the order of the pixels, not of the subsets; the
 // first is always 0.
-#[derive(Drop)]
+#[derive(Clone, Copy)]
 pub struct Subset3Map {
     pub subset_indexes: u32,
     pub fixup_index_2: u8,
@@ -132,7 +135,7 @@ pub fn subset_indexes_3(id: u8) -> u32
 }
 
 // Both anchors behind pixel 0, in the order of the pixels and not of the subsets.
-#[derive(Drop)]
+#[derive(Clone, Copy)]
 pub struct Fixups {
     pub fixup_index_2: u8,
     pub fixup_index_3: u8,

@@ -1,5 +1,8 @@
 // Standard input and standard output, read and written whole: in as many reads and writes as it takes, also where a signal interrupts
 // one. What was read and that it was written is what the system says; how many bytes, and that every loop ends, is proved.
+
+#![tactic(auto)]
+
 ghost use Rattle.std.specs.Prelude.{◌≤◌, length};
 ghost use Rattle.pipes.specs.Moving.{ReadsWanted};
 
@@ -9,7 +12,7 @@ use libc::{STDIN_FILENO, STDOUT_FILENO};
 const TRIES: u32 = 4294967295;
 
 // What a read or a write moved, or that it failed. A read that moves nothing is at the end of the input.
-#[derive(Drop)]
+#[derive(Clone, Copy)]
 pub struct Moved {
     pub failed: bool,
     pub count: usize,

@@ -1,6 +1,9 @@
 // The profile of the hand-held unit: is a block admitted, is every block of a row, does a sheet keep it? A sheet's blocks are looked at in the
 // order that they are stored in, for then nothing is computed of a block that is admitted: only of one that isn't the number is, and the lowest
 // is kept.
+
+#![tactic(auto)]
+
 ghost use Rattle.std.specs.Prelude.{◌≡◌, length};
 ghost use Rattle.profile_rules.specs.Profile.{ChecksProfile, admits, first_breaking, sides_refusal};
 ghost use Rattle.profile_rules.specs.Small.{row_admits};

@@ -1,4 +1,7 @@
 // A block taken apart into a record, and a record packed into a block.
+
+#![tactic(auto)]
+
 ghost use Rattle.std.specs.Prelude.{◌≡◌, replicate};
 ghost use Rattle.record_rules.specs.Records.{packed_as, zero_record};
 ghost use Rattle.record_rules.specs.Promises.{Packs, Unpacks};

@@ -37,7 +37,7 @@ fn endpoints_of(row: ModeRow, red: u64, green: u64, blue: u64, alpha: u64) -> [u
     endpoints
 }
 
-#[derive(Drop)]
+#[derive(Clone, Copy)]
 pub struct ReadEndpoints {
     pub endpoints: [u8; 24],
     pub stream: BitStream,
@@ -64,7 +64,7 @@ pub fn read_endpoints(row: ModeRow, stream: BitStream) -> ReadEndpoints
     }
 }
 
-#[derive(Drop)]
+#[derive(Clone, Copy)]
 pub struct ReadP {
     pub p: [u8; 6],
     pub stream: BitStream,

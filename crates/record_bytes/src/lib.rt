@@ -1,6 +1,9 @@
 // Records and replacements as bytes, the form in which C and the test program hand them over. A record is 66 bytes:
 // mode, kind (0 whole, 1 two subsets, 2 three, 3 vector and scalar), partition or rotation, index mode, 24 endpoint values,
 // 6 p bits, 16 first and 16 second indexes.
+
+#![tactic(auto)]
+
 ghost use Rattle.std.specs.Prelude.{◌≡◌, ◌+◌, ◌≤◌, eqb, get_or, length, replicate};
 ghost use Rattle.laws.specs.Tables.{both, over};
 ghost use Rattle.bc7_format.specs.Splits.{index_mode};

@@ -1,9 +1,12 @@
 // The record of a block as definitions (specs/) and their laws (proofs/), and no code. The record holds everything that a block
 // stores, in the order of document 01; demand 2 is proved here, of what taking apart and packing are.
+
+#![tactic(auto)]
+
 use bc7_format::Split;
 
 // Endpoint e has channel c (red, green, blue, alpha) at 4 * e + c. The index set that is stored first is the first.
-#[derive(Drop)]
+#[derive(Clone, Copy)]
 pub struct Record {
     pub mode: u8,
     pub split: Split,
@@ -14,14 +17,14 @@ pub struct Record {
 }
 
 // What taking apart answers: a refusal number (0: accepted) beside the record.
-#[derive(Drop)]
+#[derive(Clone, Copy)]
 pub struct Unpacked {
     pub refusal: u8,
     pub record: Record,
 }
 
 // What packing answers: a refusal number (0: accepted) beside the block.
-#[derive(Drop)]
+#[derive(Clone, Copy)]
 pub struct Packed {
     pub refusal: u8,
     pub block: [u8; 16],

@@ -1,5 +1,8 @@
 // Why a call is refused, by the names of include/rinchovek.h, with which the gate compares them (.ci/header): what each means, and when it is given,
 // docs/REFUSALS.md says. The profile's two have no call for C yet. A call that is accepted answers 0.
+
+#![tactic(auto)]
+
 pub const RESERVED_BLOCK: u8 = 1;
 
 pub const NO_SUCH_LINE: u8 = 2;

@@ -1,6 +1,9 @@
 // The test program: calls in on standard input, their answers out on standard output, until the input ends. A letter names
 // the call; docs/REPLAY.md has the bytes of each. A call that C has is made through the function for C, so that what is replayed
 // is what is shipped; the listing goes through its machine. Here only lengths, kinds, signs and colour spaces that end the run are looked at.
+
+#![tactic(auto)]
+
 ghost use Rattle.std.specs.Prelude.{◌≡◌, ◌+◌, ◌*◌, ◌≤◌, ◌<◌, length};
 
 use bc7_places::places::PLACES;
@@ -263,7 +266,7 @@ fn write_head_call() -> bool {
 }
 
 // What is asked for with the bytes of one sheet or file, or of the beginning of a sheet.
-#[derive(Drop)]
+#[derive(Clone, Copy)]
 enum SheetCall {
     Head,
     ColourHead,
@@ -498,7 +501,7 @@ fn head_call(asked: SheetCall) -> bool {
 }
 
 // What is asked for with bytes that are given and an output.
-#[derive(Drop)]
+#[derive(Clone, Copy)]
 enum OutCall {
     DecodeRow(u32, u32, u32),
     Import,
@@ -558,7 +561,7 @@ fn out_call_within(asked: OutCall, n: usize, m: usize) -> bool
 }
 
 // Both lengths of a call with an output, or none where one is too long or the input ends.
-#[derive(Drop)]
+#[derive(Clone, Copy)]
 struct Lengths {
     taken: bool,
     given: usize,
@@ -633,7 +636,7 @@ fn show_row_call() -> bool {
 }
 
 // A read that was asked for: whether there is such a read, and the stream behind it.
-#[derive(Drop)]
+#[derive(Clone, Copy)]
 struct NextRead {
     known: bool,
     stream: BitStream,

@@ -9,7 +9,7 @@ use sheet_head::geometry::{blocks_of, place_of};
 use sheet_head::{read_head, whole};
 
 // The place of a block, or why it has none.
-#[derive(Drop)]
+#[derive(Clone, Copy)]
 pub struct Found {
     pub refusal: u8,
     pub at: usize,

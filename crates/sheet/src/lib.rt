@@ -1,5 +1,8 @@
 // A sheet of blocks: one row of blocks drawn as scanlines, and a line replaced in a block of a sheet. Both calls take
 // every input and say why they refuse one.
+
+#![tactic(auto)]
+
 ghost use Rattle.sheet_rules.specs.Blocks.{ReadsBlock};
 ghost use Rattle.sheet_rules.specs.Rows.{DecodesRow};
 ghost use Rattle.sheet_rules.specs.SheetRows.{DecodesSheetRow};

@@ -1,5 +1,8 @@
 // The head of a sheet: numbers in groups of seven bits, and the form, width, height and colour space that they spell. The forms and the
 // largest side of a sheet are named here, and nowhere else in the code.
+
+#![tactic(auto)]
+
 ghost use Rattle.std.specs.Prelude.{◌≡◌, ◌≤◌, ◌<◌, drop};
 ghost use Rattle.head_rules.specs.Numbers.{found, no_number, number_bytes, numbers_end, raised, read_groups, read_number};
 ghost use Rattle.head_rules.specs.Heads.{ReadsHead, Sized, WritesHead, form_number, no_bytes, read_of_form};

@@ -3,6 +3,9 @@
 //
 // A program has no exit status. Started with an argument, whatever it is, it says `refused` on standard error where the sheet was
 // refused, so that the one who started it can tell.
+
+#![tactic(auto)]
+
 ghost use Rattle.std.specs.Prelude.{length};
 ghost use Rattle.sheetlist.specs.Asked.{RoomAsked};
 
@@ -11,7 +14,7 @@ use listing_rules::Phase;
 use pipes::{read_wanted, write_whole};
 
 // How a run ends.
-#[derive(Drop)]
+#[derive(Clone, Copy)]
 enum Outcome {
     Listed,
     Refused,

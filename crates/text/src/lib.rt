@@ -1,5 +1,8 @@
 // Texts written straight to a place of the output: words, numbers in decimal, single spaces, and a refusal. Each function answers the place
 // behind what it wrote, and no other byte changes. What a listing prints of a sheet is said in `listing`, and what a bit chart in `chart`.
+
+#![tactic(auto)]
+
 ghost use Rattle.std.specs.Prelude.{[], ◌∷◌, ◌+◌, ◌%◌, ◌<◌, ◌≤◌, length};
 ghost use Rattle.laws.specs.Text.{decimal, last_four, refused_text, spaced};
 ghost use Rattle.text.specs.Puts.{Puts};

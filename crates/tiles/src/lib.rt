@@ -1,6 +1,9 @@
 // Tile order: from the number of a block to its stored number, and back. In a whole tile a block's slot is its column and row
 // interleaved; only at the edges, where slots are skipped, it takes more than that. All numbers are below 2 ^ 32, and divided so:
 // for longer ones the processor is asked first how long they are.
+
+#![tactic(auto)]
+
 ghost use Rattle.std.specs.Prelude.{◌≡◌, ◌*◌, ◌≤◌, ◌<◌};
 ghost use Rattle.tile_rules.specs.Computed.{ahead, left, order_in_tile};
 ghost use Rattle.tile_rules.specs.Tiles.{column_of_slot, number_in_tiles, row_of_slot, slot_in, stored_in_tiles, tile_blocks};
@@ -114,7 +117,7 @@ fn cell_at(s: usize, w: usize, h: usize, m: usize) -> Cell
 }
 
 // Column and row of a block in its tile.
-#[derive(Drop)]
+#[derive(Clone, Copy)]
 pub struct Spot {
     pub x: usize,
     pub y: usize,

@@ -1,6 +1,9 @@
 // The weight of an index: how much of the second endpoint its colour has. With n weights, weight i is the whole part of
 // (64 i + h) / (n - 1), where h is the whole part of (n - 1) / 2: the last has the whole, and each index an equal part of it, rounded. No
 // table of weights stands anywhere in the code; with a literal width and index the compiler folds the division away.
+
+#![tactic(auto)]
+
 ghost use Rattle.std.specs.Prelude.{◌≡◌, ◌*◌};
 ghost use Rattle.bcn_format.specs.Drawing.{Weighed, weight_of};
 ghost use Rattle.weights.specs.Weights.{Weight};

@@ -126,6 +126,7 @@ module _ {L C : Type 0} (of : L → C → Bool) (single : (l k : L) (c : C) → 
 
   pub last_of_each_is : (l : L) (ls : List L) (cs : List C) → Memᴰ l ls → last (of l) (last_of_each of ls cs) ≡ last (of l) cs
   unfolding last_of_each
+  last_of_each_is l [] cs x = elim x [ ]
   last_of_each_is l (k ∷ ls) cs (Memᴰ.head e) =
       last_append (of l) (last (of k) cs) (last_of_each of ls cs)
       ∙ or_second (either l ls cs) (subst (λ (j : L). last (of l) (last (of j) cs) ≡ last (of l) cs) e (same l cs))

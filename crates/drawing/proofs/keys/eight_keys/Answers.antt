@@ -7,27 +7,20 @@ use native.Mathlib.Omega.{arith}
 use borrow.Author.Rules.{rules}
 use lib.Bits.{bit_and, and_le_r}
 use lib.Pow.{pow_mono, shl_exact, shl_lt}
-use Rattle.drawing.proofs.keys.eight_keys.Statement.{statement}
-use Rattle.drawing.proofs.keys.eight_keys.Tie as tie
+use Rattle.drawing.proofs.keys.eight_keys.Goals as goal
 
-module _ (s : tie.Start) where
+module _ (s : goal.Start) where
   masked : (x : ℕ) → bit_and x s.args.mask < 2 ^ 48
   masked x = lt_of_le_of_lt (and_le_r x s.args.mask) s.requires.mask
 
   moved : (bit_and s.args.x s.args.mask * 2 ^ s.args.shift) % 2 ^ 64 ≡ bit_and s.args.x s.args.mask * 2 ^ s.args.shift
   moved = shl_exact 48 s.args.shift 64 (masked s.args.x) (omega arith)
 
-shl-result : tie.Need-overflow-shl-result
-shl-result c = search rules
-
-add-result : tie.Need-overflow-add-result
-add-result c =
+pub overflow_add-result : goal.overflow_add-result
+overflow_add-result c =
     let shift = c.args.shift in
     let top = pow_mono {i = 48 + shift} {j = 50} (omega arith) in
     record { fits = rw (moved c) (omega (arith, shl_lt 48 shift (masked c c.args.x), top, masked c c.args.map)) }
 
-returns : tie.Need-returns
+pub returns : goal.returns
 returns c = ap (λ (y : ℕ). y + bit_and c.args.map c.args.mask) (moved c)
-
-pub eight_keys_spec : {M : Type 1} → statement M
-eight_keys_spec = tie.close (tie.spec shl-result add-result returns)

@@ -1,0 +1,7 @@
+-- `stream::BitStream::accepted` meets its contract.
+-- Assumes nothing.
+use borrow.Author.Rules.{rules}
+use Rattle.bits.proofs.stream.BitStream.accepted.Goals as goal
+
+pub returns : goal.returns
+returns c = rw c.skip-stream.ensures
