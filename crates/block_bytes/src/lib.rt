@@ -12,7 +12,7 @@ pub fn load(s: &[u8], at: usize) -> [u8; 16]
 {
     let mut block = [0u8; 16];
     let end = at + 16;
-    bytes::copy(&s[at..end], &mut block);
+    block.copy_from_slice(&s[at..end]);
     block
 }
 
@@ -21,5 +21,6 @@ pub fn store(s: &mut [u8], at: usize, block: [u8; 16])
     requires { at + 16 ≤ length s.old }
     ensures { s.new ≡ put_block s.old at block }
 {
-    bytes::copy(&block, &mut s[at..]);
+    let end = at + 16;
+    s[at..end].copy_from_slice(&block);
 }

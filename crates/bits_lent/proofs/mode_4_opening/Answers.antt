@@ -1,0 +1,7 @@
+-- `mode_4_opening`: a caller of the function above, with no walk. Assumes nothing.
+use borrow.Author.Rules.{rules}
+use Rattle.bits_lent.proofs.Openings.{opens_block}
+use Rattle.bits_lent.proofs.mode_4_opening.Goals as goal
+
+pub returns : goal.returns
+returns c = rw c.read_opening_lent.ensures (opens_block c.new.ensures)

@@ -1,0 +1,10 @@
+-- `read_opening`: the reads one after the other, by value. Assumes nothing.
+use borrow.Author.Rules.{rules}
+use Rattle.bits_lent.proofs.Openings.{as_lent, opens_at}
+use Rattle.bits_lent.proofs.read_opening.Goals as goal
+
+pub returns : goal.returns
+returns c =
+    let x = as_lent c.consume_bits-rotation.ensures.same in
+    let y = as_lent c.consume_bit-index_mode.ensures.same in
+    opens_at _ c.skip-s.ensures x y c.consume_bits_64-endpoints.ensures.same

@@ -1,0 +1,7 @@
+-- `pixel_floats` meets its contract.
+-- Assumes nothing.
+use borrow.Author.Rules.{rules}
+use Rattle.floats.proofs.pixel_floats.Goals as goal
+
+pub returns : goal.returns
+returns c = cc

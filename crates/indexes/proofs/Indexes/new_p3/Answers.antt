@@ -1,0 +1,11 @@
+-- `Indexes::new_p3` meets its contract.
+-- Assumes nothing.
+use borrow.Author.Rules.{rules}
+use Rattle.indexes.proofs.Indexes.new_p3.Goals as goal
+
+pub from_compressed_p3-indexes-requires : goal.from_compressed_p3-indexes-requires
+from_compressed_p3-indexes-requires c =
+    record { anchors = c.requires.anchors; enough = c.take-compressed.ensures.small }
+
+pub returns : goal.returns
+returns c = rw (c.from_compressed_p3-indexes.ensures, c.take-compressed.ensures.same)

@@ -1,0 +1,39 @@
+-- `sets::word_of` meets its contract.
+-- Assumes nothing.
+use mathlib.Core.Path.{◌≡◌}
+use Prim.Native.Nat.{◌≤◌}
+use native.Mathlib.Omega.{arith}
+use Rattle.indexes.proofs.sets.Words.{Next, Upper, upper_all, upper_next, upper_none}
+use borrow.Author.Rules.{rules}
+use Rattle.indexes.proofs.sets.word_of.Goals as goal
+
+step : (c : goal.In-loop-i
+    → Next c.args.width c.args.indexes c.loop-i.i c.loop-i.word
+step c =
+    let s = c.before in
+    upper_next _ _ s.requires.fits s.requires.most c.loop-i.i c.loop-i.word (omega arith) c.loop-i.invariant.0
+    c.loop-i.invariant.1
+
+pub loop-i-init : goal.loop-i-init
+loop-i-init c = (omega arith, upper_none _ _ c.requires.fits)
+
+pub overflow_sub-i : goal.overflow_sub-i
+overflow_sub-i c = omega arith
+
+pub overflow_shl-word : goal.overflow_shl-word
+overflow_shl-word c = omega arith
+
+pub bounds-indexes-i : goal.bounds-indexes-i
+bounds-indexes-i c = omega arith
+
+pub overflow_add-word : goal.overflow_add-word
+overflow_add-word c = record { fits = (step c).0 }
+
+pub loop-i-smaller : goal.loop-i-smaller
+loop-i-smaller c = omega arith
+
+pub loop-i-preserved : goal.loop-i-preserved
+loop-i-preserved c = (omega arith, (step c).1)
+
+pub returns : goal.returns
+returns c = upper_all _ _ c.requires.fits _ (let z : c.loop-i.i ≡ 0 = omega arith in rw z at c.loop-i.invariant.1)
