@@ -7,15 +7,16 @@ use Rattle.tile_rules.specs.Tiles.{most_across}
 use Rattle.tiles.proofs.Sizes.{of_sheet}
 use Rattle.tiles.proofs.Found.{column_fits, column_pos, found, line_fits_is, line_pos, x_in, y_in}
 use Rattle.tiles.proofs.cell_at.Goals as goal
+use Rattle.tiles.proofs.cell_at.Goals.{Start}
 
 pub overflow_mul-line : goal.overflow_mul-line
 overflow_mul-line c = omega (arith, line_fits_is c.requires.0 c.requires.1 c.requires.2)
 
 -- the number and what is left of it behind the lines of cells
-abbrev number_fits : (c : goal.Start) → c.args.m < most_across * most_across
+abbrev number_fits : (c : Start) → c.args.m < most_across * most_across
 number_fits c = of_sheet c.requires.2 c.requires.2.number
 
-abbrev past_fits : (c : goal.Start) → c.args.m % (c.args.s * c.args.w) < most_across * most_across
+abbrev past_fits : (c : Start) → c.args.m % (c.args.s * c.args.w) < most_across * most_across
 past_fits c = omega (arith, mod-le c.args.m (c.args.s * c.args.w), number_fits c)
 
 pub overflow_cast-y : goal.overflow_cast-y
@@ -66,7 +67,7 @@ pub cell_side-requires : goal.cell_side-requires
 cell_side-requires c = let p = c.requires in le_of_lt (x_in p.0 p.1 p.2 _ c.cell_side-high.ensures)
 
 pub overflow_cast-result : goal.overflow_cast-result
-overflow_cast-result c = omega (arith, past_fits c.before)
+overflow_cast-result c = omega (arith, past_fits c.before.before)
 
 pub overflow_cast-result-2 : goal.overflow_cast-result-2
 overflow_cast-result-2 c = let p = c.requires in omega (arith, column_fits p.0 p.1 p.2 _ c.cell_side-high.ensures)
@@ -77,7 +78,7 @@ nonzero_rem-result c = let p = c.requires in column_pos p.0 p.1 p.2 _ c.cell_sid
 pub overflow_cast-result-3 : goal.overflow_cast-result-3
 overflow_cast-result-3 c =
     let a = c.args in
-    omega (arith, mod-le (a.m % (a.s * a.w)) (a.s * c.cell_side-high.result), past_fits c.before)
+    omega (arith, mod-le (a.m % (a.s * a.w)) (a.s * c.cell_side-high.result), past_fits c.before.before)
 
 pub returns : goal.returns
 returns c = let p = c.requires in found p.0 p.1 p.2 _ c.cell_side-high.ensures _ c.cell_side.ensures

@@ -13,15 +13,15 @@ overflow_cast-slot c =
 pub overflow_mul-result-then-a-eq8-2 : goal.overflow_mul-result-then-a-eq8-2
 overflow_mul-result-then-a-eq8-2 c =
     let a = c.before in
-    omega (arith, lines_fit a.requires a.cell_at-a.ensures (row_small _ c.row_of_slot_is.ensures))
+    omega (arith, lines_fit a.requires a.cell_at-a.ensures (row_small _ c.row_of_slot.ensures))
 
 pub overflow_add-result-then-a-eq8-2-2 : goal.overflow_add-result-then-a-eq8-2-2
 overflow_add-result-then-a-eq8-2-2 c =
     let a = c.before in
     omega (
       arith,
-      lines_fit a.requires a.cell_at-a.ensures (row_small _ c.row_of_slot_is.ensures),
-      column_small _ c.column_of_slot_is.ensures,
+      lines_fit a.requires a.cell_at-a.ensures (row_small _ c.row_of_slot.ensures),
+      column_small _ c.column_of_slot.ensures,
       a.cell_at-a.ensures.columns,
       a.requires,
     )
@@ -30,8 +30,8 @@ pub returns-then-a-eq8-2 : goal.returns-then-a-eq8-2
 returns-then-a-eq8-2 c =
     let a = c.before in
     let high = c.before in
-    number_whole a.requires a.cell_at-a.ensures high.if-a-eq8.true high.if-a-eq8-2.true c.column_of_slot_is.ensures
-    c.row_of_slot_is.ensures
+    number_whole a.requires a.cell_at-a.ensures high.if-a-eq8.true high.if-a-eq8-2.true c.column_of_slot.ensures
+    c.row_of_slot.ensures
 
 pub overflow_mul-result-3 : goal.overflow_mul-result-3
 overflow_mul-result-3 c =

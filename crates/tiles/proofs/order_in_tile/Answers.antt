@@ -5,9 +5,10 @@ use native.Mathlib.Omega.{arith}
 use borrow.Author.Rules.{rules}
 use Rattle.tiles.proofs.Sizes.{last_fits, of_tile, tile_sum}
 use Rattle.tiles.proofs.order_in_tile.Goals as goal
+use Rattle.tiles.proofs.order_in_tile.Goals.{After-blocks_ahead-second}
 
 -- what stands before the last four
-before_fits : (c : goal.After-blocks_ahead-second) → c.blocks_ahead-first.result + c.blocks_ahead-second.result ≤ 126
+before_fits : (c : After-blocks_ahead-second) → c.blocks_ahead-first.result + c.blocks_ahead-second.result ≤ 126
 before_fits c =
     let high = c.before in
     let wide = high.before in

@@ -26,7 +26,7 @@ decompress_single_index-requires c =
 pub returns : goal.returns
 returns c =
     let s = c.before in
-    let all = two_anchors s.args.bits s.requires.anchors.width.least s.args.compressed 0 s.args.p2-fixup _ _
+    let all = two_anchors s.args.bits s.requires.anchors.width.least s.args.compressed 0 s.args.p2_fixup _ _
     s.requires.anchors.fixup.above s.requires.anchors.fixup.pixel s.requires.enough
     c.decompress_single_index-first.ensures c.decompress_single_index.ensures in
     rw all

@@ -32,8 +32,8 @@ decompress_single_index-requires c =
     let x = c.decompress_single_index-first in
     let y = c.decompress_single_index-second in
     let first = after_2 w s.requires.anchors.width.least s.args.compressed x.result s.requires.enough x.ensures in
-    let second : s.args.p2-fixup < 15 = omega (arith, s.requires.anchors.fixups.rising, s.requires.anchors.fixups.pixel) in
-    let below = after_1 w s.requires.anchors.width.least x.result s.args.p2-fixup y.result second first y.ensures in
+    let second : s.args.p2_fixup < 15 = omega (arith, s.requires.anchors.fixups.rising, s.requires.anchors.fixups.pixel) in
+    let below = after_1 w s.requires.anchors.width.least x.result s.args.p2_fixup y.result second first y.ensures in
     record {
       index = record { width = s.requires.anchors.width; pixel = s.requires.anchors.fixups.pixel };
       room = spare_bit w 1 y.result s.requires.anchors.width.most (omega arith) below;
@@ -42,7 +42,7 @@ decompress_single_index-requires c =
 pub returns : goal.returns
 returns c =
     let s = c.before in
-    let all = three_anchors s.args.bits s.requires.anchors.width.least s.args.compressed s.args.p2-fixup s.args.p3-fixup _ _ _
+    let all = three_anchors s.args.bits s.requires.anchors.width.least s.args.compressed s.args.p2_fixup s.args.p3_fixup _ _ _
     s.requires.anchors.fixups.above s.requires.anchors.fixups.rising s.requires.anchors.fixups.pixel s.requires.enough
     c.decompress_single_index-first.ensures c.decompress_single_index-second.ensures c.decompress_single_index.ensures in
     rw all

@@ -10,9 +10,10 @@ use Rattle.bcn_format.specs.Indexes.{part}
 use Rattle.bcn_format.proofs.Expanding.{times_width}
 use Rattle.laws.proofs.Words.{one_shl}
 use Rattle.indexes.proofs.Indexes.get_index.Goals as goal
+use Rattle.indexes.proofs.Indexes.get_index.Goals.{Start}
 
 -- the last index starts below bit 61
-below_61 : (c : goal.Start) → c.args.pixel_index * c.args.self.bits < 61
+below_61 : (c : Start) → c.args.pixel_index * c.args.self.bits < 61
 below_61 c = omega (arith, times_width c.args.self.bits c.args.pixel_index 15 (omega arith))
 
 pub overflow_mul-result : goal.overflow_mul-result
@@ -22,7 +23,7 @@ pub overflow_cast-result : goal.overflow_cast-result
 overflow_cast-result c = omega (arith, below_61 c.before)
 
 pub overflow_shr-result : goal.overflow_shr-result
-overflow_shr-result c = omega (arith, below_61 c.before)
+overflow_shr-result c = omega (arith, below_61 c.before.before)
 
 pub nonzero_rem-result : goal.nonzero_rem-result
 nonzero_rem-result c = rw (one_shl c.args.self.bits (omega arith)) (pow_pos c.args.self.bits)

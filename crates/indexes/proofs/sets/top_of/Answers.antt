@@ -7,9 +7,10 @@ use Rattle.bcn_format.specs.Block.{field}
 use Rattle.bcn_format.proofs.Expanding.{times_width}
 use borrow.Author.Rules.{rules}
 use Rattle.indexes.proofs.sets.top_of.Goals as goal
+use Rattle.indexes.proofs.sets.top_of.Goals.{Start}
 
 -- the top bit of the last index is bit 63 at the most
-below_64 : (c : goal.Start) → c.args.index * c.args.width + (c.args.width - 1) < 64
+below_64 : (c : Start) → c.args.index * c.args.width + (c.args.width - 1) < 64
 below_64 c = omega (arith, times_width c.args.width c.args.index 15 (omega arith))
 
 pub overflow_mul-result : goal.overflow_mul-result

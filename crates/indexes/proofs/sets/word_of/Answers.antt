@@ -6,8 +6,9 @@ use native.Mathlib.Omega.{arith}
 use Rattle.indexes.proofs.sets.Words.{Next, Upper, upper_all, upper_next, upper_none}
 use borrow.Author.Rules.{rules}
 use Rattle.indexes.proofs.sets.word_of.Goals as goal
+use Rattle.indexes.proofs.sets.word_of.Goals.{In-loop-i}
 
-step : (c : goal.In-loop-i
+step : (c : In-loop-i)
     → Next c.args.width c.args.indexes c.loop-i.i c.loop-i.word
 step c =
     let s = c.before in

@@ -9,9 +9,10 @@ use Rattle.bcn_format.proofs.Expanding.{times_width}
 use Rattle.indexes.proofs.Remove.{remove_machine, removed_lt}
 use Rattle.laws.proofs.Words.{one_shl}
 use Rattle.indexes.proofs.storing.compress_single_index.Goals as goal
+use Rattle.indexes.proofs.storing.compress_single_index.Goals.{Start}
 
 -- the top bit of the last index is bit 63 at the most
-below_64 : (c : goal.Start) → c.args.index * c.args.bits + (c.args.bits - 1) < 64
+below_64 : (c : Start) → c.args.index * c.args.bits + (c.args.bits - 1) < 64
 below_64 c = omega (arith, times_width c.args.bits c.args.index 15 (omega arith))
 
 pub overflow_mul-top : goal.overflow_mul-top
