@@ -14,7 +14,7 @@ unfolding strings2 digits marks partition_word
 returns c =
     let m = c.match-id in
     add-zero m.word
-    ∙ by_arms (partition_word2 3) c.args.id m.word m.branch
+    ∙ by_arms (partition_word2 3) c.args.id m.word m.branch-raw
     (eight_arms (omega arith) (eight_arms (omega arith) (eight_arms (omega arith) (eight_arms (omega arith) (
     eight_arms (omega arith) (eight_arms (omega arith) (eight_arms (omega arith) (eight_arms (omega arith)
-    (no_more c.requires (λ p. p.0.rest))))))))))
+    (no_more c.requires (λ p. p.in_default.in_default-own.rest))))))))))
