@@ -1,0 +1,22 @@
+-- One endpoint of four lanes.
+-- Assumes nothing.
+use native.Mathlib.Omega.{arith}
+use Rattle.bc7_drawing.proofs.colour.Words.{end_of_is, ends_within, parts_small}
+use Rattle.bc7_drawing.proofs.colour.end_of.Goals as goal
+
+pub overflow_mul-bits : goal.overflow_mul-bits
+overflow_mul-bits c = omega (arith, ends_within c.args.bits c.args.k c.args.x c.requires.two c.requires.width.most)
+
+pub parts-requires : goal.parts-requires
+parts-requires c = ends_within c.args.bits c.args.k c.args.x c.requires.two c.requires.width.most
+
+pub promote-requires : goal.promote-requires
+promote-requires c =
+    let s = c.before in
+    record { width = s.requires.width; lanes = parts_small s.args.x _ s.args.bits (omega arith) c.parts.ensures }
+
+pub returns : goal.returns
+returns c =
+    let s = c.before.before in
+    let parts = c.parts.ensures in
+    end_of_is s.args.bits s.args.k s.args.x s.requires.two s.requires.width.most parts c.promote.ensures

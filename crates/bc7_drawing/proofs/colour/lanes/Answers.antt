@@ -1,0 +1,10 @@
+-- Four values in one word.
+-- Assumes nothing.
+use native.Mathlib.Omega.{arith}
+use borrow.Author.Rules.{rules}
+use Rattle.bc7_drawing.specs.Words.{laned}
+use Rattle.bc7_drawing.proofs.colour.lanes.Goals as goal
+
+pub returns : goal.returns
+unfolding laned
+returns c = omega arith

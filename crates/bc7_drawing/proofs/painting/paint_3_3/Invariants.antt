@@ -1,0 +1,15 @@
+-- Sixteen pixels, each looked up by its key: the loop fills them in order, two at a time.
+-- Assumes nothing.
+use mathlib.Core.Path.{refl}
+use Prim.Native.Nat.{◌-◌, ◌*◌}
+use native.Mathlib.Omega.{arith}
+use Rattle.bc7_fields.specs.Painting.{painted}
+use Rattle.bcn_format.proofs.Making.{Made, made_all, made_none}
+use Rattle.bc7_drawing.proofs.painting.Painting.{colour_of, two_more}
+use Rattle.bc7_drawing.proofs.painting.paint_3_3.Given as goal
+
+abbrev pub invariant-loop-i : goal.invariant-loop-i
+invariant-loop-i l = Made (colour_of 3 2 l.keys l.p) (2 * l.i) l.output
+
+abbrev pub decreases-loop-i : goal.decreases-loop-i
+decreases-loop-i l = 8 - l.i
