@@ -1,0 +1,8 @@
+-- The indexes of two subsets.
+-- Assumes nothing.
+use mathlib.Core.Path.{refl}
+use borrow.Author.Rules.{rules}
+use Rattle.bc7_subsets.proofs.two.indexes_2.Goals as goal
+
+pub returns : goal.returns
+returns c = rw c.new_p2-read.ensures refl

@@ -1,0 +1,108 @@
+-- Mode 1: two subsets, and a p bit for each.
+-- Assumes nothing.
+use mathlib.Core.Path.{◌≡◌, refl, sym, ap}
+use Prim.Native.Nat.{ℕ, ◌*◌}
+use native.Mathlib.Omega.{arith}
+use borrow.Author.Rules.{rules}
+use Rattle.bc7_format.specs.declared.Split.TheVariants.{Two}
+use Rattle.bcn_format.specs.Block.{field}
+use Rattle.bc7_format.specs.Modes.{endpoint_count, kind_of_mode, mode_row}
+use Rattle.bc7_format.specs.Splits.{split_at}
+use Rattle.bits.specs.Stream.{held}
+use Rattle.bits.proofs.On.{On, got, on_read}
+use Rattle.bc7_fields.specs.Fields.{lead_end, p_start, value_start}
+use Rattle.bc7_fields.specs.Painting.{solid}
+use Rattle.bc7_drawing.specs.Words.{with_p}
+use Rattle.bc7_fields.proofs.Ends.{one_p, opaque_p_shown}
+use Rattle.bc7_subsets.proofs.Palettes.{two_palette}
+use Rattle.bc7_subsets.proofs.Laws.{anchored_2, two_keys}
+use Rattle.bc7_subsets.proofs.two.mode_1.Goals as goal
+use Rattle.bc7_subsets.proofs.two.mode_1.Goals.{After-extract_partition_set_id-id, After-take-b1, After-take-p1}
+
+-- where the stream stands behind the sixth read of values, and behind the last
+behind_6 : (c : After-take-b1) → c.take-b1.result.stream.at ≡ 80
+behind_6 c = omega arith
+
+behind : (c : After-take-p1) → c.take-p1.result.stream.at ≡ 82
+behind c = omega (arith, behind_6 c.before.before.before.before)
+
+-- the number of the partition
+abbrev number : After-take-p1 → After-extract_partition_set_id-id
+number c = c.before.before.before.before.before.before.before.before.before.before.before.before.before.before.before.before
+
+pub opaque_p-requires : goal.opaque_p-requires
+opaque_p-requires c =
+    omega (
+      arith,
+      c.take-r0.ensures.small,
+      c.take-r1.ensures.small,
+      c.take-g0.ensures.small,
+      c.take-g1.ensures.small,
+      c.take-b0.ensures.small,
+      c.take-b1.ensures.small,
+      c.take-p0.ensures.small,
+      c.take-p1.ensures.small,
+    )
+
+pub overflow_cast-id : goal.overflow_cast-id
+overflow_cast-id c =
+    let id = (number c.before.before.before.before.before).extract_partition_set_id-id.ensures in
+    record { fits = omega (arith, id.small) }
+
+pub partition_word_2_3-set-requires : goal.partition_word_2_3-set-requires
+partition_word_2_3-set-requires c =
+    let id = (number c.before.before.before.before.before).extract_partition_set_id-id.ensures in
+    omega (arith, id.small)
+
+pub indexes_2-x-requires : goal.indexes_2-x-requires
+indexes_2-x-requires c =
+    let last = c in
+    let id = (number c.before.before.before.before.before.before.before).extract_partition_set_id-id.ensures in
+    anchored_2 (omega (arith, id.small)) (omega arith) (omega arith) c.partition_word_2_3-set.ensures (omega (arith, behind c.before.before.before.before.before.before.before))
+
+pub returns : goal.returns
+unfolding split_at kind_of_mode mode_row endpoint_count field value_start p_start lead_end
+returns c =
+    let set = c in
+    let colours = set in
+    let at-p1 = colours in
+    let at-p0 = at-p1 in
+    let at-b1 = at-p0 in
+    let at-b0 = at-b1 in
+    let at-g1 = at-b0 in
+    let at-g0 = at-g1 in
+    let at-r1 = at-g0 in
+    let at-r0 = at-r1 in
+    let at-id = at-r0 in
+    let id = at-id.extract_partition_set_id-id.ensures in
+    let s = at-id in
+    let n = held s.args.stream in
+    let start : On n 2 s.args.stream = record { of = refl; stands = s.requires } in
+    let on-r0 = on_read start 6 id.same in
+    let r0 = at-r0.take-r0.ensures.same in
+    let on-r1 = on_read on-r0 12 r0 in
+    let r1 = at-r1.take-r1.ensures.same in
+    let on-g0 = on_read on-r1 12 r1 in
+    let g0 = at-g0.take-g0.ensures.same in
+    let on-g1 = on_read on-g0 12 g0 in
+    let g1 = at-g1.take-g1.ensures.same in
+    let on-b0 = on_read on-g1 12 g1 in
+    let b0 = at-b0.take-b0.ensures.same in
+    let on-b1 = on_read on-b0 12 b0 in
+    let b1 = at-b1.take-b1.ensures.same in
+    let on-p0 = on_read on-b1 12 b1 in
+    let p0 = at-p0.take-p0.ensures.same in
+    let on-p1 = on_read on-p0 1 p0 in
+    let p1 = at-p1.take-p1.ensures.same in
+    let on-x = on_read on-p1 1 p1 in
+    two_keys 1 n 3 (omega arith) refl (omega arith) (omega arith) (omega (arith, id.small)) on-x (ap Two (sym (got start 6 id.same)))
+    set.partition_word_2_3-set.ensures c.indexes_2-x.ensures c.keys_3.ensures
+    (two_palette 1 n 3 (λ x. solid (with_p 6 x)) _ _ colours.opaque_p.ensures
+    (opaque_p_shown 1 n {l = 0} refl
+    (record { red = got on-r0 12 r0; green = got on-g0 12 g0; blue = got on-b0 12 b0 })
+    refl (one_p 1 n 0 refl (ap (λ (v : ℕ). 3 * v) (got on-p0 1 p0))) refl)
+    (opaque_p_shown 1 n {l = 1} refl
+    (record { red = got on-r1 12 r1; green = got on-g1 12 g1; blue = got on-b1 12 b1 })
+    refl (one_p 1 n 1 refl (ap (λ (v : ℕ). 3 * v) (got on-p1 1 p1))) refl)
+    colours.palette_2_3-colours.ensures)
+    c.paint_2_3.ensures
