@@ -237,8 +237,8 @@ fn fill(head: &[u8], count: usize, from: &[u8], start: usize, out: &mut [u8])
     requires { Fills (length head.now) count (length from.now) start (length out.old) }
     ensures { out.new ≡ take count head.now ++ drop start from.now }
 {
-    bytes::copy(&head[..count], out);
-    bytes::copy(&from[start..], &mut out[count..]);
+    out[..count].copy_from_slice(&head[..count]);
+    out[count..].copy_from_slice(&from[start..]);
 }
 
 // A file as a sheet of form 1: its head, then the blocks as they stand. The head is answered too, with the colour space that form 1 has

@@ -21,8 +21,9 @@ pub fn put_word(word: &[u8], at: usize, out: &mut [u8]) -> usize
     requires { at + length word.now ≤ length out.old }
     ensures { Puts (length word.now) out.old at word.now out.new result }
 {
-    bytes::copy(word, &mut out[at..]);
-    at + word.len()
+    let end = at + word.len();
+    out[at..end].copy_from_slice(word);
+    end
 }
 
 // The last decimal digit of a number.
