@@ -45,4 +45,7 @@ returns-in-1 c = rw c.in-1.is c.mode_01.ensures
 pub returns-in_default : goal.returns-in_default
 unfolding held
 returns-in_default c =
-    rw (is_0 c.args.mode c.requires (omega arith) (omega arith) (omega arith) (omega arith) (omega arith) (omega arith) (omega arith) (omega arith) (omega arith)) c.mode_00.ensures
+    rw
+    (is_0 c.args.mode c.requires (omega arith) (omega arith) (omega arith) (omega arith) (omega arith)
+    (omega arith) (omega arith) (omega arith) (omega arith))
+    c.mode_00.ensures

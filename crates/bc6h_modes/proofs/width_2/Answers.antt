@@ -37,4 +37,7 @@ returns-in-1 c = rw c.in-1.is refl
 pub returns-in_default : goal.returns-in_default
 unfolding row_of rows
 returns-in_default c =
-    rw (is_0 c.args.mode c.requires (grind arith) (grind arith) (grind arith) (omega arith) (grind arith) (grind arith) (grind arith) (omega arith) (omega arith)) refl
+    rw
+    (is_0 c.args.mode c.requires (grind arith) (grind arith) (grind arith) (omega arith) (grind arith)
+    (grind arith) (grind arith) (omega arith) (omega arith))
+    refl
