@@ -1,5 +1,4 @@
 -- `mode_4_opening`: a caller of the function above, with no walk. Assumes nothing.
-use borrow.Author.Rules.{rules}
 use Rattle.bits_lent.proofs.Openings.{opens_block}
 use Rattle.bits_lent.proofs.mode_4_opening.Goals as goal
 

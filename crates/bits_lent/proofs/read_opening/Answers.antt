@@ -1,5 +1,4 @@
 -- `read_opening`: the reads one after the other, by value. Assumes nothing.
-use borrow.Author.Rules.{rules}
 use Rattle.bits_lent.proofs.Openings.{as_lent, opens_at}
 use Rattle.bits_lent.proofs.read_opening.Goals as goal
 

@@ -1,0 +1,49 @@
+-- Mode 03: its fields by their runs, and its endpoints.
+-- Assumes nothing.
+use mathlib.Core.Path.{refl}
+use Rattle.bits.specs.Stream.{held}
+use Rattle.bc6h_format.specs.Items.{is_of, items_from, items_of, long}
+use Rattle.bc6h_format.specs.Modes.{bits_at, row_of, rows}
+use Rattle.bc6h_modes.proofs.Asked.{readable}
+use Rattle.bc6h_modes.proofs.Rows.{first, known, other, sixteen}
+use Rattle.bc6h_modes.proofs.mode_03.Goals as goal
+
+pub bits-rw-requires : goal.bits-rw-requires
+bits-rw-requires c = readable c.requires tt
+
+pub bits-gw-requires : goal.bits-gw-requires
+bits-gw-requires c = readable c.requires tt
+
+pub bits-bw-requires : goal.bits-bw-requires
+bits-bw-requires c = readable c.requires tt
+
+pub bits-requires : goal.bits-requires
+bits-requires c = readable c.requires tt
+
+pub bits-requires-2 : goal.bits-requires-2
+bits-requires-2 c = readable c.requires tt
+
+pub bits-requires-3 : goal.bits-requires-3
+bits-requires-3 c = readable c.requires tt
+
+pub returns : goal.returns
+unfolding rows row_of items_of items_from is_of long bits_at
+returns c =
+    let n = held c.args.s in
+    let r = row_of 3 in
+    let red = known r n 0 0 c.bits-rw.ensures in
+    let green = known r n 1 0 c.bits-gw.ensures in
+    let blue = known r n 2 0 c.bits-bw.ensures in
+    sixteen 0 r n
+    (first r n 0 red tt c.narrow-rv.ensures)
+    (first r n 1 green tt c.narrow-gv.ensures)
+    (first r n 2 blue tt c.narrow-bv.ensures)
+    (first r n 0 red tt c.narrow-rv.ensures)
+    (first r n 1 green tt c.narrow-gv.ensures)
+    (first r n 2 blue tt c.narrow-bv.ensures)
+    (other r n 0 1 refl (known r n 0 1 c.bits.ensures) tt c.narrow-rx.ensures)
+    (other r n 1 1 refl (known r n 1 1 c.bits-2.ensures) tt c.narrow-gx.ensures)
+    (other r n 2 1 refl (known r n 2 1 c.bits-3.ensures) tt c.narrow-bx.ensures)
+    (other r n 0 1 refl (known r n 0 1 c.bits.ensures) tt c.narrow-rx.ensures)
+    (other r n 1 1 refl (known r n 1 1 c.bits-2.ensures) tt c.narrow-gx.ensures)
+    (other r n 2 1 refl (known r n 2 1 c.bits-3.ensures) tt c.narrow-bx.ensures)
