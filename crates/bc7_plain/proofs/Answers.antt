@@ -46,7 +46,7 @@ module _ (m n : ℕ) where
       asked = record {
         mode = h;
         rotation = subst (λ (x : ℕ). x < 4) (sym g.rotation) (field_below n _ (rotation_bits m) 2 (few m h).rotation);
-        index_mode_is = subst (λ (x : ℕ). x < 2) (sym g.index_mode_is) (field_below n _ (index_mode_bits m) 1 (few m h).index_mode_is);
+        index_mode = subst (λ (x : ℕ). x < 2) (sym g.index_mode) (field_below n _ (index_mode_bits m) 1 (few m h).index_mode);
         spelt = subst (Spelt m) (sym e) (block_spelt m n h);
         pixel = hq;
       }
@@ -54,7 +54,7 @@ module _ (m n : ℕ) where
       pub read : {out : List ℕ} → out ≡ table 4 (λ c. channel_in m i cs n q (rotated r c)) → out ≡ table 4 (plain_channel m n q)
       unfolding plain_channel
       read is =
-          is ∙ ap₂ (λ (x : ℕ) (l : List ℕ). table 4 (λ c. channel_in m x l n q (rotated r c))) g.index_mode_is e
+          is ∙ ap₂ (λ (x : ℕ) (l : List ℕ). table 4 (λ c. channel_in m x l n q (rotated r c))) g.index_mode e
           ∙ ap (λ (x : ℕ). table 4 (λ c. channel_in m (index_mode_in m n) (letters_of m n) n q (rotated x c))) g.rotation
 
 -- an accepted answer

@@ -1,18 +1,17 @@
 -- How large the numbers of the modes are, by the printed table and the format's: computed tests over the modes.
 -- Assumes nothing.
-use mathlib.Core.Path.{◌≡◌, refl}
 use mathlib.Core.Logic.{◌≢◌}
-use mathlib.Core.Bool.{Bool, true, false, not}
-use Prim.Native.Nat.{ℕ, zero, suc, ◌+◌, ◌*◌, ◌^◌, ◌≤◌, ◌<◌}
+use mathlib.Core.Bool.{Bool, not}
+use Prim.Native.Nat.{ℕ, ◌+◌, ◌*◌, ◌≤◌, ◌<◌}
 use native.Mathlib.Nat.{le_trans, mul-le-mul_left, mul-le-mul_right, mul-one}
 use native.Mathlib.Omega.{arith}
 use borrow.Author.Tests.{ne_eqb}
-use lib.Dec.{T, eqb, eqb→eq, leb, leb→le, ltb, ltb→lt, lt→ltb}
-use Rattle.laws.specs.Tables.{below, both, implies, pick}
+use lib.Dec.{T, eqb, leb, leb→le, ltb, ltb→lt, lt→ltb}
+use Rattle.laws.specs.Tables.{below, both, implies}
 use Rattle.laws.proofs.Tests.{at, both_left, both_right, implied}
 use Rattle.bc7_fields.specs.Fields.{lead_end, p_start, value_start}
 use Rattle.bc7_format.specs.Modes.{alpha_bits, channel_bits, colour_bits, endpoint_count, first_bits, index_bits, index_mode_bits, mode_row, p_count}
-use Rattle.bc7_format.specs.Modes.{partition_bits, rotation_bits, second_bits}
+use Rattle.bc7_format.specs.Modes.{partition_bits, rotation_bits}
 use Rattle.pixel_rules.specs.Columns.{column_of, printed_rows}
 use Rattle.pixel_rules.specs.Plain.{first_start, set_for}
 
@@ -133,8 +132,8 @@ times q w h = rw mul-one at (mul-le-mul_left q h)
 pub record Few (m : ℕ) : Type 0 where
   pub partition : partition_bits m ≤ 6
   pub rotation : rotation_bits m ≤ 2
-  pub index_mode_is : index_mode_bits m ≤ 1
+  pub index_mode : index_mode_bits m ≤ 1
 
 pub few : (m : ℕ) → m < 8 → Few m
 unfolding mode_row
-few m h = record { partition = row_le partition_bits 6 tt m h; rotation = row_le rotation_bits 2 tt m h; index_mode_is = row_le index_mode_bits 1 tt m h }
+few m h = record { partition = row_le partition_bits 6 tt m h; rotation = row_le rotation_bits 2 tt m h; index_mode = row_le index_mode_bits 1 tt m h }

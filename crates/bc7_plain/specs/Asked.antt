@@ -51,7 +51,7 @@ pub record EndpointOf (m e : ℕ) : Type 0 where
 
 pub record IndexModeOf (m i : ℕ) : Type 0 where
   pub mode : m < 8
-  pub index_mode_is : i < 2
+  pub index_mode : i < 2
 
 pub record PixelOf (m q : ℕ) : Type 0 where
   pub mode : m < 8
@@ -95,7 +95,7 @@ pub record TwoBytes (x y w : ℕ) : Type 0 where
 -- a channel of a pixel, before rotation, and a pixel
 pub record ChannelAsked (m i : ℕ) (cs : List ℕ) (q d : ℕ) : Type 0 where
   pub mode : m < 8
-  pub index_mode_is : i < 2
+  pub index_mode : i < 2
   pub spelt : Spelt m cs
   pub pixel : q < 16
   pub channel : d < 4
@@ -103,7 +103,7 @@ pub record ChannelAsked (m i : ℕ) (cs : List ℕ) (q d : ℕ) : Type 0 where
 pub record PixelAsked (m r i : ℕ) (cs : List ℕ) (q : ℕ) : Type 0 where
   pub mode : m < 8
   pub rotation : r < 4
-  pub index_mode_is : i < 2
+  pub index_mode : i < 2
   pub spelt : Spelt m cs
   pub pixel : q < 16
 
@@ -116,4 +116,4 @@ pub record Rotatable (r c : ℕ) : Type 0 where
 pub record SplitRead (m n p r i : ℕ) : Type 0 where
   pub partition : p ≡ partition_in m n
   pub rotation : r ≡ rotation_in m n
-  pub index_mode_is : i ≡ index_mode_in m n
+  pub index_mode : i ≡ index_mode_in m n

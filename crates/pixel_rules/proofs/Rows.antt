@@ -23,7 +23,7 @@ pub record Row (m : ℕ) : Type 0 where
   pub ends : 2 * column_of m 0 ≡ endpoint_count m
   pub partition : column_of m 1 ≡ partition_bits m
   pub rotation : column_of m 2 ≡ rotation_bits m
-  pub index_mode_is : column_of m 3 ≡ index_mode_bits m
+  pub index_mode : column_of m 3 ≡ index_mode_bits m
   pub colour : column_of m 4 ≡ colour_bits m
   pub alpha : column_of m 5 ≡ alpha_bits m
   pub ps : endpoint_count m * column_of m 6 + column_of m 0 * column_of m 7 ≡ p_count m
@@ -38,7 +38,7 @@ row m h = record {
   ends = by_row (λ m. 2 * column_of m 0) endpoint_count tt m h;
   partition = by_row (λ m. column_of m 1) partition_bits tt m h;
   rotation = by_row (λ m. column_of m 2) rotation_bits tt m h;
-  index_mode_is = by_row (λ m. column_of m 3) index_mode_bits tt m h;
+  index_mode = by_row (λ m. column_of m 3) index_mode_bits tt m h;
   colour = by_row (λ m. column_of m 4) colour_bits tt m h;
   alpha = by_row (λ m. column_of m 5) alpha_bits tt m h;
   ps = by_row (λ m. endpoint_count m * column_of m 6 + column_of m 0 * column_of m 7) p_count tt m h;
