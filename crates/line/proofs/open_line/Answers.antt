@@ -1,0 +1,36 @@
+-- `open_line` meets its contract.
+-- Assumes nothing.
+use mathlib.Core.Path.{◌≡◌}
+use Prim.Native.Nat.{ℕ}
+use borrow.Author.Rules.{rules}
+use mir.Syntax.{w8}
+use mir.Val.{Fits}
+use lib.ListN.{length, get_or}
+use Rattle.laws.specs.Digits.{Fit}
+use Rattle.bcn_format.specs.Block.{eights}
+use Rattle.bc7_format.proofs.Subsets.{sixteen_bytes}
+use Rattle.line.proofs.Opening.{asks, is_opened}
+use Rattle.line.proofs.open_line.Goals as goal
+use Rattle.line.proofs.open_line.Goals.{Start}
+
+size : (s : Start) → length s.args.block ≡ 16
+size s = search rules
+
+byte : (s : Start) (i : ℕ) → Fits w8 (get_or s.args.block i 0)
+byte s i = search rules
+
+sixteen : (s : Start) → Fit eights s.args.block
+sixteen s = sixteen_bytes _ (size s) (λ i l. (byte s i).fits)
+
+pub read_lead-lead-requires : goal.read_lead-lead-requires
+read_lead-lead-requires c = c.requires.of_block
+
+pub line_part-part-requires : goal.line_part-part-requires
+line_part-part-requires c =
+    let s = c.before.before in
+    asks s.args.block s.requires c.read_lead-lead.ensures (sixteen s)
+
+pub returns : goal.returns
+returns c =
+    let lead = c in
+    is_opened lead.args.block lead.requires lead.read_lead-lead.ensures c.line_part-part.ensures

@@ -1,0 +1,9 @@
+-- `reading::widths_of` meets its contract.
+-- Assumes nothing.
+use Rattle.line.specs.Reading.{widths_in}
+use borrow.Author.Rules.{rules}
+use Rattle.line.proofs.reading.widths_of.Goals as goal
+
+pub returns : goal.returns
+unfolding widths_in
+returns c = rw c.index_widths-indexes.ensures

@@ -1,0 +1,25 @@
+-- `fits::p_fits` meets its contract.
+-- Assumes nothing.
+use mathlib.Core.Path.{◌≡◌, refl, ◌∙◌, ap, sym, subst}
+use mathlib.Core.Bool.{Bool, true}
+use mathlib.Core.Logic.{⊎_elim}
+use mathlib.Core.List.{List}
+use Prim.Native.Nat.{ℕ, ◌-◌, ◌^◌, ◌≤◌}
+use native.Mathlib.Omega.{arith}
+use borrow.Author.Tests.{le-ltb, lt-ltb, not-false, not-true}
+use lib.Dec.{ltb}
+use lib.ListN.{get_or}
+use Rattle.laws.specs.Tables.{below, pick}
+use Rattle.laws.proofs.Scan.{scan_fails, scan_more}
+use Rattle.bc7_modes.specs.declared.ModeRow.{ModeRow}
+use Rattle.record.proofs.fits.p_fits.Given as goal
+
+-- p bit k fits
+abbrev pub test : ModeRow → List ℕ → ℕ → Bool
+test row p k = ltb (get_or p k 0) (2 ^ pick (ltb k row.p) 1 0)
+
+abbrev pub invariant-loop-k : goal.invariant-loop-k
+invariant-loop-k l = (l.k ≤ 6) × (below l.k (test l.row l.p) ≡ true)
+
+abbrev pub decreases-loop-k : goal.decreases-loop-k
+decreases-loop-k l = 6 - l.k

@@ -1,0 +1,13 @@
+-- `reading::endpoints_of` meets its contract.
+-- Assumes nothing.
+use Prim.Native.Nat.{◌-◌, ◌≤◌}
+use native.Mathlib.Omega.{arith}
+use Rattle.bc7_modes.proofs.Bounds.{small}
+use Rattle.record.proofs.reading.Groups.{Values, values_all, values_next, values_none}
+use Rattle.record.proofs.reading.endpoints_of.Given as goal
+
+abbrev pub invariant-loop-e : goal.invariant-loop-e
+invariant-loop-e l = (l.e ≤ l.row.endpoints) × Values l.row l.red l.green l.blue l.alpha l.e l.endpoints
+
+abbrev pub decreases-loop-e : goal.decreases-loop-e
+decreases-loop-e l = l.row.endpoints - l.e

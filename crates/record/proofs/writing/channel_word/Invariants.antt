@@ -1,0 +1,16 @@
+-- `writing::channel_word` meets its contract.
+-- Assumes nothing.
+use mathlib.Core.Path.{◌≡◌}
+use Prim.Native.Nat.{◌+◌, ◌*◌, ◌≤◌}
+use native.Mathlib.Omega.{arith}
+use lib.ListN.{get_or}
+use Rattle.bcn_format.proofs.Expanding.{times_width}
+use Rattle.laws.proofs.Downwards.{Down, Step, down_all, down_next, down_none}
+use borrow.Author.Rules.{rules}
+use Rattle.record.proofs.writing.channel_word.Given as goal
+
+abbrev pub invariant-loop-k : goal.invariant-loop-k
+invariant-loop-k l = (l.k ≤ l.count) × Down l.width l.count (λ i. get_or l.e (4 * i + l.channel) 0) l.k l.word
+
+abbrev pub decreases-loop-k : goal.decreases-loop-k
+decreases-loop-k l = l.k
