@@ -14,7 +14,7 @@ use Rattle.laws.proofs.Scan.{scan_fails, scan_more}
 use Rattle.bc7_modes.specs.declared.ModeRow.{ModeRow}
 use Rattle.record.proofs.fits.p_fits.Goals as goal
 use Rattle.record.proofs.fits.p_fits.Invariants.{test}
-use Rattle.record.proofs.fits.p_fits.Goals.{After-value_fits}
+use Rattle.record.proofs.fits.p_fits.Goals.{then-k-row, else-k-row, After-value_fits}
 
 tested : (c : After-value_fits)
     → c.value_fits.result ≡ test c.args.row c.args.p
@@ -22,7 +22,10 @@ tested : (c : After-value_fits)
 tested c =
     c.value_fits.ensures
     ∙ ap (λ (w : ℕ). ltb (get_or c.args.p c.loop-k.k 0) (2 ^ w))
-    (⊎_elim (λ w. w.1 ∙ sym (rw (lt-ltb _ _ w.0.taken))) (λ w. w.1 ∙ sym (rw (le-ltb _ _ w.0.left))) c.if-k-row.branch)
+    (elim c.if-k-row.branch [
+      | then-k-row w ↦ w.width-is ∙ sym (rw (lt-ltb _ _ w.if-k-row.true))
+      | else-k-row w ↦ w.width-is ∙ sym (rw (le-ltb _ _ w.if-k-row.false))
+    ])
 
 pub loop-k-init : goal.loop-k-init
 loop-k-init c = (omega arith, refl)
@@ -31,7 +34,7 @@ pub bounds-p-k : goal.bounds-p-k
 bounds-p-k c = omega arith
 
 pub value_fits-requires : goal.value_fits-requires
-value_fits-requires c = ⊎_elim (λ w. omega arith) (λ w. omega arith) c.if-k-row.branch
+value_fits-requires c = elim c.if-k-row.branch [ then-k-row w ↦ omega arith | else-k-row w ↦ omega arith ]
 
 pub returns-then-not-value_fits : goal.returns-then-not-value_fits
 returns-then-not-value_fits c =

@@ -75,9 +75,9 @@ loop-e-smaller c = omega arith
 pub loop-e-preserved : goal.loop-e-preserved
 loop-e-preserved c =
     let loop = c in
-    let s = loop.before in (
+    let s = loop in (
       omega arith,
-      values_next s.args.row _ _ _ _ _ c.loop-e-test.true (six s) loop.loop-e.invariant.1
+      values_next s.args.row _ _ _ _ _ c.loop-e-test.true (six c.before.before.before.before.before.before.before) loop.loop-e.invariant.1
           c.part_of.ensures c.part_of-in-loop-e.ensures c.part_of-in-loop-e-2.ensures c.part_of-in-loop-e-3.ensures,
     )
 

@@ -32,14 +32,14 @@ read_lead-lead-requires c = c.requires
 
 pub read_endpoints-values-requires : goal.read_endpoints-values-requires
 read_endpoints-values-requires c =
-    let s = c.before in
-    endpoints_ahead _ (sixteen s) s.requires.mode_is s.requires.low s.requires.mode_row_is c.read_lead-lead.ensures
+    let s = c in
+    endpoints_ahead _ (sixteen c.before.before) s.requires.mode_is s.requires.low s.requires.mode_row_is c.read_lead-lead.ensures
 
 pub read_p-bits-requires : goal.read_p-bits-requires
 read_p-bits-requires c =
     let values = c in
-    let s = values.before.before in
-    p_ahead _ (sixteen s) s.requires.mode_is s.requires.low s.requires.mode_row_is values.read_lead-lead.ensures
+    let s = values in
+    p_ahead _ (sixteen c.before.before.before.before.before) s.requires.mode_is s.requires.low s.requires.mode_row_is values.read_lead-lead.ensures
     values.read_endpoints-values.ensures
 
 pub anchors_of-anchors-requires : goal.anchors_of-anchors-requires
@@ -49,12 +49,12 @@ pub read_indexes-set-requires : goal.read_indexes-set-requires
 read_indexes-set-requires c =
     let bits = c in
     let values = bits in
-    let s = values.before.before in
-    first_ahead _ (sixteen s) s.requires.mode_is s.requires.low s.requires.mode_row_is values.read_lead-lead.ensures
+    let s = values in
+    first_ahead _ (sixteen c.before.before.before.before.before.before.before.before.before) s.requires.mode_is s.requires.low s.requires.mode_row_is values.read_lead-lead.ensures
     values.read_endpoints-values.ensures bits.read_p-bits.ensures c.anchors_of-anchors.ensures
 
 pub parts_of-first-requires : goal.parts_of-first-requires
-parts_of-first-requires c = (small (of_mode_is c.before.before.before.before.before.before.before.before)).most
+parts_of-first-requires c = (small (of_mode_is c.before.before.before.before.before.before.before.before.before.before.before)).most
 
 pub read_second-second-requires : goal.read_second-second-requires
 read_second-second-requires c =
@@ -62,15 +62,15 @@ read_second-second-requires c =
     let anchors = set in
     let bits = anchors in
     let values = bits in
-    let s = values.before.before in
-    second_ahead _ (sixteen s) s.requires.mode_is s.requires.low s.requires.mode_row_is values.read_lead-lead.ensures
+    let s = values in
+    second_ahead _ (sixteen c.before.before.before.before.before.before.before.before.before.before.before.before.before) s.requires.mode_is s.requires.low s.requires.mode_row_is values.read_lead-lead.ensures
     values.read_endpoints-values.ensures bits.read_p-bits.ensures anchors.anchors_of-anchors.ensures set.read_indexes-set.ensures
 
 pub returns : goal.returns
 returns c =
     let anchors = c in
     let values = anchors in
-    let s = values.before.before in
-    record_read _ (sixteen s) s.requires.mode_is s.requires.low s.requires.mode_row_is values.read_lead-lead.ensures
+    let s = values in
+    record_read _ (sixteen c.before.before.before.before.before.before.before.before.before.before.before.before.before.before) s.requires.mode_is s.requires.low s.requires.mode_row_is values.read_lead-lead.ensures
     values.read_endpoints-values.ensures anchors.read_p-bits.ensures anchors.anchors_of-anchors.ensures
     c.read_indexes-set.ensures c.parts_of-first.ensures c.read_second-second.ensures
