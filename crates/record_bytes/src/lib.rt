@@ -35,7 +35,8 @@ fn lay(values: &[u8], at: usize, into: &mut [u8])
     requires { at + length values.now ≤ length into.old }
     ensures { into.new ≡ over into.old at (length values.now) (λ i. get_or values.now i 0) }
 {
-    bytes::copy(values, &mut into[at..]);
+    let end = at + values.len();
+    into[at..end].copy_from_slice(values);
 }
 
 // The bytes of a record.
@@ -65,7 +66,7 @@ fn copy_from(from: &[u8], at: usize, values: &mut [u8])
     ensures { values.new ≡ bytes_from from.now at (length values.old) }
 {
     let end = at + values.len();
-    bytes::copy(&from[at..end], values);
+    values.copy_from_slice(&from[at..end]);
 }
 
 // The record of 66 bytes. A kind above 3 is read as 3: `pack_bytes` refuses it before.

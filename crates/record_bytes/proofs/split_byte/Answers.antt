@@ -8,8 +8,7 @@ use Rattle.bc7_format.specs.declared.Split.{Split}
 use Rattle.bc7_format.specs.declared.Split.TheVariants.{Whole, Two, Three, Vector}
 use Rattle.bc7_format.specs.Splits.{kind_of, partition, rotation}
 use Rattle.record_rules.specs.Wire.{split_byte}
-use Rattle.record_bytes.proofs.split_byte.Statement.{statement}
-use Rattle.record_bytes.proofs.split_byte.Tie as tie
+use Rattle.record_bytes.proofs.split_byte.Goals as goal
 
 of_vector : (s : Split) → kind_of s ≡ 3 → rotation s ≡ split_byte s
 of_vector Whole e = refl
@@ -23,23 +22,11 @@ of_subsets (Two a) n = refl
 of_subsets (Three a) n = refl
 of_subsets (Vector r i) n = absurd (n refl)
 
-kind-of-requires : tie.Need-kind-of-requires
-kind-of-requires c κs = search rules
+pub returns-then-kind_of-eq3 : goal.returns-then-kind_of-eq3
+returns-then-kind_of-eq3 c =
+    c.rotation_of.ensures ∙ of_vector c.args.split (sym c.kind_of.ensures ∙ c.if-kind_of-eq3.true)
 
-rotation-of-requires : tie.Need-rotation-of-requires
-rotation-of-requires c κs = search rules
-
-returns : tie.Need-returns
+pub returns : goal.returns
 returns c =
-    c.rotation-of.ensures ∙ of_vector c.before.before.before.args.split (sym c.before.before.kind_of_is.ensures ∙ c.before.if1.true)
-
-partition-of-requires : tie.Need-partition-of-requires
-partition-of-requires c κs = search rules
-
-returns-2 : tie.Need-returns-2
-returns-2 c =
-    c.partition_of_is.ensures
-    ∙ of_subsets c.before.before.before.args.split (λ e. c.before.if1.false (c.before.before.kind_of_is.ensures ∙ e))
-
-pub split_byte_spec : {M : Type 1} → statement M
-split_byte_spec = tie.close (tie.spec kind-of-requires rotation-of-requires returns partition-of-requires returns-2)
+    c.partition_of.ensures
+    ∙ of_subsets c.args.split (λ e. c.if-kind_of-eq3.false (c.kind_of.ensures ∙ e))

@@ -1,0 +1,15 @@
+-- `distance` meets its contract.
+-- Assumes nothing.
+use borrow.Author.Rules.{rules}
+use Rattle.nearest.specs.Trying.{distance_at}
+use Rattle.nearest.proofs.distance.Goals as goal
+
+pub weight_64-at-requires : goal.weight_64-at-requires
+weight_64-at-requires c = record { least = c.requires.channels.least; most = c.requires.channels.most; within = c.requires.index }
+
+pub returns : goal.returns
+unfolding distance_at
+returns c =
+    let f = c in
+    let b = c in
+    rw (f.far.ensures.is, b.far-2.ensures.is, b.far-3.ensures.is, c.far-4.ensures.is, f.weight_64-at.ensures.is)
