@@ -54,16 +54,13 @@ lead_laid r k s i out long ek es ei =
 
 -- a part of a list that is copied into a list of its length
 pub copied_part : (bs vs : List ℕ) (at : ℕ) → at + length vs ≤ length bs
-    → take (length (take (at + length vs - at) (drop at bs))) (take (at + length vs - at) (drop at bs))
-    ++ drop (length (take (at + length vs - at) (drop at bs))) vs
-    ≡ bytes_from bs at (length vs)
+    → take (at + length vs - at) (drop at bs) ≡ bytes_from bs at (length vs)
 copied_part bs vs at h =
     let n : ℕ = length vs in
     let e : at + n - at ≡ n = omega arith in
     let long : length (take n (drop at bs)) ≡ n = length-take-le n (drop at bs) (omega (arith, length-drop at bs)) in
-    rw (e, long, drop-length vs, take_all n (take n (drop at bs)) (le_of_eq long))
-    (append-nil (take n (drop at bs))
-    ∙ ext_get_or 0 _ _ (long ∙ sym (length_table n _)) (λ i l.
+    rw e
+    (ext_get_or 0 _ _ (long ∙ sym (length_table n _)) (λ i l.
     let l' : i < n = rw long at l in
     get_or-take n (drop at bs) i 0 l' ∙ get_or-drop at bs i 0 ∙ sym (get_d_table n (λ j. get_or bs (at + j) 0) 0 i l')))
 

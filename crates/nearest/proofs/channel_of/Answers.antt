@@ -41,6 +41,6 @@ returns c =
     let first = c.eight-first.ensures in
     let second = c.eight-second.ensures in
     record {
-      is = some_width a.t1 a.t2 a.channel a.wanted e.if-width-eq0.false (first.is ∙ first_end a.t1 a.t2 a.channel) second.is;
+      is = some_width a.line a.widths a.channel a.wanted e.if-width-eq0.false (first.is ∙ first_end a.line a.widths a.channel) second.is;
       byte = record { first = first.low; second = second.low; wanted = search rules };
     }

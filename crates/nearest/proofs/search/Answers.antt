@@ -11,13 +11,13 @@ use Rattle.nearest.specs.Trying.{distance_at}
 use Rattle.nearest_rules.proofs.Least.{Least, least_at_is, least_kept, least_less, least_one, least_one_alone}
 use Rattle.bcn_format.proofs.Weighing.{Counted, counted}
 use Rattle.nearest.proofs.search.Goals as goal
-use Rattle.nearest.proofs.search.Goals.{At-loop-i, In-loop-i, Start}
+use Rattle.nearest.proofs.search.Goals.{then-next-least, else-next-least, At-loop-i, In-loop-i, Start}
 
 cnt : (c : Start) → Counted c.args.bits
 cnt c = counted c.args.bits c.requires.least c.requires.most
 
 -- where a turn begins
-abbrev start : At-loop-i → Start invariant-loop decreases-loop
+abbrev start : At-loop-i → Start
 start c = c.before.before
 
 more : (c : In-loop-i) → c.loop-i.i < 2 ^ (start c.before).args.bits
@@ -31,7 +31,7 @@ loop-i-init c = (omega (arith, (cnt c.before).least), least_one _, c.distance-le
 
 pub distance-next-requires : goal.distance-next-requires
 distance-next-requires c =
-    record { channels = (start c.before).pre; index = more c }
+    record { channels = (start c.before).requires; index = more c }
 
 pub overflow_add-i : goal.overflow_add-i
 overflow_add-i c = omega (arith, (cnt (start c.before.before.before)).most, more c.before.before)
@@ -49,11 +49,16 @@ loop-i-preserved c =
     let next : c.distance-next.result ≡ d i = c.distance-next.ensures in
     let kept = l.loop-i.invariant in (
       omega (arith, more c.before.before),
-      rw add-one (⊎_elim
-          (λ w. rw w.1 (least_less i d at kept.1 (let z : d i < d at = omega (arith, next, kept.2, w.0.taken) in z)))
-          (λ w. rw w.1 (least_kept i d at kept.1 (let z : d at ≤ d i = omega (arith, next, kept.2, w.0.left) in z)))
-          c.if-next-least.branch),
-      ⊎_elim (λ w. w.2 ∙ next ∙ sym (ap d w.1)) (λ w. w.2 ∙ kept.2 ∙ sym (ap d w.1)) c.if-next-least.branch,
+      rw add-one (elim c.if-next-least.branch [
+        | then-next-least w ↦
+            rw w.index-is (least_less i d at kept.1 (let z : d i < d at = omega (arith, next, kept.2, w.if-next-least.true) in z))
+        | else-next-least w ↦
+            rw w.index-is (least_kept i d at kept.1 (let z : d at ≤ d i = omega (arith, next, kept.2, w.if-next-least.false) in z))
+      ]),
+      elim c.if-next-least.branch [
+        | then-next-least w ↦ w.least-is ∙ next ∙ sym (ap d w.index-is)
+        | else-next-least w ↦ w.least-is ∙ kept.2 ∙ sym (ap d w.index-is)
+      ],
     )
 
 pub returns : goal.returns

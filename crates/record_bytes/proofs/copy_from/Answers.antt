@@ -1,10 +1,9 @@
 -- `copy_from` meets its contract.
 -- Assumes nothing.
-use borrow.Author.Rules.{rules}
+use mathlib.Core.Path.{◌∙◌}
 use Rattle.record_bytes.proofs.Laying.{copied_part}
 use Rattle.record_bytes.proofs.copy_from.Goals as goal
 
 pub returns : goal.returns
 returns c =
-    let s = c in
-    rw c.copy.ensures.1 (copied_part s.args.from.now s.args.values.now s.args.at s.requires)
+    c.copy_from_slice.ensures.after ∙ copied_part c.args.from.now c.args.values.now c.args.at c.requires

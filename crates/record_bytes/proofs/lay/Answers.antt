@@ -1,10 +1,9 @@
 -- `lay` meets its contract.
 -- Assumes nothing.
-use borrow.Author.Rules.{rules}
+use Prim.Native.Nat.{ℕ}
 use Rattle.laws.proofs.Over.{copied_over}
 use Rattle.record_bytes.proofs.lay.Goals as goal
 
 pub returns : goal.returns
 returns c =
-    let s = c in
-    rw c.copy.ensures.1 (copied_over s.args.into.now s.args.values.now s.args.at 0 s.requires)
+    rw c.copy_from_slice.ensures.after (copied_over {A = ℕ} c.args.into.now c.args.values.now c.args.at 0 c.requires)

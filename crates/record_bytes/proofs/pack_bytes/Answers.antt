@@ -46,7 +46,7 @@ spelt_is c =
     let bs = given (packing c) in
     c.spells.ensures
     ∙ ap (λ (r : Record). both (eqb (get_or bs 2 0) (split_byte r.split)) (eqb (get_or bs 3 0) (index_mode r.split)))
-    (packing c).before.record_of_bytes.ensures
+    (packing c).record_of_bytes-record.ensures
 
 not_5 : (c : After-spells) → pack_refusal (record_of_bytes (given (packing c))) ≢ 5
 not_5 c e = c.if-packed-eq-WRONG_KIND.false (refusal_is (packing c) ∙ e)
@@ -54,9 +54,9 @@ not_5 c e = c.if-packed-eq-WRONG_KIND.false (refusal_is (packing c) ∙ e)
 pub returns-then-spells : goal.returns-then-spells
 returns-then-spells c =
     let at = c in
-    answered (packing c.before) ∙ as_record _ (packing c.before).before.before.if1.false (not_5 c.before) (sym (spelt_is c.before) ∙ c.if-spells.true)
+    answered (packing c.before) ∙ as_record _ (packing c.before).if-bytes-gt3.false (not_5 c.before) (sym (spelt_is c.before) ∙ c.if-spells.true)
 
 pub returns : goal.returns
 returns c =
     let at = c in
-    c.refused-2.ensures ∙ more_said _ (packing c.before.before).before.before.if1.false (not_5 c.before.before) (sym (spelt_is c.before.before) ∙ c.if-spells.false)
+    c.refused-2.ensures ∙ more_said _ (packing c.before.before).if-bytes-gt3.false (not_5 c.before.before) (sym (spelt_is c.before.before) ∙ c.if-spells.false)

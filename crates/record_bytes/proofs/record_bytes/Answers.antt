@@ -30,7 +30,7 @@ lay-requires c = omega (arith, endpoints_long c.before.before.before.before.befo
 abbrev from_1 : After-lay → Start
 from_1 c = c.before.before.before.before.before.before.before
 
-filled_values : (c : After-lay) → Filled place_count 0 (record_byte (from_1 c).args.from) ps_from c.lay.new.1.1.0
+filled_values : (c : After-lay) → Filled place_count 0 (record_byte (from_1 c).args.from) ps_from c.lay.new.into
 filled_values c =
     let set = c in
     let r = (from_1 c).args.from in
@@ -45,7 +45,7 @@ lay-requires-2 c = let at = c in omega (arith, p_long (from_1 c.before.before.be
 abbrev from-2 : After-lay-2 → After-lay
 from-2 c = c.before.before.before.before.before
 
-filled_ps : (c : After-lay-2) → Filled place_count 0 (record_byte (from_1 (from-2 c)).args.from) first_from c.lay-2.new.1.1.0
+filled_ps : (c : After-lay-2) → Filled place_count 0 (record_byte (from_1 (from-2 c)).args.from) first_from c.lay-2.new.into
 filled_ps c =
     let s = from_1 (from-2 c) in
     laid ps_from 6 s.args.from.p (p_long s) c.lay-2.ensures (filled_values (from-2 c)) (omega arith) (p_bit_at s.args.from)
@@ -56,7 +56,7 @@ lay-requires-3 c = let at = c in omega (arith, first_long (from_1 (from-2 c.befo
 abbrev from-3 : After-lay-3 → After-lay-2
 from-3 c = c.before.before.before.before.before
 
-filled_first : (c : After-lay-3) → Filled place_count 0 (record_byte (from_1 (from-2 (from-3 c))).args.from) second_from c.lay-3.new.1.1.0
+filled_first : (c : After-lay-3) → Filled place_count 0 (record_byte (from_1 (from-2 (from-3 c))).args.from) second_from c.lay-3.new.into
 filled_first c =
     let s = from_1 (from-2 (from-3 c)) in
     laid first_from 16 s.args.from.first (first_long s) c.lay-3.ensures (filled_ps (from-3 c)) (omega arith) (first_at s.args.from)

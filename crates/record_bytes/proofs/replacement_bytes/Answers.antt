@@ -26,7 +26,7 @@ lay-requires c = omega (arith, endpoints_long c.before.before.before)
 abbrev from_1 : After-lay → Start
 from_1 c = c.before.before.before.before
 
-filled_8 : (c : After-lay) → Filled 26 0 (value_at (from_1 c).args.from) 8 c.lay.new.1.1.0
+filled_8 : (c : After-lay) → Filled 26 0 (value_at (from_1 c).args.from) 8 c.lay.new.into
 filled_8 c =
     laid 0 8 (from_1 c).args.from.endpoints (endpoints_long (from_1 c)) c.lay.ensures (filled_none refl) (omega arith) (endpoint_at _)
 
@@ -36,7 +36,7 @@ lay-requires-2 c = let at = c in omega (arith, p_long (from_1 c.before.before.be
 abbrev from-2 : After-lay-2 → After-lay
 from-2 c = c.before.before.before.before.before
 
-filled_10 : (c : After-lay-2) → Filled 26 0 (value_at (from_1 (from-2 c)).args.from) 10 c.lay-2.new.1.1.0
+filled_10 : (c : After-lay-2) → Filled 26 0 (value_at (from_1 (from-2 c)).args.from) 10 c.lay-2.new.into
 filled_10 c =
     let s = from_1 (from-2 c) in
     laid 8 2 s.args.from.p (p_long s) c.lay-2.ensures (filled_8 (from-2 c)) (omega arith) (p_at s.args.from)
