@@ -14,7 +14,9 @@ counted : {h : Head} {n m x y : ℕ} → MovesBlocks h n m → x ≡ across h.wi
 counted k x y = record { size = k.size; columns_are = x; rows_are = y }
 
 pub overflow_mul-b-end : goal.overflow_mul-b-end
-overflow_mul-b-end c = omega (arith, count_fits (counted c.requires c.blocks_across-columns.ensures c.blocks_across-rows.ensures))
+overflow_mul-b-end c =
+    let k = counted c.requires c.blocks_across-columns.ensures c.blocks_across-rows.ensures in
+    omega (arith, count_fits k)
 
 pub loop-b-init : goal.loop-b-init
 loop-b-init c =
@@ -22,35 +24,46 @@ loop-b-init c =
 
 pub stored_by-requires : goal.stored_by-requires
 stored_by-requires c =
+    let k = counted c.requires c.blocks_across-columns.ensures c.blocks_across-rows.ensures in
     let h : c.loop-b.b < c.blocks_across-rows.result * c.blocks_across-columns.result = omega arith in
-    numbered (counted c.requires c.blocks_across-columns.ensures c.blocks_across-rows.ensures) h
+    numbered k h
 
 pub overflow_mul-stored_by : goal.overflow_mul-stored_by
-overflow_mul-stored_by c = omega (arith, c.stored_by.ensures.inside, count_fits (counted c.requires c.blocks_across-columns.ensures c.blocks_across-rows.ensures))
+overflow_mul-stored_by c =
+    let k = counted c.requires c.blocks_across-columns.ensures c.blocks_across-rows.ensures in
+    omega (arith, c.stored_by.ensures.inside, count_fits k)
 
 pub overflow_add-head : goal.overflow_add-head
-overflow_add-head c = omega (arith, c.stored_by.ensures.inside, count_fits (counted c.requires c.blocks_across-columns.ensures c.blocks_across-rows.ensures))
+overflow_add-head c =
+    let k = counted c.requires c.blocks_across-columns.ensures c.blocks_across-rows.ensures in
+    omega (arith, c.stored_by.ensures.inside, count_fits k)
 
 pub load-block-requires : goal.load-block-requires
 load-block-requires c =
-    block_there (counted c.requires c.blocks_across-columns.ensures c.blocks_across-rows.ensures) c.requires.whole c.stored_by.ensures.inside
+    let k = counted c.requires c.blocks_across-columns.ensures c.blocks_across-rows.ensures in
+    block_there k c.requires.whole c.stored_by.ensures.inside
 
 pub stored_by-requires-in-loop-b : goal.stored_by-requires-in-loop-b
 stored_by-requires-in-loop-b c =
+    let k = counted c.requires c.blocks_across-columns.ensures c.blocks_across-rows.ensures in
     let h : c.loop-b.b < c.blocks_across-rows.result * c.blocks_across-columns.result = omega arith in
-    numbered (counted c.requires c.blocks_across-columns.ensures c.blocks_across-rows.ensures) h
+    numbered k h
 
 pub overflow_mul-stored_by-in-loop-b : goal.overflow_mul-stored_by-in-loop-b
-overflow_mul-stored_by-in-loop-b c = omega (arith, c.stored_by-in-loop-b.ensures.inside, count_fits (counted c.requires c.blocks_across-columns.ensures c.blocks_across-rows.ensures))
+overflow_mul-stored_by-in-loop-b c =
+    let k = counted c.requires c.blocks_across-columns.ensures c.blocks_across-rows.ensures in
+    omega (arith, c.stored_by-in-loop-b.ensures.inside, count_fits k)
 
 pub store-requires : goal.store-requires
 store-requires c =
-    omega (arith, c.loop-b.invariant.1.long, stored_within (counted c.requires c.blocks_across-columns.ensures c.blocks_across-rows.ensures) c.stored_by-in-loop-b.ensures.inside)
+    let k = counted c.requires c.blocks_across-columns.ensures c.blocks_across-rows.ensures in
+    omega (arith, c.loop-b.invariant.1.long, stored_within k c.stored_by-in-loop-b.ensures.inside)
 
 pub overflow_step-b : goal.overflow_step-b
 overflow_step-b c =
+    let k = counted c.requires c.blocks_across-columns.ensures c.blocks_across-rows.ensures in
     let h : c.loop-b.b < c.blocks_across-rows.result * c.blocks_across-columns.result = omega arith in
-    omega (arith, h, count_fits (counted c.requires c.blocks_across-columns.ensures c.blocks_across-rows.ensures))
+    omega (arith, h, count_fits k)
 
 pub loop-b-smaller : goal.loop-b-smaller
 loop-b-smaller c =
@@ -59,9 +72,10 @@ loop-b-smaller c =
 
 pub loop-b-preserved : goal.loop-b-preserved
 loop-b-preserved c =
+    let k = counted c.requires c.blocks_across-columns.ensures c.blocks_across-rows.ensures in
     let h : c.loop-b.b < c.blocks_across-rows.result * c.blocks_across-columns.result = omega arith in (
       omega (arith, h),
-      moved_on (counted c.requires c.blocks_across-columns.ensures c.blocks_across-rows.ensures) c.args.sheet.now h c.stored_by.ensures c.args.form c.load-block.ensures
+      moved_on k c.args.sheet.now h c.stored_by.ensures c.args.form c.load-block.ensures
           c.stored_by-in-loop-b.ensures c.loop-b.invariant.1 c.store.ensures,
     )
 
@@ -70,7 +84,8 @@ shape_of-to c = c.loop-b.invariant.1.long ∙ sym c.requires.room
 
 pub returns : goal.returns
 returns c =
+    let k = counted c.requires c.blocks_across-columns.ensures c.blocks_across-rows.ensures in
     let e : c.loop-b.b ≡ c.blocks_across-rows.result * c.blocks_across-columns.result = omega arith in
     all_moved c.args.form c.args.head c.args.sheet.now
-    (subst (λ (b : ℕ). Moved c.args.form c.args.head c.args.sheet.now b c.loop-b.to) (e ∙ all_of (counted c.requires c.blocks_across-columns.ensures c.blocks_across-rows.ensures))
+    (subst (λ (b : ℕ). Moved c.args.form c.args.head c.args.sheet.now b c.loop-b.to) (e ∙ all_of k)
     c.loop-b.invariant.1)
