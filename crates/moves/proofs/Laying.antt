@@ -6,7 +6,7 @@ use Prim.Native.Nat.{ℕ, ◌+◌, ◌-◌, ◌*◌, ◌≤◌}
 use native.Mathlib.Nat.{le_of_eq}
 use native.Mathlib.Omega.{arith}
 use lib.ListN.{length, take, drop, replicate, drop_of_length-le, length-append, length-drop}
-use lib.Seq.{length-take-le, take_all, take_at, take-length}
+use lib.Seq.{length-take-le, take_all, take_at}
 use Rattle.laws.specs.Padding.{padded}
 use Rattle.head_rules.specs.declared.ColourSpace.TheVariants.{Unspecified}
 use Rattle.head_rules.specs.declared.Form.{Form}
@@ -51,19 +51,22 @@ module _ (f : Form) (h : Head) {x : FormBytes} (ex : x ≡ write_form f h.width 
   taken = ap (λ (y : FormBytes). take y.count y.bytes) ex ∙ take_at spelt (replicate (8 - length spelt) 0) (length spelt) refl
 
   module _ (s out : List ℕ) (l : Lays f h (length s) (length out)) where
-    pub head_fits : length part ≤ length out
-    head_fits = omega (arith, ap length taken, l.room)
+    pub head_fits : x.count ≤ length out
+    head_fits = omega (arith, count_is, l.room)
 
-    module _ {one : List ℕ} (eo : one ≡ take (length part) part ++ drop (length part) out) where
+    pub room_long : x.count ≡ length (take x.count out)
+    room_long = sym (length-take-le x.count out head_fits)
+
+    module _ {one : List ℕ} (eo : one ≡ part ++ drop x.count out) where
       first_is : one ≡ spelt ++ drop (length spelt) out
-      first_is = eo ∙ rw taken (ap (λ (t : List ℕ). t ++ drop (length spelt) out) (take-length spelt))
+      first_is = eo ∙ rw (taken, count_is)
 
       one_long : length one ≡ length out
       one_long = ap length first_is ∙ length-append spelt (drop (length spelt) out)
-          ∙ omega (arith, length-drop (length spelt) out, head_fits, ap length taken)
+          ∙ omega (arith, length-drop (length spelt) out, head_fits, count_is)
 
       pub count_in : x.count ≤ length one
-      count_in = omega (arith, one_long, head_fits, part_long)
+      count_in = omega (arith, one_long, head_fits)
 
       rest : take (length one - x.count) (drop x.count one) ≡ drop x.count one
       rest = take_all (length one - x.count) (drop x.count one) (le_of_eq (length-drop x.count one))

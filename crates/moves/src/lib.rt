@@ -75,7 +75,7 @@ fn lay(form: Form, head: Head, sheet: &[u8], out: &mut [u8])
     let written = write_form(form, head.width, head.height);
     let count = written.count as usize;
     let bytes = written.bytes;
-    bytes::copy(&bytes[..count], out);
+    out[..count].copy_from_slice(&bytes[..count]);
     move_blocks(form, head, sheet, &mut out[count..]);
 }
 

@@ -1,1 +1,2 @@
+-- What the proofs of the functions cite.
 pub mod Behind

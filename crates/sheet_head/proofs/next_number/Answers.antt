@@ -24,8 +24,7 @@ returns-then-number-ne0 c = taken (c.refused_with.ensures ∙ next_refuses _ _ c
 
 pub overflow_cast-number : goal.overflow_cast-number
 overflow_cast-number c =
-    let read = c.before.before.before in
-    omega (arith, near _ _ read.read_number-number.ensures, read.requires)
+    omega (arith, near _ _ c.read_number-number.ensures, c.requires)
 
 pub returns : goal.returns
 returns c = taken (c.take_number.ensures

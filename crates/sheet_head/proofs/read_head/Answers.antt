@@ -16,16 +16,14 @@ loop-i-init c = (omega arith, omega (arith, ap (λ (r : HeadReader). r.head.star
 pub loop-i-preserved : goal.loop-i-preserved
 unfolding behind
 loop-i-preserved c =
-    let l = c in
-    let s = l.args.sheet.now in
+    let s = c.args.sheet.now in
     let next = c.next_number-reader.ensures in
-    let one_more : suc l.loop-i.i ≡ l.loop-i.i + 1 = omega arith in
-    (omega arith, omega (arith, next.near), next.same ∙ ap (next_number s) l.loop-i.invariant.2 ∙ ap (behind s) one_more)
+    let one_more : suc c.loop-i.i ≡ c.loop-i.i + 1 = omega arith in
+    (omega arith, omega (arith, next.near), next.same ∙ ap (next_number s) c.loop-i.invariant.2 ∙ ap (behind s) one_more)
 
 pub returns : goal.returns
 unfolding behind
 returns c =
-    let l = c in
-    let s = l.args.sheet.now in
-    let all : l.loop-i.i ≡ 4 = omega arith in
-    ap (λ (r : HeadReader). r.head) (l.loop-i.invariant.2 ∙ ap (behind s) all) ∙ all_numbers s
+    let s = c.args.sheet.now in
+    let all : c.loop-i.i ≡ 4 = omega arith in
+    ap (λ (r : HeadReader). r.head) (c.loop-i.invariant.2 ∙ ap (behind s) all) ∙ all_numbers s

@@ -9,14 +9,10 @@ returns-then-number-ne0 c = c.no_head.ensures ∙ only_seven _ _ c.read_number-n
 
 pub returns-then-number-number_of_form : goal.returns-then-number-number_of_form
 returns-then-number-number_of_form c =
-    let form = c.before.before in
-    let read = form.before.before in
     c.no_head-then-number-number_of_form.ensures
-    ∙ only_eight _ _ read.read_number-number.ensures read.if-number-ne0.false form.number_of_form.ensures c.if-number-number_of_form.true
+    ∙ only_eight _ _ c.read_number-number.ensures c.if-number-ne0.false c.number_of_form.ensures c.if-number-number_of_form.true
 
 pub returns : goal.returns
 returns c =
-    let form = c.before.before in
-    let read = form.before.before in
     c.read_head.ensures
-    ∙ only_rest _ _ read.read_number-number.ensures read.if-number-ne0.false form.number_of_form.ensures c.if-number-number_of_form.false
+    ∙ only_rest _ _ c.read_number-number.ensures c.if-number-ne0.false c.number_of_form.ensures c.if-number-number_of_form.false

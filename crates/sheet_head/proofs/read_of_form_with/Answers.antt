@@ -10,16 +10,12 @@ returns-then-refusal-eq0 c = nothing_before_9 _ _ _ c.read_of_form-head.ensures 
 
 pub returns-then-head-eq0 : goal.returns-then-head-eq0
 returns-then-head-eq0 c =
-    let i = c.before in
-    let l = i.before.before in
-    c.no_head.ensures ∙ given_before_9 _ _ _ l.read_of_form-head.ensures l.if-refusal-eq0.false (inl i.if-head-eq0.true)
+    c.no_head.ensures ∙ given_before_9 _ _ _ c.read_of_form-head.ensures c.if-refusal-eq0.false (inl c.if-head-eq0.true)
 
 pub returns-then-head-eq-BAD_SIDE : goal.returns-then-head-eq-BAD_SIDE
 returns-then-head-eq-BAD_SIDE c =
-    let i = c.before in
-    let l = i.before.before.before.before in
-    c.no_head-then-head-eq-BAD_SIDE.ensures ∙ given_before_9 _ _ _ l.read_of_form-head.ensures l.if-refusal-eq0.false (inr i.if-head-eq-BAD_SIDE.true)
+    c.no_head-then-head-eq-BAD_SIDE.ensures ∙ given_before_9 _ _ _ c.read_of_form-head.ensures c.if-refusal-eq0.false (inr c.if-head-eq-BAD_SIDE.true)
 
 pub returns : goal.returns
 returns c =
-    let i = c.before.before in refused_before_9 _ _ _ i.read_of_form-head.ensures i.if-head-eq0.false c.if-head-eq-BAD_SIDE.false
+    refused_before_9 _ _ _ c.read_of_form-head.ensures c.if-head-eq0.false c.if-head-eq-BAD_SIDE.false

@@ -14,21 +14,19 @@ write_number-requires c = (omega (arith, same_count c.no_bytes-2.ensures), omega
 
 pub write_number-requires-2 : goal.write_number-requires-2
 write_number-requires-2 c =
-    let n = c.before in
-    let s = sized _ _ _ (sym n.size_refusal-refusal.ensures ∙ n.if-refusal-ne0.false) in
-    (omega (arith, same_count c.write_number.ensures, same_count n.no_bytes-2.ensures, one_byte), omega (arith, s.within_wide))
+    let s = sized _ _ _ (sym c.size_refusal-refusal.ensures ∙ c.if-refusal-ne0.false) in
+    (omega (arith, same_count c.write_number.ensures, same_count c.no_bytes-2.ensures, one_byte), omega (arith, s.within_wide))
 
 pub write_number-requires-3 : goal.write_number-requires-3
 write_number-requires-3 c =
-    let n = c.before.before in
-    let s = sized _ _ _ (sym n.size_refusal-refusal.ensures ∙ n.if-refusal-ne0.false) in (
+    let s = sized _ _ _ (sym c.size_refusal-refusal.ensures ∙ c.if-refusal-ne0.false) in (
       omega (
         arith,
         same_count c.write_number-2.ensures,
-        few 3 n.args.width,
+        few 3 c.args.width,
         same_count
             c.write_number.ensures,
-        same_count n.no_bytes-2.ensures,
+        same_count c.no_bytes-2.ensures,
         one_byte,
       ),
       omega (arith, s.within_high),
@@ -36,6 +34,5 @@ write_number-requires-3 c =
 
 pub returns : goal.returns
 returns c =
-    let n = c.before.before.before in
-    rw (c.write_number-3.ensures, c.write_number-2.ensures, c.write_number.ensures, n.no_bytes-2.ensures)
-    (written _ _ n.size_refusal-refusal.ensures n.if-refusal-ne0.false)
+    rw (c.write_number-3.ensures, c.write_number-2.ensures, c.write_number.ensures, c.no_bytes-2.ensures)
+    (written _ _ c.size_refusal-refusal.ensures c.if-refusal-ne0.false)

@@ -7,26 +7,19 @@ use Rattle.text.proofs.put_few.Goals as goal
 
 pub returns-then-n-lt10 : goal.returns-then-n-lt10
 returns-then-n-lt10 c =
-    let one = c.before.before in
-    rw (one_digit one.args.n (omega arith)) (puts_within one.put_digit.ensures 4 (omega arith))
+    rw (one_digit c.args.n (omega arith)) (puts_within c.put_digit.ensures 4 (omega arith))
 
 pub returns-then-n-lt100 : goal.returns-then-n-lt100
 returns-then-n-lt100 c =
-    let one = c.before.before in
-    let ten = one.before.before.before.before in
-    let n = ten.args.n in
-    rw (two_digits n (omega arith) (omega arith)) (puts_within (puts_then ten.put_digit-ones.ensures one.put_digit-then-n-lt100.ensures) 4 (omega arith))
+    let n = c.args.n in
+    rw (two_digits n (omega arith) (omega arith)) (puts_within (puts_then c.put_digit-ones.ensures c.put_digit-then-n-lt100.ensures) 4 (omega arith))
 
 pub returns-then-n-lt1000 : goal.returns-then-n-lt1000
 returns-then-n-lt1000 c =
-    let one = c.before.before in
-    let ten = one.before.before.before.before in
-    let hundred = ten.before.before.before.before in
-    let n = hundred.args.n in
-    let digits = puts_then (puts_then hundred.put_digit-tens.ensures ten.put_digit-ones-then-n-lt1000.ensures) one.put_digit-then-n-lt1000.ensures in
+    let n = c.args.n in
+    let digits = puts_then (puts_then c.put_digit-tens.ensures c.put_digit-ones-then-n-lt1000.ensures) c.put_digit-then-n-lt1000.ensures in
     rw (three_digits n (omega arith) (omega arith)) (puts_within digits 4 (omega arith))
 
 pub returns : goal.returns
 returns c =
-    let four = c.before.before in
-    rw (four_digits four.args.n (omega arith) (omega arith)) four.put_last_four.ensures
+    rw (four_digits c.args.n (omega arith) (omega arith)) c.put_last_four.ensures

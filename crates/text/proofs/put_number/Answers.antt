@@ -8,16 +8,11 @@ use Rattle.text.proofs.put_number.Goals as goal
 
 pub returns-then-above-lt10000 : goal.returns-then-above-lt10000
 returns-then-above-lt10000 c =
-    let low = c.before.before in
-    let above = low.before.before.before.before in
-    let n = above.args.n in
-    rw (four_more n (omega arith) (omega arith)) (puts_within (puts_then above.put_few-low.ensures low.put_last_four.ensures) 12 (omega arith))
+    let n = c.args.n in
+    rw (four_more n (omega arith) (omega arith)) (puts_within (puts_then c.put_few-low.ensures c.put_last_four.ensures) 12 (omega arith))
 
 pub returns : goal.returns
 returns c =
-    let low = c.before.before in
-    let middle = low.before.before.before.before in
-    let top = middle.before.before.before.before in
-    let n = top.args.n in
+    let n = c.args.n in
     rw (four_more n (omega arith) (omega arith), four_more (n / 10000) (omega arith) (omega arith))
-    (puts_then (puts_then top.put_few-middle.ensures middle.put_last_four-low.ensures) low.put_last_four-2.ensures)
+    (puts_then (puts_then c.put_few-middle.ensures c.put_last_four-low.ensures) c.put_last_four-2.ensures)

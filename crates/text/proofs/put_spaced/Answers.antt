@@ -5,5 +5,4 @@ use Rattle.text.proofs.put_spaced.Goals as goal
 
 pub returns : goal.returns
 returns c =
-    let digits = c.before.before in
-    puts_then digits.put-next.ensures digits.put_few.ensures
+    puts_then c.put-next.ensures c.put_few.ensures

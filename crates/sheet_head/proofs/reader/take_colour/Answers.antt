@@ -14,9 +14,7 @@ returns-then-refusal-ne0 c = c.refused_with.ensures ∙ sym (rw (← c.colour_re
 pub returns : goal.returns
 unfolding colour_taken
 returns c =
-    let made = c.before in
-    let space = made.before in
-    let a = space.args in
-    c.take_size.ensures ∙ ap size_taken (made.known.ensures
-    ∙ ap (λ (k : ColourSpace). head_in a.head.form k 0 a.head.width a.head.height a.next) space.colour_of.ensures)
-    ∙ sym (rw (← space.colour_refusal-refusal.ensures, eq-eqb _ _ space.if-refusal-ne0.false))
+    let a = c.args in
+    c.take_size.ensures ∙ ap size_taken (c.known.ensures
+    ∙ ap (λ (k : ColourSpace). head_in a.head.form k 0 a.head.width a.head.height a.next) c.colour_of.ensures)
+    ∙ sym (rw (← c.colour_refusal-refusal.ensures, eq-eqb _ _ c.if-refusal-ne0.false))

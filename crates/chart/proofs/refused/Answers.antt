@@ -1,0 +1,10 @@
+-- `refused` meets its contract.
+-- Assumes nothing.
+use native.Mathlib.Omega.{arith}
+use Rattle.chart_rules.specs.Charts.{text_room}
+use Rattle.text.proofs.Puts.{puts_within}
+use Rattle.chart.proofs.Answers.{answered}
+use Rattle.chart.proofs.refused.Goals as goal
+
+pub returns : goal.returns
+returns c = answered _ (puts_within c.refused_text-length.ensures text_room (omega arith))
