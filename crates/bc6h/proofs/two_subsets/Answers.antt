@@ -39,12 +39,6 @@ unsigned_2-q-requires c =
 pub take-id-requires : goal.take-id-requires
 take-id-requires c = record { narrow = omega arith; inside = rw c.skip.ensures (omega arith) }
 
-pub overflow_cast-id : goal.overflow_cast-id
-overflow_cast-id c = omega arith
-
-pub overflow_cast-set : goal.overflow_cast-set
-overflow_cast-set c = omega arith
-
 pub new_p2-x-requires : goal.new_p2-x-requires
 new_p2-x-requires c =
     let id : c.take-id.result.value < 64 = omega (arith, c.take-id.ensures.small) in

@@ -21,66 +21,6 @@ upper e d i x l p =
 pub loop-i-init : goal.loop-i-init
 loop-i-init c = (omega arith, part_none refl (λ k l. let z : ⊥ = omega arith in z))
 
-pub offset_bounds-e-i : goal.offset_bounds-e-i
-offset_bounds-e-i c = omega arith
-
-pub bounds-e-i : goal.bounds-e-i
-bounds-e-i c = omega arith
-
-pub overflow_mul-r : goal.overflow_mul-r
-overflow_mul-r c = omega arith
-
-pub overflow_add-r : goal.overflow_add-r
-overflow_add-r c = omega arith
-
-pub offset_bounds-r-i : goal.offset_bounds-r-i
-offset_bounds-r-i c = omega arith
-
-pub bounds-r-i : goal.bounds-r-i
-bounds-r-i c = omega arith
-
-pub offset_bounds-e-i-in-loop-i : goal.offset_bounds-e-i-in-loop-i
-offset_bounds-e-i-in-loop-i c = omega arith
-
-pub bounds-e-i-in-loop-i : goal.bounds-e-i-in-loop-i
-bounds-e-i-in-loop-i c = omega arith
-
-pub overflow_mul-r-in-loop-i : goal.overflow_mul-r-in-loop-i
-overflow_mul-r-in-loop-i c = omega arith
-
-pub overflow_add-i : goal.overflow_add-i
-overflow_add-i c = omega arith
-
-pub offset_bounds-e-i-in-loop-i-2 : goal.offset_bounds-e-i-in-loop-i-2
-offset_bounds-e-i-in-loop-i-2 c = omega arith
-
-pub bounds-e-i-in-loop-i-2 : goal.bounds-e-i-in-loop-i-2
-bounds-e-i-in-loop-i-2 c = omega arith
-
-pub overflow_mul-r-in-loop-i-2 : goal.overflow_mul-r-in-loop-i-2
-overflow_mul-r-in-loop-i-2 c = omega arith
-
-pub overflow_add-r-in-loop-i : goal.overflow_add-r-in-loop-i
-overflow_add-r-in-loop-i c = omega arith
-
-pub overflow_add-r-in-loop-i-2 : goal.overflow_add-r-in-loop-i-2
-overflow_add-r-in-loop-i-2 c = omega arith
-
-pub overflow_add-r-in-loop-i-3 : goal.overflow_add-r-in-loop-i-3
-overflow_add-r-in-loop-i-3 c = omega arith
-
-pub offset_bounds-r-i-in-loop-i : goal.offset_bounds-r-i-in-loop-i
-offset_bounds-r-i-in-loop-i c = omega arith
-
-pub bounds-r-i-in-loop-i : goal.bounds-r-i-in-loop-i
-bounds-r-i-in-loop-i c = omega arith
-
-pub overflow_step-i : goal.overflow_step-i
-overflow_step-i c = omega arith
-
-pub loop-i-smaller : goal.loop-i-smaller
-loop-i-smaller c = omega arith
-
 pub loop-i-preserved : goal.loop-i-preserved
 loop-i-preserved c =
     let i = c.loop-i.i in

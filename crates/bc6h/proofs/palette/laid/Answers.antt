@@ -7,29 +7,8 @@ use Rattle.bc6h.proofs.palette.laid.Goals as goal
 pub loop-i-init : goal.loop-i-init
 loop-i-init c = record { within = omega arith; long = search rules; kept = λ k l. refl; new = λ j l. absurd (let z : ⊥ = omega arith in z) }
 
-pub offset_bounds-v-i : goal.offset_bounds-v-i
-offset_bounds-v-i c = omega arith
-
-pub bounds-v-i : goal.bounds-v-i
-bounds-v-i c = omega arith
-
 pub overflow_cast-r : goal.overflow_cast-r
 overflow_cast-r c = record { fits = omega (arith, c.requires.lanes.small c.loop-i.i c.loop-i-test.true) }
-
-pub overflow_add-r : goal.overflow_add-r
-overflow_add-r c = omega arith
-
-pub offset_bounds-r-at : goal.offset_bounds-r-at
-offset_bounds-r-at c = omega arith
-
-pub bounds-r-at : goal.bounds-r-at
-bounds-r-at c = omega arith
-
-pub overflow_step-i : goal.overflow_step-i
-overflow_step-i c = omega arith
-
-pub loop-i-smaller : goal.loop-i-smaller
-loop-i-smaller c = omega arith
 
 pub loop-i-preserved : goal.loop-i-preserved
 loop-i-preserved c = laying_next _ c.loop-i.invariant c.requires.room c.loop-i-test.true refl

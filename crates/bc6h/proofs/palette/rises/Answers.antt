@@ -7,33 +7,6 @@ use Rattle.bc6h.proofs.palette.rises.Goals as goal
 pub loop-i-init : goal.loop-i-init
 loop-i-init c = (omega arith, filled_none refl)
 
-pub offset_bounds-e-i : goal.offset_bounds-e-i
-offset_bounds-e-i c = omega arith
-
-pub bounds-e-i : goal.bounds-e-i
-bounds-e-i c = omega arith
-
-pub overflow_add-i : goal.overflow_add-i
-overflow_add-i c = omega arith
-
-pub offset_bounds-e-i-in-loop-i : goal.offset_bounds-e-i-in-loop-i
-offset_bounds-e-i-in-loop-i c = omega arith
-
-pub bounds-e-i-in-loop-i : goal.bounds-e-i-in-loop-i
-bounds-e-i-in-loop-i c = omega arith
-
-pub offset_bounds-r-i : goal.offset_bounds-r-i
-offset_bounds-r-i c = omega arith
-
-pub bounds-r-i : goal.bounds-r-i
-bounds-r-i c = omega arith
-
-pub overflow_step-i : goal.overflow_step-i
-overflow_step-i c = omega arith
-
-pub loop-i-smaller : goal.loop-i-smaller
-loop-i-smaller c = omega arith
-
 pub loop-i-preserved : goal.loop-i-preserved
 loop-i-preserved c = (omega arith, filled_next _ _ c.loop-i.invariant.1 c.loop-i-test.true c.times.ensures)
 
