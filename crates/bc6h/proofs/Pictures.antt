@@ -1,13 +1,12 @@
 -- From lanes and keys to the pixels of the format.
 -- Assumes nothing.
-use Rattle.std.proofs.Common.{◌≡◌, ℕ, zero, suc, ◌+◌, ◌-◌, ◌*◌, ◌/◌, ◌%◌, ◌^◌, ◌<◌, ◌≤◌, Bool, List, [], ◌∷◌, get_or, sym, refl, ap, ◌∙◌, ap₂, arith, pow_pos}
+use Rattle.std.proofs.Common.{◌≡◌, ℕ, zero, suc, ◌+◌, ◌*◌, ◌/◌, ◌%◌, ◌^◌, ◌<◌, ◌≤◌, Bool, List, [], ◌∷◌, get_or, sym, refl, ap, ◌∙◌, ap₂, arith, pow_pos}
 use native.Mathlib.Decide.{ℕ_discrete}
 use Rattle.laws.specs.Tables.{table, table_from}
 use Rattle.laws.proofs.Part.{get_d_table}
 use Rattle.bcn_format.specs.Drawing.{drawn, weight_of}
 use Rattle.bcn_format.proofs.Drawing.{weight_most}
 use Rattle.bc6h_format.specs.Modes.{Row, row_of}
-use Rattle.bc6h_format.specs.Opened.{subset}
 use Rattle.bc6h_format.specs.Widening.{endpoint, widened}
 use Rattle.bc6h_format.specs.Halves.{finished}
 use Rattle.bc6h_format.proofs.Bounds.{base_le, drawn_lt, endpoint_lt, finished_lt, widened_lt}

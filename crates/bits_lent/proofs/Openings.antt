@@ -29,4 +29,4 @@ pub opens_block : {n : ℕ} {s : BitStream} → On n 0 s → Opens n (opening_at
 unfolding opening_at reads_of
 opens_block {s = s} o =
     let stood = in_order (on_skipped o 5) (2 ∷ 1 ∷ 42 ∷ []) (omega arith) (read_of s 0) in
-    record { rotation = stood 0 (lit< tt); index_mode_is = stood 1 (lit< tt); endpoints = stood 2 (lit< tt) }
+    record { rotation = stood 0 (lit< tt); index_mode = stood 1 (lit< tt); endpoints = stood 2 (lit< tt) }

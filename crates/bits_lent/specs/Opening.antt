@@ -21,5 +21,5 @@ opening_at s =
 -- of a block each is accepted, and stood where the format has it
 pub record Opens (n : ℕ) (o : Opening) : Type 0 where
   pub rotation : Stood n 5 (2 ∷ 1 ∷ 42 ∷ []) 0 o.rotation
-  pub index_mode_is : Stood n 5 (2 ∷ 1 ∷ 42 ∷ []) 1 o.index_mode
+  pub index_mode : Stood n 5 (2 ∷ 1 ∷ 42 ∷ []) 1 o.index_mode
   pub endpoints : Stood n 5 (2 ∷ 1 ∷ 42 ∷ []) 2 o.endpoints

@@ -1,0 +1,41 @@
+-- Four lanes at the weight 0, and four at 4.
+-- Assumes nothing.
+use Rattle.std.proofs.Common.{◌≡◌, ℕ, ◌+◌, ◌*◌, ◌/◌, ◌%◌, ◌<◌, List, get_or, refl, arith}
+use Rattle.laws.proofs.Part.{part_all, part_none, part_set}
+use Rattle.bcn_format.specs.Drawing.{weight_of, weights}
+use Rattle.bc6h.specs.Lanes.{Doubled}
+use Rattle.bc6h.proofs.palette.at_first_two.Goals as goal
+use Rattle.bc6h.proofs.palette.at_first_two.Invariants.{lane_at}
+
+lower : (e : List ℕ) (i x : ℕ) → i < 4 → x ≡ 64 * get_or e i 0 + 32 → x ≡ lane_at e i
+unfolding weight_of weights
+lower e i x l p = let z : i / 4 ≡ 0 = omega arith in rw z (let y : x ≡ 64 * get_or e i 0 + 0 * get_or e (i + 8) 0 + 32 = omega arith in y)
+
+upper : (e : List ℕ) → Doubled e → (i x : ℕ) → i < 4 → x ≡ 60 * get_or e i 0 + 4 * get_or e (i + 8) 0 + 32 → x ≡ lane_at e (i + 4)
+unfolding weight_of weights
+upper e d i x l p =
+    let z : (i + 4) / 4 ≡ 1 = omega arith in
+    let t : i + 4 + 8 ≡ i + 12 = omega arith in
+    rw (z, t, d.first i l, d.second i l) p
+
+pub loop-i-init : goal.loop-i-init
+loop-i-init c = (omega arith, part_none refl (λ k l. let z : ⊥ = omega arith in z))
+
+pub loop-i-preserved : goal.loop-i-preserved
+loop-i-preserved c =
+    let i = c.loop-i.i in
+    let l = c.loop-i-test.true in
+    let one = c.wide.ensures in
+    let two = c.wide-in-loop-i.ensures in
+    let three = c.wide-in-loop-i-2.ensures in (
+      omega arith,
+      part_set (i + 4) _
+          (part_set {Q = λ k. (k % 4 < i + 1) × (k < 4 + i)} i _ c.loop-i.invariant.1 (omega arith)
+          (lower c.args.e i _ l (omega (arith, one.0)))
+          (λ k lk q ne. omega (arith, q.0, q.1, ne)))
+          (omega arith) (upper c.args.e c.requires i _ l (omega (arith, two.0, three.0)))
+          (λ k lk q ne. (q, let y : k < 4 + i = omega (arith, q, ne) in y)),
+    )
+
+pub returns : goal.returns
+returns c = part_all c.loop-i.invariant.1 (λ k l. omega arith)
