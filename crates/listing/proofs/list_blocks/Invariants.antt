@@ -1,0 +1,17 @@
+-- `list_blocks` meets its contract.
+-- Assumes nothing.
+use native.Mathlib.Omega.{arith}
+use mathlib.Core.Path.{◌≡◌}
+use Prim.Native.Nat.{◌+◌, ◌-◌, ◌*◌, ◌/◌, ◌≤◌}
+use lib.ListN.{length}
+use Rattle.laws.proofs.Padding.{written_long}
+use Rattle.listing_rules.specs.Listing.{listed}
+use Rattle.listing_rules.proofs.Rounds.{few_in_all}
+use Rattle.listing.proofs.Listed.{Texts, texts_more, texts_none}
+use Rattle.listing.proofs.list_blocks.Given as goal
+
+abbrev pub invariant-loop-k : goal.invariant-loop-k
+invariant-loop-k l = (l.k ≤ l.count) × (l.next ≤ l.at + 40 * l.k) × Texts l.head l.initial.out l.at l.from l.blocks l.k l.out l.next
+
+abbrev pub decreases-loop-k : goal.decreases-loop-k
+decreases-loop-k l = l.count - l.k

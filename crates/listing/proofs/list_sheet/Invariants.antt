@@ -1,0 +1,13 @@
+-- `list_sheet` meets its contract. The measure is the rounds that the machine still takes.
+-- Assumes nothing.
+use native.Mathlib.Omega.{arith}
+use lib.ListN.{length}
+use Rattle.listing_rules.specs.Machine.{NextEnd, rounds_of, wanted_of}
+use Rattle.listing.proofs.Whole.{Fed, fed_asks, fed_start, fed_round, fed_whole}
+use Rattle.listing.proofs.list_sheet.Given as goal
+
+abbrev pub invariant-loop-machine : goal.invariant-loop-machine
+invariant-loop-machine l = Fed l.sheet l.initial.out l.out l.machine l.at l.said
+
+abbrev pub decreases-loop-machine : goal.decreases-loop-machine
+decreases-loop-machine l = rounds_of l.machine

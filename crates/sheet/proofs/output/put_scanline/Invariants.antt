@@ -1,0 +1,12 @@
+-- `output::put_scanline` meets its contract.
+-- Assumes nothing.
+use Prim.Native.Nat.{◌-◌, ◌≤◌}
+use native.Mathlib.Omega.{arith}
+use Rattle.sheet.proofs.output.Scanlines.{Scanline, scanline_all, scanline_long, scanline_more, scanline_none}
+use Rattle.sheet.proofs.output.put_scanline.Given as goal
+
+abbrev pub invariant-loop-k : goal.invariant-loop-k
+invariant-loop-k l = (l.k ≤ l.n) × Scanline l.px l.y l.at l.initial.out l.k l.out
+
+abbrev pub decreases-loop-k : goal.decreases-loop-k
+decreases-loop-k l = l.n - l.k
