@@ -9,20 +9,15 @@ use Rattle.listing_rules.specs.Listing.{listed}
 use Rattle.listing_rules.proofs.Rounds.{few_in_all}
 use Rattle.listing.proofs.Listed.{Texts, texts_more, texts_none}
 use Rattle.listing.proofs.list_blocks.Goals as goal
-use Rattle.listing.proofs.list_blocks.Goals.{At-loop-k, Start}
 
 pub loop-k-init : goal.loop-k-init
 loop-k-init c = (omega arith, omega arith, texts_none _ _ _ _ _)
 
--- what is asked of the blocks, and how many a sheet has at the most
-abbrev asked : At-loop-k → Start
-asked l = l.before.before.before
-
 pub overflow_cast-k : goal.overflow_cast-k
-overflow_cast-k c = let s = asked c.before in omega (arith, few_in_all s.args.head s.requires.sized)
+overflow_cast-k c = let s = c in omega (arith, few_in_all s.args.head s.requires.sized)
 
 pub overflow_add-from : goal.overflow_add-from
-overflow_add-from c = let s = asked c.before in omega (arith, few_in_all s.args.head s.requires.sized)
+overflow_add-from c = let s = c in omega (arith, few_in_all s.args.head s.requires.sized)
 
 pub overflow_mul-k : goal.overflow_mul-k
 overflow_mul-k c = omega arith
@@ -33,7 +28,7 @@ load-requires c = omega arith
 pub list_stored-next-requires : goal.list_stored-next-requires
 list_stored-next-requires c =
     let l = c in
-    record { sized = (asked c.before.before.before).requires.sized; there = omega arith; fits = omega (arith, written_long l.loop-k.invariant.2) }
+    record { sized = (c).requires.sized; there = omega arith; fits = omega (arith, written_long l.loop-k.invariant.2) }
 
 pub overflow_step-k : goal.overflow_step-k
 overflow_step-k c = omega arith

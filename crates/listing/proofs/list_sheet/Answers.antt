@@ -5,13 +5,6 @@ use lib.ListN.{length}
 use Rattle.listing_rules.specs.Machine.{NextEnd, rounds_of, wanted_of}
 use Rattle.listing.proofs.Whole.{Fed, fed_asks, fed_start, fed_round, fed_whole}
 use Rattle.listing.proofs.list_sheet.Goals as goal
-use Rattle.listing.proofs.list_sheet.Goals.{After-end_of-end}
-
--- what is cut out of the sheet
-ends : (c : After-end_of-end)
-    → NextEnd c.loop-machine.at (wanted_of c.loop-machine.machine)
-    (length c.args.sheet.now) c.end_of-end.result
-ends c = rw c.wanted-in-loop-machine.ensures.wants at c.end_of-end.ensures
 
 pub start-machine-requires : goal.start-machine-requires
 start-machine-requires c = tt
@@ -31,23 +24,23 @@ end_of-end-requires c = c.loop-machine.invariant.within
 pub slice_bounds-list-count : goal.slice_bounds-list-count
 slice_bounds-list-count c = omega arith
 
-pub UNMAPPED-part-list-start : goal.UNMAPPED-part-list-start
-UNMAPPED-part-list-start c = omega arith
+pub slice_bounds-list-start : goal.slice_bounds-list-start
+slice_bounds-list-start c = omega arith
 
-pub UNMAPPED-part-list-end : goal.UNMAPPED-part-list-end
-UNMAPPED-part-list-end c = omega arith
+pub slice_bounds-list-end : goal.slice_bounds-list-end
+slice_bounds-list-end c = omega arith
 
 pub list-said-requires : goal.list-said-requires
-list-said-requires c = fed_asks c.loop-machine.invariant (ends c.before.before)
+list-said-requires c = fed_asks c.loop-machine.invariant (rw c.wanted-in-loop-machine.ensures.wants at c.end_of-end.ensures)
 
 pub slice_bounds-next-count : goal.slice_bounds-next-count
 slice_bounds-next-count c = omega arith
 
-pub UNMAPPED-part-next-start : goal.UNMAPPED-part-next-start
-UNMAPPED-part-next-start c = omega arith
+pub slice_bounds-next-start : goal.slice_bounds-next-start
+slice_bounds-next-start c = omega arith
 
-pub UNMAPPED-part-next-end : goal.UNMAPPED-part-next-end
-UNMAPPED-part-next-end c = omega arith
+pub slice_bounds-next-end : goal.slice_bounds-next-end
+slice_bounds-next-end c = omega arith
 
 pub next-machine-requires : goal.next-machine-requires
 next-machine-requires c = c.loop-machine.invariant.ready
@@ -62,7 +55,7 @@ loop-machine-smaller c = omega (
 
 pub loop-machine-preserved : goal.loop-machine-preserved
 loop-machine-preserved c = fed_round c.loop-machine.invariant
-    (ends c.before.before.before.before.before.before.before) c.list-said.ensures c.next-machine.ensures
+    (rw c.wanted-in-loop-machine.ensures.wants at c.end_of-end.ensures) c.list-said.ensures c.next-machine.ensures
 
 pub shape_of-out : goal.shape_of-out
 shape_of-out c = c.loop-machine.invariant.long
