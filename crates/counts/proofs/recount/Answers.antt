@@ -20,7 +20,7 @@ pub overflow_add-modes : goal.overflow_add-modes
 overflow_add-modes c = omega (arith, room_left c.requires (size c.before))
 
 pub raised-requires : goal.raised-requires
-raised-requires c = let s = c in λ e. room_for_one s.requires (small c.before.before).ranges c.lowered.ensures
+raised-requires c = let s = c in λ e. room_for_one s.requires (small c.before.before).fits c.lowered.ensures
 
 pub returns : goal.returns
 returns c = let s = c in both_changed s.requires (size c.before.before.before) c.lowered.ensures c.raised.ensures
