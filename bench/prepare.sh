@@ -24,10 +24,10 @@ prepare() {
     repository=$(dirname "$bench")
 
     archive=${1:-$repository/target/staticlib/librinchovek.a}
-    [ -f "$archive" ] || die "no archive $archive: 'rt staticlib rinchovek' at the repository's root writes it"
+    [ -f "$archive" ] || die "no archive $archive: 'processors/make --module' writes it"
     archive=$(readlink -f "$archive")
     if [ -z "${1:-}" ] && [ -n "$(find "$repository/crates" -name '*.rt' -newer "$archive" -print -quit)" ]; then
-        echo "${0##*/}: a source is newer than the archive: 'rt staticlib rinchovek' writes it again" >&2
+        echo "${0##*/}: a source is newer than the archive: 'processors/make --module' writes it again" >&2
     fi
     # an archive's index has the exported names as plain text
     grep -qaw rinchovek_bc7_decode_block "$archive" || die "$archive has no rinchovek_bc7_decode_block"
@@ -63,7 +63,7 @@ prepare() {
 
     command -v rustc >/dev/null || die 'no rustc on the PATH'
     command -v rt >/dev/null || die "no rt on the PATH: the kit's compiler is needed"
-    kit=$(cd "$(dirname "$(rt doc)")/../on/$(uname -m)/toolchain/bin" && pwd) || die "no compiler in the kit for $(uname -m)"
+    kit=$(cd "$(dirname "$(rt doc)")/toolchain/bin" && pwd) || die "no compiler in the kit"
 
     work=$(mktemp -d)
     trap 'rm -rf "$work"' EXIT

@@ -23,12 +23,15 @@ input() {
     fi
 }
 
-# build FOLDER: where sources have changed, the program is proved and built first.
+# changed FOLDER FILE: whether a source is newer than the file. What rt makes stands in the crates' own folders, in out/.
+changed() { [ -n "$(cd "$1" && find crates crates.txt -name out -prune -o \( ! -path 'crates/*' -o -path 'crates/*/*' \) -newer "$2" -print 2>/dev/null | head -n 1)" ]; }
+
+# build FOLDER: where sources have changed, the program is proved and built first. `rt run` does that, and starts it then: on no input here.
 build() {
     checked=$1/target/$name.checked
-    if [ ! -x "$1/target/bin/$name" ] || [ ! -f "$checked" ]; then
+    if [ ! -x "$1/crates/$name/out/$name" ] || [ ! -f "$checked" ]; then
         why='the program has to be proved and built first'
-    elif [ -n "$(find "$1/crates" "$1/crates.txt" -newer "$checked" 2>/dev/null | head -n 1)" ]; then
+    elif changed "$1" "target/$name.checked"; then
         why='the sources have changed, and the program has to be proved and built again'
     else
         return
@@ -36,7 +39,7 @@ build() {
     command -v rt >/dev/null || fail "$why, and the kit's command rt is not on the PATH"
     (mkdir -p "$1/target" && : >"$checked.new") 2>/dev/null || fail "$why, and $1 may not be written"
     say "$why, which takes some minutes"
-    told=$(cd "$1" && rt check "$name" </dev/null 2>&1) || {
+    told=$(cd "$1/crates/$name" && rt run </dev/null 2>&1 >/dev/null) || {
         printf '%s\n' "$told" >&2
         fail 'the program was not proved'
     }
@@ -47,10 +50,10 @@ build() {
 # could not read or write, the run is over.
 run() {
     build "$1"
-    set -- "$1/target/bin/$name" --status
+    set -- "$1/crates/$name/out/$name" --status
     # by the kit's loader where the kit is there
     if command -v rt >/dev/null; then
-        kit=$(dirname "$(rt doc)")/../on/$(uname -m)/toolchain
+        kit=$(dirname "$(rt doc)")/toolchain
         set -- "$kit/lib/ld-linux-x86-64.so.2" --library-path "$kit/lib" "$@"
         [ ! -x "$kit/bin/qemu-x86_64" ] || set -- "$kit/bin/qemu-x86_64" "$@"
     fi

@@ -30,9 +30,9 @@ def build_halves_oracle(folder):
 
 
 def toolchain():
-    """The folder of the kit's compiler, linker, C library and emulator for this machine."""
+    """The folder of the kit's compiler, linker, C library and emulator."""
     guide = subprocess.run(["rt", "doc"], stdout=subprocess.PIPE, check=True, text=True).stdout.strip()
-    return Path(guide).parent.parent / "on" / platform.machine() / "toolchain"
+    return Path(guide).parent / "toolchain"
 
 
 def started(path):
@@ -46,8 +46,8 @@ def started(path):
 
 
 def program(name):
-    """The command that starts target/bin/NAME, or None where it isn't built."""
-    path = ROOT / "target" / "bin" / name
+    """The command that starts the program NAME, or None where it isn't built."""
+    path = ROOT / "crates" / name / "out" / name
     return started(path) if path.exists() else None
 
 
@@ -79,7 +79,7 @@ def over_own_archive(name):
 
 
 def over_archive(name):
-    """The same over the archive for x86-64, by the kit, or None where there is no archive (`rt staticlib rinchovek`) or no kit."""
+    """The same over the archive for x86-64, by the kit, or None where there is no archive (`processors/make --module`) or no kit."""
     archive = ROOT / "target" / "staticlib" / "librinchovek.a"
     if not archive.exists() or shutil.which("rt") is None:
         return None

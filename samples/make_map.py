@@ -5,7 +5,7 @@ The map is of our own making: a terrain by noise of a fixed seed, a station on a
 blue where it is weak to yellow where it is strong. Alpha is the terrain mask: 255 where the station is in sight, 0 deep behind a ridge.
 
 Each block gets the mode that draws it best, by a search that knows the lines of a block from compare/model.py. What is stored is made by
-the proved code, through the program `replay` (`rt check replay` builds it): heads by W, each line put in by R, which turns the pair
+the proved code, through the program `replay` (`rt run` in crates/replay builds it): heads by W, each line put in by R, which turns the pair
 where the anchor asks for it, and the DDS file by X. The pixels are drawn by D and held to the terrain's. Only the order of the blocks in
 map.tiles is computed here, from the words of the request: so it says the same as the moves of the proved code, and not because they made it.
 
@@ -310,7 +310,7 @@ if __name__ == "__main__":
         sys.exit("usage: make_map.py [--check]")
     REPLAY = tools.program("replay")
     if REPLAY is None:
-        sys.exit("make_map.py: target/bin/replay isn't built; rt check replay builds it")
+        sys.exit("make_map.py: crates/replay/out/replay isn't built; rt run in crates/replay builds it")
     meant = pixels()
     *made, made_blocks = files(meant)
     names = ("map.sheet", "map.tiles", "map.dds")

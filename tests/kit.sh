@@ -1,6 +1,6 @@
 # How C is compiled and linked by the kit alone, which has a compiler, a linker and a C library for x86-64, and no C header. Who sources this
 # stands in the repository's folder, and has set `work` to a folder of its own. On Arm the kit's emulator runs what is linked.
-kit=$(cd "$(dirname "$(rt doc)")/.." && pwd)/on/$(uname -m)/toolchain
+kit=$(cd "$(dirname "$(rt doc)")" && pwd)/toolchain
 lib=$kit/lib
 emulator=$kit/bin/qemu-x86_64
 [ -x "$emulator" ] || emulator=

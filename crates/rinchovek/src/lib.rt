@@ -1,6 +1,6 @@
 // The C face: the public calls of blocks and sheets, for the consoles' display code. A refused call changes nothing that it
-// was lent. What a call promises has one name, in specs/Promises. include/rinchovek.h declares these functions and says what a
-// C caller has to know; `rt staticlib rinchovek` writes the archive.
+// was lent. What a call promises has one name, in specs/Promises. The crate rinchovek_c exports these functions to C under the same
+// names; include/rinchovek.h declares them and says what a C caller has to know.
 
 #![tactic(auto)]
 
@@ -37,16 +37,14 @@ use sheet_head::{number_of_form, read_head, read_of_form, write_head};
 // header has the same three.
 const VERSION: u32 = 11100;
 
-#[unsafe(no_mangle)]
-pub extern "C" fn rinchovek_version() -> u32
+pub fn rinchovek_version() -> u32
     ensures { Versions result }
 {
     VERSION
 }
 
 // The sixteen pixels of a block, red green blue alpha each.
-#[unsafe(no_mangle)]
-pub extern "C" fn rinchovek_bc7_decode_block(block: &[u8; 16], out: &mut [[u8; 4]; 16])
+pub fn rinchovek_bc7_decode_block(block: &[u8; 16], out: &mut [[u8; 4]; 16])
     ensures { Decodes block.now out.new }
 {
     *out = decode_bc7_block(*block);
@@ -54,8 +52,7 @@ pub extern "C" fn rinchovek_bc7_decode_block(block: &[u8; 16], out: &mut [[u8; 4
 
 // The sixteen pixels of a BC6H block, red green blue each, as the bits of half floats. Any number but 0 asks for the signed format: a `bool` from C
 // would ask something of the caller.
-#[unsafe(no_mangle)]
-pub extern "C" fn rinchovek_bc6h_decode_block(
+pub fn rinchovek_bc6h_decode_block(
     block: &[u8; 16],
     is_signed: u32,
     halves: &mut [[u16; 3]; 16],
@@ -66,8 +63,7 @@ pub extern "C" fn rinchovek_bc6h_decode_block(
 }
 
 // A block taken apart into the 66 bytes of its record.
-#[unsafe(no_mangle)]
-pub extern "C" fn rinchovek_bc7_unpack(block: &[u8; 16], bytes: &mut [u8; PLACES]) -> u32
+pub fn rinchovek_bc7_unpack(block: &[u8; 16], bytes: &mut [u8; PLACES]) -> u32
     ensures { Unpacks block.now bytes.old result bytes.new }
 {
     let unpacked = unpack(*block);
@@ -80,8 +76,7 @@ pub extern "C" fn rinchovek_bc7_unpack(block: &[u8; 16], bytes: &mut [u8; PLACES
 }
 
 // The block of a record that is given in 66 bytes.
-#[unsafe(no_mangle)]
-pub extern "C" fn rinchovek_bc7_pack(bytes: &[u8; PLACES], block: &mut [u8; 16]) -> u32
+pub fn rinchovek_bc7_pack(bytes: &[u8; PLACES], block: &mut [u8; 16]) -> u32
     ensures { Packs bytes.now block.old result block.new }
 {
     let packed = pack_bytes(*bytes);
@@ -94,8 +89,7 @@ pub extern "C" fn rinchovek_bc7_pack(bytes: &[u8; PLACES], block: &mut [u8; 16])
 }
 
 // A line of a block as it stands, in the 26 bytes of a replacement, and how many bits each of them has.
-#[unsafe(no_mangle)]
-pub extern "C" fn rinchovek_bc7_read_line(
+pub fn rinchovek_bc7_read_line(
     block: &[u8; 16],
     line: u32,
     replacement: &mut [u8; 26],
@@ -116,8 +110,7 @@ pub extern "C" fn rinchovek_bc7_read_line(
 }
 
 // A line of a block replaced in its place, by a replacement of 26 bytes.
-#[unsafe(no_mangle)]
-pub extern "C" fn rinchovek_bc7_replace_line(
+pub fn rinchovek_bc7_replace_line(
     block: &mut [u8; 16],
     line: u32,
     replacement: &[u8; 26],
@@ -134,8 +127,7 @@ pub extern "C" fn rinchovek_bc7_replace_line(
 }
 
 // The index of a line whose colour at a pixel is nearest to the wanted one.
-#[unsafe(no_mangle)]
-pub extern "C" fn rinchovek_bc7_nearest_index(
+pub fn rinchovek_bc7_nearest_index(
     block: &[u8; 16],
     line: u32,
     pixel: u32,
@@ -153,8 +145,7 @@ pub extern "C" fn rinchovek_bc7_nearest_index(
 }
 
 // The index of a line that gives a pixel the wanted colour exactly.
-#[unsafe(no_mangle)]
-pub extern "C" fn rinchovek_bc7_exact_index(
+pub fn rinchovek_bc7_exact_index(
     block: &[u8; 16],
     line: u32,
     pixel: u32,
@@ -172,8 +163,7 @@ pub extern "C" fn rinchovek_bc7_exact_index(
 }
 
 // Whether a block is opaque of which the first so many columns and rows are shown.
-#[unsafe(no_mangle)]
-pub extern "C" fn rinchovek_bc7_is_opaque(block: &[u8; 16], columns: u32, rows: u32) -> u32
+pub fn rinchovek_bc7_is_opaque(block: &[u8; 16], columns: u32, rows: u32) -> u32
     ensures { TellsOpaque block.now columns rows result }
 {
     if is_opaque(*block, columns, rows) {
@@ -183,8 +173,7 @@ pub extern "C" fn rinchovek_bc7_is_opaque(block: &[u8; 16], columns: u32, rows: 
 }
 
 // One pixel of a block, red green blue alpha, by the reader that shares no code with the decoder.
-#[unsafe(no_mangle)]
-pub extern "C" fn rinchovek_bc7_pixel(block: &[u8; 16], pixel: u32, rgba: &mut [u8; 4]) -> u32
+pub fn rinchovek_bc7_pixel(block: &[u8; 16], pixel: u32, rgba: &mut [u8; 4]) -> u32
     ensures { ReadsPixel block.now pixel rgba.old result rgba.new }
 {
     let read = pixel_of(*block, pixel);
@@ -198,8 +187,7 @@ pub extern "C" fn rinchovek_bc7_pixel(block: &[u8; 16], pixel: u32, rgba: &mut [
 
 // The head of a sheet of either form in eight numbers: width, height, the place of the first block, the numbers of the colour space and
 // of the form, and how many columns, rows and blocks there are.
-#[unsafe(no_mangle)]
-pub extern "C" fn rinchovek_sheet_open(sheet: &[u8], numbers: &mut [u32; 8]) -> u32
+pub fn rinchovek_sheet_open(sheet: &[u8], numbers: &mut [u32; 8]) -> u32
     ensures { OpensSheet sheet.now numbers.old result numbers.new }
 {
     let read = read_head(sheet);
@@ -223,8 +211,7 @@ pub extern "C" fn rinchovek_sheet_open(sheet: &[u8], numbers: &mut [u32; 8]) -> 
 
 // Width, height and the place of the first block, from the bytes of a sheet of form 1. Three numbers don't say the form, so that who
 // gets no more of a sheet of form 2 would show tiles as rows: 8.
-#[unsafe(no_mangle)]
-pub extern "C" fn rinchovek_sheet_read_head(sheet: &[u8], head: &mut [u32; 3]) -> u32
+pub fn rinchovek_sheet_read_head(sheet: &[u8], head: &mut [u32; 3]) -> u32
     ensures { ReadsHead sheet.now head.old result head.new }
 {
     let read = read_of_form(Form::Rows, sheet);
@@ -236,8 +223,7 @@ pub extern "C" fn rinchovek_sheet_read_head(sheet: &[u8], head: &mut [u32; 3]) -
 }
 
 // The same, and the number of the colour space, which is 0 for each: form 1 has no room for one.
-#[unsafe(no_mangle)]
-pub extern "C" fn rinchovek_sheet_read_colour_head(sheet: &[u8], head: &mut [u32; 4]) -> u32
+pub fn rinchovek_sheet_read_colour_head(sheet: &[u8], head: &mut [u32; 4]) -> u32
     ensures { ReadsColourHead sheet.now head.old result head.new }
 {
     let read = read_of_form(Form::Rows, sheet);
@@ -250,8 +236,7 @@ pub extern "C" fn rinchovek_sheet_read_colour_head(sheet: &[u8], head: &mut [u32
 }
 
 // The bytes of a head, zeros behind, and how many of the seven they are.
-#[unsafe(no_mangle)]
-pub extern "C" fn rinchovek_sheet_write_head(
+pub fn rinchovek_sheet_write_head(
     width: u32,
     height: u32,
     head: &mut [u8; 7],
@@ -270,8 +255,7 @@ pub extern "C" fn rinchovek_sheet_write_head(
 }
 
 // One row of blocks as scanlines, cut at the edges of the picture.
-#[unsafe(no_mangle)]
-pub extern "C" fn rinchovek_sheet_decode_row(
+pub fn rinchovek_sheet_decode_row(
     width: u32,
     height: u32,
     row: u32,
@@ -284,16 +268,14 @@ pub extern "C" fn rinchovek_sheet_decode_row(
 }
 
 // One row of blocks of a whole sheet, of either form, as scanlines.
-#[unsafe(no_mangle)]
-pub extern "C" fn rinchovek_sheet_show_row(sheet: &[u8], row: u32, out: &mut [u8]) -> u32
+pub fn rinchovek_sheet_show_row(sheet: &[u8], row: u32, out: &mut [u8]) -> u32
     ensures { ShowsRow sheet.now row out.old result out.new }
 {
     decode_sheet_row(sheet, row, out) as u32
 }
 
 // A block of a sheet of either form, by its number.
-#[unsafe(no_mangle)]
-pub extern "C" fn rinchovek_sheet_block(sheet: &[u8], block: u32, bytes: &mut [u8; 16]) -> u32
+pub fn rinchovek_sheet_block(sheet: &[u8], block: u32, bytes: &mut [u8; 16]) -> u32
     ensures { ReadsBlock sheet.now block bytes.old result bytes.new }
 {
     let read = block_in_sheet(sheet, block);
@@ -306,31 +288,27 @@ pub extern "C" fn rinchovek_sheet_block(sheet: &[u8], block: u32, bytes: &mut [u
 }
 
 // A sheet of form 1 as one of form 2, and one of form 2 as one of form 1.
-#[unsafe(no_mangle)]
-pub extern "C" fn rinchovek_sheet_to_tiles(sheet: &[u8], out: &mut [u8]) -> u32
+pub fn rinchovek_sheet_to_tiles(sheet: &[u8], out: &mut [u8]) -> u32
     ensures { MovesToTiles sheet.now out.old result out.new }
 {
     to_tiles(sheet, out) as u32
 }
 
-#[unsafe(no_mangle)]
-pub extern "C" fn rinchovek_sheet_to_rows(sheet: &[u8], out: &mut [u8]) -> u32
+pub fn rinchovek_sheet_to_rows(sheet: &[u8], out: &mut [u8]) -> u32
     ensures { MovesToRows sheet.now out.old result out.new }
 {
     to_rows(sheet, out) as u32
 }
 
 // The colour space of a sheet of form 2, stated by its number: one byte of the head, and no other.
-#[unsafe(no_mangle)]
-pub extern "C" fn rinchovek_sheet_state_colour(sheet: &mut [u8], colour_space: u32) -> u32
+pub fn rinchovek_sheet_state_colour(sheet: &mut [u8], colour_space: u32) -> u32
     ensures { StatesColour sheet.old colour_space result sheet.new }
 {
     state_colour(sheet, colour_space) as u32
 }
 
 // A line of one block replaced in a sheet; no byte of another block changes.
-#[unsafe(no_mangle)]
-pub extern "C" fn rinchovek_sheet_replace_line(
+pub fn rinchovek_sheet_replace_line(
     sheet: &mut [u8],
     block: u32,
     line: u32,
@@ -342,8 +320,7 @@ pub extern "C" fn rinchovek_sheet_replace_line(
 }
 
 // A DDS file as a sheet.
-#[unsafe(no_mangle)]
-pub extern "C" fn rinchovek_dds_import(dds: &[u8], sheet: &mut [u8]) -> u32
+pub fn rinchovek_dds_import(dds: &[u8], sheet: &mut [u8]) -> u32
     ensures { ImportsDds dds.now sheet.old result sheet.new }
 {
     let head = import_dds(dds, sheet);
@@ -351,8 +328,7 @@ pub extern "C" fn rinchovek_dds_import(dds: &[u8], sheet: &mut [u8]) -> u32
 }
 
 // A DDS file as a sheet, and beside it the head with the colour space that the format says.
-#[unsafe(no_mangle)]
-pub extern "C" fn rinchovek_dds_import_colour(
+pub fn rinchovek_dds_import_colour(
     dds: &[u8],
     sheet: &mut [u8],
     head: &mut [u32; 4],
@@ -369,16 +345,14 @@ pub extern "C" fn rinchovek_dds_import_colour(
 }
 
 // A sheet as a DDS file that says nothing of sRGB.
-#[unsafe(no_mangle)]
-pub extern "C" fn rinchovek_dds_export(sheet: &[u8], dds: &mut [u8]) -> u32
+pub fn rinchovek_dds_export(sheet: &[u8], dds: &mut [u8]) -> u32
     ensures { ExportsDds sheet.now dds.old result dds.new }
 {
     export_dds(sheet, ColourSpace::Unspecified, dds) as u32
 }
 
 // A sheet as a DDS file, under the number of a colour space.
-#[unsafe(no_mangle)]
-pub extern "C" fn rinchovek_dds_export_colour(
+pub fn rinchovek_dds_export_colour(
     sheet: &[u8],
     colour_space: u32,
     dds: &mut [u8],
@@ -389,8 +363,7 @@ pub extern "C" fn rinchovek_dds_export_colour(
 }
 
 // The length of the sheet that a DDS file makes.
-#[unsafe(no_mangle)]
-pub extern "C" fn rinchovek_dds_import_length(dds: &[u8], length: &mut u32) -> u32
+pub fn rinchovek_dds_import_length(dds: &[u8], length: &mut u32) -> u32
     ensures { ImportNeeds dds.now length.old result length.new }
 {
     let needed = import_length(dds);
@@ -402,8 +375,7 @@ pub extern "C" fn rinchovek_dds_import_length(dds: &[u8], length: &mut u32) -> u
 }
 
 // The length of the DDS file that a sheet makes.
-#[unsafe(no_mangle)]
-pub extern "C" fn rinchovek_dds_export_length(sheet: &[u8], length: &mut u32) -> u32
+pub fn rinchovek_dds_export_length(sheet: &[u8], length: &mut u32) -> u32
     ensures { ExportNeeds sheet.now length.old result length.new }
 {
     let needed = export_length(sheet);
@@ -443,8 +415,7 @@ fn counts_of(c: [u32; 10]) -> Counts
 }
 
 // The counts of a sheet of either form: how many of its blocks have mode 0, 1, .., 8, and how many are opaque.
-#[unsafe(no_mangle)]
-pub extern "C" fn rinchovek_sheet_count(sheet: &[u8], counts: &mut [u32; 10]) -> u32
+pub fn rinchovek_sheet_count(sheet: &[u8], counts: &mut [u32; 10]) -> u32
     ensures { CountsSheet sheet.now counts.old result counts.new }
 {
     let counted = count_sheet(sheet);
@@ -457,8 +428,7 @@ pub extern "C" fn rinchovek_sheet_count(sheet: &[u8], counts: &mut [u32; 10]) ->
 }
 
 // A line of one block replaced in a sheet, and with it the counts beside the sheet.
-#[unsafe(no_mangle)]
-pub extern "C" fn rinchovek_sheet_replace_line_counted(
+pub fn rinchovek_sheet_replace_line_counted(
     sheet: &mut [u8],
     counts: &mut [u32; 10],
     block: u32,
@@ -480,8 +450,7 @@ pub extern "C" fn rinchovek_sheet_replace_line_counted(
 }
 
 // A whole block of a sheet replaced by any sixteen bytes, and with it the counts beside the sheet.
-#[unsafe(no_mangle)]
-pub extern "C" fn rinchovek_sheet_replace_block_counted(
+pub fn rinchovek_sheet_replace_block_counted(
     sheet: &mut [u8],
     counts: &mut [u32; 10],
     block: u32,
@@ -501,8 +470,7 @@ pub extern "C" fn rinchovek_sheet_replace_block_counted(
 }
 
 // A pixel as four floats, red green blue alpha.
-#[unsafe(no_mangle)]
-pub extern "C" fn rinchovek_pixel_floats(pixel: &[u8; 4], floats: &mut [f32; 4])
+pub fn rinchovek_pixel_floats(pixel: &[u8; 4], floats: &mut [f32; 4])
     ensures { FloatsPixel pixel.now floats.new }
 {
     let made = pixel_floats(*pixel);
@@ -510,8 +478,7 @@ pub extern "C" fn rinchovek_pixel_floats(pixel: &[u8; 4], floats: &mut [f32; 4])
 }
 
 // The channel whose float has these bits.
-#[unsafe(no_mangle)]
-pub extern "C" fn rinchovek_float_channel(bits: u32, channel: &mut u32) -> u32
+pub fn rinchovek_float_channel(bits: u32, channel: &mut u32) -> u32
     ensures { FindsChannel bits channel.old result channel.new }
 {
     let found = channel_of_bits(bits);
@@ -523,8 +490,7 @@ pub extern "C" fn rinchovek_float_channel(bits: u32, channel: &mut u32) -> u32
 }
 
 // The channels of a row as floats, one for each byte.
-#[unsafe(no_mangle)]
-pub extern "C" fn rinchovek_row_floats(pixels: &[u8], floats: &mut [f32]) -> u32
+pub fn rinchovek_row_floats(pixels: &[u8], floats: &mut [f32]) -> u32
     ensures { FloatsRow pixels.now floats.old result floats.new }
 {
     row_floats(pixels, floats) as u32
