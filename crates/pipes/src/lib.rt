@@ -1,17 +1,18 @@
-// Standard input and standard output, read and written whole: in as many reads and writes as it takes, also where a signal interrupts
+// An input and an output, read and written whole: in as many reads and writes as it takes, also where a signal interrupts
 // one. What was read and that it was written is what the system says; how many bytes, and that every loop ends, is proved.
 
 #![tactic(auto)]
 
-ghost use Rattle.std.specs.Prelude.{◌≤◌, length};
+ghost use Rattle.std.specs.Prelude.{◌≤◌, length, IfOk};
 ghost use Rattle.pipes.specs.Moving.{ReadsWanted};
 
-use libc::{STDIN_FILENO, STDOUT_FILENO};
+use std::io;
+use std::io::{ErrorKind, Read, Write};
 
 // How often a call is tried again that a signal interrupts: a loop has to end.
 const TRIES: u32 = 4294967295;
 
-// What a read or a write moved, or that it failed. A read that moves nothing is at the end of the input.
+// What a read moved, or that it failed. A read that moves nothing is at the end of the input.
 #[derive(Clone, Copy)]
 pub struct Moved {
     pub failed: bool,
@@ -27,20 +28,23 @@ fn failed() -> Moved
     }
 }
 
-fn read_some(buffer: &mut [u8]) -> Moved
+fn read_some<R: Read>(from: &mut R, buffer: &mut [u8]) -> Moved
     ensures { result.count ≤ length buffer.new }
 {
     let mut tries = TRIES;
     while 0 < tries {
-        let got = libc::read(STDIN_FILENO, buffer);
-        if got >= 0 {
-            return Moved {
-                failed: false,
-                count: io::count(got, buffer),
-            };
-        }
-        if os::errno() != libc::EINTR {
-            return failed();
+        match from.read(buffer) {
+            Ok(got) => {
+                return Moved {
+                    failed: false,
+                    count: got,
+                };
+            }
+            Err(e) => {
+                if e.kind() != ErrorKind::Interrupted {
+                    return failed();
+                }
+            }
         }
         tries -= 1;
     }
@@ -48,13 +52,13 @@ fn read_some(buffer: &mut [u8]) -> Moved
 }
 
 // The next n bytes of the input to the start of the buffer, in as many reads as it takes; fewer where the input ends.
-pub fn read_wanted(n: usize, buffer: &mut [u8]) -> Moved
+pub fn read_wanted<R: Read>(from: &mut R, n: usize, buffer: &mut [u8]) -> Moved
     requires { n ≤ length buffer.old }
     ensures { ReadsWanted n buffer.old buffer.new result }
 {
     let mut done: usize = 0;
     while done < n {
-        let got = read_some(&mut buffer[done..n]);
+        let got = read_some(from, &mut buffer[done..n]);
         if got.failed {
             return failed();
         }
@@ -69,37 +73,35 @@ pub fn read_wanted(n: usize, buffer: &mut [u8]) -> Moved
     }
 }
 
-fn write_some(text: &[u8]) -> Moved
-    ensures { result.count ≤ length text.now }
+fn write_some<W: Write>(to: &mut W, text: &[u8]) -> io::Result<usize>
+    ensures { IfOk result (λ put. put ≤ length text.now) }
 {
     let mut tries = TRIES;
     while 0 < tries {
-        let put = libc::write(STDOUT_FILENO, text);
-        if put >= 0 {
-            return Moved {
-                failed: false,
-                count: io::count(put, text),
-            };
-        }
-        if os::errno() != libc::EINTR {
-            return failed();
+        match to.write(text) {
+            Ok(put) => return Ok(put),
+            Err(e) => {
+                if e.kind() != ErrorKind::Interrupted {
+                    return Err(e);
+                }
+            }
         }
         tries -= 1;
     }
-    failed()
+    Err(io::Error::from(ErrorKind::Interrupted))
 }
 
 // The first n bytes of a text, in as many writes as it takes. Whether they took them.
-pub fn write_whole(n: usize, text: &[u8]) -> bool
+pub fn write_whole<W: Write>(to: &mut W, n: usize, text: &[u8]) -> io::Result<()>
     requires { n ≤ length text.now }
 {
     let mut done: usize = 0;
     while done < n {
-        let put = write_some(&text[done..n]);
-        if put.count == 0 {
-            return false;
+        let put = write_some(to, &text[done..n])?;
+        if put == 0 {
+            return Err(io::Error::from(ErrorKind::WriteZero));
         }
-        done += put.count;
+        done += put;
     }
-    true
+    Ok(())
 }
