@@ -1,9 +1,11 @@
-// An input and an output, read and written whole: in as many reads and writes as it takes, also where a signal interrupts
-// one. What was read and that it was written is what the system says; how many bytes, and that every loop ends, is proved.
+// An input and an output, as standard input and standard output are, read and written whole: in as many reads and writes as it takes, also where
+// a signal interrupts one. What the system reads and writes is what it says; how many bytes, and that every loop ends, is proved. Where
+// the bytes of an input or an output are known, as in memory, it is proved too which are read and written.
 
 #![tactic(auto)]
 
-ghost use Rattle.std.specs.Prelude.{◌≤◌, length, IfOk};
+ghost use Rattle.std.specs.Prelude.{◌≡◌, ◌<◌, ◌≤◌, true, false, length, take, IfOk, OnOk, OnErr};
+ghost use Rattle.std.specs.Io.KnownBytes.{Appends, Consumes, IsAtEnd, Keeps};
 ghost use Rattle.pipes.specs.Moving.{ReadsWanted};
 
 use std::io;
@@ -20,7 +22,8 @@ pub struct Moved {
 }
 
 fn failed() -> Moved
-    ensures { result.count ≤ 0 }
+    ensures failed { result.failed ≡ true }
+    ensures none { result.count ≤ 0 }
 {
     Moved {
         failed: true,
@@ -29,7 +32,9 @@ fn failed() -> Moved
 }
 
 fn read_some<R: Read>(from: &mut R, buffer: &mut [u8]) -> Moved
-    ensures { result.count ≤ length buffer.new }
+    ensures few { result.count ≤ length buffer.new }
+    ensures next { Consumes (R.remaining from.old) (R.remaining from.new) (take result.count buffer.new) }
+    ensures end { result.failed ≡ false → result.count ≡ 0 → 0 < length buffer.old → IsAtEnd (R.remaining from.new) }
 {
     let mut tries = TRIES;
     while 0 < tries {
@@ -54,7 +59,9 @@ fn read_some<R: Read>(from: &mut R, buffer: &mut [u8]) -> Moved
 // The next n bytes of the input to the start of the buffer, in as many reads as it takes; fewer where the input ends.
 pub fn read_wanted<R: Read>(from: &mut R, n: usize, buffer: &mut [u8]) -> Moved
     requires { n ≤ length buffer.old }
-    ensures { ReadsWanted n buffer.old buffer.new result }
+    ensures wanted { ReadsWanted n buffer.old buffer.new result }
+    ensures next { result.failed ≡ false → Consumes (R.remaining from.old) (R.remaining from.new) (take result.count buffer.new) }
+    ensures end { result.failed ≡ false → result.count < n → IsAtEnd (R.remaining from.new) }
 {
     let mut done: usize = 0;
     while done < n {
@@ -74,7 +81,9 @@ pub fn read_wanted<R: Read>(from: &mut R, n: usize, buffer: &mut [u8]) -> Moved
 }
 
 fn write_some<W: Write>(to: &mut W, text: &[u8]) -> io::Result<usize>
-    ensures { IfOk result (λ put. put ≤ length text.now) }
+    ensures few { IfOk result (λ put. put ≤ length text.now) }
+    ensures ok { IfOk result (λ put. Appends (W.contents to.old) (W.contents to.new) (take put text.now)) }
+    ensures err { OnErr result (Keeps (W.contents to.old) (W.contents to.new)) }
 {
     let mut tries = TRIES;
     while 0 < tries {
@@ -94,6 +103,7 @@ fn write_some<W: Write>(to: &mut W, text: &[u8]) -> io::Result<usize>
 // The first n bytes of a text, in as many writes as it takes. Whether they took them.
 pub fn write_whole<W: Write>(to: &mut W, n: usize, text: &[u8]) -> io::Result<()>
     requires { n ≤ length text.now }
+    ensures { OnOk result (Appends (W.contents to.old) (W.contents to.new) (take n text.now)) }
 {
     let mut done: usize = 0;
     while done < n {
