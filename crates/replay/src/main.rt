@@ -1,6 +1,7 @@
 // The test program: calls in on standard input, their answers out on standard output, until the input ends. A letter names
 // the call; docs/REPLAY.md has the bytes of each. A call that C has is made through the function for C, so that what is replayed
 // is what is shipped; the listing goes through its machine. Here only lengths, kinds, signs and colour spaces that end the run are looked at.
+// An answer that can't be written ends the run with that error.
 
 #![tactic(auto)]
 
@@ -8,7 +9,6 @@ ghost use Rattle.std.specs.Prelude.{◌≡◌, ◌+◌, ◌*◌, ◌≤◌, ◌<
 
 use bc7_places::places::PLACES;
 use bits::stream::{BitStream, Read};
-use libc::{STDIN_FILENO, STDOUT_FILENO};
 use listing::list_sheet;
 use rinchovek::{
     rinchovek_bc6h_decode_block, rinchovek_bc7_decode_block, rinchovek_bc7_exact_index,
@@ -22,13 +22,14 @@ use rinchovek::{
     rinchovek_sheet_replace_line_counted, rinchovek_sheet_show_row, rinchovek_sheet_state_colour,
     rinchovek_sheet_to_rows, rinchovek_sheet_to_tiles, rinchovek_sheet_write_head,
 };
+use std::io;
 
 // The longest input or output that a call may name.
 const MOST: u32 = 65536;
 
 // Whether the input had enough bytes to fill the whole slice.
-fn filled(bytes: &mut [u8]) -> bool {
-    io::read_full(STDIN_FILENO, bytes) == bytes.len()
+fn filled(from: &mut impl io::Read, bytes: &mut [u8]) -> bool {
+    from.read_exact(bytes).is_ok()
 }
 
 fn wide(byte: u8) -> u32
@@ -45,40 +46,40 @@ fn number(bytes: &[u8], at: usize) -> u32
     low + wide(bytes[at + 2]) * 65536 + wide(bytes[at + 3]) * 16777216
 }
 
-fn write_u32(n: u32) {
+fn write_u32(to: &mut impl io::Write, n: u32) -> io::Result<()> {
     let bytes = [
         (n % 256) as u8,
         (n / 256 % 256) as u8,
         (n / 65536 % 256) as u8,
         (n / 16777216) as u8,
     ];
-    io::write_all(STDOUT_FILENO, &bytes);
+    to.write_all(&bytes)
 }
 
-fn write_u8(n: u8) {
+fn write_u8(to: &mut impl io::Write, n: u8) -> io::Result<()> {
     let byte = [n];
-    io::write_all(STDOUT_FILENO, &byte);
+    to.write_all(&byte)
 }
 
-fn write_block(block: &[u8; 16]) -> bool {
-    io::write_all(STDOUT_FILENO, block)
+fn write_block(to: &mut impl io::Write, block: &[u8; 16]) -> io::Result<()> {
+    to.write_all(block)
 }
 
-fn write_record(record: &[u8; PLACES]) -> bool {
-    io::write_all(STDOUT_FILENO, record)
+fn write_record(to: &mut impl io::Write, record: &[u8; PLACES]) -> io::Result<()> {
+    to.write_all(record)
 }
 
-fn write_line(line: &[u8; 26]) -> bool {
-    io::write_all(STDOUT_FILENO, line)
+fn write_line(to: &mut impl io::Write, line: &[u8; 26]) -> io::Result<()> {
+    to.write_all(line)
 }
 
-fn write_head_bytes(head: &[u8; 7]) -> bool {
-    io::write_all(STDOUT_FILENO, head)
+fn write_head_bytes(to: &mut impl io::Write, head: &[u8; 7]) -> io::Result<()> {
+    to.write_all(head)
 }
 
 // A refusal, an index, a count or a yes is one byte; a number that needs more, which no call gives, is told from all that are.
-fn write_small(n: u32) {
-    write_u8(if n < 255 { n as u8 } else { 255 });
+fn write_small(to: &mut impl io::Write, n: u32) -> io::Result<()> {
+    write_u8(to, if n < 255 { n as u8 } else { 255 })
 }
 
 fn flat(pixels: [[u8; 4]; 16]) -> [u8; 64] {
@@ -89,15 +90,16 @@ fn flat(pixels: [[u8; 4]; 16]) -> [u8; 64] {
     bytes
 }
 
-fn decode_call() -> bool {
+fn decode_call(from: &mut impl io::Read, to: &mut impl io::Write) -> io::Result<bool> {
     let mut block = [0u8; 16];
-    if !filled(&mut block) {
-        return false;
+    if !filled(from, &mut block) {
+        return Ok(false);
     }
     let mut pixels = [[0u8; 4]; 16];
     rinchovek_bc7_decode_block(&block, &mut pixels);
     let bytes = flat(pixels);
-    io::write_all(STDOUT_FILENO, &bytes)
+    to.write_all(&bytes)?;
+    Ok(true)
 }
 
 // Two bytes for each half, the low byte first.
@@ -116,93 +118,104 @@ fn half_bytes(halves: [[u16; 3]; 16]) -> [u8; 96] {
     bytes
 }
 
-fn decode_bc6h_call() -> bool {
+fn decode_bc6h_call(from: &mut impl io::Read, to: &mut impl io::Write) -> io::Result<bool> {
     let mut sign = [0u8; 1];
-    if !filled(&mut sign) {
-        return false;
+    if !filled(from, &mut sign) {
+        return Ok(false);
     }
     if 1 < sign[0] {
-        return false;
+        return Ok(false);
     }
     let mut block = [0u8; 16];
-    if !filled(&mut block) {
-        return false;
+    if !filled(from, &mut block) {
+        return Ok(false);
     }
     let mut halves = [[0u16; 3]; 16];
     rinchovek_bc6h_decode_block(&block, wide(sign[0]), &mut halves);
     let bytes = half_bytes(halves);
-    io::write_all(STDOUT_FILENO, &bytes)
+    to.write_all(&bytes)?;
+    Ok(true)
 }
 
-fn unpack_call() -> bool {
+fn unpack_call(from: &mut impl io::Read, to: &mut impl io::Write) -> io::Result<bool> {
     let mut block = [0u8; 16];
-    if !filled(&mut block) {
-        return false;
+    if !filled(from, &mut block) {
+        return Ok(false);
     }
     let mut record = [0u8; PLACES];
-    write_small(rinchovek_bc7_unpack(&block, &mut record));
-    write_record(&record)
+    write_small(to, rinchovek_bc7_unpack(&block, &mut record))?;
+    write_record(to, &record)?;
+    Ok(true)
 }
 
-fn pack_call() -> bool {
+fn pack_call(from: &mut impl io::Read, to: &mut impl io::Write) -> io::Result<bool> {
     let mut record = [0u8; PLACES];
-    if !filled(&mut record) {
-        return false;
+    if !filled(from, &mut record) {
+        return Ok(false);
     }
     if 3 < record[1] {
-        return false;
+        return Ok(false);
     }
     let mut block = [0u8; 16];
-    write_small(rinchovek_bc7_pack(&record, &mut block));
-    write_block(&block)
+    write_small(to, rinchovek_bc7_pack(&record, &mut block))?;
+    write_block(to, &block)?;
+    Ok(true)
 }
 
-fn read_line_call() -> bool {
+fn read_line_call(from: &mut impl io::Read, to: &mut impl io::Write) -> io::Result<bool> {
     let mut block = [0u8; 16];
-    if !filled(&mut block) {
-        return false;
+    if !filled(from, &mut block) {
+        return Ok(false);
     }
     let mut line = [0u8; 4];
-    if !filled(&mut line) {
-        return false;
+    if !filled(from, &mut line) {
+        return Ok(false);
     }
     let mut held = [0u8; 26];
     let mut widths = [0u8; 26];
-    write_small(rinchovek_bc7_read_line(&block, number(&line, 0), &mut held, &mut widths));
-    write_line(&held);
-    write_line(&widths)
+    write_small(
+        to,
+        rinchovek_bc7_read_line(&block, number(&line, 0), &mut held, &mut widths),
+    )?;
+    write_line(to, &held)?;
+    write_line(to, &widths)?;
+    Ok(true)
 }
 
-fn replace_call() -> bool {
+fn replace_call(from: &mut impl io::Read, to: &mut impl io::Write) -> io::Result<bool> {
     let mut block = [0u8; 16];
-    if !filled(&mut block) {
-        return false;
+    if !filled(from, &mut block) {
+        return Ok(false);
     }
     let mut line = [0u8; 4];
-    if !filled(&mut line) {
-        return false;
+    if !filled(from, &mut line) {
+        return Ok(false);
     }
     let mut given = [0u8; 26];
-    if !filled(&mut given) {
-        return false;
+    if !filled(from, &mut given) {
+        return Ok(false);
     }
-    write_small(rinchovek_bc7_replace_line(&mut block, number(&line, 0), &given));
-    write_block(&block)
+    write_small(
+        to,
+        rinchovek_bc7_replace_line(&mut block, number(&line, 0), &given),
+    )?;
+    write_block(to, &block)?;
+    Ok(true)
 }
 
 // The nearest index, or the one that hits: both are asked for in the same bytes.
-fn index_call(exact: bool) -> bool {
+fn index_call(from: &mut impl io::Read, to: &mut impl io::Write, exact: bool) -> io::Result<bool> {
     let mut block = [0u8; 16];
-    if !filled(&mut block) {
-        return false;
+    if !filled(from, &mut block) {
+        return Ok(false);
     }
     let mut place = [0u8; 8];
-    if !filled(&mut place) {
-        return false;
+    if !filled(from, &mut place) {
+        return Ok(false);
     }
     let mut wanted = [0u8; 4];
-    if !filled(&mut wanted) {
-        return false;
+    if !filled(from, &mut wanted) {
+        return Ok(false);
     }
     let line = number(&place, 0);
     let pixel = number(&place, 4);
@@ -212,57 +225,63 @@ fn index_call(exact: bool) -> bool {
     } else {
         rinchovek_bc7_nearest_index(&block, line, pixel, &wanted, &mut index)
     };
-    write_small(refusal);
-    write_small(index);
-    true
+    write_small(to, refusal)?;
+    write_small(to, index)?;
+    Ok(true)
 }
 
-fn opacity_call() -> bool {
+fn opacity_call(from: &mut impl io::Read, to: &mut impl io::Write) -> io::Result<bool> {
     let mut block = [0u8; 16];
-    if !filled(&mut block) {
-        return false;
+    if !filled(from, &mut block) {
+        return Ok(false);
     }
     let mut shown = [0u8; 8];
-    if !filled(&mut shown) {
-        return false;
+    if !filled(from, &mut shown) {
+        return Ok(false);
     }
-    write_small(rinchovek_bc7_is_opaque(&block, number(&shown, 0), number(&shown, 4)));
-    true
+    write_small(
+        to,
+        rinchovek_bc7_is_opaque(&block, number(&shown, 0), number(&shown, 4)),
+    )?;
+    Ok(true)
 }
 
-fn write_pixel(rgba: &[u8; 4]) -> bool {
-    io::write_all(STDOUT_FILENO, rgba)
+fn write_pixel(to: &mut impl io::Write, rgba: &[u8; 4]) -> io::Result<()> {
+    to.write_all(rgba)
 }
 
-fn pixel_call() -> bool {
+fn pixel_call(from: &mut impl io::Read, to: &mut impl io::Write) -> io::Result<bool> {
     let mut block = [0u8; 16];
-    if !filled(&mut block) {
-        return false;
+    if !filled(from, &mut block) {
+        return Ok(false);
     }
     let mut pixel = [0u8; 4];
-    if !filled(&mut pixel) {
-        return false;
+    if !filled(from, &mut pixel) {
+        return Ok(false);
     }
     let mut rgba = [0u8; 4];
-    write_small(rinchovek_bc7_pixel(&block, number(&pixel, 0), &mut rgba));
-    write_pixel(&rgba)
+    write_small(
+        to,
+        rinchovek_bc7_pixel(&block, number(&pixel, 0), &mut rgba),
+    )?;
+    write_pixel(to, &rgba)?;
+    Ok(true)
 }
 
-fn write_head_call() -> bool {
+fn write_head_call(from: &mut impl io::Read, to: &mut impl io::Write) -> io::Result<bool> {
     let mut size = [0u8; 8];
-    if !filled(&mut size) {
-        return false;
+    if !filled(from, &mut size) {
+        return Ok(false);
     }
     let mut head = [0u8; 7];
     let mut count: u32 = 0;
-    write_small(rinchovek_sheet_write_head(
-        number(&size, 0),
-        number(&size, 4),
-        &mut head,
-        &mut count,
-    ));
-    write_small(count);
-    write_head_bytes(&head)
+    write_small(
+        to,
+        rinchovek_sheet_write_head(number(&size, 0), number(&size, 4), &mut head, &mut count),
+    )?;
+    write_small(to, count)?;
+    write_head_bytes(to, &head)?;
+    Ok(true)
 }
 
 // What is asked for with the bytes of one sheet or file, or of the beginning of a sheet.
@@ -282,70 +301,88 @@ enum SheetCall {
     ExportLength,
 }
 
-fn write_size(width: u32, height: u32, start: u32) {
-    write_u32(width);
-    write_u32(height);
-    write_u32(start);
+fn write_size(to: &mut impl io::Write, width: u32, height: u32, start: u32) -> io::Result<()> {
+    write_u32(to, width)?;
+    write_u32(to, height)?;
+    write_u32(to, start)
 }
 
 // The four numbers of a head, of which the colour space is one byte.
-fn write_head(width: u32, height: u32, start: u32, colour_space: u32) {
-    write_size(width, height, start);
-    write_small(colour_space);
+fn write_head(
+    to: &mut impl io::Write,
+    width: u32,
+    height: u32,
+    start: u32,
+    colour_space: u32,
+) -> io::Result<()> {
+    write_size(to, width, height, start)?;
+    write_small(to, colour_space)
 }
 
-fn head_of(sheet: &[u8]) -> bool {
+fn head_of(to: &mut impl io::Write, sheet: &[u8]) -> io::Result<bool> {
     let mut numbers = [0u32; 8];
-    write_small(rinchovek_sheet_open(sheet, &mut numbers));
-    write_size(numbers[0], numbers[1], numbers[2]);
-    true
+    write_small(to, rinchovek_sheet_open(sheet, &mut numbers))?;
+    write_size(to, numbers[0], numbers[1], numbers[2])?;
+    Ok(true)
 }
 
-fn colour_head_of(sheet: &[u8]) -> bool {
+fn colour_head_of(to: &mut impl io::Write, sheet: &[u8]) -> io::Result<bool> {
     let mut numbers = [0u32; 8];
-    write_small(rinchovek_sheet_open(sheet, &mut numbers));
-    write_head(numbers[0], numbers[1], numbers[2], numbers[3]);
-    true
+    write_small(to, rinchovek_sheet_open(sheet, &mut numbers))?;
+    write_head(to, numbers[0], numbers[1], numbers[2], numbers[3])?;
+    Ok(true)
 }
 
-fn open_of(sheet: &[u8]) -> bool {
+fn open_of(to: &mut impl io::Write, sheet: &[u8]) -> io::Result<bool> {
     let mut numbers = [0u32; 8];
-    write_small(rinchovek_sheet_open(sheet, &mut numbers));
-    write_size(numbers[0], numbers[1], numbers[2]);
-    write_u32(numbers[3]);
-    write_u32(numbers[4]);
-    write_size(numbers[5], numbers[6], numbers[7]);
-    true
+    write_small(to, rinchovek_sheet_open(sheet, &mut numbers))?;
+    write_size(to, numbers[0], numbers[1], numbers[2])?;
+    write_u32(to, numbers[3])?;
+    write_u32(to, numbers[4])?;
+    write_size(to, numbers[5], numbers[6], numbers[7])?;
+    Ok(true)
 }
 
-fn block_of(sheet: &[u8]) -> bool {
+fn block_of(from: &mut impl io::Read, to: &mut impl io::Write, sheet: &[u8]) -> io::Result<bool> {
     let mut block = [0u8; 4];
-    if !filled(&mut block) {
-        return false;
+    if !filled(from, &mut block) {
+        return Ok(false);
     }
     let mut bytes = [0u8; 16];
-    write_small(rinchovek_sheet_block(sheet, number(&block, 0), &mut bytes));
-    write_block(&bytes)
+    write_small(
+        to,
+        rinchovek_sheet_block(sheet, number(&block, 0), &mut bytes),
+    )?;
+    write_block(to, &bytes)?;
+    Ok(true)
 }
 
-fn replace_in(sheet: &mut [u8]) -> bool {
+fn replace_in(
+    from: &mut impl io::Read,
+    to: &mut impl io::Write,
+    sheet: &mut [u8],
+) -> io::Result<bool> {
     let mut place = [0u8; 8];
-    if !filled(&mut place) {
-        return false;
+    if !filled(from, &mut place) {
+        return Ok(false);
     }
     let mut given = [0u8; 26];
-    if !filled(&mut given) {
-        return false;
+    if !filled(from, &mut given) {
+        return Ok(false);
     }
-    write_small(rinchovek_sheet_replace_line(sheet, number(&place, 0), number(&place, 4), &given));
-    io::write_all(STDOUT_FILENO, sheet)
+    write_small(
+        to,
+        rinchovek_sheet_replace_line(sheet, number(&place, 0), number(&place, 4), &given),
+    )?;
+    to.write_all(sheet)?;
+    Ok(true)
 }
 
-fn write_counts(counts: [u32; 10]) {
-    write_size(counts[0], counts[1], counts[2]);
-    write_size(counts[3], counts[4], counts[5]);
-    write_size(counts[6], counts[7], counts[8]);
-    write_u32(counts[9]);
+fn write_counts(to: &mut impl io::Write, counts: [u32; 10]) -> io::Result<()> {
+    write_size(to, counts[0], counts[1], counts[2])?;
+    write_size(to, counts[3], counts[4], counts[5])?;
+    write_size(to, counts[6], counts[7], counts[8])?;
+    write_u32(to, counts[9])
 }
 
 fn counts_in(bytes: &[u8; 40]) -> [u32; 10] {
@@ -363,141 +400,179 @@ fn counts_in(bytes: &[u8; 40]) -> [u32; 10] {
     ]
 }
 
-fn count_of(sheet: &[u8]) -> bool {
+fn count_of(to: &mut impl io::Write, sheet: &[u8]) -> io::Result<bool> {
     let mut counts = [0u32; 10];
-    write_small(rinchovek_sheet_count(sheet, &mut counts));
-    write_counts(counts);
-    true
+    write_small(to, rinchovek_sheet_count(sheet, &mut counts))?;
+    write_counts(to, counts)?;
+    Ok(true)
 }
 
-fn replace_line_in(sheet: &mut [u8]) -> bool {
+fn replace_line_in(
+    from: &mut impl io::Read,
+    to: &mut impl io::Write,
+    sheet: &mut [u8],
+) -> io::Result<bool> {
     let mut came = [0u8; 40];
-    if !filled(&mut came) {
-        return false;
+    if !filled(from, &mut came) {
+        return Ok(false);
     }
     let mut place = [0u8; 8];
-    if !filled(&mut place) {
-        return false;
+    if !filled(from, &mut place) {
+        return Ok(false);
     }
     let mut given = [0u8; 26];
-    if !filled(&mut given) {
-        return false;
+    if !filled(from, &mut given) {
+        return Ok(false);
     }
     let mut counts = counts_in(&came);
     let block = number(&place, 0);
     let line = number(&place, 4);
-    write_small(rinchovek_sheet_replace_line_counted(sheet, &mut counts, block, line, &given));
-    io::write_all(STDOUT_FILENO, sheet);
-    write_counts(counts);
-    true
+    write_small(
+        to,
+        rinchovek_sheet_replace_line_counted(sheet, &mut counts, block, line, &given),
+    )?;
+    to.write_all(sheet)?;
+    write_counts(to, counts)?;
+    Ok(true)
 }
 
-fn replace_block_in(sheet: &mut [u8]) -> bool {
+fn replace_block_in(
+    from: &mut impl io::Read,
+    to: &mut impl io::Write,
+    sheet: &mut [u8],
+) -> io::Result<bool> {
     let mut came = [0u8; 40];
-    if !filled(&mut came) {
-        return false;
+    if !filled(from, &mut came) {
+        return Ok(false);
     }
     let mut place = [0u8; 4];
-    if !filled(&mut place) {
-        return false;
+    if !filled(from, &mut place) {
+        return Ok(false);
     }
     let mut given = [0u8; 16];
-    if !filled(&mut given) {
-        return false;
+    if !filled(from, &mut given) {
+        return Ok(false);
     }
     let mut counts = counts_in(&came);
     let block = number(&place, 0);
-    write_small(rinchovek_sheet_replace_block_counted(sheet, &mut counts, block, &given));
-    io::write_all(STDOUT_FILENO, sheet);
-    write_counts(counts);
-    true
+    write_small(
+        to,
+        rinchovek_sheet_replace_block_counted(sheet, &mut counts, block, &given),
+    )?;
+    to.write_all(sheet)?;
+    write_counts(to, counts)?;
+    Ok(true)
 }
 
-fn state_colour_in(sheet: &mut [u8], colour_space: u32) -> bool {
-    write_small(rinchovek_sheet_state_colour(sheet, colour_space));
-    io::write_all(STDOUT_FILENO, sheet)
+fn state_colour_in(
+    to: &mut impl io::Write,
+    sheet: &mut [u8],
+    colour_space: u32,
+) -> io::Result<bool> {
+    write_small(to, rinchovek_sheet_state_colour(sheet, colour_space))?;
+    to.write_all(sheet)?;
+    Ok(true)
 }
 
 // The listing has 40 bytes for each block at the most, and two texts more.
-fn list_of(sheet: &[u8]) -> bool
+fn list_of(to: &mut impl io::Write, sheet: &[u8]) -> io::Result<bool>
     requires { length sheet.now ≤ 65536 }
 {
     let mut text = [0u8; 163920];
     let count = list_sheet(sheet, &mut text);
-    write_u32(count as u32);
-    io::write_all(STDOUT_FILENO, &text[..count])
+    write_u32(to, count as u32)?;
+    to.write_all(&text[..count])?;
+    Ok(true)
 }
 
 // The length that importing needs, or exporting.
-fn length_of(export: bool, given: &[u8]) -> bool {
+fn length_of(to: &mut impl io::Write, export: bool, given: &[u8]) -> io::Result<bool> {
     let mut length: u32 = 0;
     let refusal = if export {
         rinchovek_dds_export_length(given, &mut length)
     } else {
         rinchovek_dds_import_length(given, &mut length)
     };
-    write_small(refusal);
-    write_u32(length);
-    true
+    write_small(to, refusal)?;
+    write_u32(to, length)?;
+    Ok(true)
 }
 
-fn sheet_call_of(asked: SheetCall, sheet: &mut [u8]) -> bool
+fn sheet_call_of(
+    from: &mut impl io::Read,
+    to: &mut impl io::Write,
+    asked: SheetCall,
+    sheet: &mut [u8],
+) -> io::Result<bool>
     requires { length sheet.old ≤ 65536 }
 {
-    if !filled(sheet) {
-        return false;
+    if !filled(from, sheet) {
+        return Ok(false);
     }
     match asked {
-        SheetCall::Head => head_of(sheet),
-        SheetCall::ColourHead => colour_head_of(sheet),
-        SheetCall::Open => open_of(sheet),
-        SheetCall::Block => block_of(sheet),
-        SheetCall::ReplaceLine => replace_in(sheet),
-        SheetCall::Count => count_of(sheet),
-        SheetCall::ReplaceLineCounted => replace_line_in(sheet),
-        SheetCall::ReplaceBlockCounted => replace_block_in(sheet),
-        SheetCall::StateColour(colour_space) => state_colour_in(sheet, colour_space),
-        SheetCall::List => list_of(sheet),
-        SheetCall::ImportLength => length_of(false, sheet),
-        SheetCall::ExportLength => length_of(true, sheet),
+        SheetCall::Head => head_of(to, sheet),
+        SheetCall::ColourHead => colour_head_of(to, sheet),
+        SheetCall::Open => open_of(to, sheet),
+        SheetCall::Block => block_of(from, to, sheet),
+        SheetCall::ReplaceLine => replace_in(from, to, sheet),
+        SheetCall::Count => count_of(to, sheet),
+        SheetCall::ReplaceLineCounted => replace_line_in(from, to, sheet),
+        SheetCall::ReplaceBlockCounted => replace_block_in(from, to, sheet),
+        SheetCall::StateColour(colour_space) => state_colour_in(to, sheet, colour_space),
+        SheetCall::List => list_of(to, sheet),
+        SheetCall::ImportLength => length_of(to, false, sheet),
+        SheetCall::ExportLength => length_of(to, true, sheet),
     }
 }
 
 // The sheet is n bytes.
-fn sheet_call_within(asked: SheetCall, n: usize) -> bool
+fn sheet_call_within(
+    from: &mut impl io::Read,
+    to: &mut impl io::Write,
+    asked: SheetCall,
+    n: usize,
+) -> io::Result<bool>
     requires { n ≤ 65536 }
 {
     let mut sheet = [0u8; 65536];
-    sheet_call_of(asked, &mut sheet[..n])
+    sheet_call_of(from, to, asked, &mut sheet[..n])
 }
 
-fn sheet_call(asked: SheetCall) -> bool {
+fn sheet_call(
+    from: &mut impl io::Read,
+    to: &mut impl io::Write,
+    asked: SheetCall,
+) -> io::Result<bool> {
     let mut length = [0u8; 4];
-    if !filled(&mut length) {
-        return false;
+    if !filled(from, &mut length) {
+        return Ok(false);
     }
     let n = number(&length, 0);
     if MOST < n {
-        return false;
+        return Ok(false);
     }
-    sheet_call_within(asked, n as usize)
+    sheet_call_within(from, to, asked, n as usize)
 }
 
-fn state_colour_call() -> bool {
+fn state_colour_call(from: &mut impl io::Read, to: &mut impl io::Write) -> io::Result<bool> {
     let mut colour_space = [0u8; 4];
-    if !filled(&mut colour_space) {
-        return false;
+    if !filled(from, &mut colour_space) {
+        return Ok(false);
     }
-    sheet_call(SheetCall::StateColour(number(&colour_space, 0)))
+    sheet_call(from, to, SheetCall::StateColour(number(&colour_space, 0)))
 }
 
 // The length of a head is one byte.
-fn head_call(asked: SheetCall) -> bool {
+fn head_call(
+    from: &mut impl io::Read,
+    to: &mut impl io::Write,
+    asked: SheetCall,
+) -> io::Result<bool> {
     let mut length = [0u8; 1];
-    if !filled(&mut length) {
-        return false;
+    if !filled(from, &mut length) {
+        return Ok(false);
     }
-    sheet_call_within(asked, wide(length[0]) as usize)
+    sheet_call_within(from, to, asked, wide(length[0]) as usize)
 }
 
 // What is asked for with bytes that are given and an output.
@@ -513,51 +588,64 @@ enum OutCall {
     ShowRow(u32),
 }
 
-fn import_colour_of(given: &[u8], out: &mut [u8]) {
+fn import_colour_of(to: &mut impl io::Write, given: &[u8], out: &mut [u8]) -> io::Result<()> {
     let mut head = [0u32; 4];
-    write_small(rinchovek_dds_import_colour(given, out, &mut head));
-    write_head(head[0], head[1], head[2], head[3]);
+    write_small(to, rinchovek_dds_import_colour(given, out, &mut head))?;
+    write_head(to, head[0], head[1], head[2], head[3])
 }
 
 // What is answered before the output.
-fn answer(asked: OutCall, given: &[u8], out: &mut [u8]) {
+fn answer(to: &mut impl io::Write, asked: OutCall, given: &[u8], out: &mut [u8]) -> io::Result<()> {
     match asked {
-        OutCall::DecodeRow(width, height, row) => write_small(rinchovek_sheet_decode_row(
-            width, height, row, given, out,
-        )),
-        OutCall::Import => write_small(rinchovek_dds_import(given, out)),
-        OutCall::Export => write_small(rinchovek_dds_export(given, out)),
-        OutCall::ImportColour => import_colour_of(given, out),
-        OutCall::ExportColour(colour_space) => write_small(rinchovek_dds_export_colour(
-            given,
-            colour_space,
-            out,
-        )),
-        OutCall::ToTiles => write_small(rinchovek_sheet_to_tiles(given, out)),
-        OutCall::ToRows => write_small(rinchovek_sheet_to_rows(given, out)),
-        OutCall::ShowRow(row) => write_small(rinchovek_sheet_show_row(given, row, out)),
+        OutCall::DecodeRow(width, height, row) => write_small(
+            to,
+            rinchovek_sheet_decode_row(width, height, row, given, out),
+        ),
+        OutCall::Import => write_small(to, rinchovek_dds_import(given, out)),
+        OutCall::Export => write_small(to, rinchovek_dds_export(given, out)),
+        OutCall::ImportColour => import_colour_of(to, given, out),
+        OutCall::ExportColour(colour_space) => write_small(
+            to,
+            rinchovek_dds_export_colour(given, colour_space, out),
+        ),
+        OutCall::ToTiles => write_small(to, rinchovek_sheet_to_tiles(given, out)),
+        OutCall::ToRows => write_small(to, rinchovek_sheet_to_rows(given, out)),
+        OutCall::ShowRow(row) => write_small(to, rinchovek_sheet_show_row(given, row, out)),
     }
 }
 
 // What stands in the output before is read too.
-fn out_call_of(asked: OutCall, given: &mut [u8], out: &mut [u8]) -> bool {
-    if !filled(given) {
-        return false;
+fn out_call_of(
+    from: &mut impl io::Read,
+    to: &mut impl io::Write,
+    asked: OutCall,
+    given: &mut [u8],
+    out: &mut [u8],
+) -> io::Result<bool> {
+    if !filled(from, given) {
+        return Ok(false);
     }
-    if !filled(out) {
-        return false;
+    if !filled(from, out) {
+        return Ok(false);
     }
-    answer(asked, given, out);
-    io::write_all(STDOUT_FILENO, out)
+    answer(to, asked, given, out)?;
+    to.write_all(out)?;
+    Ok(true)
 }
 
 // What is given is n bytes, and the output m.
-fn out_call_within(asked: OutCall, n: usize, m: usize) -> bool
+fn out_call_within(
+    from: &mut impl io::Read,
+    to: &mut impl io::Write,
+    asked: OutCall,
+    n: usize,
+    m: usize,
+) -> io::Result<bool>
     requires { (n ≤ 65536) × (m ≤ 65536) }
 {
     let mut given = [0u8; 65536];
     let mut out = [0u8; 65536];
-    out_call_of(asked, &mut given[..n], &mut out[..m])
+    out_call_of(from, to, asked, &mut given[..n], &mut out[..m])
 }
 
 // Both lengths of a call with an output, or none where one is too long or the input ends.
@@ -578,11 +666,11 @@ fn no_lengths() -> Lengths
     }
 }
 
-fn take_lengths() -> Lengths
+fn take_lengths(from: &mut impl io::Read) -> Lengths
     ensures { (result.given ≤ 65536) × (result.room ≤ 65536) }
 {
     let mut bytes = [0u8; 8];
-    if !filled(&mut bytes) {
+    if !filled(from, &mut bytes) {
         return no_lengths();
     }
     let n = number(&bytes, 0);
@@ -600,39 +688,43 @@ fn take_lengths() -> Lengths
     }
 }
 
-fn out_call(asked: OutCall) -> bool {
-    let both = take_lengths();
+fn out_call(from: &mut impl io::Read, to: &mut impl io::Write, asked: OutCall) -> io::Result<bool> {
+    let both = take_lengths(from);
     if !both.taken {
-        return false;
+        return Ok(false);
     }
-    out_call_within(asked, both.given, both.room)
+    out_call_within(from, to, asked, both.given, both.room)
 }
 
-fn decode_row_call() -> bool {
+fn decode_row_call(from: &mut impl io::Read, to: &mut impl io::Write) -> io::Result<bool> {
     let mut place = [0u8; 12];
-    if !filled(&mut place) {
-        return false;
+    if !filled(from, &mut place) {
+        return Ok(false);
     }
-    out_call(OutCall::DecodeRow(number(&place, 0), number(&place, 4), number(&place, 8)))
+    out_call(
+        from,
+        to,
+        OutCall::DecodeRow(number(&place, 0), number(&place, 4), number(&place, 8)),
+    )
 }
 
-fn export_colour_call() -> bool {
+fn export_colour_call(from: &mut impl io::Read, to: &mut impl io::Write) -> io::Result<bool> {
     let mut colour_space = [0u8; 1];
-    if !filled(&mut colour_space) {
-        return false;
+    if !filled(from, &mut colour_space) {
+        return Ok(false);
     }
     if 2 < colour_space[0] {
-        return false;
+        return Ok(false);
     }
-    out_call(OutCall::ExportColour(wide(colour_space[0])))
+    out_call(from, to, OutCall::ExportColour(wide(colour_space[0])))
 }
 
-fn show_row_call() -> bool {
+fn show_row_call(from: &mut impl io::Read, to: &mut impl io::Write) -> io::Result<bool> {
     let mut row = [0u8; 4];
-    if !filled(&mut row) {
-        return false;
+    if !filled(from, &mut row) {
+        return Ok(false);
     }
-    out_call(OutCall::ShowRow(number(&row, 0)))
+    out_call(from, to, OutCall::ShowRow(number(&row, 0)))
 }
 
 // A read that was asked for: whether there is such a read, and the stream behind it.
@@ -650,63 +742,68 @@ fn unknown(stream: BitStream) -> NextRead {
 }
 
 // The answer of a read, written: the refusal, the value, the first bit, the bits that remain.
-fn written(read: Read) -> NextRead {
-    write_small(read.refusal);
-    write_u32((read.value % 4294967296) as u32);
-    write_u32((read.value >> 32) as u32);
-    write_small(read.first);
-    write_small(read.remaining);
+fn written(to: &mut impl io::Write, read: Read) -> io::Result<NextRead> {
+    write_small(to, read.refusal)?;
+    write_u32(to, (read.value % 4294967296) as u32)?;
+    write_u32(to, (read.value >> 32) as u32)?;
+    write_small(to, read.first)?;
+    write_small(to, read.remaining)?;
     let stream = read.stream;
-    NextRead {
+    Ok(NextRead {
         known: true,
         stream: stream,
-    }
+    })
 }
 
 // The read that a byte asks for: 0 is one bit, 1 to 8 are that many, 128 and c are c bits of 1 to 64.
-fn answered(stream: BitStream, kind: u8) -> NextRead {
+fn answered(to: &mut impl io::Write, stream: BitStream, kind: u8) -> io::Result<NextRead> {
     if kind == 0 {
-        return written(stream.consume_bit());
+        return written(to, stream.consume_bit());
     }
     if kind <= 8 {
-        return written(stream.consume_bits(kind as u32));
+        return written(to, stream.consume_bits(kind as u32));
     }
     if kind <= 128 {
-        return unknown(stream);
+        return Ok(unknown(stream));
     }
     if 192 < kind {
-        return unknown(stream);
+        return Ok(unknown(stream));
     }
-    written(stream.consume_bits_64(kind as u32 - 128))
+    written(to, stream.consume_bits_64(kind as u32 - 128))
 }
 
-fn reads_of(block: [u8; 16], kinds: &mut [u8]) -> bool {
-    if !filled(kinds) {
-        return false;
+fn reads_of(
+    from: &mut impl io::Read,
+    to: &mut impl io::Write,
+    block: [u8; 16],
+    kinds: &mut [u8],
+) -> io::Result<bool> {
+    if !filled(from, kinds) {
+        return Ok(false);
     }
     let mut stream = BitStream::new(block);
     for i in 0..kinds.len() {
-        let next = answered(stream, kinds[i]);
+        let next = answered(to, stream, kinds[i])?;
         if !next.known {
-            return false;
+            return Ok(false);
         }
         stream = next.stream;
     }
-    true
+    Ok(true)
 }
 
-fn reads_call() -> bool {
+fn reads_call(from: &mut impl io::Read, to: &mut impl io::Write) -> io::Result<bool> {
     let mut block = [0u8; 16];
-    if !filled(&mut block) {
-        return false;
+    if !filled(from, &mut block) {
+        return Ok(false);
     }
     let mut count = [0u8; 1];
-    if !filled(&mut count) {
-        return false;
+    if !filled(from, &mut count) {
+        return Ok(false);
     }
     let n = wide(count[0]) as usize;
     let mut kinds = [0u8; 256];
-    reads_of(block, &mut kinds[..n])
+    reads_of(from, to, block, &mut kinds[..n])
 }
 
 // The float of these bits. Every pattern of a NaN is the one NaN.
@@ -725,29 +822,29 @@ fn bits_of(value: f32) -> u32 {
     f32::to_bits(value)
 }
 
-fn pixel_floats_call() -> bool {
+fn pixel_floats_call(from: &mut impl io::Read, to: &mut impl io::Write) -> io::Result<bool> {
     let mut pixel = [0u8; 4];
-    if !filled(&mut pixel) {
-        return false;
+    if !filled(from, &mut pixel) {
+        return Ok(false);
     }
     let mut floats = [0.0f32; 4];
     rinchovek_pixel_floats(&pixel, &mut floats);
-    write_u32(bits_of(floats[0]));
-    write_u32(bits_of(floats[1]));
-    write_u32(bits_of(floats[2]));
-    write_u32(bits_of(floats[3]));
-    true
+    write_u32(to, bits_of(floats[0]))?;
+    write_u32(to, bits_of(floats[1]))?;
+    write_u32(to, bits_of(floats[2]))?;
+    write_u32(to, bits_of(floats[3]))?;
+    Ok(true)
 }
 
-fn channel_call() -> bool {
+fn channel_call(from: &mut impl io::Read, to: &mut impl io::Write) -> io::Result<bool> {
     let mut bits = [0u8; 4];
-    if !filled(&mut bits) {
-        return false;
+    if !filled(from, &mut bits) {
+        return Ok(false);
     }
     let mut channel: u32 = 0;
-    write_small(rinchovek_float_channel(number(&bits, 0), &mut channel));
-    write_small(channel);
-    true
+    write_small(to, rinchovek_float_channel(number(&bits, 0), &mut channel))?;
+    write_small(to, channel)?;
+    Ok(true)
 }
 
 fn floats_from(bytes: &[u8], floats: &mut [f32])
@@ -786,97 +883,118 @@ fn floats_to(floats: &[f32], bytes: &mut [u8])
 }
 
 // What stands in the floats before is read too, four bytes each.
-fn row_floats_of(pixels: &mut [u8], bytes: &mut [u8], floats: &mut [f32]) -> bool
+fn row_floats_of(
+    from: &mut impl io::Read,
+    to: &mut impl io::Write,
+    pixels: &mut [u8],
+    bytes: &mut [u8],
+    floats: &mut [f32],
+) -> io::Result<bool>
     requires { length bytes.old ≡ 4 * length floats.old }
 {
-    if !filled(pixels) {
-        return false;
+    if !filled(from, pixels) {
+        return Ok(false);
     }
-    if !filled(bytes) {
-        return false;
+    if !filled(from, bytes) {
+        return Ok(false);
     }
     floats_from(bytes, floats);
-    write_small(rinchovek_row_floats(pixels, floats));
+    write_small(to, rinchovek_row_floats(pixels, floats))?;
     floats_to(floats, bytes);
-    io::write_all(STDOUT_FILENO, bytes)
+    to.write_all(bytes)?;
+    Ok(true)
 }
 
 // The row is n bytes, and there is room for m floats.
-fn row_floats_within(n: usize, m: usize) -> bool
+fn row_floats_within(
+    from: &mut impl io::Read,
+    to: &mut impl io::Write,
+    n: usize,
+    m: usize,
+) -> io::Result<bool>
     requires { (n ≤ 65536) × (m ≤ 65536) }
 {
     let mut pixels = [0u8; 65536];
     let mut bytes = [0u8; 262144];
     let mut floats = [0.0f32; 65536];
     let end = 4 * m;
-    row_floats_of(&mut pixels[..n], &mut bytes[..end], &mut floats[..m])
+    row_floats_of(
+        from,
+        to,
+        &mut pixels[..n],
+        &mut bytes[..end],
+        &mut floats[..m],
+    )
 }
 
-fn row_floats_call() -> bool {
-    let both = take_lengths();
+fn row_floats_call(from: &mut impl io::Read, to: &mut impl io::Write) -> io::Result<bool> {
+    let both = take_lengths(from);
     if !both.taken {
-        return false;
+        return Ok(false);
     }
-    row_floats_within(both.given, both.room)
+    row_floats_within(from, to, both.given, both.room)
 }
 
 // One call: whether another may follow.
-fn call(letter: u8) -> bool {
+fn call(from: &mut impl io::Read, to: &mut impl io::Write, letter: u8) -> io::Result<bool> {
     match letter {
-        b'D' => decode_call(),
-        b'G' => decode_bc6h_call(),
-        b'U' => unpack_call(),
-        b'P' => pack_call(),
-        b'R' => replace_call(),
-        b'r' => read_line_call(),
-        b'N' => index_call(false),
-        b'E' => index_call(true),
-        b'A' => opacity_call(),
-        b'Q' => pixel_call(),
-        b'B' => reads_call(),
-        b'W' => write_head_call(),
-        b'H' => head_call(SheetCall::Head),
-        b'h' => head_call(SheetCall::ColourHead),
-        b'o' => sheet_call(SheetCall::Open),
-        b'b' => sheet_call(SheetCall::Block),
-        b'S' => sheet_call(SheetCall::ReplaceLine),
-        b'c' => state_colour_call(),
-        b'C' => sheet_call(SheetCall::Count),
-        b'L' => sheet_call(SheetCall::ReplaceLineCounted),
-        b'K' => sheet_call(SheetCall::ReplaceBlockCounted),
-        b'l' => sheet_call(SheetCall::List),
-        b'd' => sheet_call(SheetCall::ImportLength),
-        b's' => sheet_call(SheetCall::ExportLength),
-        b'O' => decode_row_call(),
-        b'V' => show_row_call(),
-        b'I' => out_call(OutCall::Import),
-        b'X' => out_call(OutCall::Export),
-        b'i' => out_call(OutCall::ImportColour),
-        b'x' => export_colour_call(),
-        b'T' => out_call(OutCall::ToTiles),
-        b'Z' => out_call(OutCall::ToRows),
-        b'F' => pixel_floats_call(),
-        b'Y' => channel_call(),
-        b'f' => row_floats_call(),
-        _ => false,
+        b'D' => decode_call(from, to),
+        b'G' => decode_bc6h_call(from, to),
+        b'U' => unpack_call(from, to),
+        b'P' => pack_call(from, to),
+        b'R' => replace_call(from, to),
+        b'r' => read_line_call(from, to),
+        b'N' => index_call(from, to, false),
+        b'E' => index_call(from, to, true),
+        b'A' => opacity_call(from, to),
+        b'Q' => pixel_call(from, to),
+        b'B' => reads_call(from, to),
+        b'W' => write_head_call(from, to),
+        b'H' => head_call(from, to, SheetCall::Head),
+        b'h' => head_call(from, to, SheetCall::ColourHead),
+        b'o' => sheet_call(from, to, SheetCall::Open),
+        b'b' => sheet_call(from, to, SheetCall::Block),
+        b'S' => sheet_call(from, to, SheetCall::ReplaceLine),
+        b'c' => state_colour_call(from, to),
+        b'C' => sheet_call(from, to, SheetCall::Count),
+        b'L' => sheet_call(from, to, SheetCall::ReplaceLineCounted),
+        b'K' => sheet_call(from, to, SheetCall::ReplaceBlockCounted),
+        b'l' => sheet_call(from, to, SheetCall::List),
+        b'd' => sheet_call(from, to, SheetCall::ImportLength),
+        b's' => sheet_call(from, to, SheetCall::ExportLength),
+        b'O' => decode_row_call(from, to),
+        b'V' => show_row_call(from, to),
+        b'I' => out_call(from, to, OutCall::Import),
+        b'X' => out_call(from, to, OutCall::Export),
+        b'i' => out_call(from, to, OutCall::ImportColour),
+        b'x' => export_colour_call(from, to),
+        b'T' => out_call(from, to, OutCall::ToTiles),
+        b'Z' => out_call(from, to, OutCall::ToRows),
+        b'F' => pixel_floats_call(from, to),
+        b'Y' => channel_call(from, to),
+        b'f' => row_floats_call(from, to),
+        _ => Ok(false),
     }
 }
 
-fn next_call() -> bool {
+fn next_call(from: &mut impl io::Read, to: &mut impl io::Write) -> io::Result<bool> {
     let mut letter = [0u8; 1];
-    if !filled(&mut letter) {
-        return false;
+    if !filled(from, &mut letter) {
+        return Ok(false);
     }
-    call(letter[0])
+    call(from, to, letter[0])
 }
 
-fn main() {
+fn main(rt: HostRuntime) -> io::Result<()> {
+    let mut from = rt.stdin();
+    let mut to = rt.stdout();
     // a loop has to end: no input is as long as this
     let mut left: u64 = 18446744073709551615;
     while 0 < left {
-        if !next_call() {
-            return;
+        if !next_call(&mut from, &mut to)? {
+            return Ok(());
         }
         left -= 1;
     }
+    Ok(())
 }
