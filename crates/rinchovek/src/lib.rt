@@ -52,11 +52,7 @@ pub fn rinchovek_bc7_decode_block(block: &[u8; 16], out: &mut [[u8; 4]; 16])
 
 // The sixteen pixels of a BC6H block, red green blue each, as the bits of half floats. Any number but 0 asks for the signed format: a `bool` from C
 // would ask something of the caller.
-pub fn rinchovek_bc6h_decode_block(
-    block: &[u8; 16],
-    is_signed: u32,
-    halves: &mut [[u16; 3]; 16],
-)
+pub fn rinchovek_bc6h_decode_block(block: &[u8; 16], is_signed: u32, halves: &mut [[u16; 3]; 16])
     ensures { DecodesBc6h block.now is_signed halves.new }
 {
     decode_into(block, is_signed != 0, halves);
@@ -110,11 +106,7 @@ pub fn rinchovek_bc7_read_line(
 }
 
 // A line of a block replaced in its place, by a replacement of 26 bytes.
-pub fn rinchovek_bc7_replace_line(
-    block: &mut [u8; 16],
-    line: u32,
-    replacement: &[u8; 26],
-) -> u32
+pub fn rinchovek_bc7_replace_line(block: &mut [u8; 16], line: u32, replacement: &[u8; 26]) -> u32
     ensures { Replaces block.old line replacement.now result block.new }
 {
     let answer = replace_line(*block, line, replacement_of(*replacement));
@@ -328,11 +320,7 @@ pub fn rinchovek_dds_import(dds: &[u8], sheet: &mut [u8]) -> u32
 }
 
 // A DDS file as a sheet, and beside it the head with the colour space that the format says.
-pub fn rinchovek_dds_import_colour(
-    dds: &[u8],
-    sheet: &mut [u8],
-    head: &mut [u32; 4],
-) -> u32
+pub fn rinchovek_dds_import_colour(dds: &[u8], sheet: &mut [u8], head: &mut [u32; 4]) -> u32
     ensures { ImportsColour dds.now (sheet.old, head.old) result (sheet.new, head.new) }
 {
     let made = import_dds(dds, sheet);
@@ -352,11 +340,7 @@ pub fn rinchovek_dds_export(sheet: &[u8], dds: &mut [u8]) -> u32
 }
 
 // A sheet as a DDS file, under the number of a colour space.
-pub fn rinchovek_dds_export_colour(
-    sheet: &[u8],
-    colour_space: u32,
-    dds: &mut [u8],
-) -> u32
+pub fn rinchovek_dds_export_colour(sheet: &[u8], colour_space: u32, dds: &mut [u8]) -> u32
     ensures { ExportsColour sheet.now colour_space dds.old result dds.new }
 {
     export_numbered(sheet, colour_space, dds) as u32

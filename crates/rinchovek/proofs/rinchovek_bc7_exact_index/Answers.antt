@@ -1,0 +1,18 @@
+-- `rinchovek_bc7_exact_index`: what `exact_index` answers.
+-- Assumes nothing.
+use mathlib.Core.Path.{sym, ap, ◌∙◌}
+use borrow.Author.Tests.{eq-eqb, ne_eqb}
+use borrow.Author.Rules.{rules}
+use Rattle.nearest_rules.specs.declared.Found.{Found}
+use Rattle.rinchovek.proofs.rinchovek_bc7_exact_index.Goals as goal
+
+pub returns-then-hit-ne0 : goal.returns-then-hit-ne0
+returns-then-hit-ne0 c =
+    let e = c.exact_index-hit.ensures in
+    record { answers = ap (λ (h : Found). h.refusal) e; leaves = rw (← e, ne_eqb _ 0 c.if-hit-ne0.true) }
+
+pub returns : goal.returns
+returns c =
+    let e = c.exact_index-hit.ensures in
+    let zero = c.if-hit-ne0.false in
+    record { answers = sym zero ∙ ap (λ (h : Found). h.refusal) e; leaves = rw (← e, eq-eqb _ 0 zero) }

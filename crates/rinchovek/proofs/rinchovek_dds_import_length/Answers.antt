@@ -1,0 +1,18 @@
+-- `rinchovek_dds_import_length`: what `import_length` answers.
+-- Assumes nothing.
+use mathlib.Core.Path.{sym, ap, ◌∙◌}
+use borrow.Author.Tests.{eq-eqb, ne_eqb}
+use borrow.Author.Rules.{rules}
+use Rattle.dds_rules.specs.declared.Length.{Length}
+use Rattle.rinchovek.proofs.rinchovek_dds_import_length.Goals as goal
+
+pub returns-then-needed-ne0 : goal.returns-then-needed-ne0
+returns-then-needed-ne0 c =
+    let e = c.import_length-needed.ensures in
+    record { answers = ap (λ (h : Length). h.refusal) e; leaves = rw (← e, ne_eqb _ 0 c.if-needed-ne0.true) }
+
+pub returns : goal.returns
+returns c =
+    let e = c.import_length-needed.ensures in
+    let zero = c.if-needed-ne0.false in
+    record { answers = sym zero ∙ ap (λ (h : Length). h.refusal) e; leaves = rw (← e, eq-eqb _ 0 zero) }

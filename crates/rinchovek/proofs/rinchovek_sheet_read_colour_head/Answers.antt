@@ -1,0 +1,23 @@
+-- `rinchovek_sheet_read_colour_head`: what `read_of_form` answers of form 1, the colour space by its number.
+-- Assumes nothing.
+use Prim.Native.Nat.{ℕ}
+use mathlib.Core.List.{[], ◌∷◌}
+use mathlib.Core.Path.{sym, ap, ◌∙◌}
+use borrow.Author.Tests.{eq-eqb, ne_eqb}
+use Rattle.head_rules.specs.declared.Head.{Head}
+use borrow.Author.Rules.{rules}
+use Rattle.rinchovek.proofs.rinchovek_sheet_read_colour_head.Goals as goal
+
+pub returns-then-read-ne0 : goal.returns-then-read-ne0
+returns-then-read-ne0 c =
+    let e = c.read_of_form-read.ensures in
+    record { answers = ap (λ (h : Head). h.refusal) e; leaves = rw (← e, ne_eqb _ 0 c.if-read-ne0.true) }
+
+pub returns : goal.returns
+returns c =
+    let r = c.read_of_form-read in
+    let e = r.ensures in
+    let zero = c.if-read-ne0.false in
+    let x = r.result in
+    let written = ap (λ (n : ℕ). x.width ∷ x.height ∷ x.start ∷ n ∷ []) c.number_of.ensures in
+    record { answers = sym zero ∙ ap (λ (h : Head). h.refusal) e; leaves = rw (← e, eq-eqb _ 0 zero) written }
