@@ -53,12 +53,12 @@ run() {
     set -- "$1/crates/$name/out/$name" --status
     # by the kit's loader where the kit is there
     if command -v rt >/dev/null; then
-        kit=$(dirname "$(rt doc)")/toolchain
+        kit=$(dirname "$(rt doc </dev/null)")/toolchain # rt does not start where its input is a folder
         set -- "$kit/lib/ld-linux-x86-64.so.2" --library-path "$kit/lib" "$@"
         [ ! -x "$kit/bin/qemu-x86_64" ] || set -- "$kit/bin/qemu-x86_64" "$@"
     fi
     # Its standard error, which is caught, is empty where nothing was refused, and `refused` where something was. Where nobody reads the
-    # pipe any more that it writes to, as behind `head`, the signal 13 ends it, and there is nobody to tell.
+    # pipe any more that it writes to, as behind `head`, it ends as if by the signal 13, and there is nobody to tell.
     (: 3>&1) 2>/dev/null || fail 'cannot write'
     status=0
     { told=$("$@" 2>&1 >&3 3>&-) || status=$?; } 3>&1
