@@ -21,10 +21,10 @@
  *
  * HOW TO LINK
  * librinchovek.a is made for one of three processors, under Linux with the usual calling convention of each: x86-64 (System V), aarch64, and
- * armv7, which has 32 bits (NEON, hard float). It needs no other extension. It wants memcpy, and nothing else. It exports the functions that are
- * declared here and no other name. `./install PREFIX` puts it there for the machine that it runs on, with this file, a shared library, a file for
- * pkg-config and a selftest; `./install --for PROCESSOR PREFIX` does for another. For wasm32, as in a browser, there is a module with the same
- * functions, and a JavaScript that takes arrays.
+ * armv7, which has 32 bits (NEON, hard float). It needs no other extension. It wants memcpy, memmove and memset, and nothing else. It exports the
+ * functions that are declared here and no other name. `./install PREFIX` puts it there for the machine that it runs on, with this file, a shared
+ * library, a file for pkg-config and a selftest; `./install --for PROCESSOR PREFIX` does for another. For wasm32, as in a browser, there is a
+ * module with the same functions, and a JavaScript that takes arrays.
  * Code, calls and answers are the same on all of them. A length is a uint64_t, also where an address has 32 bits: hand a size_t over as it is.
  *
  * WHAT HOLDS FOR EVERY CALL
@@ -40,7 +40,7 @@
  * - A float has the 32 bits of IEEE 754, and divisions round to the nearest: the processor's rounding is as a program finds it at its start.
  * - There is no state: no variable outside the stack, no heap, no lock, no file, no errno. Any number of threads may call, and signal
  *   handlers too, as long as what one call writes no other reads or writes at the same time.
- * - A call takes less than RINCHOVEK_STACK_BYTES of stack, whatever it is given, and what memcpy takes.
+ * - A call takes less than RINCHOVEK_STACK_BYTES of stack, whatever it is given, and what memcpy, memmove and memset take.
  */
 #ifndef RINCHOVEK_H
 #define RINCHOVEK_H

@@ -10,6 +10,12 @@ void *memcpy(void *to, const void *from, size_t count) {
     return to;
 }
 
+void *memmove(void *to, const void *from, size_t count) {
+    if ((uintptr_t)to - (uintptr_t)from >= count) return memcpy(to, from, count);
+    for (size_t i = count; i > 0; i--) ((volatile uint8_t *)to)[i - 1] = ((const uint8_t *)from)[i - 1];
+    return to;
+}
+
 void *memset(void *to, int byte, size_t count) {
     for (size_t i = 0; i < count; i++) ((volatile uint8_t *)to)[i] = (uint8_t)byte;
     return to;
