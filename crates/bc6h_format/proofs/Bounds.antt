@@ -1,13 +1,13 @@
 -- Fields, endpoints, widened, drawn and finished values within their widths.
 -- Assumes nothing.
-use mathlib.Core.Path.{◌≡◌, refl, sym, subst}
+use mathlib.Core.Path.{◌≡◌, refl}
 use mathlib.Core.Bool.{Bool, true, false}
-use mathlib.Core.List.{List, [], ◌∷◌, ◌++◌, map}
+use mathlib.Core.List.{List, [], ◌∷◌, map}
 use Prim.Native.Nat.{ℕ, zero, suc, ◌+◌, ◌-◌, ◌*◌, ◌/◌, ◌%◌, ◌^◌, ◌≤◌, ◌<◌}
-use native.Mathlib.Nat.{add-le-add, div-lt_iff_lt-mul, le_of_suc-le-suc, le_refl, lt_of_le_of_lt, lt_of_lt_of_le, mod-lt, mul-le-mul_left}
+use native.Mathlib.Nat.{add-le-add, div-lt_iff_lt-mul, le_of_suc-le-suc, le_refl, lt_of_le_of_lt, lt_of_lt_of_le, mod-lt}
 use native.Mathlib.Nat.{mul-le-mul_right, pow-suc, sub-le}
 use native.Mathlib.Omega.{arith}
-use borrow.Author.Tests.{ltb-true, ltb-false, eqb-true, eqb-false}
+use borrow.Author.Tests.{ltb-true}
 use lib.Dec.{T, eqb, leb, ltb, leb→le, ltb→lt}
 use lib.Pow.{pow_pos, pow_mono}
 use Rattle.laws.specs.Digits.{split}
@@ -22,7 +22,7 @@ use Rattle.bcn_format.proofs.Subsets.{subset2_lt}
 use Rattle.bc6h_format.specs.Items.{Item, gathered, is_of, items_from, items_of, long, reversed, worth}
 use Rattle.bc6h_format.specs.Modes.{Row, index_bits, mode_in, named, reserved, row_of, rows}
 use Rattle.bc6h_format.specs.Opened.{field_of, index_of, item_widths, partition_of, subset}
-use Rattle.bc6h_format.specs.Widening.{endpoint, extended, widened, widened_signed, widened_size, widened_unsigned, wrapped, zero_at}
+use Rattle.bc6h_format.specs.Widening.{endpoint, widened, widened_signed, widened_size, widened_unsigned, wrapped, zero_at}
 use Rattle.bc6h_format.specs.Halves.{finished, finished_signed, finished_unsigned, half, negative, shown}
 use Rattle.bc6h_format.proofs.Rows.{every}
 

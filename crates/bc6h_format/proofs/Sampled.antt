@@ -1,8 +1,7 @@
 -- Random blocks of each mode, extremes and reserved ones, as the model of compare/ decodes them, which was written apart from these definitions.
 -- Assumes nothing.
 use mathlib.Core.Path.{◌≡◌, refl}
-use Prim.Native.Nat.{ℕ}
-use mathlib.Core.Bool.{Bool, true, false}
+use mathlib.Core.Bool.{true, false}
 use mathlib.Core.List.{List, [], ◌∷◌, map}
 use Rattle.laws.specs.Tables.{table, table_from}
 use Rattle.bcn_format.specs.Block.{number}

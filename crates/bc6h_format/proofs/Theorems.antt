@@ -12,12 +12,12 @@ use Rattle.laws.specs.Tables.{both, pick}
 use Rattle.laws.proofs.Cases.{pick_either}
 use Rattle.bcn_format.specs.Block.{number}
 use Rattle.bcn_format.specs.Drawing.{drawn, weight_of}
-use Rattle.bc6h_format.specs.Modes.{Row, bits_at, index_bits, mode_in, row_of}
+use Rattle.bc6h_format.specs.Modes.{bits_at, index_bits, mode_in, row_of}
 use Rattle.bc6h_format.specs.Opened.{field_of, index_of, partition_of, subset}
 use Rattle.bc6h_format.specs.Widening.{endpoint, extended, widened, wrapped, zero_at}
 use Rattle.bc6h_format.specs.Halves.{finished, finished_signed, finished_unsigned, half, halves, negative, shown}
 use Rattle.bc6h_format.specs.Floats.{exponent, fraction, sign_bit}
-use Rattle.bc6h_format.proofs.Bounds.{base_le, between, between_lt, endpoint_lt, finished_lt, of_finished}
+use Rattle.bc6h_format.proofs.Bounds.{between, between_lt, endpoint_lt, finished_lt, of_finished}
 use Rattle.bc6h_format.proofs.Reserved.{reserved_gives_zeros}
 use Rattle.bc6h_format.proofs.Signs.{LowEnds, half_of_signed}
 

@@ -11,7 +11,7 @@ use Rattle.bc7_format.specs.declared.Place.{Place}
 use Rattle.bc7_format.specs.declared.Split.{Split}
 use Rattle.bc7_format.specs.declared.Split.TheVariants.{Whole, Two, Three, Vector}
 use Rattle.laws.specs.Digits.{Fit, more, none}
-use Rattle.laws.specs.Tables.{below, pick}
+use Rattle.laws.specs.Tables.{pick}
 use Rattle.laws.proofs.Tests.{at}
 use Rattle.bcn_format.specs.Block.{eights}
 use Rattle.bc7_format.specs.Lines.{line_at}

@@ -1,6 +1,6 @@
 -- THE WAY BACK: what is answered where a channel's float has the bits, and where none has.
 -- Assumes nothing.
-use mathlib.Core.Path.{◌≡◌, refl, sym, ap, ◌∙◌}
+use mathlib.Core.Path.{◌≡◌, refl, sym, ◌∙◌}
 use mathlib.Core.Bool.{Bool, true, false}
 use mathlib.Core.List.{List, [], ◌∷◌}
 use Prim.Native.Nat.{ℕ, ◌<◌}
@@ -8,8 +8,7 @@ use native.Mathlib.Omega.{arith}
 use borrow.Author.Tests.{eq-eqb, eqb-false, eqb-true, ne_eqb}
 use lib.Dec.{eqb}
 use lib.ListN.{get_or, length}
-use Rattle.float_rules.specs.declared.ChannelFound.{ChannelFound}
-use Rattle.laws.specs.Counting.{count, kept}
+use Rattle.laws.specs.Counting.{count}
 use Rattle.laws.specs.Refusals.{Given}
 use Rattle.laws.proofs.Counting.{at_kept, count_lt, kept_long}
 use Rattle.laws.proofs.Refusals.{Answers, accepted_when, answers, by_test, exactly, none, rule}

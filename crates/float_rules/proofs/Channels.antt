@@ -1,6 +1,6 @@
 -- THE 256 FLOATS, by one computed test over the channels: they rise, so that no two are alike.
 -- Assumes nothing.
-use mathlib.Core.Path.{◌≡◌, refl, ap, sym}
+use mathlib.Core.Path.{◌≡◌, refl, ap}
 use mathlib.Core.Logic.{⊎_elim}
 use mathlib.Core.Bool.{Bool, not}
 use Prim.Native.Nat.{ℕ, suc, ◌<◌, ◌≤◌}
@@ -8,7 +8,7 @@ use native.Mathlib.Decide.{le_ind}
 use native.Mathlib.Omega.{arith}
 use lib.Count.{count_trailing_zeros}
 use lib.Dec.{T, ltb, ltb→lt}
-use lib.Ieee.{Float, binary32, climb, div, is_nan, lt, odd, of_fields, of_int, round, size, span, to_bits, units}
+use lib.Ieee.{climb, div, is_nan, lt, odd, of_fields, of_int, round, size, span, to_bits, units}
 use Rattle.laws.specs.Tables.{below, both}
 use Rattle.laws.proofs.Cases.{lt_or}
 use Rattle.laws.proofs.Tests.{at, both_left, both_right}

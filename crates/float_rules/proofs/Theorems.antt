@@ -3,8 +3,8 @@
 use mathlib.Core.Path.{◌≡◌, refl, sym, ap, ◌∙◌, subst}
 use mathlib.Core.Logic.{◌↔◌, ◌≢◌}
 use mathlib.Core.Bool.{Bool, false, true, not}
-use mathlib.Core.List.{List, []}
-use Prim.Native.Nat.{ℕ, ◌%◌, ◌^◌, ◌<◌, ◌≤◌}
+use mathlib.Core.List.{List}
+use Prim.Native.Nat.{ℕ, ◌%◌, ◌^◌, ◌<◌}
 use native.Mathlib.Nat.{mod-le}
 use native.Mathlib.Omega.{arith}
 use borrow.Author.Tests.{ltb-true, ne_eqb}
@@ -19,7 +19,7 @@ use Rattle.float_rules.specs.declared.FloatPixel.{FloatPixel}
 use Rattle.laws.specs.Refusals.{Given}
 use Rattle.laws.proofs.Part.{get_d_table, length_table}
 use Rattle.laws.proofs.Refusals.{Answers, accepted_when, answer_0, answers, by_not_eqb, exactly, none, rule}
-use Rattle.float_rules.specs.Floats.{IsChannel, back_refusal, back_rules, channel_bits, channel_float, channel_found, channel_found_of, floats_of}
+use Rattle.float_rules.specs.Floats.{back_refusal, back_rules, channel_bits, channel_float, channel_found, channel_found_of, floats_of}
 use Rattle.float_rules.specs.Floats.{no_channel, floats_after, floats_refusal, floats_rules}
 use Rattle.float_rules.specs.Promises.{FindsChannel, FindsChannelOf, FloatsChannel, FloatsPixel, FloatsRow}
 use Rattle.float_rules.proofs.Back.{back_answers, found_is, none_is}

@@ -3,7 +3,6 @@
 use Prim.Native.Nat.{◌+◌, ◌*◌}
 use Prim.Native.String.{String}
 use lib.ListN.{get_or-map}
-use borrow.Author.Rules.{rules}
 use Rattle.bcn_format.specs.Partitions.{marks, strings3}
 use Rattle.partitions.specs.Maps.{map3, map_of3}
 use Rattle.partitions.proofs.both_fixups_3.Goals as goal

@@ -1,6 +1,5 @@
 -- `partition_set_3` meets its contract.
 -- Assumes nothing.
-use borrow.Author.Rules.{rules}
 use Rattle.partitions.proofs.partition_set_3.Goals as goal
 
 pub returns : goal.returns

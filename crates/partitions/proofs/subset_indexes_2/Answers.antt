@@ -2,7 +2,6 @@
 -- Assumes nothing.
 use Prim.Native.String.{String}
 use lib.ListN.{get_or-map}
-use borrow.Author.Rules.{rules}
 use Rattle.bcn_format.specs.Partitions.{digits, strings2}
 use Rattle.partitions.specs.Maps.{map2, map_of2}
 use Rattle.partitions.proofs.subset_indexes_2.Goals as goal

@@ -2,7 +2,6 @@
 -- Assumes nothing.
 use Prim.Native.String.{String}
 use lib.ListN.{get_or-map}
-use borrow.Author.Rules.{rules}
 use Rattle.bcn_format.specs.Partitions.{digits, strings3}
 use Rattle.partitions.specs.Maps.{map3, map_of3}
 use Rattle.partitions.proofs.subset_indexes_3.Goals as goal

@@ -3,7 +3,6 @@
 use mathlib.Core.Path.{sym, ap₂, ◌∙◌}
 use Prim.Native.Nat.{ℕ, ◌+◌, ◌*◌, ◌^◌}
 use native.Mathlib.Nat.{div-one}
-use borrow.Author.Rules.{rules}
 use lib.Bits.{bit_and}
 use Rattle.laws.specs.Digits.{evenly}
 use Rattle.laws.specs.Tables.{table, table_from}

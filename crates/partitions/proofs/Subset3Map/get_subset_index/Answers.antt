@@ -4,7 +4,6 @@ use native.Mathlib.Nat.{lt_of_lt_of_le}
 use Prim.Native.Nat.{◌*◌, ◌/◌, ◌^◌}
 use lib.Bits.{and_mask, mask_lt}
 use lib.Dec.{lit≤}
-use borrow.Author.Rules.{rules}
 use Rattle.bcn_format.specs.Block.{field}
 use Rattle.partitions.proofs.Subset3Map.get_subset_index.Goals as goal
 

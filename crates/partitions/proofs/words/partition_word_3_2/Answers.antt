@@ -3,7 +3,6 @@
 use mathlib.Core.Path.{◌∙◌}
 use native.Mathlib.Nat.{add-zero}
 use native.Mathlib.Omega.{arith}
-use borrow.Author.Rules.{rules}
 use Rattle.bcn_format.specs.Partitions.{digits, marks, strings3}
 use Rattle.partitions.specs.Words.{partition_word3, partition_word}
 use Rattle.laws.proofs.Arms.{by_arms, eight_arms, no_more}

@@ -1,6 +1,5 @@
 -- `stream::BitStream::accepted` meets its contract.
 -- Assumes nothing.
-use borrow.Author.Rules.{rules}
 use Rattle.bits.proofs.stream.BitStream.accepted.Goals as goal
 
 pub returns : goal.returns

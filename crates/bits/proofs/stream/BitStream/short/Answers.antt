@@ -3,7 +3,6 @@
 use mathlib.Core.Path.{◌≡◌}
 use Prim.Native.Nat.{◌-◌}
 use native.Mathlib.Omega.{arith}
-use borrow.Author.Rules.{rules}
 use Rattle.bits.proofs.stream.BitStream.short.Goals as goal
 
 pub returns-else-at-lt128 : goal.returns-else-at-lt128

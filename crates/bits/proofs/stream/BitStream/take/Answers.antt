@@ -2,7 +2,6 @@
 -- Assumes nothing.
 use mathlib.Core.Path.{◌∙◌}
 use lib.Pow.{pow_pos}
-use borrow.Author.Rules.{rules}
 use Rattle.bits.specs.Stream.{held}
 use Rattle.laws.proofs.Words.{one_shl}
 use Rattle.bits.proofs.On.{in_window, takes}

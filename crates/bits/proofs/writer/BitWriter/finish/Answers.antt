@@ -1,11 +1,8 @@
 -- `writer::BitWriter::finish` meets its contract.
 -- Assumes nothing.
 use mathlib.Core.Path.{refl, sym, ap, ◌∙◌}
-use Prim.Native.Nat.{◌*◌, ◌-◌, ◌≤◌}
 use native.Mathlib.Omega.{arith}
-use Rattle.laws.proofs.Filled.{Filled, filled_all, filled_next, filled_none}
-use Rattle.bcn_format.specs.Block.{field}
-use borrow.Author.Rules.{rules}
+use Rattle.laws.proofs.Filled.{filled_all, filled_next, filled_none}
 use Rattle.bits.specs.declared.stream.Read.{Read}
 use Rattle.bits.specs.Stream.{held}
 use Rattle.bits.specs.Writer.{written}

@@ -1,15 +1,9 @@
 -- `writer::BitWriter::finish` meets its contract.
 -- Assumes nothing.
-use mathlib.Core.Path.{refl, sym, ap, ◌∙◌}
 use Prim.Native.Nat.{◌*◌, ◌-◌, ◌≤◌}
-use native.Mathlib.Omega.{arith}
-use Rattle.laws.proofs.Filled.{Filled, filled_all, filled_next, filled_none}
+use Rattle.laws.proofs.Filled.{Filled}
 use Rattle.bcn_format.specs.Block.{field}
-use borrow.Author.Rules.{rules}
-use Rattle.bits.specs.declared.stream.Read.{Read}
-use Rattle.bits.specs.Stream.{held}
 use Rattle.bits.specs.Writer.{written}
-use Rattle.bits.proofs.Puts.{bytes_fields}
 use Rattle.bits.proofs.writer.BitWriter.finish.Given as goal
 
 abbrev pub invariant-loop-i : goal.invariant-loop-i

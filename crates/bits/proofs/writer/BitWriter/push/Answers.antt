@@ -1,7 +1,6 @@
 -- `writer::BitWriter::push` meets its contract.
 -- Assumes nothing.
 use native.Mathlib.Omega.{arith}
-use borrow.Author.Rules.{rules}
 use Rattle.bits.proofs.Puts.{push_high, push_low, push_none}
 use Rattle.bits.proofs.writer.BitWriter.push.Goals as goal
 
