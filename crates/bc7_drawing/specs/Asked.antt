@@ -1,6 +1,6 @@
 -- What the functions ask of their arguments, and what some answer, each clause by its name.
 -- Assumes nothing.
-use Rattle.std.specs.Prelude.{◌≡◌, ℕ, ◌+◌, ◌-◌, ◌*◌, ◌/◌, ◌%◌, ◌^◌, ◌≤◌, ◌<◌}
+use Rattle.std.specs.Prelude.{◌≡◌, ℕ, ◌+◌, ◌-◌, ◌/◌, ◌%◌, ◌^◌, ◌≤◌, ◌<◌}
 use Rattle.bc7_drawing.specs.declared.colour.Ends.{Ends}
 use Rattle.bc7_drawing.specs.declared.colour.Stored.{Stored}
 use Rattle.bc7_drawing.specs.Words.{Alone, EndsOfBytes, Fitting, Lanes, LanesOfOne}

@@ -24,7 +24,6 @@ use Rattle.move_rules.proofs.Theorems.{head_there, same_block, whole_there}
 use Rattle.opacity_rules.specs.Opacity.{opaque_in}
 use Rattle.head_rules.proofs.Whole.{whole_handed}
 use Rattle.sheet_rules.specs.Sheets.{block_by}
-use Rattle.count_rules.specs.declared.Counts.{Counts}
 use Rattle.count_rules.specs.Counts.{counted, counted_of, counts_below, counts_of, has_mode, is_opaque, no_counts}
 
 as_many_blocks : (g h : Head) → g.width ≡ h.width → g.height ≡ h.height → blocks_of g ≡ blocks_of h

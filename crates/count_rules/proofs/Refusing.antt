@@ -3,17 +3,16 @@
 use mathlib.Core.Path.{◌≡◌, refl}
 use mathlib.Core.Bool.{Bool, true, false, not}
 use mathlib.Core.List.{List, [], ◌∷◌, ◌++◌}
-use Prim.Native.Nat.{ℕ, ◌+◌, ◌*◌}
+use Prim.Native.Nat.{ℕ}
 use borrow.Author.Tests.{eqb-false, leb-false, lt-leb, ne_eqb}
 use lib.Dec.{T, eqb, leb, ltb}
-use lib.ListN.{length}
-use Rattle.laws.specs.Refusals.{first, handed, refuse, unless}
+use Rattle.laws.specs.Refusals.{first, handed, refuse}
 use Rattle.laws.specs.Tables.{both}
 use Rattle.laws.proofs.Refusals.{Answers, Decided, accepted_when, answers, by_answer, by_eqb, by_not_eqb, by_test, none, rule, rules}
 use Rattle.laws.proofs.Tests.{no_both}
 use Rattle.bc7_format.specs.Modes.{mode_of}
 use Rattle.head_rules.specs.declared.Head.{Head}
-use Rattle.head_rules.specs.Geometry.{blocks_of, whole_length}
+use Rattle.head_rules.specs.Geometry.{blocks_of}
 use Rattle.head_rules.specs.Heads.{read_head}
 use Rattle.head_rules.specs.Whole.{whole_refusal}
 use Rattle.head_rules.specs.Numbers.{Bytes}

@@ -1,14 +1,14 @@
 -- The ways of counting: the head of a whole sheet, and one block after another.
 -- Assumes nothing.
-use mathlib.Core.Path.{◌≡◌, refl, sym, ap, ap₂, ◌∙◌, subst}
+use mathlib.Core.Path.{◌≡◌, refl, sym, ap, ap₂, ◌∙◌}
 use mathlib.Core.Logic.{◌≢◌}
 use mathlib.Core.Bool.{Bool}
 use mathlib.Core.List.{List}
 use Prim.Native.Nat.{ℕ, ◌+◌, ◌<◌, ◌≤◌}
 use native.Mathlib.Omega.{arith}
-use borrow.Author.Tests.{eq-eqb, ne_eqb}
+use borrow.Author.Tests.{ne_eqb}
 use lib.Dec.{eqb}
-use lib.ListN.{get_or, length, replicate, set}
+use lib.ListN.{get_or, set}
 use Rattle.laws.specs.Counting.{count}
 use Rattle.laws.specs.Tables.{pick, table, table_from}
 use Rattle.laws.proofs.Part.{get_d_table}
@@ -24,7 +24,6 @@ use Rattle.head_rules.specs.Whole.{whole_head, whole_refusal}
 use Rattle.head_rules.proofs.Whole.{whole_handed, whole_number, whole_told}
 use Rattle.sheet_rules.specs.Sheets.{block_by}
 use Rattle.count_rules.specs.declared.Counts.{Counts}
-use Rattle.count_rules.specs.declared.Counted.{Counted}
 use Rattle.count_rules.specs.Counts.{counted, counted_of, counts_below, counts_of, has_mode, is_opaque, no_counts}
 use Rattle.count_rules.proofs.Tallies.{count_most, one}
 use Rattle.count_rules.proofs.Ways.{counted_next, opaque_next}

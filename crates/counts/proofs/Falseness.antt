@@ -1,12 +1,10 @@
 -- The ways of `false_refusal`, each by the ground that it looked at.
 -- Assumes nothing.
-use mathlib.Core.Path.{◌≡◌, refl, sym, ◌∙◌}
+use mathlib.Core.Path.{◌≡◌, sym, ◌∙◌}
 use mathlib.Core.Logic.{◌≢◌}
 use mathlib.Core.Bool.{Bool, true, false}
-use mathlib.Core.List.{List, [], ◌∷◌}
 use Prim.Native.Nat.{ℕ, ◌+◌, ◌<◌, ◌≤◌}
 use native.Mathlib.Omega.{arith}
-use lib.ListN.{get_or}
 use Rattle.laws.specs.Counting.{sum}
 use Rattle.laws.specs.Refusals.{here, then}
 use Rattle.laws.proofs.Refusals.{accepted_when, exactly}

@@ -14,7 +14,7 @@ use Rattle.laws.proofs.Refusals.{accepted_when, exactly}
 use Rattle.bc7_format.specs.Modes.{mode_of}
 use Rattle.head_rules.specs.declared.Head.{Head}
 use Rattle.head_rules.specs.Geometry.{blocks_of, place_of, whole_length}
-use Rattle.head_rules.specs.Heads.{Sized, read_head}
+use Rattle.head_rules.specs.Heads.{read_head}
 use Rattle.head_rules.proofs.Orders.{blocks_within}
 use Rattle.line_rules.specs.declared.Replacement.{Replacement}
 use Rattle.line_rules.specs.declared.Replaced.{Replaced}
@@ -22,17 +22,17 @@ use Rattle.line_rules.specs.Replace.{replaced}
 use Rattle.opacity_rules.specs.Opacity.{opaque_in}
 use Rattle.sheet_head.specs.Asked.{BlockAsked}
 use Rattle.sheet_head.specs.Promised.{CountsBlocks}
-use Rattle.bcn_format.specs.Block.{block_at, put_block}
+use Rattle.bcn_format.specs.Block.{block_at}
 use Rattle.head_rules.proofs.Whole.{whole_handed}
 use Rattle.sheet_rules.specs.Sheets.{block_by, block_in, find_refusal, find_rules, replaced_in}
 use Rattle.sheet_rules.proofs.Finding.{finding}
 use Rattle.count_rules.specs.declared.Counts.{Counts}
 use Rattle.count_rules.specs.declared.Counted.{Counted}
 use Rattle.count_rules.specs.Counts.{counted, is_opaque}
-use Rattle.count_rules.specs.Keeping.{Keeps, ReplacesLineCounted, false_of, false_refusal, kept_answer, kept_refusal, recounted}
+use Rattle.count_rules.specs.Keeping.{Keeps, ReplacesLineCounted, false_of, false_refusal, kept_answer, kept_refusal}
 use Rattle.count_rules.proofs.Plain.{counts_left, counts_taken, sheet_left, sheet_taken}
 use Rattle.counts.specs.declared.NamedBlock.{NamedBlock}
-use Rattle.counts.specs.Blocks.{Here, Names, PutThere, ReadsWhole, WholeBlocks}
+use Rattle.counts.specs.Blocks.{Here, Names, PutThere, ReadsWhole}
 use Rattle.counts.proofs.Counting.{whole_blocks}
 
 -- a block stands at its place

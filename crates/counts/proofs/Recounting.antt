@@ -15,7 +15,7 @@ use Rattle.laws.proofs.Tests.{no_both}
 use Rattle.bc7_format.specs.Modes.{mode_of}
 use Rattle.bc7_format.proofs.Modes.{mode_le_8}
 use Rattle.head_rules.specs.declared.Head.{Head}
-use Rattle.head_rules.specs.Geometry.{blocks_of, most_blocks, place_of}
+use Rattle.head_rules.specs.Geometry.{blocks_of, most_blocks}
 use Rattle.head_rules.specs.Heads.{Sized, read_head}
 use Rattle.head_rules.proofs.Blocks.{few_blocks}
 use Rattle.head_rules.proofs.Theorems.{head_sized}
@@ -26,7 +26,7 @@ use Rattle.sheet_rules.specs.Sheets.{block_in}
 use Rattle.sheet_rules.proofs.Finding.{inside, room}
 use Rattle.count_rules.specs.declared.Counts.{Counts}
 use Rattle.count_rules.specs.Counts.{is_opaque}
-use Rattle.count_rules.specs.Keeping.{changed, of_mode, recounted, recounted_as}
+use Rattle.count_rules.specs.Keeping.{recounted_as}
 use Rattle.count_rules.proofs.Fitting.{of_all_has}
 use Rattle.count_rules.proofs.Refusing.{falsehood}
 use Rattle.count_rules.proofs.Tallies.{one}

@@ -1,7 +1,7 @@
 -- MAPS UP TO 16,384, AND TILES, IN DDS FILES: what a console of before accepted is imported and exported as it was; for a larger map such a
 -- console answers 9, for a sheet of form 2 it answers 8, and it leaves the output.
 -- Assumes nothing.
-use mathlib.Core.Path.{◌≡◌, refl, ◌∙◌, ap}
+use mathlib.Core.Path.{◌≡◌, refl, ap}
 use mathlib.Core.Logic.{◌⊎◌}
 use mathlib.Core.Bool.{true}
 use mathlib.Core.List.{List}

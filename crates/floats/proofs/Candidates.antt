@@ -9,10 +9,9 @@ use lib.Count.{count_trailing_zeros}
 use lib.Dec.{eqb, eqb→eq, ltb}
 use lib.Ieee.{binary32, climb, div, odd, of_bits, of_fields, of_int, round, size, span, to_bits, units}
 use lib.IntN.{pos}
-use Rattle.float_rules.specs.declared.ChannelFound.{ChannelFound}
 use Rattle.laws.proofs.Cases.{pick_lt}
 use Rattle.laws.proofs.Tests.{at}
-use Rattle.float_rules.specs.Floats.{IsChannel, channel_bits, channel_float, channel_found, no_channel}
+use Rattle.float_rules.specs.Floats.{channel_bits, channel_float, channel_found, no_channel}
 use Rattle.float_rules.proofs.Back.{found_is, none_is}
 use Rattle.floats.specs.Candidates.{candidate_of, times255}
 

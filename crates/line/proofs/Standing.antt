@@ -28,7 +28,6 @@ use Rattle.bc7_format.proofs.Modes.{good_index_mode, lines_le}
 use Rattle.bc7_format.proofs.Places.{inside_index}
 use Rattle.bc7_format.proofs.Starts.{start}
 use Rattle.bits.specs.Stream.{held}
-use Rattle.bcn_format.specs.Indexes.{part}
 use Rattle.bc7_fields.specs.Fields.{lead_end}
 use Rattle.bc7_modes.specs.Modes.{mode_row_of}
 use Rattle.line_rules.specs.Read.{given_as, widths_of}

@@ -8,7 +8,7 @@ use Prim.Native.Nat.{ℕ, ◌+◌, ◌*◌, ◌/◌, ◌%◌, ◌≤◌, ◌<◌
 use native.Mathlib.Nat.{div-lt_iff_lt-mul, mod-lt}
 use native.Mathlib.Omega.{arith}
 use borrow.Author.Tests.{eq-eqb, ltb-true}
-use lib.Dec.{T, eqb, eqb→eq, ltb, ltb→lt, lt→ltb}
+use lib.Dec.{T, eqb→eq, ltb, ltb→lt, lt→ltb}
 use lib.ListN.{get_or}
 use Rattle.laws.specs.Digits.{Fit}
 use Rattle.laws.specs.Tables.{implies, pick}

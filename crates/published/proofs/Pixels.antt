@@ -24,7 +24,7 @@ use Rattle.bc7_format.specs.Splits.{anchors}
 use Rattle.bc7_format.proofs.Starts.{start}
 use Rattle.bcn_format.proofs.Theorems.{drawn_by_256, weight_is_four_times}
 use Rattle.bcn_format.proofs.Fields.{field_lt}
-use Rattle.bcn_format.specs.Indexes.{expanded, index_widths, part}
+use Rattle.bcn_format.specs.Indexes.{expanded, index_widths}
 use Rattle.bcn_format.proofs.Expanding.{size_1}
 use Rattle.bc7_fields.specs.Fields.{end_byte, p_start, value_start}
 use Rattle.bc7_fields.specs.Painting.{four}

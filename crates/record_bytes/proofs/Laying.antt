@@ -1,9 +1,9 @@
 -- Rows of bytes made of arrays laid one behind the other.
 -- Assumes nothing.
 use mathlib.Core.Path.{◌≡◌, refl, subst, sym, ◌∙◌}
-use mathlib.Core.List.{List, ◌++◌, append-nil}
+use mathlib.Core.List.{List}
 use Prim.Native.Nat.{ℕ, ◌+◌, ◌-◌, ◌<◌, ◌≤◌}
-use native.Mathlib.Nat.{zero-add, le_of_eq}
+use native.Mathlib.Nat.{zero-add}
 use native.Mathlib.Omega.{arith}
 use borrow.Author.Tests.{lt-ltb, le-ltb}
 use lib.Dec.{lit<}
@@ -18,7 +18,7 @@ use Rattle.line_rules.specs.Read.{value_at}
 use Rattle.record_rules.specs.Wire.{record_byte, split_byte, bytes_from}
 use Rattle.record_rules.proofs.Wire.{behind}
 use Rattle.bc7_format.specs.Places.{values_from, place_count}
-use lib.Seq.{drop-length, get_or-drop, get_or-take, length-take-le, take_all, ext_get_or}
+use lib.Seq.{get_or-drop, get_or-take, length-take-le, ext_get_or}
 use Rattle.laws.proofs.Part.{get_d_table, length_table}
 
 -- an array of k bytes laid behind o bytes that stand

@@ -5,8 +5,6 @@ use mathlib.Core.Logic.{◌≢◌}
 use mathlib.Core.List.{List}
 use Prim.Native.Nat.{ℕ}
 use borrow.Author.Tests.{eq-eqb, ne_eqb}
-use lib.Dec.{eqb}
-use Rattle.laws.specs.Tables.{pick}
 use Rattle.head_rules.specs.Heads.{read_head}
 use Rattle.line_rules.specs.declared.Replacement.{Replacement}
 use Rattle.line_rules.specs.declared.Replaced.{Replaced}
@@ -17,7 +15,7 @@ use Rattle.count_rules.specs.declared.Counted.{Counted}
 use Rattle.count_rules.specs.Keeping as keeping
 use Rattle.count_rules.specs.Keeping.{kept_answer, kept_counts, kept_refusal, kept_sheet}
 use Rattle.count_rules.proofs.Plain.{sheet_left}
-use Rattle.rinchovek_rules.specs.Promises.{Keeps, ReplacesLineCounted, counts_of_ten, ten_of}
+use Rattle.rinchovek_rules.specs.Promises.{Keeps, counts_of_ten, ten_of}
 
 module _ (s c : List ℕ) (b : ℕ) (made : Replaced) {n : Counts} (en : n ≡ counts_of_ten c) {a : Counted} {t : List ℕ} (k : keeping.Keeps s n b made a t)
   where

@@ -7,7 +7,7 @@ use native.Mathlib.Nat.{div-add-mod', div-lt_iff_lt-mul, mod-lt, add_assoc, mul_
 use native.Mathlib.Omega.{arith}
 use lib.Arith.{digits_lt, digits_div, digits_mod}
 use lib.ListN.{length, get_or, take, drop, length-take, length-drop}
-use lib.Seq.{drop-drop, get_or-take, get_or-drop, ext_get_or}
+use lib.Seq.{get_or-take, get_or-drop, ext_get_or}
 use Rattle.laws.specs.Tables.{table, table_from}
 use Rattle.laws.proofs.Joining.{table_append, table_same}
 use Rattle.laws.proofs.Part.{get_d_table, length_table}

@@ -1,7 +1,6 @@
 -- `mode_of` meets its contract.
 -- Assumes nothing.
 use native.Mathlib.Nat.{lt_of_le_of_lt}
-use borrow.Author.Rules.{rules}
 use lib.Count.{trailing_le}
 use lib.Dec.{lit<}
 use Rattle.bcn_format.proofs.Trailing.{trailing_count}

@@ -4,7 +4,6 @@ use mathlib.Core.Path.{◌≡◌, ◌∙◌, ap, sym}
 use Prim.Native.Nat.{ℕ, suc, ◌<◌, ◌≤◌}
 use native.Mathlib.Omega.{arith}
 use lib.Arith.{lt_of_le-ne}
-use borrow.Author.Rules.{rules}
 use Rattle.bc7_format.specs.Modes.{endpoint_count, kind_of_mode, mode_row}
 use Rattle.bc7_modes.specs.declared.ModeRow.{ModeRow}
 use Rattle.bc7_modes.specs.Modes.{mode_row_of}

@@ -1,6 +1,5 @@
 -- The low half of a word.
 -- Assumes nothing.
-use borrow.Author.Rules.{rules}
 use Rattle.bc7_unpartitioned.proofs.Crossing.{low_half}
 use Rattle.bc7_unpartitioned.proofs.low_word.Goals as goal
 

@@ -1,12 +1,11 @@
 -- Sixteen pixels, each the sum of two words: the loop fills them in order.
 -- Assumes nothing.
 use mathlib.Core.Path.{◌≡◌, refl, ap, ap₂, ◌∙◌}
-use Prim.Native.Nat.{ℕ, ◌+◌, ◌-◌, ◌^◌, ◌<◌}
+use Prim.Native.Nat.{ℕ, ◌+◌, ◌^◌, ◌<◌}
 use native.Mathlib.Omega.{arith}
-use borrow.Author.Rules.{rules}
 use lib.ListN.{get_or, take}
 use Rattle.bcn_format.specs.Indexes.{part}
-use Rattle.bcn_format.proofs.Making.{Made, made_all, made_next, made_none}
+use Rattle.bcn_format.proofs.Making.{made_all, made_next, made_none}
 use Rattle.bc7_drawing.specs.Words.{word_bytes}
 use Rattle.indexes.specs.declared.Indexes.{Indexes}
 use Rattle.indexes.specs.Reading.{Index}

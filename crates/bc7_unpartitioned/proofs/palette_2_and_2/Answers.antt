@@ -2,18 +2,16 @@
 -- Assumes nothing.
 use mathlib.Core.Path.{◌≡◌, refl, ◌∙◌}
 use mathlib.Core.Bool.{false, true}
-use mathlib.Core.List.{[], ◌++◌}
-use Prim.Native.Nat.{◌-◌, ◌*◌, ◌≤◌}
+use mathlib.Core.List.{◌++◌}
 use native.Mathlib.Omega.{arith}
-use borrow.Author.Rules.{rules}
 use Rattle.laws.specs.Tables.{table}
-use Rattle.laws.proofs.Filled.{Filled, filled_all, filled_four, filled_none}
+use Rattle.laws.proofs.Filled.{filled_all, filled_four, filled_none}
 use Rattle.bc7_fields.specs.Painting.{between}
 use Rattle.bcn_format.proofs.Weighing.{two_bits}
 use Rattle.bc7_drawing.specs.declared.colour.Ends.{Ends}
 use Rattle.bc7_drawing.specs.Words.{Alone, endpoint, word_bytes}
 use Rattle.bc7_unpartitioned.specs.Crossing.{kept_channels, kept_word}
-use Rattle.bc7_unpartitioned.proofs.Crossing.{alpha_fits, both_kept, colours_fit, high_pairs, low_pairs, pair_at, pairs}
+use Rattle.bc7_unpartitioned.proofs.Crossing.{alpha_fits, both_kept, colours_fit, high_pairs, low_pairs, pairs}
 use Rattle.bc7_unpartitioned.proofs.palette_2_and_2.Goals as goal
 use Rattle.bc7_unpartitioned.proofs.palette_2_and_2.Goals.{After-keep-high}
 

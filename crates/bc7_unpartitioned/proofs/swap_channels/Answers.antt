@@ -1,14 +1,9 @@
 -- Sixteen pixels with two channels exchanged: the loop fills them in order.
 -- Assumes nothing.
 use mathlib.Core.Path.{refl}
-use mathlib.Core.List.{[]}
-use Prim.Native.Nat.{◌-◌}
 use native.Mathlib.Omega.{arith}
-use lib.ListN.{get_or}
-use Rattle.bc7_format.specs.Lines.{rotated}
-use Rattle.bc7_fields.specs.Painting.{four}
 use Rattle.bc7_fields.specs.Rotating.{swapped}
-use Rattle.bcn_format.proofs.Making.{Made, made_all, made_next, made_none}
+use Rattle.bcn_format.proofs.Making.{made_all, made_next, made_none}
 use Rattle.bc7_unpartitioned.proofs.swap_channels.Goals as goal
 
 pub loop-i-init : goal.loop-i-init

@@ -1,14 +1,11 @@
 -- All colours by an index of two bits, in part.
 -- Assumes nothing.
 use mathlib.Core.Path.{refl}
-use Prim.Native.Nat.{◌+◌, ◌-◌, ◌*◌, ◌≤◌}
+use Prim.Native.Nat.{◌+◌, ◌*◌}
 use native.Mathlib.Omega.{arith}
-use borrow.Author.Rules.{rules}
-use Rattle.laws.proofs.Filled.{Filled, filled_all, filled_none, filled_two}
-use Rattle.bc7_fields.specs.Painting.{between}
+use Rattle.laws.proofs.Filled.{filled_all, filled_none, filled_two}
 use Rattle.bcn_format.proofs.Weighing.{two_bits}
 use Rattle.bc7_drawing.specs.Words.{endpoint}
-use Rattle.bc7_unpartitioned.specs.Crossing.{kept_word}
 use Rattle.bc7_unpartitioned.proofs.Crossing.{high_kept, low_kept}
 use Rattle.bc7_unpartitioned.proofs.words_2.Goals as goal
 

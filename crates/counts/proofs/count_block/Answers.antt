@@ -4,7 +4,6 @@ use mathlib.Core.Path.{◌∙◌, ap}
 use native.Mathlib.Omega.{arith}
 use Rattle.bc7_format.specs.Modes.{mode_of}
 use Rattle.counts.proofs.Counting.{mode_in_is, mode_small, one_more, opaque_as, opaque_small}
-use borrow.Author.Rules.{rules}
 use Rattle.counts.proofs.count_block.Goals as goal
 
 pub bounds-modes-mode : goal.bounds-modes-mode

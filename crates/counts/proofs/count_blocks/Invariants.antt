@@ -1,11 +1,8 @@
 -- `count_blocks` meets its contract.
 -- Assumes nothing.
-use mathlib.Core.Path.{◌≡◌, ◌∙◌}
+use mathlib.Core.Path.{◌≡◌}
 use Prim.Native.Nat.{◌-◌, ◌≤◌}
-use native.Mathlib.Omega.{arith}
 use Rattle.count_rules.specs.Counts.{counts_below}
-use Rattle.counts.proofs.Counting.{all_below, none_counted}
-use borrow.Author.Rules.{rules}
 use Rattle.counts.proofs.count_blocks.Given as goal
 
 abbrev pub invariant-loop-b : goal.invariant-loop-b

@@ -1,7 +1,6 @@
 -- `count_sheet` meets its contract.
 -- Assumes nothing.
 use mathlib.Core.Path.{◌∙◌, ap}
-use borrow.Author.Rules.{rules}
 use Rattle.count_rules.specs.Counts.{counted}
 use Rattle.counts.proofs.Counting.{all_counted, not_counted, whole_blocks}
 use Rattle.counts.proofs.count_sheet.Goals as goal

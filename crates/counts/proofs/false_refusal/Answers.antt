@@ -1,7 +1,6 @@
 -- `false_refusal` meets its contract.
 -- Assumes nothing.
 use Rattle.counts.proofs.Falseness.{mode_false, opaque_false, opaque_true, rest_false, rest_true, sum_false}
-use borrow.Author.Rules.{rules}
 use Rattle.counts.proofs.false_refusal.Goals as goal
 
 pub returns-then-sum_of-blocks : goal.returns-then-sum_of-blocks

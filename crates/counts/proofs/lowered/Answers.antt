@@ -2,7 +2,6 @@
 -- Assumes nothing.
 use native.Mathlib.Omega.{arith}
 use Rattle.counts.proofs.Recounting.{lowered_no, lowered_yes, not_none}
-use borrow.Author.Rules.{rules}
 use Rattle.counts.proofs.lowered.Goals as goal
 
 pub overflow_sub-result : goal.overflow_sub-result

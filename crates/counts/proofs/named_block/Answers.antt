@@ -2,7 +2,6 @@
 -- Assumes nothing.
 use Rattle.counts.proofs.Counting.{mode_in_is, whole_blocks}
 use Rattle.counts.proofs.Naming.{asked_of, block_named, no_block, no_sheet, room_of}
-use borrow.Author.Rules.{rules}
 use Rattle.counts.proofs.named_block.Goals as goal
 
 pub returns-then-head-ne0 : goal.returns-then-head-ne0

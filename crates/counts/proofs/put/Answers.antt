@@ -1,7 +1,6 @@
 -- `put` meets its contract.
 -- Assumes nothing.
 use Rattle.counts.proofs.Recounting.{asked_there, put_there, recount_asked, room_there}
-use borrow.Author.Rules.{rules}
 use Rattle.counts.proofs.put.Goals as goal
 
 pub store-requires : goal.store-requires

@@ -2,7 +2,6 @@
 -- Assumes nothing.
 use native.Mathlib.Omega.{arith}
 use Rattle.counts.proofs.Recounting.{raised_no, raised_yes}
-use borrow.Author.Rules.{rules}
 use Rattle.counts.proofs.raised.Goals as goal
 
 pub overflow_add-result : goal.overflow_add-result

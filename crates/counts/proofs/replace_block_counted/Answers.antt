@@ -1,9 +1,7 @@
 -- `replace_block_counted` meets its contract.
 -- Assumes nothing.
 use mathlib.Core.Path.{refl}
-use Rattle.count_rules.specs.Keeping.{block_made}
 use Rattle.counts.proofs.Naming.{block_put, not_named_as}
-use borrow.Author.Rules.{rules}
 use Rattle.counts.proofs.replace_block_counted.Goals as goal
 
 pub returns-then-named-ne0 : goal.returns-then-named-ne0

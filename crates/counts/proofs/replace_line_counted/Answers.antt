@@ -1,7 +1,6 @@
 -- `replace_line_counted` meets its contract.
 -- Assumes nothing.
 use Rattle.counts.proofs.Naming.{line_put_is, line_refused, not_named_as}
-use borrow.Author.Rules.{rules}
 use Rattle.counts.proofs.replace_line_counted.Goals as goal
 
 pub returns-then-named-ne0 : goal.returns-then-named-ne0

@@ -1,7 +1,6 @@
 -- `sum_of` meets its contract.
 -- Assumes nothing.
 use Rattle.counts.proofs.Falseness.{nine_are}
-use borrow.Author.Rules.{rules}
 use Rattle.counts.proofs.sum_of.Goals as goal
 
 pub returns : goal.returns

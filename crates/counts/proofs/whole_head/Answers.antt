@@ -1,6 +1,5 @@
 -- `whole_head` meets its contract.
 -- Assumes nothing.
-use borrow.Author.Rules.{rules}
 use Rattle.head_rules.proofs.Whole.{read_sized}
 use Rattle.counts.proofs.Counting.{reads_whole}
 use Rattle.counts.proofs.whole_head.Goals as goal

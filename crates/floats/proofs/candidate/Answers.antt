@@ -2,7 +2,6 @@
 -- Assumes nothing.
 use borrow.Author.Tests.{le-ltb, lt-ltb}
 use Rattle.floats.specs.Candidates.{candidate_of, times255}
-use borrow.Author.Rules.{rules}
 use Rattle.floats.proofs.candidate.Goals as goal
 
 pub returns-then-bits-lt998244352 : goal.returns-then-bits-lt998244352

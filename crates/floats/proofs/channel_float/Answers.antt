@@ -1,11 +1,10 @@
 -- `channel_float` meets its contract: one division by 255.
 -- Assumes nothing.
-use mathlib.Core.Path.{ap, ◌∙◌, refl}
+use mathlib.Core.Path.{ap}
 use lib.Ieee.{binary32, div, of_int}
 use lib.IntN.{pos}
 use Rattle.float_rules.specs.Floats.{channel_float}
 use Rattle.floats.proofs.Candidates.{divisor}
-use borrow.Author.Rules.{rules}
 use Rattle.floats.proofs.channel_float.Goals as goal
 
 pub returns : goal.returns

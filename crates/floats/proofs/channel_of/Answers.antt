@@ -1,12 +1,11 @@
 -- `channel_of` meets its contract: a NaN alone differs from itself, and any other float goes by its bits.
 -- Assumes nothing.
-use mathlib.Core.Path.{◌≡◌, sym, ◌∙◌, subst}
+use mathlib.Core.Path.{sym, ◌∙◌, subst}
 use mathlib.Core.Bool.{Bool, not}
 use lib.Dec.{T}
 use Rattle.float_rules.specs.Floats.{channel_found_of}
 use Rattle.float_rules.proofs.Nans.{differs_nan, same_no_nan}
 use Rattle.float_rules.proofs.Theorems.{as_its_bits}
-use borrow.Author.Rules.{rules}
 use Rattle.floats.proofs.channel_of.Goals as goal
 
 pub returns-then-value : goal.returns-then-value

@@ -6,12 +6,10 @@ use Prim.Native.Nat.{ℕ}
 use native.Mathlib.Omega.{arith}
 use lib.Dec.{T}
 use lib.Ieee.{Float, binary32, is_nan, to_bits}
-use Rattle.float_rules.specs.declared.ChannelFound.{ChannelFound}
 use Rattle.float_rules.specs.Floats.{channel_bits}
 use Rattle.float_rules.proofs.Channels.{no_nan}
 use Rattle.floats.specs.Candidates.{candidate_of}
 use Rattle.floats.proofs.Candidates.{candidate_below, candidate_found, candidate_none}
-use borrow.Author.Rules.{rules}
 use Rattle.floats.proofs.channel_of_bits.Goals as goal
 
 pub float_to_bits-channel_float : goal.float_to_bits-channel_float

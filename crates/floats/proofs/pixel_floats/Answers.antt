@@ -1,6 +1,5 @@
 -- `pixel_floats` meets its contract.
 -- Assumes nothing.
-use borrow.Author.Rules.{rules}
 use Rattle.floats.proofs.pixel_floats.Goals as goal
 
 pub returns : goal.returns

@@ -1,12 +1,9 @@
 -- `row_floats` meets its contract: the loop fills the row from its first float to its last.
 -- Assumes nothing.
-use mathlib.Core.Path.{◌≡◌, refl, sym, ◌∙◌}
-use Prim.Native.Nat.{ℕ, ◌-◌, ◌≤◌}
+use mathlib.Core.Path.{◌≡◌, sym, ◌∙◌}
 use native.Mathlib.Omega.{arith}
-use borrow.Author.Rules.{rules}
-use lib.Ieee.{Float, nan}
-use lib.ListN.{get_or, length}
-use Rattle.laws.proofs.Filled.{Filled, filled_all, filled_next, filled_none}
+use lib.ListN.{length}
+use Rattle.laws.proofs.Filled.{filled_all, filled_next, filled_none}
 use Rattle.laws.specs.Refusals.{accepted, here, then}
 use Rattle.float_rules.specs.Floats.{channel_float, floats_of, floats_refusal}
 use Rattle.float_rules.proofs.Theorems.{row_accepted, row_left, row_refused_when}

@@ -2,7 +2,6 @@
 -- Assumes nothing.
 use Prim.Native.Nat.{◌+◌, ◌-◌, ◌*◌, ◌<◌}
 use native.Mathlib.Omega.{arith}
-use borrow.Author.Rules.{rules}
 use Rattle.bcn_format.proofs.Expanding.{times_width}
 use Rattle.bcn_format.proofs.Insert.{insert_machine, inserted_lt}
 use Rattle.indexes.proofs.decompress_single_index.Goals as goal

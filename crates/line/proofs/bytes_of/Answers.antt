@@ -2,7 +2,6 @@
 -- Assumes nothing.
 use Rattle.bits.specs.Stream.{held}
 use Rattle.bits.specs.Writer.{written}
-use borrow.Author.Rules.{rules}
 use Rattle.line.proofs.bytes_of.Goals as goal
 
 pub returns : goal.returns

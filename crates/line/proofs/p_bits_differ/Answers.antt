@@ -1,6 +1,5 @@
 -- In mode 1 the p bits differ.
 -- Assumes nothing.
-use borrow.Author.Rules.{rules}
 use borrow.Author.Tests.{eq-eqb, ne_eqb}
 use Rattle.line.proofs.p_bits_differ.Goals as goal
 

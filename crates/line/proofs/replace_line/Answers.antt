@@ -5,7 +5,6 @@ use mathlib.Core.Bool.{true, false, not}
 use Prim.Native.Nat.{ℕ, ◌^◌, ◌<◌}
 use native.Mathlib.Omega.{arith}
 use borrow.Author.Rules.{rules}
-use borrow.Author.Tests.{not-false, not-true}
 use mir.Syntax.{w8}
 use mir.Val.{Fits}
 use lib.Bits.{bit_and}

@@ -1,6 +1,5 @@
 -- `unread` meets its contract.
 -- Assumes nothing.
-use borrow.Author.Rules.{rules}
 use Rattle.line.proofs.unread.Goals as goal
 
 pub returns : goal.returns

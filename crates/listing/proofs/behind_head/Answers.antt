@@ -4,7 +4,6 @@ use mathlib.Core.Path.{◌∙◌, sym}
 use native.Mathlib.Omega.{arith}
 use borrow.Author.Tests.{eq-eqb, ne_eqb}
 use Rattle.listing_rules.specs.Machine.{begun}
-use borrow.Author.Rules.{rules}
 use Rattle.listing.proofs.behind_head.Goals as goal
 
 pub returns-then-head-ne0 : goal.returns-then-head-ne0

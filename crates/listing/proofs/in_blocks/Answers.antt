@@ -6,7 +6,6 @@ use native.Mathlib.Omega.{arith}
 use Rattle.head_rules.specs.Geometry.{blocks_of}
 use Rattle.listing_rules.specs.Machine.{in_blocks}
 use Rattle.listing_rules.proofs.Rounds.{no_blocks, some_blocks}
-use borrow.Author.Rules.{rules}
 use Rattle.listing.proofs.in_blocks.Goals as goal
 
 pub returns-then-from-blocks_of : goal.returns-then-from-blocks_of

@@ -10,7 +10,6 @@ use Rattle.listing_rules.specs.declared.Phase.{Phase}
 use Rattle.listing_rules.specs.Machine.{ReadyIn, spare_in, wanted_in}
 use Rattle.listing_rules.proofs.Room.{spare_ended, spare_next}
 use Rattle.listing_rules.proofs.Runs.{run_inside}
-use borrow.Author.Rules.{rules}
 use Rattle.listing.proofs.list.Goals as goal
 
 pub list_at_head-requires : goal.list_at_head-requires

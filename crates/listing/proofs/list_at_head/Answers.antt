@@ -3,7 +3,6 @@
 use native.Mathlib.Omega.{arith}
 use Rattle.laws.proofs.Padding.{written_none}
 use Rattle.listing_rules.proofs.Room.{spare_begun}
-use borrow.Author.Rules.{rules}
 use Rattle.listing.proofs.list_at_head.Goals as goal
 
 pub returns-then-has_ended : goal.returns-then-has_ended

@@ -1,7 +1,6 @@
 -- `list_block` meets its contract.
 -- Assumes nothing.
 use Rattle.listing_rules.specs.Listing.{block_listed}
-use borrow.Author.Rules.{rules}
 use Rattle.listing.proofs.list_block.Goals as goal
 
 pub returns : goal.returns

@@ -2,12 +2,12 @@
 -- Assumes nothing.
 use native.Mathlib.Omega.{arith}
 use mathlib.Core.Path.{◌≡◌}
-use Prim.Native.Nat.{◌+◌, ◌-◌, ◌*◌, ◌/◌, ◌≤◌}
+use Prim.Native.Nat.{◌/◌}
 use lib.ListN.{length}
 use Rattle.laws.proofs.Padding.{written_long}
 use Rattle.listing_rules.specs.Listing.{listed}
 use Rattle.listing_rules.proofs.Rounds.{few_in_all}
-use Rattle.listing.proofs.Listed.{Texts, texts_more, texts_none}
+use Rattle.listing.proofs.Listed.{texts_more, texts_none}
 use Rattle.listing.proofs.list_blocks.Goals as goal
 
 pub loop-k-init : goal.loop-k-init

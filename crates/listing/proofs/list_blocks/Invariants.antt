@@ -1,13 +1,7 @@
 -- `list_blocks` meets its contract.
 -- Assumes nothing.
-use native.Mathlib.Omega.{arith}
-use mathlib.Core.Path.{◌≡◌}
-use Prim.Native.Nat.{◌+◌, ◌-◌, ◌*◌, ◌/◌, ◌≤◌}
-use lib.ListN.{length}
-use Rattle.laws.proofs.Padding.{written_long}
-use Rattle.listing_rules.specs.Listing.{listed}
-use Rattle.listing_rules.proofs.Rounds.{few_in_all}
-use Rattle.listing.proofs.Listed.{Texts, texts_more, texts_none}
+use Prim.Native.Nat.{◌+◌, ◌-◌, ◌*◌, ◌≤◌}
+use Rattle.listing.proofs.Listed.{Texts}
 use Rattle.listing.proofs.list_blocks.Given as goal
 
 abbrev pub invariant-loop-k : goal.invariant-loop-k

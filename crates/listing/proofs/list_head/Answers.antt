@@ -2,7 +2,6 @@
 -- Assumes nothing.
 use borrow.Author.Tests.{eq-eqb, ne_eqb}
 use Rattle.listing_rules.specs.Machine.{head_text}
-use borrow.Author.Rules.{rules}
 use Rattle.listing.proofs.list_head.Goals as goal
 
 pub returns-then-head-ne0 : goal.returns-then-head-ne0

@@ -2,7 +2,6 @@
 -- Assumes nothing.
 use native.Mathlib.Omega.{arith}
 use Rattle.laws.proofs.Padding.{written_then}
-use borrow.Author.Rules.{rules}
 use Rattle.listing.proofs.list_run.Goals as goal
 
 pub returns : goal.returns

@@ -1,9 +1,7 @@
 -- `list_sheet` meets its contract. The measure is the rounds that the machine still takes.
 -- Assumes nothing.
 use native.Mathlib.Omega.{arith}
-use lib.ListN.{length}
-use Rattle.listing_rules.specs.Machine.{NextEnd, rounds_of, wanted_of}
-use Rattle.listing.proofs.Whole.{Fed, fed_asks, fed_start, fed_round, fed_whole}
+use Rattle.listing.proofs.Whole.{fed_asks, fed_start, fed_round, fed_whole}
 use Rattle.listing.proofs.list_sheet.Goals as goal
 
 pub start-machine-requires : goal.start-machine-requires

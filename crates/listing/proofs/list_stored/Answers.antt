@@ -2,7 +2,6 @@
 -- Assumes nothing.
 use native.Mathlib.Omega.{arith}
 use Rattle.head_rules.proofs.Orders.{numbered_in}
-use borrow.Author.Rules.{rules}
 use Rattle.listing.proofs.list_stored.Goals as goal
 
 pub list_block-requires : goal.list_block-requires

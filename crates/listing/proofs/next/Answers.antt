@@ -8,7 +8,6 @@ use Rattle.listing_rules.specs.declared.Phase.{Phase}
 use Rattle.listing_rules.specs.Machine.{Ready, ReadyIn, next_in, next_of}
 use Rattle.listing_rules.proofs.Rounds.{ready_next, rounds_next}
 use Rattle.listing.specs.Promised.{GoesOnReady}
-use borrow.Author.Rules.{rules}
 use Rattle.listing.proofs.next.Goals as goal
 
 pub next_at_head-requires : goal.next_at_head-requires

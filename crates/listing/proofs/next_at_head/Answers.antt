@@ -1,7 +1,6 @@
 -- `next_at_head` meets its contract.
 -- Assumes nothing.
 use mathlib.Core.Path.{◌∙◌, sym}
-use borrow.Author.Rules.{rules}
 use Rattle.listing.proofs.next_at_head.Goals as goal
 
 pub behind_head-requires : goal.behind_head-requires

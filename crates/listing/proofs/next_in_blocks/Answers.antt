@@ -5,7 +5,6 @@ use Prim.Native.Nat.{ℕ, ◌*◌}
 use native.Mathlib.Omega.{arith}
 use borrow.Author.Tests.{eq-eqb, ne_eqb}
 use Rattle.listing_rules.proofs.Rounds.{few_in_all}
-use borrow.Author.Rules.{rules}
 use Rattle.listing.proofs.next_in_blocks.Goals as goal
 
 pub returns-then-got-run : goal.returns-then-got-run

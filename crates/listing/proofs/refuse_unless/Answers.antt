@@ -2,7 +2,6 @@
 -- Assumes nothing.
 use native.Mathlib.Omega.{arith}
 use Rattle.laws.proofs.Padding.{written_none}
-use borrow.Author.Rules.{rules}
 use Rattle.listing.proofs.refuse_unless.Goals as goal
 
 pub returns-then-exact : goal.returns-then-exact

@@ -7,7 +7,6 @@ use Rattle.head_rules.specs.declared.Head.{Head}
 use Rattle.listing_rules.specs.Machine.{InBlocks, run_of}
 use Rattle.listing_rules.proofs.Runs.{column_there, run_full, run_inside, run_rest, run_within}
 use Rattle.listing.specs.Promised.{TellsRun}
-use borrow.Author.Rules.{rules}
 use Rattle.listing.proofs.run_of.Goals as goal
 
 pub overflow_sub-left : goal.overflow_sub-left

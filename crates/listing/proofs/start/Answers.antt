@@ -3,7 +3,6 @@
 use mathlib.Core.Path.{◌∙◌, ap, sym, subst}
 use Rattle.listing_rules.specs.Machine.{Ready, at_head}
 use Rattle.listing_rules.proofs.Rounds.{ready_start}
-use borrow.Author.Rules.{rules}
 use Rattle.listing.proofs.start.Goals as goal
 
 pub returns : goal.returns

@@ -1,7 +1,6 @@
 -- `stopped` meets its contract.
 -- Assumes nothing.
 use Rattle.listing_rules.specs.Machine.{ended}
-use borrow.Author.Rules.{rules}
 use Rattle.listing.proofs.stopped.Goals as goal
 
 pub returns-then-exact : goal.returns-then-exact

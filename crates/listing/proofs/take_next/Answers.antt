@@ -2,7 +2,6 @@
 -- Assumes nothing.
 use mathlib.Core.Path.{◌∙◌}
 use Rattle.listing_rules.proofs.Rounds.{head_sized, taken_none, taken_one}
-use borrow.Author.Rules.{rules}
 use Rattle.listing.proofs.take_next.Goals as goal
 
 pub returns-then-came-eq0 : goal.returns-then-came-eq0

@@ -8,7 +8,6 @@ use Rattle.listing_rules.specs.declared.Phase.{Phase}
 use Rattle.listing_rules.specs.Machine.{Ready, ReadyIn, wanted_in, wanted_of}
 use Rattle.listing_rules.proofs.Rounds.{wanted_within}
 use Rattle.listing.specs.Promised.{WantsFew}
-use borrow.Author.Rules.{rules}
 use Rattle.listing.proofs.wanted.Goals as goal
 
 pub run_of-requires : goal.run_of-requires

@@ -2,7 +2,7 @@
 -- Assumes nothing.
 use mathlib.Core.Path.{◌≡◌, refl}
 use mathlib.Core.Bool.{true, false}
-use mathlib.Core.List.{List, [], ◌∷◌, ◌++◌, map}
+use mathlib.Core.List.{[], ◌∷◌, ◌++◌, map}
 use Rattle.laws.specs.Text.{ascii, decimal, digits_in}
 use Rattle.laws.proofs.Attested.{text}
 use Rattle.listing_rules.specs.Text.{block_text, channels, opacity_mark, sheet_text}

@@ -1,6 +1,5 @@
 -- `distance` meets its contract.
 -- Assumes nothing.
-use borrow.Author.Rules.{rules}
 use Rattle.nearest.specs.Trying.{distance_at}
 use Rattle.nearest.proofs.distance.Goals as goal
 

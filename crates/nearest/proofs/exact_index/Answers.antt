@@ -1,6 +1,5 @@
 -- `exact_index` meets its contract.
 -- Assumes nothing.
-use borrow.Author.Rules.{rules}
 use Rattle.nearest.proofs.Hitting.{exact_found, exact_missed, exact_refused}
 use Rattle.nearest.proofs.exact_index.Goals as goal
 

@@ -2,7 +2,6 @@
 -- Assumes nothing.
 use mathlib.Core.Path.{◌∙◌}
 use lib.Dec.{lit<}
-use borrow.Author.Rules.{rules}
 use Rattle.nearest.proofs.Channels.{far_counts, far_not}
 use Rattle.nearest.proofs.far.Goals as goal
 

@@ -4,7 +4,6 @@ use mathlib.Core.Path.{refl}
 use Prim.Native.Nat.{◌+◌, ◌-◌, ◌*◌, ◌≤◌}
 use native.Mathlib.Nat.{le_of_suc-le-suc, mul-le-mul_left}
 use native.Mathlib.Omega.{arith}
-use borrow.Author.Rules.{rules}
 use Rattle.bcn_format.specs.Drawing.{drawn}
 use Rattle.bcn_format.proofs.Drawing.{drawn_lt}
 use Rattle.nearest.proofs.interpolate.Goals as goal

@@ -1,6 +1,5 @@
 -- `nearest_index` meets its contract.
 -- Assumes nothing.
-use borrow.Author.Rules.{rules}
 use Rattle.nearest.proofs.Hitting.{nearest_found}
 use Rattle.nearest.proofs.nearest_index.Goals as goal
 

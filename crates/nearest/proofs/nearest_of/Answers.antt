@@ -2,7 +2,6 @@
 -- Assumes nothing.
 use mathlib.Core.Path.{◌≡◌, ap, ◌∙◌}
 use Prim.Native.Nat.{ℕ}
-use borrow.Author.Rules.{rules}
 use lib.Dec.{lit<}
 use Rattle.nearest.specs.declared.Channel.{Channel}
 use Rattle.line_rules.specs.declared.Replacement.{Replacement}

@@ -3,7 +3,6 @@
 use mathlib.Core.Path.{◌≡◌, refl}
 use Prim.Native.Nat.{◌-◌, ◌*◌, ◌%◌, ◌^◌, ◌<◌}
 use native.Mathlib.Omega.{arith}
-use borrow.Author.Rules.{rules}
 use Rattle.bcn_format.specs.Drawing.{promoted}
 use Rattle.bcn_format.proofs.Drawing.{promoted_lt}
 use Rattle.nearest.proofs.Numbers.{shifted}

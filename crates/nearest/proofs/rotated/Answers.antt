@@ -1,7 +1,6 @@
 -- `rotated` meets its contract.
 -- Assumes nothing.
 use mathlib.Core.Path.{sym, ◌∙◌}
-use borrow.Author.Rules.{rules}
 use borrow.Author.Tests.{eq-eqb, ne_eqb}
 use Rattle.bc7_format.specs.Lines.{rotated}
 use Rattle.nearest.proofs.Numbers.{rotated_by}

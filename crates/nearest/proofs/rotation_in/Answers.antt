@@ -1,7 +1,6 @@
 -- `rotation_in` meets its contract.
 -- Assumes nothing.
 use mathlib.Core.Path.{ap, ◌∙◌}
-use borrow.Author.Rules.{rules}
 use Rattle.bc7_format.specs.Splits.{rotation}
 use Rattle.nearest.proofs.rotation_in.Goals as goal
 

@@ -1,14 +1,12 @@
 -- `search` meets its contract: of the indexes that were tried, the lowest of the nearest is kept.
 -- Assumes nothing.
 use mathlib.Core.Path.{◌≡◌, sym, ap, ◌∙◌}
-use mathlib.Core.Logic.{⊎_elim}
-use Prim.Native.Nat.{ℕ, ◌-◌, ◌^◌, ◌≤◌, ◌<◌}
+use Prim.Native.Nat.{ℕ, ◌^◌, ◌≤◌, ◌<◌}
 use native.Mathlib.Numerals.{add-one}
 use native.Mathlib.Omega.{arith}
-use borrow.Author.Rules.{rules}
 use lib.Pow.{pow_pos}
 use Rattle.nearest.specs.Trying.{distance_at}
-use Rattle.nearest_rules.proofs.Least.{Least, least_at_is, least_kept, least_less, least_one, least_one_alone}
+use Rattle.nearest_rules.proofs.Least.{least_at_is, least_kept, least_less, least_one, least_one_alone}
 use Rattle.bcn_format.proofs.Weighing.{Counted, counted}
 use Rattle.nearest.proofs.search.Goals as goal
 use Rattle.nearest.proofs.search.Goals.{then-next-least, else-next-least, At-loop-i, In-loop-i, Start}

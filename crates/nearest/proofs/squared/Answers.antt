@@ -3,7 +3,6 @@
 use Prim.Native.Nat.{◌-◌}
 use native.Mathlib.Omega.{arith}
 use Rattle.nearest.proofs.Numbers.{square_lt, squared_down, squared_up}
-use borrow.Author.Rules.{rules}
 use Rattle.nearest.proofs.squared.Goals as goal
 
 pub overflow_mul-result : goal.overflow_mul-result

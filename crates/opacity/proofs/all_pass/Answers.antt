@@ -2,10 +2,8 @@
 -- Assumes nothing.
 use mathlib.Core.Path.{◌≡◌, refl, ◌∙◌, sym}
 use mathlib.Core.Bool.{Bool, true}
-use Prim.Native.Nat.{ℕ, ◌-◌, ◌≤◌}
+use Prim.Native.Nat.{ℕ}
 use native.Mathlib.Omega.{arith}
-use borrow.Author.Tests.{not-false, not-true}
-use Rattle.laws.specs.Tables.{below}
 use Rattle.laws.proofs.Scan.{scan_fails, scan_more}
 use Rattle.opacity.specs.Drawn.{drawn_passes, opaque_drawn}
 use Rattle.opacity.proofs.all_pass.Goals as goal

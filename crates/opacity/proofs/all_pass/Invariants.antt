@@ -1,13 +1,10 @@
 -- `all_pass` meets its contract: up to a pixel all have passed.
 -- Assumes nothing.
-use mathlib.Core.Path.{◌≡◌, refl, ◌∙◌, sym}
-use mathlib.Core.Bool.{Bool, true}
-use Prim.Native.Nat.{ℕ, ◌-◌, ◌≤◌}
-use native.Mathlib.Omega.{arith}
-use borrow.Author.Tests.{not-false, not-true}
+use mathlib.Core.Path.{◌≡◌}
+use mathlib.Core.Bool.{true}
+use Prim.Native.Nat.{◌-◌, ◌≤◌}
 use Rattle.laws.specs.Tables.{below}
-use Rattle.laws.proofs.Scan.{scan_fails, scan_more}
-use Rattle.opacity.specs.Drawn.{drawn_passes, opaque_drawn}
+use Rattle.opacity.specs.Drawn.{drawn_passes}
 use Rattle.opacity.proofs.all_pass.Given as goal
 
 abbrev pub invariant-loop-q : goal.invariant-loop-q

@@ -1,6 +1,5 @@
 -- `stores_no_alpha` meets its contract.
 -- Assumes nothing.
-use borrow.Author.Rules.{rules}
 use Rattle.opacity.proofs.stores_no_alpha.Goals as goal
 
 pub returns : goal.returns

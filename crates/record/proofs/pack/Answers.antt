@@ -2,7 +2,6 @@
 -- Assumes nothing.
 use mathlib.Core.Path.{◌≡◌, ◌∙◌, sym, ap}
 use native.Mathlib.Omega.{arith}
-use borrow.Author.Tests.{not-true, not-false}
 use Rattle.laws.specs.Refusals.{here, then}
 use Rattle.laws.proofs.Tests.{no_both}
 use Rattle.bc7_format.specs.Modes.{kind_of_mode}
@@ -12,7 +11,6 @@ use Rattle.bc7_modes.specs.declared.ModeRow.{ModeRow}
 use Rattle.record.specs.Fitting.{Full}
 use Rattle.record.proofs.fits.Fits.{part_64}
 use Rattle.record.proofs.Steps.{packs, tops_set, written}
-use borrow.Author.Rules.{rules}
 use Rattle.record.proofs.pack.Goals as goal
 use Rattle.record.proofs.pack.Goals.{Else-kind_of-row, Else-not-record_fits}
 

@@ -3,7 +3,6 @@
 use mathlib.Core.Path.{◌∙◌, ap}
 use Rattle.record_rules.specs.Records.{unpacked_as}
 use Rattle.record.proofs.Steps.{accepted, mode_low, reserved}
-use borrow.Author.Rules.{rules}
 use Rattle.record.proofs.unpack.Goals as goal
 
 pub returns-then-mode-eq8 : goal.returns-then-mode-eq8

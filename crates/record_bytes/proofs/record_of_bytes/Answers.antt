@@ -2,7 +2,6 @@
 -- Assumes nothing.
 use Rattle.record_rules.specs.Wire.{record_of_bytes}
 use lib.ListN.{get_or}
-use borrow.Author.Rules.{rules}
 use Rattle.record_bytes.proofs.record_of_bytes.Goals as goal
 
 pub returns : goal.returns

@@ -4,7 +4,6 @@ use Rattle.line_rules.specs.Read.{replacement_of}
 use mathlib.Core.Path.{◌∙◌}
 use mathlib.Core.List.{[], ◌∷◌}
 use lib.ListN.{get_or}
-use borrow.Author.Rules.{rules}
 use Rattle.record_bytes.proofs.Laying.{from_0}
 use Rattle.record_bytes.proofs.replacement_of.Goals as goal
 

@@ -1,6 +1,5 @@
 -- `spells`: one byte after the other.
 -- Assumes nothing.
-use borrow.Author.Rules.{rules}
 use borrow.Author.Tests.{eq-eqb, ne_eqb}
 use Rattle.record_bytes.proofs.spells.Goals as goal
 

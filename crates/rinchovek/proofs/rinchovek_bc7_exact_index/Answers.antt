@@ -2,7 +2,6 @@
 -- Assumes nothing.
 use mathlib.Core.Path.{sym, ap, ◌∙◌}
 use borrow.Author.Tests.{eq-eqb, ne_eqb}
-use borrow.Author.Rules.{rules}
 use Rattle.nearest_rules.specs.declared.Found.{Found}
 use Rattle.rinchovek.proofs.rinchovek_bc7_exact_index.Goals as goal
 

@@ -1,6 +1,5 @@
 -- `rinchovek_bc7_is_opaque`: 1 where `is_opaque` answers yes.
 -- Assumes nothing.
-use borrow.Author.Rules.{rules}
 use Rattle.rinchovek.proofs.rinchovek_bc7_is_opaque.Goals as goal
 
 pub returns-then-is_opaque : goal.returns-then-is_opaque

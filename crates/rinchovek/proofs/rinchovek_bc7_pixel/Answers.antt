@@ -3,7 +3,6 @@
 use mathlib.Core.Path.{sym, ap, ◌∙◌}
 use borrow.Author.Tests.{eq-eqb, ne_eqb}
 use Rattle.pixel_rules.specs.declared.PixelRead.{PixelRead}
-use borrow.Author.Rules.{rules}
 use Rattle.rinchovek.proofs.rinchovek_bc7_pixel.Goals as goal
 
 pub returns-then-read-ne0 : goal.returns-then-read-ne0

@@ -4,7 +4,6 @@ use mathlib.Core.Path.{sym, ap, ap₂, ◌∙◌}
 use mathlib.Core.List.{List}
 use Prim.Native.Nat.{ℕ}
 use borrow.Author.Tests.{eq-eqb, ne_eqb}
-use borrow.Author.Rules.{rules}
 use Rattle.line_rules.specs.declared.LineRead.{LineRead}
 use Rattle.rinchovek.proofs.rinchovek_bc7_read_line.Goals as goal
 

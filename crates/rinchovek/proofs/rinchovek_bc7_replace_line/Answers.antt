@@ -5,7 +5,6 @@ use Rattle.line_rules.specs.declared.Replaced.{Replaced}
 use Rattle.line_rules.specs.Replace.{call_of, replaced}
 use Rattle.line_rules.proofs.Theorems.{refused_same}
 use Rattle.line_rules.specs.Read.{replacement_of}
-use borrow.Author.Rules.{rules}
 use Rattle.rinchovek.proofs.rinchovek_bc7_replace_line.Goals as goal
 
 pub returns-then-answer-ne0 : goal.returns-then-answer-ne0

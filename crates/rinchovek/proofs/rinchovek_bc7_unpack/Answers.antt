@@ -3,7 +3,6 @@
 use mathlib.Core.Path.{sym, ap, ◌∙◌}
 use borrow.Author.Tests.{eq-eqb, ne_eqb}
 use Rattle.record_rules.specs.declared.Unpacked.{Unpacked}
-use borrow.Author.Rules.{rules}
 use Rattle.rinchovek.proofs.rinchovek_bc7_unpack.Goals as goal
 
 pub returns-then-unpacked-ne0 : goal.returns-then-unpacked-ne0

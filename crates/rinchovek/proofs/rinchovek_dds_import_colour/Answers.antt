@@ -1,7 +1,6 @@
 -- `rinchovek_dds_import_colour`: what `import_dds` answers and leaves, the head in four numbers.
 -- Assumes nothing.
 use Rattle.rinchovek_rules.proofs.Importing.{imports_refused, imports_with_head}
-use borrow.Author.Rules.{rules}
 use Rattle.rinchovek.proofs.rinchovek_dds_import_colour.Goals as goal
 
 pub returns-then-made-ne0 : goal.returns-then-made-ne0

@@ -2,7 +2,6 @@
 -- Assumes nothing.
 use mathlib.Core.Path.{sym, ap, ◌∙◌}
 use borrow.Author.Tests.{eq-eqb, ne_eqb}
-use borrow.Author.Rules.{rules}
 use Rattle.dds_rules.specs.declared.Length.{Length}
 use Rattle.rinchovek.proofs.rinchovek_dds_import_length.Goals as goal
 

@@ -2,7 +2,6 @@
 -- Assumes nothing.
 use mathlib.Core.Path.{sym, ap, ◌∙◌}
 use borrow.Author.Tests.{eq-eqb, ne_eqb}
-use borrow.Author.Rules.{rules}
 use Rattle.float_rules.specs.declared.ChannelFound.{ChannelFound}
 use Rattle.rinchovek.proofs.rinchovek_float_channel.Goals as goal
 

@@ -2,7 +2,6 @@
 -- Assumes nothing.
 use mathlib.Core.Path.{ap}
 use mathlib.Core.List.{[], ◌∷◌}
-use borrow.Author.Rules.{rules}
 use Rattle.float_rules.specs.declared.FloatPixel.{FloatPixel}
 use Rattle.laws.specs.Tables.{table, table_from}
 use Rattle.float_rules.specs.Floats.{floats_of}

@@ -1,7 +1,6 @@
 -- `rinchovek_sheet_open`: what `read_head` answers, in eight numbers.
 -- Assumes nothing.
 use Rattle.rinchovek_rules.proofs.Opening.{not_opened, opened, sized}
-use borrow.Author.Rules.{rules}
 use Rattle.rinchovek.proofs.rinchovek_sheet_open.Goals as goal
 
 pub returns-then-read-ne0 : goal.returns-then-read-ne0

@@ -5,7 +5,6 @@ use mathlib.Core.List.{[], ◌∷◌}
 use mathlib.Core.Path.{sym, ap, ◌∙◌}
 use borrow.Author.Tests.{eq-eqb, ne_eqb}
 use Rattle.head_rules.specs.declared.Head.{Head}
-use borrow.Author.Rules.{rules}
 use Rattle.rinchovek.proofs.rinchovek_sheet_read_colour_head.Goals as goal
 
 pub returns-then-read-ne0 : goal.returns-then-read-ne0

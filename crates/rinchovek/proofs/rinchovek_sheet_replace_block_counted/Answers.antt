@@ -1,7 +1,6 @@
 -- `rinchovek_sheet_replace_block_counted`: what `replace_block_counted` answers and leaves, the counts in ten numbers.
 -- Assumes nothing.
 use Rattle.rinchovek_rules.proofs.Counting.{counted_accepted, counted_refused}
-use borrow.Author.Rules.{rules}
 use Rattle.rinchovek.proofs.rinchovek_sheet_replace_block_counted.Goals as goal
 
 pub returns-then-answer-ne0 : goal.returns-then-answer-ne0

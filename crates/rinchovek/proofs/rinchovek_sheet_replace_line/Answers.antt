@@ -2,7 +2,6 @@
 -- Assumes nothing.
 use mathlib.Core.Path.{ap, ◌∙◌}
 use Rattle.sheet_rules.specs.Sheets.{sheet_after, sheet_refusal}
-use borrow.Author.Rules.{rules}
 use Rattle.rinchovek.proofs.rinchovek_sheet_replace_line.Goals as goal
 
 pub returns : goal.returns

@@ -3,7 +3,6 @@
 use mathlib.Core.Path.{sym, ap, ◌∙◌}
 use borrow.Author.Tests.{eq-eqb, ne_eqb}
 use Rattle.head_rules.specs.declared.HeadBytes.{HeadBytes}
-use borrow.Author.Rules.{rules}
 use Rattle.rinchovek.proofs.rinchovek_sheet_write_head.Goals as goal
 
 pub returns-then-written-ne0 : goal.returns-then-written-ne0

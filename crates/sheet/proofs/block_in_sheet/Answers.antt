@@ -1,6 +1,5 @@
 -- `block_in_sheet` meets its contract.
 -- Assumes nothing.
-use borrow.Author.Rules.{rules}
 use Rattle.sheet.proofs.blocks.Finding.{has_room}
 use Rattle.sheet.proofs.Reading.{block_read_is, not_read}
 use Rattle.sheet.proofs.block_in_sheet.Goals as goal

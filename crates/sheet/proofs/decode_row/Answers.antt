@@ -3,7 +3,6 @@
 use mathlib.Core.Path.{◌∙◌, ap, sym}
 use Prim.Native.Nat.{ℕ, ◌*◌}
 use native.Mathlib.Omega.{arith}
-use borrow.Author.Rules.{rules}
 use Rattle.sheet.proofs.Decoding.{drawn_by, kept, told_by}
 use Rattle.sheet.proofs.decode_row.Goals as goal
 

@@ -12,7 +12,6 @@ use Rattle.head_rules.specs.Heads.{read_head}
 use Rattle.head_rules.specs.Whole.{whole_head}
 use Rattle.head_rules.proofs.Whole.{read_sized}
 use Rattle.sheet.proofs.SheetDecoding.{head_is, is_drawn_is, long_is, not_drawn, not_whole, size_is}
-use borrow.Author.Rules.{rules}
 use Rattle.sheet.proofs.decode_sheet_row.Goals as goal
 
 pub whole-head-requires : goal.whole-head-requires

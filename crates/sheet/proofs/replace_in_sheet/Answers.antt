@@ -1,6 +1,5 @@
 -- `replace_in_sheet` meets its contract.
 -- Assumes nothing.
-use borrow.Author.Rules.{rules}
 use Rattle.sheet.proofs.blocks.Finding.{has_room}
 use Rattle.sheet.proofs.Replacing.{not_found, not_replaced, replaced_stored}
 use Rattle.sheet.proofs.replace_in_sheet.Goals as goal

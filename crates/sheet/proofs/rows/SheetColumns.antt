@@ -14,7 +14,7 @@ use Rattle.head_rules.proofs.Orders.{blocks_within}
 use Rattle.head_rules.proofs.Theorems.{head_sized}
 use Rattle.sheet_head.specs.Asked.{BlockAsked}
 use Rattle.bcn_format.specs.Block.{block_at}
-use Rattle.sheet_rules.specs.Sheets.{block_by, block_in}
+use Rattle.sheet_rules.specs.Sheets.{block_by}
 use Rattle.sheet_rules.specs.SheetRows.{row_blocks}
 use Rattle.sheet_rules.proofs.SheetRows.{row_block}
 use Rattle.sheet.specs.Columns.{SheetRow}

@@ -1,7 +1,6 @@
 -- `tiles::blocks_ahead` meets its contract.
 -- Assumes nothing.
 use native.Mathlib.Omega.{arith}
-use borrow.Author.Rules.{rules}
 use Rattle.tiles.proofs.Sizes.{above, ahead_is, beside}
 use Rattle.tiles.proofs.blocks_ahead.Goals as goal
 

@@ -1,6 +1,5 @@
 -- `tiles::column_of_slot` meets its contract.
 -- Assumes nothing.
-use borrow.Author.Rules.{rules}
 use Rattle.tile_rules.specs.Tiles.{column_of_slot}
 use Rattle.tiles.proofs.column_of_slot.Goals as goal
 

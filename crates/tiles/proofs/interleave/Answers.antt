@@ -2,7 +2,6 @@
 -- Assumes nothing.
 use mathlib.Core.Path.{◌∙◌, ap₂}
 use Prim.Native.Nat.{ℕ, ◌*◌, ◌%◌, ◌^◌}
-use borrow.Author.Rules.{rules}
 use lib.Bits.{bit_or}
 use Rattle.tiles.proofs.Bits.{woven_is, woven_slot}
 use Rattle.tiles.proofs.interleave.Goals as goal

@@ -1,7 +1,6 @@
 -- `tiles::number_in_tiles` meets its contract.
 -- Assumes nothing.
 use native.Mathlib.Omega.{arith}
-use borrow.Author.Rules.{rules}
 use Rattle.tiles.proofs.Found.{column_small, lines_fit, number_sum, number_whole, rest_small, row_small}
 use Rattle.tiles.proofs.number_in_tiles.Goals as goal
 

@@ -2,7 +2,6 @@
 -- Assumes nothing.
 use Prim.Native.Nat.{◌+◌, ◌≤◌}
 use native.Mathlib.Omega.{arith}
-use borrow.Author.Rules.{rules}
 use Rattle.tiles.proofs.Sizes.{last_fits, of_tile, tile_sum}
 use Rattle.tiles.proofs.order_in_tile.Goals as goal
 use Rattle.tiles.proofs.order_in_tile.Goals.{After-blocks_ahead-second}

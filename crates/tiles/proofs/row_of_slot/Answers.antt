@@ -1,7 +1,6 @@
 -- `tiles::row_of_slot` meets its contract.
 -- Assumes nothing.
 use mathlib.Core.Path.{◌∙◌}
-use borrow.Author.Rules.{rules}
 use Rattle.tiles.proofs.Bits.{odd_bits}
 use Rattle.tiles.proofs.row_of_slot.Goals as goal
 

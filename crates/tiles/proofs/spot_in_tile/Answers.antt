@@ -1,6 +1,5 @@
 -- `tiles::spot_in_tile` meets its contract.
 -- Assumes nothing.
-use borrow.Author.Rules.{rules}
 use Rattle.tiles.proofs.Found.{spot}
 use Rattle.tiles.proofs.spot_in_tile.Goals as goal
 

@@ -2,7 +2,6 @@
 -- Assumes nothing.
 use native.Mathlib.Nat.{div-le_self, le_of_lt, mod-le}
 use native.Mathlib.Omega.{arith}
-use borrow.Author.Rules.{rules}
 use Rattle.tiles.proofs.Sizes.{block_inside, column_inside, columns_pos, of_sheet, of_slot, row_inside, stored_sum, stored_whole}
 use Rattle.tiles.proofs.stored_in_tiles.Goals as goal
 

@@ -5,7 +5,6 @@ use Prim.Native.Nat.{◌+◌}
 use native.Mathlib.Omega.{arith}
 use lib.Pow.{pow_mono, pow_pos}
 use Rattle.laws.proofs.Words.{one_shl}
-use borrow.Author.Rules.{rules}
 use Rattle.bc7_drawing.proofs.colour.all_ones.Goals as goal
 
 pub overflow_sub-result : goal.overflow_sub-result

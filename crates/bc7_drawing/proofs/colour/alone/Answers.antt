@@ -3,7 +3,6 @@
 use mathlib.Core.Path.{◌≡◌}
 use mathlib.Core.List.{[], ◌∷◌}
 use native.Mathlib.Omega.{arith}
-use borrow.Author.Rules.{rules}
 use lib.Dec.{eqb}
 use Rattle.bc7_drawing.specs.Words.{ends_of, lanes_of, with_alpha}
 use Rattle.bc7_drawing.proofs.colour.Words.{end_apart, end_apart_fits, end_either_lt, end_two, holds_one, lanes_four}

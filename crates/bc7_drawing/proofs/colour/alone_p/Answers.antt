@@ -2,7 +2,6 @@
 -- Assumes nothing.
 use mathlib.Core.Path.{ap, ◌∙◌}
 use Prim.Native.Nat.{ℕ}
-use borrow.Author.Rules.{rules}
 use Rattle.bc7_fields.specs.Painting.{end_of_p}
 use Rattle.bc7_drawing.specs.Words.{with_p}
 use Rattle.bc7_drawing.proofs.colour.Words.{end_p_lt, end_p_none, ends_first, holds_one, nothing}

@@ -1,7 +1,6 @@
 -- One byte of a word.
 -- Assumes nothing.
 use mathlib.Core.Path.{refl}
-use borrow.Author.Rules.{rules}
 use Rattle.bcn_format.specs.Block.{field}
 use Rattle.bc7_drawing.proofs.colour.byte_of.Goals as goal
 

@@ -1,7 +1,6 @@
 -- One endpoint of four lanes, with p bits.
 -- Assumes nothing.
 use native.Mathlib.Omega.{arith}
-use borrow.Author.Rules.{rules}
 use Rattle.bc7_drawing.proofs.colour.Words.{end_of_p_is, ends_within, parts_small}
 use Rattle.bc7_drawing.proofs.colour.end_of_p.Goals as goal
 

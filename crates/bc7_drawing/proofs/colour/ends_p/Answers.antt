@@ -1,6 +1,5 @@
 -- Both endpoints in both words.
 -- Assumes nothing.
-use borrow.Author.Rules.{rules}
 use Rattle.bc7_drawing.specs.Words.{ends_p}
 use Rattle.bc7_drawing.proofs.colour.ends_p.Goals as goal
 

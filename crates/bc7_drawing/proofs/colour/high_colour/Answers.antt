@@ -3,7 +3,6 @@
 use mathlib.Core.Path.{◌∙◌}
 use mathlib.Core.List.{[], ◌∷◌}
 use native.Mathlib.Omega.{arith}
-use borrow.Author.Rules.{rules}
 use Rattle.bc7_drawing.specs.Words.{word_bytes}
 use Rattle.bc7_drawing.proofs.colour.Mixing.{byte_at}
 use Rattle.bc7_drawing.proofs.colour.high_colour.Goals as goal

@@ -1,7 +1,6 @@
 -- Four values in one word.
 -- Assumes nothing.
 use native.Mathlib.Omega.{arith}
-use borrow.Author.Rules.{rules}
 use Rattle.bc7_drawing.specs.Words.{laned}
 use Rattle.bc7_drawing.proofs.colour.lanes.Goals as goal
 

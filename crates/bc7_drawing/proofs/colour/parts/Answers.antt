@@ -1,7 +1,6 @@
 -- Some bits of each lane.
 -- Assumes nothing.
 use native.Mathlib.Omega.{arith}
-use borrow.Author.Rules.{rules}
 use lib.Pow.{pow_mono, pow_pos}
 use Rattle.laws.proofs.Words.{one_shl}
 use Rattle.bc7_drawing.proofs.colour.Words.{and_parts}

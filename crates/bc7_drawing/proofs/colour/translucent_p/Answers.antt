@@ -2,7 +2,6 @@
 -- Assumes nothing.
 use mathlib.Core.Path.{◌∙◌}
 use mathlib.Core.List.{zip_with}
-use borrow.Author.Rules.{rules}
 use lib.Dec.{eqb}
 use Rattle.laws.specs.Tables.{pick}
 use Rattle.bc7_drawing.specs.Words.{ends_of, ends_p, with_p}

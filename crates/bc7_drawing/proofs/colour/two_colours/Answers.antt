@@ -1,6 +1,5 @@
 -- Two colours of four bytes.
 -- Assumes nothing.
-use borrow.Author.Rules.{rules}
 use Rattle.bc7_drawing.proofs.colour.Mixing.{two_woven, woven_fits}
 use Rattle.bc7_drawing.proofs.colour.two_colours.Goals as goal
 

@@ -1,11 +1,10 @@
 -- Sixteen pixels, each looked up by its key: the loop fills them in order, two at a time.
 -- Assumes nothing.
 use mathlib.Core.Path.{refl}
-use Prim.Native.Nat.{◌-◌, ◌*◌}
 use native.Mathlib.Omega.{arith}
 use Rattle.bc7_fields.specs.Painting.{painted}
-use Rattle.bcn_format.proofs.Making.{Made, made_all, made_none}
-use Rattle.bc7_drawing.proofs.painting.Painting.{colour_of, two_more}
+use Rattle.bcn_format.proofs.Making.{made_all, made_none}
+use Rattle.bc7_drawing.proofs.painting.Painting.{two_more}
 use Rattle.bc7_drawing.proofs.painting.paint_2_3.Goals as goal
 
 pub loop-i-init : goal.loop-i-init

@@ -1,6 +1,5 @@
 -- The colours of two subsets at a weight.
 -- Assumes nothing.
-use borrow.Author.Rules.{rules}
 use Rattle.bc7_drawing.proofs.palette.Keyed.{shades}
 use Rattle.bc7_drawing.proofs.palette.mixed_colours.Goals as goal
 

@@ -1,12 +1,10 @@
 -- The colours of two subsets, four each.
 -- Assumes nothing.
 use mathlib.Core.Path.{refl}
-use Prim.Native.Nat.{◌-◌}
 use native.Mathlib.Omega.{arith}
-use borrow.Author.Rules.{rules}
 use Rattle.bcn_format.proofs.Weighing.{two_bits}
 use Rattle.bc7_drawing.specs.Words.{endpoint}
-use Rattle.bc7_drawing.proofs.palette.Keyed.{high_is, Laid, laid_all, laid_none, low_is, two_laid}
+use Rattle.bc7_drawing.proofs.palette.Keyed.{high_is, laid_all, laid_none, low_is, two_laid}
 use Rattle.bc7_drawing.proofs.palette.Weights.{of_256}
 use Rattle.bc7_drawing.proofs.palette.palette_2_2.Goals as goal
 

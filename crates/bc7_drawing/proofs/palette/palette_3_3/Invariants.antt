@@ -1,13 +1,8 @@
 -- The colours of three subsets, eight each.
 -- Assumes nothing.
-use mathlib.Core.Path.{refl}
 use Prim.Native.Nat.{◌-◌}
-use native.Mathlib.Omega.{arith}
-use borrow.Author.Rules.{rules}
-use Rattle.bcn_format.proofs.Weighing.{three_bits}
 use Rattle.bc7_drawing.specs.Colours.{endpoints}
-use Rattle.bc7_drawing.proofs.palette.Keyed.{four_laid, high_is, Laid, laid_all, laid_none, low_is}
-use Rattle.bc7_drawing.proofs.palette.Weights.{of_256}
+use Rattle.bc7_drawing.proofs.palette.Keyed.{Laid}
 use Rattle.bc7_drawing.proofs.palette.palette_3_3.Given as goal
 
 abbrev pub invariant-loop-k : goal.invariant-loop-k

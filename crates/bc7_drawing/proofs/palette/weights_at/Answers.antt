@@ -2,7 +2,6 @@
 -- Assumes nothing.
 use Prim.Native.Nat.{◌*◌, ◌/◌, ◌^◌}
 use native.Mathlib.Omega.{arith}
-use borrow.Author.Rules.{rules}
 use lib.Bits.{and_le_r}
 use Rattle.bc7_drawing.proofs.palette.Weighing.{weights_taken}
 use Rattle.bc7_drawing.proofs.palette.weights_at.Goals as goal

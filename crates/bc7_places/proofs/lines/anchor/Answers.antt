@@ -1,6 +1,5 @@
 -- `lines::anchor` meets its contract.
 -- Assumes nothing.
-use borrow.Author.Rules.{rules}
 use borrow.Author.Tests.{eq-eqb, ne_eqb}
 use mathlib.Core.Path.{sym, ◌∙◌}
 use Rattle.bc7_places.proofs.lines.anchor.Goals as goal

@@ -1,7 +1,6 @@
 -- `lines::index_set_in` meets its contract.
 -- Assumes nothing.
 use borrow.Author.Tests.{eq-eqb, ne_eqb}
-use borrow.Author.Rules.{rules}
 use Rattle.bc7_places.proofs.lines.index_set_in.Goals as goal
 
 pub returns-then-line-index_mode : goal.returns-then-line-index_mode

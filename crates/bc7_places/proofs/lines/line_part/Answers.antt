@@ -1,6 +1,5 @@
 -- `lines::line_part` meets its contract.
 -- Assumes nothing.
-use borrow.Author.Rules.{rules}
 use Rattle.bc7_places.proofs.splits.AnchorPixels.{anchors_low}
 use Rattle.bc7_places.proofs.splits.SubsetMaps.{map_bits}
 use Rattle.bc7_places.proofs.lines.line_part.Goals as goal

@@ -1,6 +1,5 @@
 -- `lines::own` meets its contract.
 -- Assumes nothing.
-use borrow.Author.Rules.{rules}
 use Rattle.bc7_places.specs.Lines.{own_pixel}
 use Rattle.bc7_places.proofs.lines.own.Goals as goal
 

@@ -1,7 +1,6 @@
 -- `lines::pixels_of` meets its contract.
 -- Assumes nothing.
 use mathlib.Core.Path.{sym, ◌∙◌}
-use borrow.Author.Rules.{rules}
 use borrow.Author.Tests.{eq-eqb, ne_eqb}
 use Rattle.bc7_places.proofs.lines.pixels_of.Goals as goal
 

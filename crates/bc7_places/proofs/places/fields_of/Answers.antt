@@ -1,7 +1,6 @@
 -- `places::fields_of` meets its contract.
 -- Assumes nothing.
 use native.Mathlib.Omega.{arith}
-use borrow.Author.Rules.{rules}
 use Rattle.bc7_places.specs.Places.{fields_of}
 use Rattle.bc7_places.proofs.places.Room.{Room, room}
 use Rattle.bc7_places.proofs.places.fields_of.Goals as goal

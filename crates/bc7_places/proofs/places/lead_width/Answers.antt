@@ -4,7 +4,6 @@ use mathlib.Core.Path.{◌≡◌, sym}
 use native.Mathlib.Omega.{arith}
 use lib.ListN.{get_or-eq_default}
 use Rattle.bc7_format.specs.Splits.{lead_bits}
-use borrow.Author.Rules.{rules}
 use Rattle.bc7_places.proofs.places.lead_width.Goals as goal
 
 pub returns-in-0 : goal.returns-in-0

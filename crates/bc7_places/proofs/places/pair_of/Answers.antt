@@ -1,6 +1,5 @@
 -- `places::pair_of` meets its contract.
 -- Assumes nothing.
-use borrow.Author.Rules.{rules}
 use borrow.Author.Tests.{eq-eqb, ne_eqb}
 use Rattle.bc7_places.proofs.places.pair_of.Goals as goal
 

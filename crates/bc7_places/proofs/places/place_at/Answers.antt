@@ -1,6 +1,5 @@
 -- `places::place_at` meets its contract.
 -- Assumes nothing.
-use native.Mathlib.Omega.{arith}
 use borrow.Author.Tests.{le-ltb, lt-ltb}
 use Rattle.bc7_format.specs.Places.{place_at}
 use Rattle.bc7_places.proofs.places.place_at.Goals as goal

@@ -4,7 +4,6 @@ use borrow.Author.Tests.{eq-eqb, ne_eqb}
 use Rattle.bcn_format.specs.Partitions.{among}
 use Rattle.bc7_places.specs.Splits.{three_of}
 use Rattle.bc7_places.proofs.places.Widths.{no_width}
-use borrow.Author.Rules.{rules}
 use Rattle.bc7_places.proofs.places.stored_width.Goals as goal
 
 pub returns-then-full-eq0 : goal.returns-then-full-eq0

@@ -1,7 +1,6 @@
 -- `places::width_of` meets its contract.
 -- Assumes nothing.
 use mathlib.Core.Path.{◌∙◌}
-use borrow.Author.Rules.{rules}
 use Rattle.bc7_format.specs.Places.{width}
 use Rattle.bc7_places.proofs.places.width_of.Goals as goal
 

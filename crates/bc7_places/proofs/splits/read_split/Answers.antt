@@ -4,7 +4,6 @@ use native.Mathlib.Nat.{lt_of_lt_of_le}
 use native.Mathlib.Omega.{arith}
 use lib.Pow.{pow_mono}
 use Rattle.bc7_modes.proofs.Bounds.{small}
-use borrow.Author.Rules.{rules}
 use Rattle.bc7_places.proofs.splits.read_split.Goals as goal
 
 pub overflow_add-row : goal.overflow_add-row

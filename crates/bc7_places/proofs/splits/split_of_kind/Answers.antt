@@ -3,7 +3,6 @@
 use mathlib.Core.Logic.{◌≢◌}
 use mathlib.Core.Path.{◌≡◌, refl}
 use Prim.Native.Nat.{ℕ, zero, suc}
-use borrow.Author.Rules.{rules}
 use Rattle.bc7_format.specs.Splits.{of_kind}
 use Rattle.bc7_format.specs.declared.Split.TheVariants.{Vector}
 use Rattle.bc7_places.proofs.splits.split_of_kind.Goals as goal

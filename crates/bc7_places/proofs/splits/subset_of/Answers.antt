@@ -1,7 +1,6 @@
 -- `splits::subset_of` meets its contract.
 -- Assumes nothing.
 use native.Mathlib.Omega.{arith}
-use borrow.Author.Rules.{rules}
 use lib.Pow.{pow_pos}
 use Rattle.bcn_format.specs.Block.{field}
 use Rattle.bc7_places.specs.Splits.{subset_in}

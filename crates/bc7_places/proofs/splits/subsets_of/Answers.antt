@@ -1,7 +1,6 @@
 -- `splits::subsets_of` meets its contract.
 -- Assumes nothing.
 use mathlib.Core.Path.{ap, sym}
-use borrow.Author.Rules.{rules}
 use Rattle.bc7_places.specs.Splits.{subsets_of}
 use Rattle.bc7_places.proofs.splits.subsets_of.Goals as goal
 

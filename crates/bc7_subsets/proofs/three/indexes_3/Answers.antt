@@ -1,7 +1,6 @@
 -- The indexes of three subsets.
 -- Assumes nothing.
 use mathlib.Core.Path.{refl}
-use borrow.Author.Rules.{rules}
 use Rattle.bc7_subsets.proofs.three.indexes_3.Goals as goal
 
 pub returns : goal.returns

@@ -1,7 +1,6 @@
 -- The indexes of two subsets.
 -- Assumes nothing.
 use mathlib.Core.Path.{refl}
-use borrow.Author.Rules.{rules}
 use Rattle.bc7_subsets.proofs.two.indexes_2.Goals as goal
 
 pub returns : goal.returns

@@ -2,7 +2,6 @@
 -- Assumes nothing.
 use mathlib.Core.Path.{◌≡◌, ap, ◌∙◌}
 use native.Mathlib.Omega.{arith}
-use borrow.Author.Rules.{rules}
 use Rattle.bc7_fields.specs.Fields.{direct_pixels}
 use Rattle.bits.proofs.On.{held_skipped}
 use Rattle.bc7_subsets.proofs.Laws.{last_of_3}

@@ -4,9 +4,7 @@ use Prim.Native.Nat.{◌*◌, ◌<◌}
 use native.Mathlib.Omega.{arith}
 use native.Mathlib.Nat.{lt_of_lt_of_le, mod-lt}
 use lib.Pow.{pow_pos, pow_mono}
-use borrow.Author.Rules.{rules}
 use Rattle.bcn_format.specs.Block.{field}
-use Rattle.bcn_format.specs.Indexes.{part}
 use Rattle.bcn_format.proofs.Expanding.{times_width}
 use Rattle.laws.proofs.Words.{one_shl}
 use Rattle.indexes.proofs.Indexes.get_index.Goals as goal

@@ -1,6 +1,5 @@
 -- `Indexes::new_p1` meets its contract.
 -- Assumes nothing.
-use borrow.Author.Rules.{rules}
 use Rattle.indexes.proofs.Indexes.new_p1.Goals as goal
 
 pub from_compressed_p1-indexes-requires : goal.from_compressed_p1-indexes-requires

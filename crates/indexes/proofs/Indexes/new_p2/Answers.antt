@@ -1,6 +1,5 @@
 -- `Indexes::new_p2` meets its contract.
 -- Assumes nothing.
-use borrow.Author.Rules.{rules}
 use Rattle.indexes.proofs.Indexes.new_p2.Goals as goal
 
 pub from_compressed_p2-indexes-requires : goal.from_compressed_p2-indexes-requires

@@ -1,6 +1,5 @@
 -- `Indexes::new_p3` meets its contract.
 -- Assumes nothing.
-use borrow.Author.Rules.{rules}
 use Rattle.indexes.proofs.Indexes.new_p3.Goals as goal
 
 pub from_compressed_p3-indexes-requires : goal.from_compressed_p3-indexes-requires

@@ -5,7 +5,6 @@ use Prim.Native.Nat.{◌+◌, ◌-◌, ◌*◌, ◌<◌}
 use native.Mathlib.Omega.{arith}
 use Rattle.bcn_format.specs.Block.{field}
 use Rattle.bcn_format.proofs.Expanding.{times_width}
-use borrow.Author.Rules.{rules}
 use Rattle.indexes.proofs.sets.top_of.Goals as goal
 use Rattle.indexes.proofs.sets.top_of.Goals.{Start}
 

@@ -1,10 +1,8 @@
 -- `sets::word_of` meets its contract.
 -- Assumes nothing.
 use mathlib.Core.Path.{◌≡◌}
-use Prim.Native.Nat.{◌≤◌}
 use native.Mathlib.Omega.{arith}
-use Rattle.indexes.proofs.sets.Words.{Next, Upper, upper_all, upper_next, upper_none}
-use borrow.Author.Rules.{rules}
+use Rattle.indexes.proofs.sets.Words.{Next, upper_all, upper_next, upper_none}
 use Rattle.indexes.proofs.sets.word_of.Goals as goal
 use Rattle.indexes.proofs.sets.word_of.Goals.{In-loop-i}
 

@@ -1,7 +1,6 @@
 -- `storing::compressed` meets its contract.
 -- Assumes nothing.
 use native.Mathlib.Omega.{arith}
-use borrow.Author.Rules.{rules}
 use Rattle.indexes.proofs.Remove.{store_1, store_2, store_3}
 use Rattle.indexes.proofs.storing.compressed.Goals as goal
 

@@ -1,6 +1,5 @@
 -- `storing::stored_bits` meets its contract.
 -- Assumes nothing.
-use borrow.Author.Rules.{rules}
 use Rattle.indexes.proofs.Remove.{no_fixups}
 use Rattle.indexes.proofs.storing.stored_bits.Goals as goal
 

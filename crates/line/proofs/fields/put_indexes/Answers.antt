@@ -3,7 +3,6 @@
 use mathlib.Core.Path.{◌≡◌, ap, ap₂, ◌∙◌}
 use mathlib.Core.List.{[]}
 use Prim.Native.Nat.{ℕ}
-use borrow.Author.Rules.{rules}
 use lib.Bits.{and_le_l}
 use Rattle.laws.specs.Digits.{join, replaced_at, split}
 use Rattle.bits.specs.Stream.{held}

@@ -1,7 +1,6 @@
 -- `fields::put_line` meets its contract.
 -- Assumes nothing.
 use mathlib.Core.Path.{◌≡◌, ◌∙◌}
-use borrow.Author.Rules.{rules}
 use Rattle.bits.specs.Stream.{held}
 use Rattle.line.specs.Fields.{endpoints_put, line_put, values_put}
 use Rattle.line.proofs.fields.put_line.Goals as goal

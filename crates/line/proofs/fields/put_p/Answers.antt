@@ -1,7 +1,6 @@
 -- `fields::put_p` meets its contract.
 -- Assumes nothing.
 use native.Mathlib.Omega.{arith}
-use borrow.Author.Rules.{rules}
 use borrow.Author.Tests.{eq-eqb, ne_eqb}
 use Rattle.line.specs.Fields.{ps_put}
 use Rattle.line.proofs.fields.put_p.Goals as goal

@@ -1,7 +1,6 @@
 -- `fields::put_two` meets its contract.
 -- Assumes nothing.
 use native.Mathlib.Omega.{arith}
-use borrow.Author.Rules.{rules}
 use Rattle.line.proofs.fields.Halves.{pair_fits, pair_is, pair_lt}
 use Rattle.line.proofs.fields.put_two.Goals as goal
 

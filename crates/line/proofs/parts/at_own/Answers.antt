@@ -1,7 +1,6 @@
 -- `parts::at_own` meets its contract.
 -- Assumes nothing.
 use mathlib.Core.Path.{sym, ◌∙◌}
-use borrow.Author.Rules.{rules}
 use Rattle.line.proofs.parts.at_own.Goals as goal
 
 pub returns-then-own : goal.returns-then-own

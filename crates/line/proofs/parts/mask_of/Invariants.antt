@@ -1,17 +1,12 @@
 -- `parts::mask_of` meets its contract: the word of its parts, as `word_of` makes one.
 -- Assumes nothing.
-use mathlib.Core.Path.{◌≡◌, sym, ap, ◌∙◌}
+use mathlib.Core.Path.{◌≡◌}
 use Prim.Native.Nat.{ℕ, ◌-◌, ◌^◌, ◌≤◌}
-use native.Mathlib.Omega.{arith}
-use borrow.Author.Rules.{rules}
 use mathlib.Core.List.{List}
-use lib.ListN.{get_or}
 use Rattle.laws.specs.Tables.{pick, table}
-use Rattle.laws.proofs.Part.{get_d_table}
 use Rattle.bc7_places.specs.declared.lines.Pixels.{Pixels}
 use Rattle.bc7_places.specs.Lines.{own_pixel}
-use Rattle.indexes.proofs.sets.Words.{Next, Upper, upper_all, upper_next, upper_none}
-use Rattle.line.proofs.parts.Asks.{mask_fits, one_less}
+use Rattle.indexes.proofs.sets.Words.{Upper}
 use Rattle.line.proofs.parts.mask_of.Given as goal
 
 abbrev pub parts : Pixels → ℕ → List ℕ

@@ -3,7 +3,6 @@
 use mathlib.Core.Path.{sym, ◌∙◌}
 use borrow.Author.Tests.{eq-eqb, ne_eqb}
 use Rattle.line.specs.Parts.{stored_as}
-use borrow.Author.Rules.{rules}
 use Rattle.line.proofs.parts.oriented.Goals as goal
 
 pub returns-then-top_of-eq0 : goal.returns-then-top_of-eq0

@@ -1,7 +1,5 @@
 -- `parts::parts_fit` meets its contract.
 -- Assumes nothing.
-use borrow.Author.Rules.{rules}
-use borrow.Author.Tests.{not-false, not-true}
 use Rattle.line.proofs.parts.Asks.{by_values, no_index, no_p}
 use Rattle.line.proofs.parts.parts_fit.Goals as goal
 

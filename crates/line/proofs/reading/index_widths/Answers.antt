@@ -1,11 +1,9 @@
 -- `reading::index_widths` meets its contract.
 -- Assumes nothing.
 use mathlib.Core.Path.{refl}
-use Prim.Native.Nat.{◌-◌, ◌≤◌}
 use native.Mathlib.Omega.{arith}
-use Rattle.laws.specs.Tables.{pick}
 use Rattle.laws.proofs.Cases.{pick_lt}
-use Rattle.laws.proofs.Filled.{Filled, filled_all, filled_next, filled_none}
+use Rattle.laws.proofs.Filled.{filled_all, filled_next, filled_none}
 use Rattle.bc7_places.specs.Lines.{own_pixel}
 use Rattle.line.proofs.reading.index_widths.Goals as goal
 

@@ -1,6 +1,5 @@
 -- `reading::line_held` meets its contract.
 -- Assumes nothing.
-use borrow.Author.Rules.{rules}
 use Rattle.line.specs.Reading.{line_held}
 use Rattle.line.proofs.reading.line_held.Goals as goal
 

@@ -1,6 +1,5 @@
 -- `reading::p_at` meets its contract.
 -- Assumes nothing.
-use borrow.Author.Rules.{rules}
 use borrow.Author.Tests.{eq-eqb, ne_eqb}
 use Rattle.line.specs.Reading.{ps_at}
 use Rattle.line.proofs.reading.p_at.Goals as goal

@@ -1,7 +1,6 @@
 -- `reading::set_at` meets its contract.
 -- Assumes nothing.
 use mathlib.Core.Path.{◌∙◌}
-use borrow.Author.Rules.{rules}
 use Rattle.line.proofs.fields.Sets.{before_is}
 use Rattle.line.specs.Reading.{set_at}
 use Rattle.line.proofs.reading.set_at.Goals as goal

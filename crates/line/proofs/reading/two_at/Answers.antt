@@ -4,7 +4,6 @@ use mathlib.Core.Path.{◌≡◌}
 use Prim.Native.Nat.{◌+◌, ◌*◌}
 use native.Mathlib.Nat.{lt_of_lt_of_le, mod-lt}
 use native.Mathlib.Omega.{arith}
-use borrow.Author.Rules.{rules}
 use lib.Pow.{pow_mono, pow_pos, shr_lt}
 use Rattle.laws.proofs.Words.{one_shl}
 use Rattle.line.proofs.fields.Halves.{first_of, second_of}

@@ -1,7 +1,6 @@
 -- `reading::widths_of` meets its contract.
 -- Assumes nothing.
 use Rattle.line.specs.Reading.{widths_in}
-use borrow.Author.Rules.{rules}
 use Rattle.line.proofs.reading.widths_of.Goals as goal
 
 pub returns : goal.returns

@@ -1,7 +1,6 @@
 -- `texts::block_text` meets its contract.
 -- Assumes nothing.
 use Rattle.listing_rules.specs.Text.{block_text}
-use borrow.Author.Rules.{rules}
 use Rattle.text.proofs.Puts.{puts_then}
 use Rattle.listing.proofs.texts.block_text.Goals as goal
 

@@ -1,7 +1,6 @@
 -- `texts::put_pixel` meets its contract.
 -- Assumes nothing.
 use Rattle.listing_rules.specs.Text.{channels}
-use borrow.Author.Rules.{rules}
 use Rattle.text.proofs.Puts.{puts_then}
 use Rattle.listing.proofs.texts.put_pixel.Goals as goal
 

@@ -3,7 +3,6 @@
 use native.Mathlib.Omega.{arith}
 use Rattle.laws.specs.Text.{ascii}
 use Rattle.listing_rules.specs.Text.{sheet_text}
-use borrow.Author.Rules.{rules}
 use Rattle.text.proofs.Puts.{puts_then, puts_within}
 use Rattle.listing.proofs.texts.sheet_text.Goals as goal
 

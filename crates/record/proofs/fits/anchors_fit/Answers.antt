@@ -2,7 +2,6 @@
 -- Assumes nothing.
 use mathlib.Core.Path.{◌∙◌, sym}
 use native.Mathlib.Omega.{arith}
-use borrow.Author.Tests.{not-false, not-true}
 use Rattle.bc7_modes.specs.Modes.{OfMode}
 use Rattle.bc7_modes.proofs.Bounds.{second_bits_is, small}
 use Rattle.record.proofs.fits.Fits.{first_not, first_only, pixels, second_decides}

@@ -3,14 +3,12 @@
 use mathlib.Core.Path.{◌≡◌, refl, ◌∙◌, ap, sym}
 use mathlib.Core.Bool.{Bool}
 use Prim.Native.Nat.{ℕ, ◌+◌, ◌^◌}
-use borrow.Author.Tests.{not-false, not-true}
 use lib.Dec.{ltb}
 use lib.ListN.{get_or}
 use Rattle.laws.specs.Tables.{below, both}
 use Rattle.record.specs.Fitting.{value_bits}
 use Rattle.laws.proofs.Scan.{below_add}
 use Rattle.laws.proofs.Tests.{first_fails, first_holds}
-use borrow.Author.Rules.{rules}
 use Rattle.record.proofs.fits.endpoints_fit.Goals as goal
 use Rattle.record.proofs.fits.endpoints_fit.Goals.{Start}
 

@@ -1,16 +1,12 @@
 -- `fits::p_fits` meets its contract.
 -- Assumes nothing.
-use mathlib.Core.Path.{◌≡◌, refl, ◌∙◌, ap, sym, subst}
+use mathlib.Core.Path.{◌≡◌}
 use mathlib.Core.Bool.{Bool, true}
-use mathlib.Core.Logic.{⊎_elim}
 use mathlib.Core.List.{List}
 use Prim.Native.Nat.{ℕ, ◌-◌, ◌^◌, ◌≤◌}
-use native.Mathlib.Omega.{arith}
-use borrow.Author.Tests.{le-ltb, lt-ltb, not-false, not-true}
 use lib.Dec.{ltb}
 use lib.ListN.{get_or}
 use Rattle.laws.specs.Tables.{below, pick}
-use Rattle.laws.proofs.Scan.{scan_fails, scan_more}
 use Rattle.bc7_modes.specs.declared.ModeRow.{ModeRow}
 use Rattle.record.proofs.fits.p_fits.Given as goal
 

@@ -3,7 +3,6 @@
 use mathlib.Core.Path.{◌∙◌}
 use native.Mathlib.Nat.{add-zero}
 use Rattle.laws.specs.Tables.{table, table_from}
-use borrow.Author.Rules.{rules}
 use Rattle.record.proofs.fits.pair.Goals as goal
 
 pub returns : goal.returns

@@ -2,11 +2,9 @@
 -- Assumes nothing.
 use mathlib.Core.Path.{◌∙◌, sym}
 use native.Mathlib.Omega.{arith}
-use borrow.Author.Tests.{not-false, not-true}
 use Rattle.bc7_modes.specs.Modes.{OfMode}
 use Rattle.bc7_modes.proofs.Bounds.{small}
 use Rattle.record.proofs.fits.Fits.{first_from_is, last_decides, one_fails, ps_from_is, split_from, values_from_is}
-use borrow.Author.Rules.{rules}
 use Rattle.record.proofs.fits.record_fits.Goals as goal
 use Rattle.record.proofs.fits.record_fits.Goals.{Start}
 

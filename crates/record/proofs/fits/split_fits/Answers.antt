@@ -2,13 +2,11 @@
 -- Assumes nothing.
 use mathlib.Core.Path.{◌≡◌, refl, ◌∙◌, sym}
 use native.Mathlib.Omega.{arith}
-use borrow.Author.Tests.{not-false, not-true}
 use Prim.Native.Nat.{◌^◌}
 use lib.Dec.{ltb}
 use Rattle.bc7_format.specs.Splits.{partition, rotation}
 use Rattle.bc7_modes.proofs.Bounds.{small}
 use Rattle.laws.proofs.Tests.{first_fails, first_holds}
-use borrow.Author.Rules.{rules}
 use Rattle.record.proofs.fits.split_fits.Goals as goal
 use Rattle.record.proofs.fits.split_fits.Goals.{After-value_fits, After-value_fits-2}
 

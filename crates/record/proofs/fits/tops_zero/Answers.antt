@@ -2,9 +2,7 @@
 -- Assumes nothing.
 use mathlib.Core.Path.{refl, ◌∙◌, sym}
 use native.Mathlib.Omega.{arith}
-use borrow.Author.Tests.{not-false, not-true}
 use Rattle.laws.proofs.Tests.{first_fails, first_holds}
-use borrow.Author.Rules.{rules}
 use Rattle.record.proofs.fits.tops_zero.Goals as goal
 
 pub bounds-indexes-a : goal.bounds-indexes-a

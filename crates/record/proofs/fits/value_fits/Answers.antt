@@ -2,7 +2,6 @@
 -- Assumes nothing.
 use mathlib.Core.Path.{◌∙◌, sym}
 use Rattle.bc7_places.proofs.fits.Widths.{fit, unfit}
-use borrow.Author.Rules.{rules}
 use Rattle.record.proofs.fits.value_fits.Goals as goal
 
 pub returns-then-rest-eq0 : goal.returns-then-rest-eq0

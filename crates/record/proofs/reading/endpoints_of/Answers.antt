@@ -1,9 +1,9 @@
 -- `reading::endpoints_of` meets its contract.
 -- Assumes nothing.
-use Prim.Native.Nat.{◌-◌, ◌≤◌}
+use Prim.Native.Nat.{◌≤◌}
 use native.Mathlib.Omega.{arith}
 use Rattle.bc7_modes.proofs.Bounds.{small}
-use Rattle.record.proofs.reading.Groups.{Values, values_all, values_next, values_none}
+use Rattle.record.proofs.reading.Groups.{values_all, values_next, values_none}
 use Rattle.record.proofs.reading.endpoints_of.Goals as goal
 use Rattle.record.proofs.reading.endpoints_of.Goals.{Start}
 

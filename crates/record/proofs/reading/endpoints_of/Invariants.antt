@@ -1,9 +1,7 @@
 -- `reading::endpoints_of` meets its contract.
 -- Assumes nothing.
 use Prim.Native.Nat.{◌-◌, ◌≤◌}
-use native.Mathlib.Omega.{arith}
-use Rattle.bc7_modes.proofs.Bounds.{small}
-use Rattle.record.proofs.reading.Groups.{Values, values_all, values_next, values_none}
+use Rattle.record.proofs.reading.Groups.{Values}
 use Rattle.record.proofs.reading.endpoints_of.Given as goal
 
 abbrev pub invariant-loop-e : goal.invariant-loop-e

@@ -5,10 +5,8 @@ use native.Mathlib.Nat.{lt_of_lt_of_le, mod-lt}
 use native.Mathlib.Omega.{arith}
 use lib.Pow.{pow_mono, pow_pos}
 use Rattle.bcn_format.specs.Block.{field}
-use Rattle.bcn_format.specs.Indexes.{part}
 use Rattle.bcn_format.proofs.Expanding.{times_width}
 use Rattle.laws.proofs.Words.{one_shl}
-use borrow.Author.Rules.{rules}
 use Rattle.record.proofs.reading.part_of.Goals as goal
 use Rattle.record.proofs.reading.part_of.Goals.{Start}
 

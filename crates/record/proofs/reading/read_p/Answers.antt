@@ -3,7 +3,6 @@
 use native.Mathlib.Omega.{arith}
 use Rattle.bc7_modes.proofs.Bounds.{small}
 use Rattle.record.proofs.reading.Groups.{p_read_is}
-use borrow.Author.Rules.{rules}
 use Rattle.record.proofs.reading.read_p.Goals as goal
 
 pub overflow_cast-row : goal.overflow_cast-row

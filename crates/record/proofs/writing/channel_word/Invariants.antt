@@ -1,12 +1,8 @@
 -- `writing::channel_word` meets its contract.
 -- Assumes nothing.
-use mathlib.Core.Path.{◌≡◌}
 use Prim.Native.Nat.{◌+◌, ◌*◌, ◌≤◌}
-use native.Mathlib.Omega.{arith}
 use lib.ListN.{get_or}
-use Rattle.bcn_format.proofs.Expanding.{times_width}
-use Rattle.laws.proofs.Downwards.{Down, Step, down_all, down_next, down_none}
-use borrow.Author.Rules.{rules}
+use Rattle.laws.proofs.Downwards.{Down}
 use Rattle.record.proofs.writing.channel_word.Given as goal
 
 abbrev pub invariant-loop-k : goal.invariant-loop-k

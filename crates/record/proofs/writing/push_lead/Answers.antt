@@ -4,7 +4,6 @@ use mathlib.Core.Path.{◌≡◌, refl}
 use native.Mathlib.Omega.{arith}
 use Rattle.record.specs.Writing.{upto}
 use Rattle.record.proofs.writing.Pushing.{begun, lead_said, lead_wide, marker_said, marker_wide, place_asks, place_next}
-use borrow.Author.Rules.{rules}
 use Rattle.record.proofs.writing.push_lead.Goals as goal
 use Rattle.record.proofs.writing.push_lead.Goals.{After-push, After-push-2, After-push-3}
 

@@ -2,7 +2,6 @@
 -- Assumes nothing.
 use mathlib.Core.Path.{◌∙◌}
 use Rattle.record.proofs.writing.Pushing.{all_written}
-use borrow.Author.Rules.{rules}
 use Rattle.record.proofs.writing.write_record.Goals as goal
 
 pub push_lead-lead-requires : goal.push_lead-lead-requires

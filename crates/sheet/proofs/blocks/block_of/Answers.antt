@@ -5,7 +5,6 @@ use native.Mathlib.Omega.{arith}
 use Rattle.head_rules.proofs.Orders.{blocks_within}
 use Rattle.bcn_format.specs.Block.{block_at}
 use Rattle.sheet_rules.specs.Sheets.{block_by}
-use borrow.Author.Rules.{rules}
 use Rattle.sheet.proofs.blocks.block_of.Goals as goal
 
 pub place_of-requires : goal.place_of-requires

@@ -9,7 +9,6 @@ use Rattle.head_rules.specs.Whole.{whole_head}
 use Rattle.head_rules.proofs.Whole.{read_sized}
 use Rattle.sheet.specs.Found.{found_at}
 use Rattle.sheet.proofs.blocks.Finding.{block_found, no_such, not_whole, size_is}
-use borrow.Author.Rules.{rules}
 use Rattle.sheet.proofs.blocks.find_block.Goals as goal
 
 pub whole-head-requires : goal.whole-head-requires

@@ -3,7 +3,6 @@
 use native.Mathlib.Omega.{arith}
 use lib.ListN.{length-set}
 use native.Mathlib.Nat.{add-zero}
-use borrow.Author.Rules.{rules}
 use Rattle.laws.specs.Tables.{over}
 use Rattle.sheet.proofs.output.put_pixel.Goals as goal
 

@@ -1,8 +1,7 @@
 -- `output::put_scanline` meets its contract.
 -- Assumes nothing.
 use Prim.Native.Nat.{◌-◌, ◌≤◌}
-use native.Mathlib.Omega.{arith}
-use Rattle.sheet.proofs.output.Scanlines.{Scanline, scanline_all, scanline_long, scanline_more, scanline_none}
+use Rattle.sheet.proofs.output.Scanlines.{Scanline}
 use Rattle.sheet.proofs.output.put_scanline.Given as goal
 
 abbrev pub invariant-loop-k : goal.invariant-loop-k

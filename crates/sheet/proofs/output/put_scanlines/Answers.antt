@@ -1,9 +1,8 @@
 -- `output::put_scanlines` meets its contract.
 -- Assumes nothing.
 use mathlib.Core.Path.{◌∙◌, sym}
-use Prim.Native.Nat.{◌-◌, ◌≤◌}
 use native.Mathlib.Omega.{arith}
-use Rattle.sheet.proofs.output.Columns.{Scanlines, fits, scanlines_all, scanlines_more, scanlines_none}
+use Rattle.sheet.proofs.output.Columns.{fits, scanlines_all, scanlines_more, scanlines_none}
 use Rattle.sheet.proofs.output.put_scanlines.Goals as goal
 
 pub overflow_mul-scanline : goal.overflow_mul-scanline

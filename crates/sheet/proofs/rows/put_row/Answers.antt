@@ -1,11 +1,9 @@
 -- `rows::put_row` meets its contract.
 -- Assumes nothing.
 use mathlib.Core.Path.{◌∙◌, ap, sym}
-use Prim.Native.Nat.{◌-◌, ◌≤◌}
 use native.Mathlib.Omega.{arith}
-use borrow.Author.Rules.{rules}
 use Rattle.bc7_format.specs.Lines.{pixels}
-use Rattle.sheet.proofs.rows.Columns.{Columns, columns_all, columns_more, columns_none}
+use Rattle.sheet.proofs.rows.Columns.{columns_all, columns_more, columns_none}
 use Rattle.sheet.proofs.rows.put_row.Goals as goal
 
 pub loop-c-init : goal.loop-c-init

@@ -8,7 +8,6 @@ use Rattle.head_rules.specs.Geometry.{out_length}
 use Rattle.head_rules.specs.Heads.{Sized}
 use Rattle.head_rules.proofs.Heading.{size_refused, sized}
 use Rattle.sheet_rules.proofs.Refusing.{row_rules_is}
-use borrow.Author.Rules.{rules}
 use Rattle.sheet.proofs.rows.row_refusal.Goals as goal
 use Rattle.sheet.proofs.rows.row_refusal.Goals.{Else-size-ne0}
 
