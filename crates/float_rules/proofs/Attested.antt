@@ -10,7 +10,9 @@ use lib.Ieee.{Float, add, binary32, climb, div, fin, inf, is_nan, mul, nan, odd,
 use lib.Ieee.{to_unsigned, units}
 use lib.IntN.{negsuc, pos}
 use lib.ListN.{replicate}
-use Rattle.float_rules.specs.declared.ChannelFound.{ChannelFound}
+use Rattle.std.specs.Prelude.{Ok, Err}
+use Rattle.refusals.specs.Answers.{Answer, answer_of, number, number_of}
+use Rattle.refusals.specs.declared.Refusal.TheVariants.{NotAChannel}
 use Rattle.laws.proofs.Tests.{eqb_of}
 use Rattle.laws.specs.Counting.{kept}
 use Rattle.laws.specs.Refusals.{first}
@@ -74,8 +76,8 @@ unfolding channel_found back_refusal channels_with kept first channel_bits chann
     of_int to_unsigned of_bits to_bits add sum mul div round size span climb units odd of_fields count_trailing_zeros
 others_refused = (refl, refl)
 
-abbrev found : ℕ → ChannelFound
-found c = record { refusal = 0; channel = c }
+abbrev found : ℕ → Answer ℕ
+found c = record { refusal = 0; value = c }
 
 pub channels_found : map channel_found (0 ∷ 0x3f80_0000 ∷ 0x3e4c_cccd ∷ 0x3f7e_feff ∷ []) ≡ found 0 ∷ found 255 ∷ found 51 ∷ found 254 ∷ []
 unfolding channel_found back_refusal channels_with kept first
@@ -93,15 +95,15 @@ of_floats = refl
 -- THE PROMISES admit these answers, and not those of another channel, of a pattern that is none, and of a row that is refused
 pub promises_hold :
     FloatsChannel 255 (fin false 1 (pos 0)) × (FloatsChannel 254 (fin false 1 (pos 0)) → ⊥)
-    × FindsChannel 0x3e4c_cccd (found 51) × (FindsChannel 0x8000_0000 (found 0) → ⊥) × FindsChannelOf nan no_channel
-    × FloatsRow (255 ∷ []) (room 1) 0 (fin false 1 (pos 0) ∷ []) × (FloatsRow (255 ∷ []) (room 2) 0 (room 2) → ⊥)
+    × FindsChannel 0x3e4c_cccd (Ok 51) × (FindsChannel 0x8000_0000 (Ok 0) → ⊥) × FindsChannelOf nan (Err NotAChannel)
+    × FloatsRow (255 ∷ []) (room 1) (Ok tt) (fin false 1 (pos 0) ∷ []) × (FloatsRow (255 ∷ []) (room 2) (Ok tt) (room 2) → ⊥)
 unfolding channel_found_of is_nan channel_found back_refusal channels_with kept first floats_after floats_refusal floats_of table table_from
     channel_bits channel_float of_int to_bits div round size span climb units odd of_fields count_trailing_zeros
 promises_hold = (
   refl,
   λ e. eqb_of _ _ (ap (to_bits binary32) e),
   refl,
-  λ e. eqb_of _ _ (ap (λ (a : ChannelFound). a.refusal) e),
+  λ e. eqb_of _ _ (ap (λ (a : Answer ℕ). a.refusal) e),
   refl,
   (refl, refl),
   λ p. eqb_of _ _ p.0,

@@ -51,18 +51,18 @@ module _ (b : ℕ) where
       (λ i. ne_eqb (length (channels_with b)) 0 (λ z. let never : ⊥ = omega (arith, some i) in never)))
       (λ i. none))
 
-  pub found_is : (i : IsChannel b) → channel_found b ≡ record { refusal = 0; channel = i.channel }
+  pub found_is : (i : IsChannel b) → channel_found b ≡ record { refusal = 0; value = i.channel }
   unfolding channel_found
   found_is i =
       let k = first_one (some i) in
       let same : get_or (channels_with b) 0 0 ≡ i.channel = bits_differ _ i.channel k.below i.below (k.same ∙ sym i.same) in
-      λ j. record { refusal = (accepted_when back_answers).1 (i, tt) j; channel = same j }
+      λ j. record { refusal = (accepted_when back_answers).1 (i, tt) j; value = same j }
 
   pub none_is : (IsChannel b → ⊥) → channel_found b ≡ no_channel
   unfolding channel_found
   none_is never =
       let empty : length (channels_with b) ≡ 0 = go (eqb (length (channels_with b)) 0) refl in
-      λ j. record { refusal = (exactly back_answers 23).1 (Given.here never) j; channel = no_first (channels_with b) empty j }
+      λ j. record { refusal = (exactly back_answers 23).1 (Given.here never) j; value = no_first (channels_with b) empty j }
     where
       go : (t : Bool) → eqb (length (channels_with b)) 0 ≡ t → length (channels_with b) ≡ 0
       go true e = eqb-true _ 0 e

@@ -14,7 +14,10 @@ use lib.Ieee.Bits.{nan_bits_above, nan_bits_is, of_bits-to_bits, to_bits-of_bits
 use lib.Ieee.Fits.{div-fits}
 use lib.IntN.{pos}
 use lib.ListN.{get_or, length}
-use Rattle.float_rules.specs.declared.ChannelFound.{ChannelFound}
+use Rattle.std.specs.Prelude.{Result, ⊤}
+use Rattle.refusals.specs.Answers.{Answer, answer_of, number_of}
+use Rattle.refusals.specs.declared.Refusal.{Refusal}
+use Rattle.refusals.proofs.Answers.{answer_fixes, number_fixes}
 use Rattle.float_rules.specs.declared.FloatPixel.{FloatPixel}
 use Rattle.laws.specs.Refusals.{Given}
 use Rattle.laws.proofs.Part.{get_d_table, length_table}
@@ -56,17 +59,17 @@ pub back_refused_when : (b n : ℕ) → (back_refusal b ≡ n) ↔ Given (back_r
 back_refused_when b = exactly (back_answers b)
 
 -- BOTH ROUND TRIPS: back of there is the channel, and there of an accepted back is the bits
-pub back_of_there : (c : ℕ) → c < 256 → channel_found (channel_bits c) ≡ record { refusal = 0; channel = c }
+pub back_of_there : (c : ℕ) → c < 256 → channel_found (channel_bits c) ≡ record { refusal = 0; value = c }
 back_of_there c h = found_is (channel_bits c) (record { channel = c; below = h; same = refl })
 
-pub there_of_back : (b : ℕ) → back_refusal b ≡ 0 → ((channel_found b).channel < 256) × (channel_bits (channel_found b).channel ≡ b)
+pub there_of_back : (b : ℕ) → back_refusal b ≡ 0 → ((channel_found b).value < 256) × (channel_bits (channel_found b).value ≡ b)
 there_of_back b e =
     let i = ((accepted_when (back_answers b)).0 e).0 in
-    let same = ap (λ (a : ChannelFound). a.channel) (found_is b i) in
+    let same = ap (λ (a : Answer ℕ). a.value) (found_is b i) in
     (subst (λ (c : ℕ). c < 256) (sym same) i.below, ap channel_bits same ∙ i.same)
 
 -- so of two patterns that are accepted the channels differ
-pub one_pattern_each : (a b : ℕ) → back_refusal a ≡ 0 → back_refusal b ≡ 0 → (channel_found a).channel ≡ (channel_found b).channel → a ≡ b
+pub one_pattern_each : (a b : ℕ) → back_refusal a ≡ 0 → back_refusal b ≡ 0 → (channel_found a).value ≡ (channel_found b).value → a ≡ b
 one_pattern_each a b p q e = sym (there_of_back a p).1 ∙ ap channel_bits e ∙ (there_of_back b q).1
 
 -- whatever lies above 1.0 as a pattern is refused: with it what has the sign set, as -0.0, the infinities, and every NaN
@@ -101,7 +104,7 @@ bits_as_float b h = go (nan_bits binary32 b) refl
         sym (as_its_bits (of_bits binary32 b) n ∙ ap channel_found same)
 
 -- both round trips of floats
-pub back_of_float : (c : ℕ) → c < 256 → channel_found_of (channel_float c) ≡ record { refusal = 0; channel = c }
+pub back_of_float : (c : ℕ) → c < 256 → channel_found_of (channel_float c) ≡ record { refusal = 0; value = c }
 unfolding channel_bits
 back_of_float c h = as_its_bits (channel_float c) (is_false _ (channels.no_nan c h)) ∙ back_of_there c h
   where
@@ -109,19 +112,19 @@ back_of_float c h = as_its_bits (channel_float c) (is_false _ (channels.no_nan c
     is_false true h = absurd h
     is_false false h = refl
 
-pub float_of_back : (x : Float) → T (fits binary32 x) → (channel_found_of x).refusal ≡ 0 → channel_float (channel_found_of x).channel ≡ x
+pub float_of_back : (x : Float) → T (fits binary32 x) → (channel_found_of x).refusal ≡ 0 → channel_float (channel_found_of x).value ≡ x
 unfolding channel_found_of channel_found channel_bits channel_float
 float_of_back x f e = go (is_nan x) refl
   where
-    go : (t : Bool) → is_nan x ≡ t → channel_float (channel_found_of x).channel ≡ x
+    go : (t : Bool) → is_nan x ≡ t → channel_float (channel_found_of x).value ≡ x
     go true n =
         let q : channel_found_of x ≡ no_channel = rw n in
-        absurd (let never : ⊥ = omega (arith, ap (λ (a : ChannelFound). a.refusal) q) in never)
+        absurd (let never : ⊥ = omega (arith, ap (λ (a : Answer ℕ). a.refusal) q) in never)
     go false n =
         let q = as_its_bits x n in
-        let there = there_of_back (to_bits binary32 x) (ap (λ (a : ChannelFound). a.refusal) (sym q) ∙ e) in
-        let c = (channel_found (to_bits binary32 x)).channel in
-        ap (λ (a : ChannelFound). channel_float a.channel) q
+        let there = there_of_back (to_bits binary32 x) (ap (λ (a : Answer ℕ). a.refusal) (sym q) ∙ e) in
+        let c = (channel_found (to_bits binary32 x)).value in
+        ap (λ (a : Answer ℕ). channel_float a.value) q
         ∙ sym (of_bits-to_bits binary32 (channel_float c) (div-fits binary32 (of_int binary32 (pos c)) (of_int binary32 (pos 255))))
         ∙ ap (of_bits binary32) there.1 ∙ of_bits-to_bits binary32 x f
 
@@ -157,16 +160,16 @@ determined_channel_float channel a b p q = p ∙ sym q
 pub determined_pixel_floats : (pixel : List ℕ) (a b : FloatPixel) → FloatsPixel pixel a → FloatsPixel pixel b → a ≡ b
 determined_pixel_floats pixel a b p q = p ∙ sym q
 
-pub determined_channel : (bits : ℕ) (a b : ChannelFound) → FindsChannel bits a → FindsChannel bits b → a ≡ b
-determined_channel bits a b p q = p ∙ sym q
+pub determined_channel : (bits : ℕ) (a b : Result ℕ Refusal) → FindsChannel bits a → FindsChannel bits b → a ≡ b
+determined_channel bits a b p q = answer_fixes 0 a b (p ∙ sym q)
 
-pub determined_channel_of : (value : Float) (a b : ChannelFound) → FindsChannelOf value a → FindsChannelOf value b → a ≡ b
-determined_channel_of value a b p q = p ∙ sym q
+pub determined_channel_of : (value : Float) (a b : Result ℕ Refusal) → FindsChannelOf value a → FindsChannelOf value b → a ≡ b
+determined_channel_of value a b p q = answer_fixes 0 a b (p ∙ sym q)
 
-pub determined_row_floats : (pixels : List ℕ) (before : List Float) (a b : ℕ) (x y : List Float) → FloatsRow pixels before a x
+pub determined_row_floats : (pixels : List ℕ) (before : List Float) (a b : Result ⊤ Refusal) (x y : List Float) → FloatsRow pixels before a x
     → FloatsRow pixels before b y → (a ≡ b) × (x ≡ y)
-determined_row_floats pixels before a b x y p q = (p.0 ∙ sym q.0, p.1 ∙ sym q.1)
+determined_row_floats pixels before a b x y p q = (number_fixes a b (p.0 ∙ sym q.0), p.1 ∙ sym q.1)
 
 -- and where the answer is not 0, the floats are as they were
-pub refused_row_leaves : (pixels : List ℕ) (before : List Float) (a : ℕ) (x : List Float) → FloatsRow pixels before a x → a ≢ 0 → x ≡ before
+pub refused_row_leaves : (pixels : List ℕ) (before : List Float) (a : Result ⊤ Refusal) (x : List Float) → FloatsRow pixels before a x → number_of a ≢ 0 → x ≡ before
 refused_row_leaves pixels before a x p ne = p.1 ∙ row_left pixels before (λ z. ne (p.0 ∙ z))

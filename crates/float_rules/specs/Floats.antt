@@ -3,11 +3,11 @@
 use Rattle.std.specs.Prelude.{◌≡◌, not, List, [], ◌∷◌, ℕ, ◌<◌, eqb, Float, pos, get_or, length}
 use Rattle.std.specs.Float.{binary32}
 use Rattle.std.specs.Float.Ieee.{div, is_nan, of_int, to_bits}
-use Rattle.float_rules.specs.declared.ChannelFound.{ChannelFound}
 use Rattle.float_rules.specs.declared.FloatPixel.{FloatPixel}
 use Rattle.laws.specs.Counting.{kept}
 use Rattle.laws.specs.Refusals.{Rule, first, refuse, unless}
 use Rattle.laws.specs.Tables.{pick, table}
+use Rattle.refusals.specs.Answers.{Answer}
 
 -- both numbers are f32 values, and one division is rounded once
 unfoldable pub channel_float : ℕ → Float
@@ -38,14 +38,14 @@ unfoldable pub back_refusal : ℕ → ℕ
 back_refusal b = first (refuse 23 (eqb (length (channels_with b)) 0) ∷ [])
 
 -- the number, and the channel; 0 where it is refused
-unfoldable pub channel_found : ℕ → ChannelFound
-channel_found b = record { refusal = back_refusal b; channel = get_or (channels_with b) 0 0 }
+unfoldable pub channel_found : ℕ → Answer ℕ
+channel_found b = record { refusal = back_refusal b; value = get_or (channels_with b) 0 0 }
 
-abbrev pub no_channel : ChannelFound
-no_channel = record { refusal = 23; channel = 0 }
+abbrev pub no_channel : Answer ℕ
+no_channel = record { refusal = 23; value = 0 }
 
 -- from a float: by its bits, which a NaN has not, for each of many patterns is one
-unfoldable pub channel_found_of : Float → ChannelFound
+unfoldable pub channel_found_of : Float → Answer ℕ
 channel_found_of x = pick (is_nan x) no_channel (channel_found (to_bits binary32 x))
 
 -- the refusal in words

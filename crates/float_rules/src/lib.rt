@@ -10,10 +10,3 @@ pub struct FloatPixel {
     pub blue: f32,
     pub alpha: f32,
 }
-
-// The channel that a float is. A refusal has 0.
-#[derive(Clone, Copy)]
-pub struct ChannelFound {
-    pub refusal: u8,
-    pub channel: u8,
-}

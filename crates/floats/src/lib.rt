@@ -3,12 +3,11 @@
 #![tactic(auto)]
 
 ghost use Rattle.std.specs.Prelude.{◌≡◌};
-ghost use Rattle.float_rules.specs.Floats.{no_channel};
 ghost use Rattle.float_rules.specs.Promises.{FindsChannel, FindsChannelOf, FloatsChannel, FloatsPixel, FloatsRow};
 ghost use Rattle.floats.specs.Candidates.{candidate_of};
 
-use float_rules::{ChannelFound, FloatPixel};
-use refusals::{NOT_A_CHANNEL, WRONG_OUTPUT_LENGTH};
+use float_rules::FloatPixel;
+use refusals::Refusal;
 
 // One division, rounded once. A product with 1 / 255 would be rounded twice, and is another float for many channels.
 pub fn channel_float(channel: u8) -> f32
@@ -44,49 +43,36 @@ fn candidate(bits: u32) -> u8
     (((255 * significand) >> (150 - bits / 0x80_0000)) % 256) as u8
 }
 
-fn no_channel() -> ChannelFound
-    ensures { result ≡ no_channel }
-{
-    ChannelFound {
-        refusal: NOT_A_CHANNEL,
-        channel: 0,
-    }
-}
-
 // The channel whose float has these bits. Its candidate's float is made again, and every bit is compared.
-pub fn channel_of_bits(bits: u32) -> ChannelFound
+pub fn channel_of_bits(bits: u32) -> Result<u8, Refusal>
     ensures { FindsChannel bits result }
 {
     let channel = candidate(bits);
     if f32::to_bits(channel_float(channel)) != bits {
-        return no_channel();
+        return Err(Refusal::NotAChannel);
     }
-    ChannelFound {
-        refusal: 0,
-        channel: channel,
-    }
+    Ok(channel)
 }
 
 // The same of a float. A NaN, which alone differs from itself, is no channel's.
-pub fn channel_of(value: f32) -> ChannelFound
+pub fn channel_of(value: f32) -> Result<u8, Refusal>
     ensures { FindsChannelOf value result }
 {
     if value != value {
-        return no_channel();
+        return Err(Refusal::NotAChannel);
     }
     channel_of_bits(f32::to_bits(value))
 }
 
 // Every channel of a row, or of any run of bytes, as a float.
-pub fn row_floats(pixels: &[u8], floats: &mut [f32]) -> u8
+pub fn row_floats(pixels: &[u8], floats: &mut [f32]) -> Result<(), Refusal>
     ensures { FloatsRow pixels.now floats.old result floats.new }
 {
-    let count = pixels.len();
-    if count != floats.len() {
-        return WRONG_OUTPUT_LENGTH;
+    if pixels.len() != floats.len() {
+        return Err(Refusal::WrongOutputLength);
     }
-    for i in 0..count {
-        floats[i] = channel_float(pixels[i]);
+    for (float, &channel) in floats.iter_mut().zip(pixels) {
+        *float = channel_float(channel);
     }
-    0
+    Ok(())
 }

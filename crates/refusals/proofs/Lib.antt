@@ -1,0 +1,2 @@
+-- That an answer is one result's.
+pub mod Answers

@@ -1,0 +1,2 @@
+-- What a call that may be refused answers.
+pub mod Answers
