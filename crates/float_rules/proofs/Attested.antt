@@ -11,7 +11,7 @@ use lib.Ieee.{to_unsigned, units}
 use lib.IntN.{negsuc, pos}
 use lib.ListN.{replicate}
 use Rattle.std.specs.Prelude.{Ok, Err}
-use Rattle.refusals.specs.Answers.{Answer, answer_of, number, number_of}
+use Rattle.refusals.specs.Answers.{Answer}
 use Rattle.refusals.specs.declared.Refusal.TheVariants.{NotAChannel}
 use Rattle.laws.proofs.Tests.{eqb_of}
 use Rattle.laws.specs.Counting.{kept}

@@ -15,7 +15,7 @@ use lib.Ieee.Fits.{div-fits}
 use lib.IntN.{pos}
 use lib.ListN.{get_or, length}
 use Rattle.std.specs.Prelude.{Result, ⊤}
-use Rattle.refusals.specs.Answers.{Answer, answer_of, number_of}
+use Rattle.refusals.specs.Answers.{Answer, number_of}
 use Rattle.refusals.specs.declared.Refusal.{Refusal}
 use Rattle.refusals.proofs.Answers.{answer_fixes, number_fixes}
 use Rattle.float_rules.specs.declared.FloatPixel.{FloatPixel}
