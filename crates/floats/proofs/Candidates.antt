@@ -31,7 +31,7 @@ candidate_below b =
 
 -- where its bits are these, it is the channel, and where not, there is none
 module _ (b : ℕ) where
-  pub candidate_found : channel_bits (candidate_of b) ≡ b → channel_found b ≡ record { refusal = 0; channel = candidate_of b }
+  pub candidate_found : channel_bits (candidate_of b) ≡ b → channel_found b ≡ record { refusal = 0; value = candidate_of b }
   candidate_found e = found_is b (record { channel = candidate_of b; below = candidate_below b; same = e })
 
   pub candidate_none : channel_bits (candidate_of b) ≢ b → channel_found b ≡ no_channel

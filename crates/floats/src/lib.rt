@@ -71,8 +71,8 @@ pub fn row_floats(pixels: &[u8], floats: &mut [f32]) -> Result<(), Refusal>
     if pixels.len() != floats.len() {
         return Err(Refusal::WrongOutputLength);
     }
-    for (float, &channel) in floats.iter_mut().zip(pixels) {
-        *float = channel_float(channel);
+    for (i, &channel) in pixels.iter().enumerate() {
+        floats[i] = channel_float(channel);
     }
     Ok(())
 }

@@ -27,6 +27,7 @@ use moves::{state_colour, to_rows, to_tiles};
 use nearest::{exact_index, nearest_index};
 use opacity::is_opaque;
 use record::unpack;
+use refusals::number_of as number_of_answer;
 use record_bytes::{pack_bytes, record_bytes, replacement_bytes, replacement_of};
 use sheet::{block_in_sheet, decode_row, decode_sheet_row, replace_in_sheet};
 use sheet_head::colours::number_of;
@@ -465,17 +466,18 @@ pub fn rinchovek_pixel_floats(pixel: &[u8; 4], floats: &mut [f32; 4])
 pub fn rinchovek_float_channel(bits: u32, channel: &mut u32) -> u32
     ensures { FindsChannel bits channel.old result channel.new }
 {
-    let found = channel_of_bits(bits);
-    if found.refusal != 0 {
-        return found.refusal as u32;
+    match channel_of_bits(bits) {
+        Ok(found) => {
+            *channel = found as u32;
+            0
+        }
+        Err(refusal) => refusal.number() as u32,
     }
-    *channel = found.channel as u32;
-    0
 }
 
 // The channels of a row as floats, one for each byte.
 pub fn rinchovek_row_floats(pixels: &[u8], floats: &mut [f32]) -> u32
     ensures { FloatsRow pixels.now floats.old result floats.new }
 {
-    row_floats(pixels, floats) as u32
+    number_of_answer(row_floats(pixels, floats)) as u32
 }

@@ -196,7 +196,7 @@ abbrev pub FloatsPixel : List ℕ → List Float → Type 0
 FloatsPixel pixel after = after ≡ floats_of 4 pixel
 
 abbrev pub FindsChannel : ℕ → ℕ → ℕ → ℕ → Type 0
-FindsChannel bits before = Writes (channel_found bits).refusal (channel_found bits).channel before
+FindsChannel bits before = Writes (channel_found bits).refusal (channel_found bits).value before
 
 abbrev pub FloatsRow : List ℕ → List Float → ℕ → List Float → Type 0
 FloatsRow pixels before = Gives (floats_refusal (length pixels) (length before)) (floats_after pixels before)

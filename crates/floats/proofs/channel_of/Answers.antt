@@ -10,7 +10,7 @@ use Rattle.floats.proofs.channel_of.Goals as goal
 
 pub returns-then-value : goal.returns-then-value
 unfolding channel_found_of
-returns-then-value c = rw (differs_nan c.args.value c.if-value.true) c.no_channel.ensures
+returns-then-value c = rw (differs_nan c.args.value c.if-value.true)
 
 pub float_to_bits-value : goal.float_to_bits-value
 float_to_bits-value c = subst (λ (t : Bool). T (not t)) (sym (same_no_nan c.args.value c.if-value.false)) tt

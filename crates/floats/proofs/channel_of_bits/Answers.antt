@@ -24,11 +24,11 @@ compared c = ap (to_bits binary32) c.channel_float.ensures ∙ ap channel_bits c
 
 pub returns-then-channel_float-bits : goal.returns-then-channel_float-bits
 returns-then-channel_float-bits c =
-    let at = c.before.before in
-    c.no_channel.ensures ∙ sym (candidate_none at.args.bits (λ e. c.if-channel_float-bits.true (compared at ∙ e)))
+    let at = c.before in
+    sym (candidate_none at.args.bits (λ e. c.if-channel_float-bits.true (compared at ∙ e)))
 
 pub returns : goal.returns
 returns c =
     let at = c.before in
-    ap (λ (n : ℕ). record { refusal = 0; channel = n }) at.candidate-channel.ensures
+    ap (λ (n : ℕ). record { refusal = 0; value = n }) at.candidate-channel.ensures
     ∙ sym (candidate_found at.args.bits (sym (compared at) ∙ c.if-channel_float-bits.false))
