@@ -10,6 +10,3 @@ lent_of x n m h = sym (length-take-le n (replicate m x) (rw (length-replicate m 
 
 pub lent_length : (n m : ℕ) → n ≤ m → n ≡ length (take n (replicate {A = ℕ} m 0))
 lent_length = lent_of 0
-
-pub lent_within : (n m : ℕ) → n ≤ m → length (take n (replicate {A = ℕ} m 0)) ≤ m
-lent_within n m h = rw (sym (lent_length n m h)) h

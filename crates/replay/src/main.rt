@@ -5,7 +5,7 @@
 
 #![tactic(auto)]
 
-ghost use Rattle.std.specs.Prelude.{◌≡◌, ◌+◌, ◌*◌, ◌≤◌, ◌<◌, length};
+ghost use Rattle.std.specs.Prelude.{◌≡◌, ◌+◌, ◌*◌, ◌≤◌, length, IfOk};
 
 use bc7_places::places::PLACES;
 use bits::stream::{BitStream, Read};
@@ -22,788 +22,461 @@ use rinchovek::{
     rinchovek_sheet_replace_line_counted, rinchovek_sheet_show_row, rinchovek_sheet_state_colour,
     rinchovek_sheet_to_rows, rinchovek_sheet_to_tiles, rinchovek_sheet_write_head,
 };
+use std::array::from_fn;
 use std::io;
 
 // The longest input or output that a call may name.
-const MOST: u32 = 65536;
+const MOST: usize = 65536;
 
-// Whether the input had enough bytes to fill the whole slice.
-fn filled(from: &mut impl io::Read, bytes: &mut [u8]) -> bool {
-    from.read_exact(bytes).is_ok()
+// Why a run ends: the input does, or asks for what there is not; or an answer can't be written.
+#[derive(Drop)]
+enum Ended {
+    Input,
+    Output(io::Error),
 }
 
-fn wide(byte: u8) -> u32
-    ensures { result < 256 }
-{
-    byte as u32
+impl From<io::Error> for Ended {
+    fn from(e: io::Error) -> Ended {
+        Ended::Output(e)
+    }
 }
 
-// The number that four bytes say, low byte first.
-fn number(bytes: &[u8], at: usize) -> u32
-    requires { at + 4 ≤ length bytes.now }
-{
-    let low = wide(bytes[at]) + wide(bytes[at + 1]) * 256;
-    low + wide(bytes[at + 2]) * 65536 + wide(bytes[at + 3]) * 16777216
+// The input's next bytes, as many as the slice has.
+fn fill(from: &mut impl io::Read, bytes: &mut [u8]) -> Result<(), Ended> {
+    from.read_exact(bytes).map_err(|_| Ended::Input)
+}
+
+fn bytes<const N: usize>(from: &mut impl io::Read) -> Result<[u8; N], Ended> {
+    let mut taken = [0u8; N];
+    fill(from, &mut taken)?;
+    Ok(taken)
+}
+
+fn byte(from: &mut impl io::Read) -> Result<u8, Ended> {
+    let taken: [u8; 1] = bytes(from)?;
+    Ok(taken[0])
+}
+
+fn number(from: &mut impl io::Read) -> Result<u32, Ended> {
+    Ok(u32::from_le_bytes(bytes(from)?))
 }
 
 fn write_u32(to: &mut impl io::Write, n: u32) -> io::Result<()> {
-    let bytes = [
-        (n % 256) as u8,
-        (n / 256 % 256) as u8,
-        (n / 65536 % 256) as u8,
-        (n / 16777216) as u8,
-    ];
-    to.write_all(&bytes)
+    to.write_all(&n.to_le_bytes())
 }
 
-fn write_u8(to: &mut impl io::Write, n: u8) -> io::Result<()> {
-    let byte = [n];
-    to.write_all(&byte)
-}
-
-fn write_block(to: &mut impl io::Write, block: &[u8; 16]) -> io::Result<()> {
-    to.write_all(block)
-}
-
-fn write_record(to: &mut impl io::Write, record: &[u8; PLACES]) -> io::Result<()> {
-    to.write_all(record)
-}
-
-fn write_line(to: &mut impl io::Write, line: &[u8; 26]) -> io::Result<()> {
-    to.write_all(line)
-}
-
-fn write_head_bytes(to: &mut impl io::Write, head: &[u8; 7]) -> io::Result<()> {
-    to.write_all(head)
+fn write_numbers(to: &mut impl io::Write, numbers: &[u32]) -> io::Result<()> {
+    for &n in numbers {
+        write_u32(to, n)?;
+    }
+    Ok(())
 }
 
 // A refusal, an index, a count or a yes is one byte; a number that needs more, which no call gives, is told from all that are.
 fn write_small(to: &mut impl io::Write, n: u32) -> io::Result<()> {
-    write_u8(to, if n < 255 { n as u8 } else { 255 })
+    to.write_all(&[n.min(255) as u8])
 }
 
-fn flat(pixels: [[u8; 4]; 16]) -> [u8; 64] {
-    let mut bytes = [0u8; 64];
-    for i in 0..64usize {
-        bytes[i] = pixels[i / 4][i % 4];
-    }
-    bytes
-}
-
-fn decode_call(from: &mut impl io::Read, to: &mut impl io::Write) -> io::Result<bool> {
-    let mut block = [0u8; 16];
-    if !filled(from, &mut block) {
-        return Ok(false);
-    }
+fn decode_call(from: &mut impl io::Read, to: &mut impl io::Write) -> Result<(), Ended> {
+    let block = bytes(from)?;
     let mut pixels = [[0u8; 4]; 16];
     rinchovek_bc7_decode_block(&block, &mut pixels);
-    let bytes = flat(pixels);
-    to.write_all(&bytes)?;
-    Ok(true)
+    let flat: [u8; 64] = from_fn(|i| pixels[i / 4][i % 4]);
+    to.write_all(&flat)?;
+    Ok(())
 }
 
 // Two bytes for each half, the low byte first.
-fn half_byte(half: u16, place: usize) -> u8 {
-    if place == 0 {
-        return (half % 256) as u8;
+fn decode_bc6h_call(from: &mut impl io::Read, to: &mut impl io::Write) -> Result<(), Ended> {
+    let sign = byte(from)?;
+    if 1 < sign {
+        return Err(Ended::Input);
     }
-    (half / 256) as u8
-}
-
-fn half_bytes(halves: [[u16; 3]; 16]) -> [u8; 96] {
-    let mut bytes = [0u8; 96];
-    for i in 0..96usize {
-        bytes[i] = half_byte(halves[i / 6][i / 2 % 3], i % 2);
-    }
-    bytes
-}
-
-fn decode_bc6h_call(from: &mut impl io::Read, to: &mut impl io::Write) -> io::Result<bool> {
-    let mut sign = [0u8; 1];
-    if !filled(from, &mut sign) {
-        return Ok(false);
-    }
-    if 1 < sign[0] {
-        return Ok(false);
-    }
-    let mut block = [0u8; 16];
-    if !filled(from, &mut block) {
-        return Ok(false);
-    }
+    let block = bytes(from)?;
     let mut halves = [[0u16; 3]; 16];
-    rinchovek_bc6h_decode_block(&block, wide(sign[0]), &mut halves);
-    let bytes = half_bytes(halves);
-    to.write_all(&bytes)?;
-    Ok(true)
+    rinchovek_bc6h_decode_block(&block, sign as u32, &mut halves);
+    let flat: [u8; 96] = from_fn(|i| halves[i / 6][i / 2 % 3].to_le_bytes()[i % 2]);
+    to.write_all(&flat)?;
+    Ok(())
 }
 
-fn unpack_call(from: &mut impl io::Read, to: &mut impl io::Write) -> io::Result<bool> {
-    let mut block = [0u8; 16];
-    if !filled(from, &mut block) {
-        return Ok(false);
-    }
+fn unpack_call(from: &mut impl io::Read, to: &mut impl io::Write) -> Result<(), Ended> {
     let mut record = [0u8; PLACES];
-    write_small(to, rinchovek_bc7_unpack(&block, &mut record))?;
-    write_record(to, &record)?;
-    Ok(true)
+    write_small(to, rinchovek_bc7_unpack(&bytes(from)?, &mut record))?;
+    to.write_all(&record)?;
+    Ok(())
 }
 
-fn pack_call(from: &mut impl io::Read, to: &mut impl io::Write) -> io::Result<bool> {
-    let mut record = [0u8; PLACES];
-    if !filled(from, &mut record) {
-        return Ok(false);
-    }
+fn pack_call(from: &mut impl io::Read, to: &mut impl io::Write) -> Result<(), Ended> {
+    let record: [u8; PLACES] = bytes(from)?;
     if 3 < record[1] {
-        return Ok(false);
+        return Err(Ended::Input);
     }
     let mut block = [0u8; 16];
     write_small(to, rinchovek_bc7_pack(&record, &mut block))?;
-    write_block(to, &block)?;
-    Ok(true)
+    to.write_all(&block)?;
+    Ok(())
 }
 
-fn read_line_call(from: &mut impl io::Read, to: &mut impl io::Write) -> io::Result<bool> {
-    let mut block = [0u8; 16];
-    if !filled(from, &mut block) {
-        return Ok(false);
-    }
-    let mut line = [0u8; 4];
-    if !filled(from, &mut line) {
-        return Ok(false);
-    }
+fn read_line_call(from: &mut impl io::Read, to: &mut impl io::Write) -> Result<(), Ended> {
+    let block = bytes(from)?;
+    let line = number(from)?;
     let mut held = [0u8; 26];
     let mut widths = [0u8; 26];
     write_small(
         to,
-        rinchovek_bc7_read_line(&block, number(&line, 0), &mut held, &mut widths),
+        rinchovek_bc7_read_line(&block, line, &mut held, &mut widths),
     )?;
-    write_line(to, &held)?;
-    write_line(to, &widths)?;
-    Ok(true)
+    to.write_all(&held)?;
+    to.write_all(&widths)?;
+    Ok(())
 }
 
-fn replace_call(from: &mut impl io::Read, to: &mut impl io::Write) -> io::Result<bool> {
-    let mut block = [0u8; 16];
-    if !filled(from, &mut block) {
-        return Ok(false);
-    }
-    let mut line = [0u8; 4];
-    if !filled(from, &mut line) {
-        return Ok(false);
-    }
-    let mut given = [0u8; 26];
-    if !filled(from, &mut given) {
-        return Ok(false);
-    }
-    write_small(
-        to,
-        rinchovek_bc7_replace_line(&mut block, number(&line, 0), &given),
-    )?;
-    write_block(to, &block)?;
-    Ok(true)
+fn replace_call(from: &mut impl io::Read, to: &mut impl io::Write) -> Result<(), Ended> {
+    let mut block = bytes(from)?;
+    let line = number(from)?;
+    let given = bytes(from)?;
+    write_small(to, rinchovek_bc7_replace_line(&mut block, line, &given))?;
+    to.write_all(&block)?;
+    Ok(())
 }
 
 // The nearest index, or the one that hits: both are asked for in the same bytes.
-fn index_call(from: &mut impl io::Read, to: &mut impl io::Write, exact: bool) -> io::Result<bool> {
-    let mut block = [0u8; 16];
-    if !filled(from, &mut block) {
-        return Ok(false);
-    }
-    let mut place = [0u8; 8];
-    if !filled(from, &mut place) {
-        return Ok(false);
-    }
-    let mut wanted = [0u8; 4];
-    if !filled(from, &mut wanted) {
-        return Ok(false);
-    }
-    let line = number(&place, 0);
-    let pixel = number(&place, 4);
+fn index_call<F: FnOnce(&[u8; 16], u32, u32, &[u8; 4], &mut u32) -> u32>(
+    from: &mut impl io::Read,
+    to: &mut impl io::Write,
+    find: F,
+) -> Result<(), Ended>
+    requires { F.IsAlwaysCallable find }
+{
+    let block = bytes(from)?;
+    let line = number(from)?;
+    let pixel = number(from)?;
+    let wanted = bytes(from)?;
     let mut index: u32 = 0;
-    let refusal = if exact {
-        rinchovek_bc7_exact_index(&block, line, pixel, &wanted, &mut index)
-    } else {
-        rinchovek_bc7_nearest_index(&block, line, pixel, &wanted, &mut index)
-    };
-    write_small(to, refusal)?;
+    write_small(to, find(&block, line, pixel, &wanted, &mut index))?;
     write_small(to, index)?;
-    Ok(true)
+    Ok(())
 }
 
-fn opacity_call(from: &mut impl io::Read, to: &mut impl io::Write) -> io::Result<bool> {
-    let mut block = [0u8; 16];
-    if !filled(from, &mut block) {
-        return Ok(false);
-    }
-    let mut shown = [0u8; 8];
-    if !filled(from, &mut shown) {
-        return Ok(false);
-    }
-    write_small(
-        to,
-        rinchovek_bc7_is_opaque(&block, number(&shown, 0), number(&shown, 4)),
-    )?;
-    Ok(true)
+fn opacity_call(from: &mut impl io::Read, to: &mut impl io::Write) -> Result<(), Ended> {
+    let block = bytes(from)?;
+    let columns = number(from)?;
+    let rows = number(from)?;
+    write_small(to, rinchovek_bc7_is_opaque(&block, columns, rows))?;
+    Ok(())
 }
 
-fn write_pixel(to: &mut impl io::Write, rgba: &[u8; 4]) -> io::Result<()> {
-    to.write_all(rgba)
-}
-
-fn pixel_call(from: &mut impl io::Read, to: &mut impl io::Write) -> io::Result<bool> {
-    let mut block = [0u8; 16];
-    if !filled(from, &mut block) {
-        return Ok(false);
-    }
-    let mut pixel = [0u8; 4];
-    if !filled(from, &mut pixel) {
-        return Ok(false);
-    }
+fn pixel_call(from: &mut impl io::Read, to: &mut impl io::Write) -> Result<(), Ended> {
+    let block = bytes(from)?;
+    let pixel = number(from)?;
     let mut rgba = [0u8; 4];
-    write_small(
-        to,
-        rinchovek_bc7_pixel(&block, number(&pixel, 0), &mut rgba),
-    )?;
-    write_pixel(to, &rgba)?;
-    Ok(true)
+    write_small(to, rinchovek_bc7_pixel(&block, pixel, &mut rgba))?;
+    to.write_all(&rgba)?;
+    Ok(())
 }
 
-fn write_head_call(from: &mut impl io::Read, to: &mut impl io::Write) -> io::Result<bool> {
-    let mut size = [0u8; 8];
-    if !filled(from, &mut size) {
-        return Ok(false);
-    }
+fn write_head_call(from: &mut impl io::Read, to: &mut impl io::Write) -> Result<(), Ended> {
+    let width = number(from)?;
+    let height = number(from)?;
     let mut head = [0u8; 7];
     let mut count: u32 = 0;
     write_small(
         to,
-        rinchovek_sheet_write_head(number(&size, 0), number(&size, 4), &mut head, &mut count),
+        rinchovek_sheet_write_head(width, height, &mut head, &mut count),
     )?;
     write_small(to, count)?;
-    write_head_bytes(to, &head)?;
-    Ok(true)
+    to.write_all(&head)?;
+    Ok(())
 }
 
-// What is asked for with the bytes of one sheet or file, or of the beginning of a sheet.
-#[derive(Clone, Copy)]
-enum SheetCall {
-    Head,
-    ColourHead,
-    Open,
-    Block,
-    ReplaceLine,
-    Count,
-    ReplaceLineCounted,
-    ReplaceBlockCounted,
-    StateColour(u32),
-    List,
-    ImportLength,
-    ExportLength,
+// WITH THE BYTES OF ONE SHEET OR FILE, or of the beginning of a sheet, which come before what the call itself reads. A length of a head is one
+// byte, any other four.
+fn with_sheet<R: io::Read, W: io::Write, F: FnOnce(&mut R, &mut W, &mut [u8]) -> Result<(), Ended>>(
+    from: &mut R,
+    to: &mut W,
+    n: usize,
+    call: F,
+) -> Result<(), Ended>
+    requires { F.IsAlwaysCallable call }
+{
+    if MOST < n {
+        return Err(Ended::Input);
+    }
+    let mut room = [0u8; MOST];
+    let sheet = &mut room[..n];
+    fill(from, sheet)?;
+    call(from, to, sheet)
 }
 
-fn write_size(to: &mut impl io::Write, width: u32, height: u32, start: u32) -> io::Result<()> {
-    write_u32(to, width)?;
-    write_u32(to, height)?;
-    write_u32(to, start)
+fn sheet_call<R: io::Read, W: io::Write, F: FnOnce(&mut R, &mut W, &mut [u8]) -> Result<(), Ended>>(
+    from: &mut R,
+    to: &mut W,
+    call: F,
+) -> Result<(), Ended>
+    requires { F.IsAlwaysCallable call }
+{
+    let n = number(from)? as usize;
+    with_sheet(from, to, n, call)
+}
+
+fn head_call<R: io::Read, W: io::Write, F: FnOnce(&mut R, &mut W, &mut [u8]) -> Result<(), Ended>>(
+    from: &mut R,
+    to: &mut W,
+    call: F,
+) -> Result<(), Ended>
+    requires { F.IsAlwaysCallable call }
+{
+    let n = byte(from)? as usize;
+    with_sheet(from, to, n, call)
 }
 
 // The four numbers of a head, of which the colour space is one byte.
-fn write_head(
-    to: &mut impl io::Write,
-    width: u32,
-    height: u32,
-    start: u32,
-    colour_space: u32,
-) -> io::Result<()> {
-    write_size(to, width, height, start)?;
-    write_small(to, colour_space)
+fn write_head(to: &mut impl io::Write, head: [u32; 4]) -> io::Result<()> {
+    write_numbers(to, &head[..3])?;
+    write_small(to, head[3])
 }
 
-fn head_of(to: &mut impl io::Write, sheet: &[u8]) -> io::Result<bool> {
+fn head_of(to: &mut impl io::Write, sheet: &[u8]) -> Result<(), Ended> {
     let mut numbers = [0u32; 8];
     write_small(to, rinchovek_sheet_open(sheet, &mut numbers))?;
-    write_size(to, numbers[0], numbers[1], numbers[2])?;
-    Ok(true)
+    write_numbers(to, &numbers[..3])?;
+    Ok(())
 }
 
-fn colour_head_of(to: &mut impl io::Write, sheet: &[u8]) -> io::Result<bool> {
+fn colour_head_of(to: &mut impl io::Write, sheet: &[u8]) -> Result<(), Ended> {
     let mut numbers = [0u32; 8];
     write_small(to, rinchovek_sheet_open(sheet, &mut numbers))?;
-    write_head(to, numbers[0], numbers[1], numbers[2], numbers[3])?;
-    Ok(true)
+    write_head(to, [numbers[0], numbers[1], numbers[2], numbers[3]])?;
+    Ok(())
 }
 
-fn open_of(to: &mut impl io::Write, sheet: &[u8]) -> io::Result<bool> {
+fn open_of(to: &mut impl io::Write, sheet: &[u8]) -> Result<(), Ended> {
     let mut numbers = [0u32; 8];
     write_small(to, rinchovek_sheet_open(sheet, &mut numbers))?;
-    write_size(to, numbers[0], numbers[1], numbers[2])?;
-    write_u32(to, numbers[3])?;
-    write_u32(to, numbers[4])?;
-    write_size(to, numbers[5], numbers[6], numbers[7])?;
-    Ok(true)
+    write_numbers(to, &numbers)?;
+    Ok(())
 }
 
-fn block_of(from: &mut impl io::Read, to: &mut impl io::Write, sheet: &[u8]) -> io::Result<bool> {
-    let mut block = [0u8; 4];
-    if !filled(from, &mut block) {
-        return Ok(false);
-    }
-    let mut bytes = [0u8; 16];
-    write_small(
-        to,
-        rinchovek_sheet_block(sheet, number(&block, 0), &mut bytes),
-    )?;
-    write_block(to, &bytes)?;
-    Ok(true)
+fn block_of(from: &mut impl io::Read, to: &mut impl io::Write, sheet: &[u8]) -> Result<(), Ended> {
+    let block = number(from)?;
+    let mut stored = [0u8; 16];
+    write_small(to, rinchovek_sheet_block(sheet, block, &mut stored))?;
+    to.write_all(&stored)?;
+    Ok(())
 }
 
 fn replace_in(
     from: &mut impl io::Read,
     to: &mut impl io::Write,
     sheet: &mut [u8],
-) -> io::Result<bool> {
-    let mut place = [0u8; 8];
-    if !filled(from, &mut place) {
-        return Ok(false);
-    }
-    let mut given = [0u8; 26];
-    if !filled(from, &mut given) {
-        return Ok(false);
-    }
-    write_small(
-        to,
-        rinchovek_sheet_replace_line(sheet, number(&place, 0), number(&place, 4), &given),
-    )?;
+) -> Result<(), Ended> {
+    let block = number(from)?;
+    let line = number(from)?;
+    let given = bytes(from)?;
+    write_small(to, rinchovek_sheet_replace_line(sheet, block, line, &given))?;
     to.write_all(sheet)?;
-    Ok(true)
+    Ok(())
 }
 
-fn write_counts(to: &mut impl io::Write, counts: [u32; 10]) -> io::Result<()> {
-    write_size(to, counts[0], counts[1], counts[2])?;
-    write_size(to, counts[3], counts[4], counts[5])?;
-    write_size(to, counts[6], counts[7], counts[8])?;
-    write_u32(to, counts[9])
+fn counts(from: &mut impl io::Read) -> Result<[u32; 10], Ended> {
+    let mut counts = [0u32; 10];
+    for count in counts.iter_mut() {
+        *count = number(from)?;
+    }
+    Ok(counts)
 }
 
-fn counts_in(bytes: &[u8; 40]) -> [u32; 10] {
-    [
-        number(bytes, 0),
-        number(bytes, 4),
-        number(bytes, 8),
-        number(bytes, 12),
-        number(bytes, 16),
-        number(bytes, 20),
-        number(bytes, 24),
-        number(bytes, 28),
-        number(bytes, 32),
-        number(bytes, 36),
-    ]
-}
-
-fn count_of(to: &mut impl io::Write, sheet: &[u8]) -> io::Result<bool> {
+fn count_of(to: &mut impl io::Write, sheet: &[u8]) -> Result<(), Ended> {
     let mut counts = [0u32; 10];
     write_small(to, rinchovek_sheet_count(sheet, &mut counts))?;
-    write_counts(to, counts)?;
-    Ok(true)
+    write_numbers(to, &counts)?;
+    Ok(())
 }
 
 fn replace_line_in(
     from: &mut impl io::Read,
     to: &mut impl io::Write,
     sheet: &mut [u8],
-) -> io::Result<bool> {
-    let mut came = [0u8; 40];
-    if !filled(from, &mut came) {
-        return Ok(false);
-    }
-    let mut place = [0u8; 8];
-    if !filled(from, &mut place) {
-        return Ok(false);
-    }
-    let mut given = [0u8; 26];
-    if !filled(from, &mut given) {
-        return Ok(false);
-    }
-    let mut counts = counts_in(&came);
-    let block = number(&place, 0);
-    let line = number(&place, 4);
+) -> Result<(), Ended> {
+    let mut counts = counts(from)?;
+    let block = number(from)?;
+    let line = number(from)?;
+    let given = bytes(from)?;
     write_small(
         to,
         rinchovek_sheet_replace_line_counted(sheet, &mut counts, block, line, &given),
     )?;
     to.write_all(sheet)?;
-    write_counts(to, counts)?;
-    Ok(true)
+    write_numbers(to, &counts)?;
+    Ok(())
 }
 
 fn replace_block_in(
     from: &mut impl io::Read,
     to: &mut impl io::Write,
     sheet: &mut [u8],
-) -> io::Result<bool> {
-    let mut came = [0u8; 40];
-    if !filled(from, &mut came) {
-        return Ok(false);
-    }
-    let mut place = [0u8; 4];
-    if !filled(from, &mut place) {
-        return Ok(false);
-    }
-    let mut given = [0u8; 16];
-    if !filled(from, &mut given) {
-        return Ok(false);
-    }
-    let mut counts = counts_in(&came);
-    let block = number(&place, 0);
+) -> Result<(), Ended> {
+    let mut counts = counts(from)?;
+    let block = number(from)?;
+    let given = bytes(from)?;
     write_small(
         to,
         rinchovek_sheet_replace_block_counted(sheet, &mut counts, block, &given),
     )?;
     to.write_all(sheet)?;
-    write_counts(to, counts)?;
-    Ok(true)
+    write_numbers(to, &counts)?;
+    Ok(())
 }
 
-fn state_colour_in(
-    to: &mut impl io::Write,
-    sheet: &mut [u8],
-    colour_space: u32,
-) -> io::Result<bool> {
-    write_small(to, rinchovek_sheet_state_colour(sheet, colour_space))?;
-    to.write_all(sheet)?;
-    Ok(true)
-}
-
-// The listing has 40 bytes for each block at the most, and two texts more.
-fn list_of(to: &mut impl io::Write, sheet: &[u8]) -> io::Result<bool>
-    requires { length sheet.now ≤ 65536 }
-{
-    let mut text = [0u8; 163920];
-    let count = list_sheet(sheet, &mut text);
-    write_u32(to, count as u32)?;
-    to.write_all(&text[..count])?;
-    Ok(true)
-}
-
-// The length that importing needs, or exporting.
-fn length_of(to: &mut impl io::Write, export: bool, given: &[u8]) -> io::Result<bool> {
-    let mut length: u32 = 0;
-    let refusal = if export {
-        rinchovek_dds_export_length(given, &mut length)
-    } else {
-        rinchovek_dds_import_length(given, &mut length)
-    };
-    write_small(to, refusal)?;
-    write_u32(to, length)?;
-    Ok(true)
-}
-
-fn sheet_call_of(
-    from: &mut impl io::Read,
-    to: &mut impl io::Write,
-    asked: SheetCall,
-    sheet: &mut [u8],
-) -> io::Result<bool>
-    requires { length sheet.old ≤ 65536 }
-{
-    if !filled(from, sheet) {
-        return Ok(false);
-    }
-    match asked {
-        SheetCall::Head => head_of(to, sheet),
-        SheetCall::ColourHead => colour_head_of(to, sheet),
-        SheetCall::Open => open_of(to, sheet),
-        SheetCall::Block => block_of(from, to, sheet),
-        SheetCall::ReplaceLine => replace_in(from, to, sheet),
-        SheetCall::Count => count_of(to, sheet),
-        SheetCall::ReplaceLineCounted => replace_line_in(from, to, sheet),
-        SheetCall::ReplaceBlockCounted => replace_block_in(from, to, sheet),
-        SheetCall::StateColour(colour_space) => state_colour_in(to, sheet, colour_space),
-        SheetCall::List => list_of(to, sheet),
-        SheetCall::ImportLength => length_of(to, false, sheet),
-        SheetCall::ExportLength => length_of(to, true, sheet),
-    }
-}
-
-// The sheet is n bytes.
-fn sheet_call_within(
-    from: &mut impl io::Read,
-    to: &mut impl io::Write,
-    asked: SheetCall,
-    n: usize,
-) -> io::Result<bool>
-    requires { n ≤ 65536 }
-{
-    let mut sheet = [0u8; 65536];
-    sheet_call_of(from, to, asked, &mut sheet[..n])
-}
-
-fn sheet_call(
-    from: &mut impl io::Read,
-    to: &mut impl io::Write,
-    asked: SheetCall,
-) -> io::Result<bool> {
-    let mut length = [0u8; 4];
-    if !filled(from, &mut length) {
-        return Ok(false);
-    }
-    let n = number(&length, 0);
-    if MOST < n {
-        return Ok(false);
-    }
-    sheet_call_within(from, to, asked, n as usize)
-}
-
-fn state_colour_call(from: &mut impl io::Read, to: &mut impl io::Write) -> io::Result<bool> {
-    let mut colour_space = [0u8; 4];
-    if !filled(from, &mut colour_space) {
-        return Ok(false);
-    }
-    sheet_call(from, to, SheetCall::StateColour(number(&colour_space, 0)))
-}
-
-// The length of a head is one byte.
-fn head_call(
-    from: &mut impl io::Read,
-    to: &mut impl io::Write,
-    asked: SheetCall,
-) -> io::Result<bool> {
-    let mut length = [0u8; 1];
-    if !filled(from, &mut length) {
-        return Ok(false);
-    }
-    sheet_call_within(from, to, asked, wide(length[0]) as usize)
-}
-
-// What is asked for with bytes that are given and an output.
-#[derive(Clone, Copy)]
-enum OutCall {
-    DecodeRow(u32, u32, u32),
-    Import,
-    Export,
-    ImportColour,
-    ExportColour(u32),
-    ToTiles,
-    ToRows,
-    ShowRow(u32),
-}
-
-fn import_colour_of(to: &mut impl io::Write, given: &[u8], out: &mut [u8]) -> io::Result<()> {
-    let mut head = [0u32; 4];
-    write_small(to, rinchovek_dds_import_colour(given, out, &mut head))?;
-    write_head(to, head[0], head[1], head[2], head[3])
-}
-
-// What is answered before the output.
-fn answer(to: &mut impl io::Write, asked: OutCall, given: &[u8], out: &mut [u8]) -> io::Result<()> {
-    match asked {
-        OutCall::DecodeRow(width, height, row) => write_small(
-            to,
-            rinchovek_sheet_decode_row(width, height, row, given, out),
-        ),
-        OutCall::Import => write_small(to, rinchovek_dds_import(given, out)),
-        OutCall::Export => write_small(to, rinchovek_dds_export(given, out)),
-        OutCall::ImportColour => import_colour_of(to, given, out),
-        OutCall::ExportColour(colour_space) => write_small(
-            to,
-            rinchovek_dds_export_colour(given, colour_space, out),
-        ),
-        OutCall::ToTiles => write_small(to, rinchovek_sheet_to_tiles(given, out)),
-        OutCall::ToRows => write_small(to, rinchovek_sheet_to_rows(given, out)),
-        OutCall::ShowRow(row) => write_small(to, rinchovek_sheet_show_row(given, row, out)),
-    }
-}
-
-// What stands in the output before is read too.
-fn out_call_of(
-    from: &mut impl io::Read,
-    to: &mut impl io::Write,
-    asked: OutCall,
-    given: &mut [u8],
-    out: &mut [u8],
-) -> io::Result<bool> {
-    if !filled(from, given) {
-        return Ok(false);
-    }
-    if !filled(from, out) {
-        return Ok(false);
-    }
-    answer(to, asked, given, out)?;
-    to.write_all(out)?;
-    Ok(true)
-}
-
-// What is given is n bytes, and the output m.
-fn out_call_within(
-    from: &mut impl io::Read,
-    to: &mut impl io::Write,
-    asked: OutCall,
-    n: usize,
-    m: usize,
-) -> io::Result<bool>
-    requires { (n ≤ 65536) × (m ≤ 65536) }
-{
-    let mut given = [0u8; 65536];
-    let mut out = [0u8; 65536];
-    out_call_of(from, to, asked, &mut given[..n], &mut out[..m])
-}
-
-// Both lengths of a call with an output, or none where one is too long or the input ends.
-#[derive(Clone, Copy)]
-struct Lengths {
-    taken: bool,
-    given: usize,
-    room: usize,
-}
-
-fn no_lengths() -> Lengths
-    ensures { (result.given ≤ 65536) × (result.room ≤ 65536) }
-{
-    Lengths {
-        taken: false,
-        given: 0,
-        room: 0,
-    }
-}
-
-fn take_lengths(from: &mut impl io::Read) -> Lengths
-    ensures { (result.given ≤ 65536) × (result.room ≤ 65536) }
-{
-    let mut bytes = [0u8; 8];
-    if !filled(from, &mut bytes) {
-        return no_lengths();
-    }
-    let n = number(&bytes, 0);
-    if MOST < n {
-        return no_lengths();
-    }
-    let m = number(&bytes, 4);
-    if MOST < m {
-        return no_lengths();
-    }
-    Lengths {
-        taken: true,
-        given: n as usize,
-        room: m as usize,
-    }
-}
-
-fn out_call(from: &mut impl io::Read, to: &mut impl io::Write, asked: OutCall) -> io::Result<bool> {
-    let both = take_lengths(from);
-    if !both.taken {
-        return Ok(false);
-    }
-    out_call_within(from, to, asked, both.given, both.room)
-}
-
-fn decode_row_call(from: &mut impl io::Read, to: &mut impl io::Write) -> io::Result<bool> {
-    let mut place = [0u8; 12];
-    if !filled(from, &mut place) {
-        return Ok(false);
-    }
-    out_call(
-        from,
-        to,
-        OutCall::DecodeRow(number(&place, 0), number(&place, 4), number(&place, 8)),
-    )
-}
-
-fn export_colour_call(from: &mut impl io::Read, to: &mut impl io::Write) -> io::Result<bool> {
-    let mut colour_space = [0u8; 1];
-    if !filled(from, &mut colour_space) {
-        return Ok(false);
-    }
-    if 2 < colour_space[0] {
-        return Ok(false);
-    }
-    out_call(from, to, OutCall::ExportColour(wide(colour_space[0])))
-}
-
-fn show_row_call(from: &mut impl io::Read, to: &mut impl io::Write) -> io::Result<bool> {
-    let mut row = [0u8; 4];
-    if !filled(from, &mut row) {
-        return Ok(false);
-    }
-    out_call(from, to, OutCall::ShowRow(number(&row, 0)))
-}
-
-// A read that was asked for: whether there is such a read, and the stream behind it.
-#[derive(Clone, Copy)]
-struct NextRead {
-    known: bool,
-    stream: BitStream,
-}
-
-fn unknown(stream: BitStream) -> NextRead {
-    NextRead {
-        known: false,
-        stream: stream,
-    }
-}
-
-// The answer of a read, written: the refusal, the value, the first bit, the bits that remain.
-fn written(to: &mut impl io::Write, read: Read) -> io::Result<NextRead> {
-    write_small(to, read.refusal)?;
-    write_u32(to, (read.value % 4294967296) as u32)?;
-    write_u32(to, (read.value >> 32) as u32)?;
-    write_small(to, read.first)?;
-    write_small(to, read.remaining)?;
-    let stream = read.stream;
-    Ok(NextRead {
-        known: true,
-        stream: stream,
+fn state_colour_call(from: &mut impl io::Read, to: &mut impl io::Write) -> Result<(), Ended> {
+    let colour_space = number(from)?;
+    sheet_call(from, to, |_, to, sheet| {
+        write_small(to, rinchovek_sheet_state_colour(sheet, colour_space))?;
+        to.write_all(sheet)?;
+        Ok(())
     })
 }
 
-// The read that a byte asks for: 0 is one bit, 1 to 8 are that many, 128 and c are c bits of 1 to 64.
-fn answered(to: &mut impl io::Write, stream: BitStream, kind: u8) -> io::Result<NextRead> {
-    if kind == 0 {
-        return written(to, stream.consume_bit());
-    }
-    if kind <= 8 {
-        return written(to, stream.consume_bits(kind as u32));
-    }
-    if kind <= 128 {
-        return Ok(unknown(stream));
-    }
-    if 192 < kind {
-        return Ok(unknown(stream));
-    }
-    written(to, stream.consume_bits_64(kind as u32 - 128))
+// The listing has 40 bytes for each block at the most, and two texts more. No sheet is longer than there was room for.
+fn list_of(to: &mut impl io::Write, sheet: &[u8]) -> Result<(), Ended> {
+    let mut text = [0u8; 163920];
+    let count = list_sheet(&sheet[..sheet.len().min(MOST)], &mut text);
+    write_u32(to, count as u32)?;
+    to.write_all(&text[..count])?;
+    Ok(())
 }
 
-fn reads_of(
+// The length that importing needs, or exporting.
+fn length_of<F: FnOnce(&[u8], &mut u32) -> u32>(
+    to: &mut impl io::Write,
+    given: &[u8],
+    needed: F,
+) -> Result<(), Ended>
+    requires { F.IsAlwaysCallable needed }
+{
+    let mut length: u32 = 0;
+    write_small(to, needed(given, &mut length))?;
+    write_u32(to, length)?;
+    Ok(())
+}
+
+// WITH BYTES AND AN OUTPUT, whose lengths come first. What stands in the output before is read too; behind what the call answers comes the output.
+fn out_call<R: io::Read, W: io::Write, F: FnOnce(&mut W, &[u8], &mut [u8]) -> Result<(), Ended>>(
+    from: &mut R,
+    to: &mut W,
+    call: F,
+) -> Result<(), Ended>
+    requires { F.IsAlwaysCallable call }
+{
+    let n = length(from)?;
+    let m = length(from)?;
+    let mut given = [0u8; MOST];
+    let mut room = [0u8; MOST];
+    let out = &mut room[..m];
+    fill(from, &mut given[..n])?;
+    fill(from, out)?;
+    call(to, &given[..n], out)?;
+    to.write_all(out)?;
+    Ok(())
+}
+
+// A length that there is room for.
+fn length(from: &mut impl io::Read) -> Result<usize, Ended>
+    ensures { IfOk result (λ n. n ≤ 65536) }
+{
+    let n = number(from)? as usize;
+    if MOST < n {
+        return Err(Ended::Input);
+    }
+    Ok(n)
+}
+
+fn decode_row_call(from: &mut impl io::Read, to: &mut impl io::Write) -> Result<(), Ended> {
+    let width = number(from)?;
+    let height = number(from)?;
+    let row = number(from)?;
+    out_call(from, to, |to, blocks, out| {
+        write_small(
+            to,
+            rinchovek_sheet_decode_row(width, height, row, blocks, out),
+        )?;
+        Ok(())
+    })
+}
+
+fn show_row_call(from: &mut impl io::Read, to: &mut impl io::Write) -> Result<(), Ended> {
+    let row = number(from)?;
+    out_call(from, to, |to, sheet, out| {
+        write_small(to, rinchovek_sheet_show_row(sheet, row, out))?;
+        Ok(())
+    })
+}
+
+fn export_colour_call(from: &mut impl io::Read, to: &mut impl io::Write) -> Result<(), Ended> {
+    let colour_space = byte(from)?;
+    if 2 < colour_space {
+        return Err(Ended::Input);
+    }
+    out_call(from, to, |to, sheet, dds| {
+        write_small(
+            to,
+            rinchovek_dds_export_colour(sheet, colour_space as u32, dds),
+        )?;
+        Ok(())
+    })
+}
+
+fn import_colour_of(to: &mut impl io::Write, dds: &[u8], sheet: &mut [u8]) -> Result<(), Ended> {
+    let mut head = [0u32; 4];
+    write_small(to, rinchovek_dds_import_colour(dds, sheet, &mut head))?;
+    write_head(to, head)?;
+    Ok(())
+}
+
+// A call that answers nothing but its output and a number.
+fn moving_call<F: FnOnce(&[u8], &mut [u8]) -> u32>(
     from: &mut impl io::Read,
     to: &mut impl io::Write,
-    block: [u8; 16],
-    kinds: &mut [u8],
-) -> io::Result<bool> {
-    if !filled(from, kinds) {
-        return Ok(false);
-    }
-    let mut stream = BitStream::new(block);
-    for i in 0..kinds.len() {
-        let next = answered(to, stream, kinds[i])?;
-        if !next.known {
-            return Ok(false);
-        }
-        stream = next.stream;
-    }
-    Ok(true)
+    move_to: F,
+) -> Result<(), Ended>
+    requires { F.IsAlwaysCallable move_to }
+{
+    out_call(from, to, |to, given, out| {
+        write_small(to, move_to(given, out))?;
+        Ok(())
+    })
 }
 
-fn reads_call(from: &mut impl io::Read, to: &mut impl io::Write) -> io::Result<bool> {
-    let mut block = [0u8; 16];
-    if !filled(from, &mut block) {
-        return Ok(false);
+// The answer of a read, written: the refusal, the value, the first bit, the bits that remain. The stream behind it is handed on.
+fn written(to: &mut impl io::Write, read: Read) -> io::Result<BitStream> {
+    write_small(to, read.refusal)?;
+    to.write_all(&read.value.to_le_bytes())?;
+    write_small(to, read.first)?;
+    write_small(to, read.remaining)?;
+    Ok(read.stream)
+}
+
+// The read that a byte asks for: 0 is one bit, 1 to 8 are that many, 128 and c are c bits of 1 to 64.
+fn read_asked(stream: BitStream, kind: u8) -> Result<Read, Ended> {
+    match kind {
+        0 => Ok(stream.consume_bit()),
+        1..=8 => Ok(stream.consume_bits(kind as u32)),
+        129..=192 => Ok(stream.consume_bits_64(kind as u32 - 128)),
+        _ => Err(Ended::Input),
     }
-    let mut count = [0u8; 1];
-    if !filled(from, &mut count) {
-        return Ok(false);
+}
+
+fn reads_call(from: &mut impl io::Read, to: &mut impl io::Write) -> Result<(), Ended> {
+    let mut stream = BitStream::new(bytes(from)?);
+    let n = byte(from)? as usize;
+    let mut room = [0u8; 256];
+    let kinds = &mut room[..n];
+    fill(from, kinds)?;
+    for &kind in kinds.iter() {
+        stream = written(to, read_asked(stream, kind)?)?;
     }
-    let n = wide(count[0]) as usize;
-    let mut kinds = [0u8; 256];
-    reads_of(from, to, block, &mut kinds[..n])
+    Ok(())
 }
 
 // The float of these bits. Every pattern of a NaN is the one NaN.
@@ -822,63 +495,48 @@ fn bits_of(value: f32) -> u32 {
     f32::to_bits(value)
 }
 
-fn pixel_floats_call(from: &mut impl io::Read, to: &mut impl io::Write) -> io::Result<bool> {
-    let mut pixel = [0u8; 4];
-    if !filled(from, &mut pixel) {
-        return Ok(false);
-    }
+fn pixel_floats_call(from: &mut impl io::Read, to: &mut impl io::Write) -> Result<(), Ended> {
+    let pixel = bytes(from)?;
     let mut floats = [0.0f32; 4];
     rinchovek_pixel_floats(&pixel, &mut floats);
-    write_u32(to, bits_of(floats[0]))?;
-    write_u32(to, bits_of(floats[1]))?;
-    write_u32(to, bits_of(floats[2]))?;
-    write_u32(to, bits_of(floats[3]))?;
-    Ok(true)
-}
-
-fn channel_call(from: &mut impl io::Read, to: &mut impl io::Write) -> io::Result<bool> {
-    let mut bits = [0u8; 4];
-    if !filled(from, &mut bits) {
-        return Ok(false);
+    for &channel in &floats {
+        write_u32(to, bits_of(channel))?;
     }
-    let mut channel: u32 = 0;
-    write_small(to, rinchovek_float_channel(number(&bits, 0), &mut channel))?;
-    write_small(to, channel)?;
-    Ok(true)
+    Ok(())
 }
 
+fn channel_call(from: &mut impl io::Read, to: &mut impl io::Write) -> Result<(), Ended> {
+    let bits = number(from)?;
+    let mut channel: u32 = 0;
+    write_small(to, rinchovek_float_channel(bits, &mut channel))?;
+    write_small(to, channel)?;
+    Ok(())
+}
+
+// The floats that bytes spell, four bytes each.
 fn floats_from(bytes: &[u8], floats: &mut [f32])
     requires { length bytes.now ≡ 4 * length floats.old }
 {
-    for i in 0..floats.len() {
-        floats[i] = float_of(number(bytes, 4 * i));
+    for (i, float) in floats.iter_mut().enumerate() {
+        let at = 4 * i;
+        *float = float_of(u32::from_le_bytes([
+            bytes[at],
+            bytes[at + 1],
+            bytes[at + 2],
+            bytes[at + 3],
+        ]));
     }
 }
 
-fn put_number(n: u32, at: usize, bytes: &mut [u8])
-    requires { at + 4 ≤ length bytes.old }
-{
-    bytes[at] = (n % 256) as u8;
-    bytes[at + 1] = (n / 256 % 256) as u8;
-    bytes[at + 2] = (n / 65536 % 256) as u8;
-    bytes[at + 3] = (n / 16777216) as u8;
-}
-
-// A NaN, which has no bits of its own, keeps the bytes that it came from.
-fn put_float(value: f32, at: usize, bytes: &mut [u8])
-    requires { at + 4 ≤ length bytes.old }
-{
-    if value != value {
-        return;
-    }
-    put_number(bits_of(value), at, bytes);
-}
-
+// And the bytes again. A NaN, which has no bits of its own, keeps the bytes that it came from.
 fn floats_to(floats: &[f32], bytes: &mut [u8])
     requires { length bytes.old ≡ 4 * length floats.now }
 {
-    for i in 0..floats.len() {
-        put_float(floats[i], 4 * i, bytes);
+    for (i, &float) in floats.iter().enumerate() {
+        if float == float {
+            let at = 4 * i;
+            bytes[at..at + 4].copy_from_slice(&bits_of(float).to_le_bytes());
+        }
     }
 }
 
@@ -886,57 +544,39 @@ fn floats_to(floats: &[f32], bytes: &mut [u8])
 fn row_floats_of(
     from: &mut impl io::Read,
     to: &mut impl io::Write,
-    pixels: &mut [u8],
+    row: &mut [u8],
     bytes: &mut [u8],
     floats: &mut [f32],
-) -> io::Result<bool>
+) -> Result<(), Ended>
     requires { length bytes.old ≡ 4 * length floats.old }
 {
-    if !filled(from, pixels) {
-        return Ok(false);
-    }
-    if !filled(from, bytes) {
-        return Ok(false);
-    }
+    fill(from, row)?;
+    fill(from, bytes)?;
     floats_from(bytes, floats);
-    write_small(to, rinchovek_row_floats(pixels, floats))?;
+    write_small(to, rinchovek_row_floats(row, floats))?;
     floats_to(floats, bytes);
     to.write_all(bytes)?;
-    Ok(true)
+    Ok(())
 }
 
-// The row is n bytes, and there is room for m floats.
-fn row_floats_within(
-    from: &mut impl io::Read,
-    to: &mut impl io::Write,
-    n: usize,
-    m: usize,
-) -> io::Result<bool>
-    requires { (n ≤ 65536) × (m ≤ 65536) }
-{
-    let mut pixels = [0u8; 65536];
-    let mut bytes = [0u8; 262144];
-    let mut floats = [0.0f32; 65536];
-    let end = 4 * m;
+// How long the row is comes first, and for how many floats there is room.
+fn row_floats_call(from: &mut impl io::Read, to: &mut impl io::Write) -> Result<(), Ended> {
+    let n = length(from)?;
+    let m = length(from)?;
+    let mut row = [0u8; MOST];
+    let mut bytes = [0u8; 4 * MOST];
+    let mut floats = [0.0f32; MOST];
     row_floats_of(
         from,
         to,
-        &mut pixels[..n],
-        &mut bytes[..end],
+        &mut row[..n],
+        &mut bytes[..4 * m],
         &mut floats[..m],
     )
 }
 
-fn row_floats_call(from: &mut impl io::Read, to: &mut impl io::Write) -> io::Result<bool> {
-    let both = take_lengths(from);
-    if !both.taken {
-        return Ok(false);
-    }
-    row_floats_within(from, to, both.given, both.room)
-}
-
-// One call: whether another may follow.
-fn call(from: &mut impl io::Read, to: &mut impl io::Write, letter: u8) -> io::Result<bool> {
+// One call, of the letter that names it.
+fn call<R: io::Read, W: io::Write>(from: &mut R, to: &mut W, letter: u8) -> Result<(), Ended> {
     match letter {
         b'D' => decode_call(from, to),
         b'G' => decode_bc6h_call(from, to),
@@ -944,57 +584,66 @@ fn call(from: &mut impl io::Read, to: &mut impl io::Write, letter: u8) -> io::Re
         b'P' => pack_call(from, to),
         b'R' => replace_call(from, to),
         b'r' => read_line_call(from, to),
-        b'N' => index_call(from, to, false),
-        b'E' => index_call(from, to, true),
+        b'N' => index_call(from, to, rinchovek_bc7_nearest_index),
+        b'E' => index_call(from, to, rinchovek_bc7_exact_index),
         b'A' => opacity_call(from, to),
         b'Q' => pixel_call(from, to),
         b'B' => reads_call(from, to),
         b'W' => write_head_call(from, to),
-        b'H' => head_call(from, to, SheetCall::Head),
-        b'h' => head_call(from, to, SheetCall::ColourHead),
-        b'o' => sheet_call(from, to, SheetCall::Open),
-        b'b' => sheet_call(from, to, SheetCall::Block),
-        b'S' => sheet_call(from, to, SheetCall::ReplaceLine),
+        b'H' => head_call(from, to, |_, to, sheet| head_of(to, sheet)),
+        b'h' => head_call(from, to, |_, to, sheet| colour_head_of(to, sheet)),
+        b'o' => sheet_call(from, to, |_, to, sheet| open_of(to, sheet)),
+        b'b' => sheet_call(from, to, |from, to, sheet| block_of(from, to, sheet)),
+        b'S' => sheet_call(from, to, |from, to, sheet| replace_in(from, to, sheet)),
         b'c' => state_colour_call(from, to),
-        b'C' => sheet_call(from, to, SheetCall::Count),
-        b'L' => sheet_call(from, to, SheetCall::ReplaceLineCounted),
-        b'K' => sheet_call(from, to, SheetCall::ReplaceBlockCounted),
-        b'l' => sheet_call(from, to, SheetCall::List),
-        b'd' => sheet_call(from, to, SheetCall::ImportLength),
-        b's' => sheet_call(from, to, SheetCall::ExportLength),
+        b'C' => sheet_call(from, to, |_, to, sheet| count_of(to, sheet)),
+        b'L' => sheet_call(from, to, |from, to, sheet| replace_line_in(from, to, sheet)),
+        b'K' => sheet_call(
+            from,
+            to,
+            |from, to, sheet| replace_block_in(from, to, sheet),
+        ),
+        b'l' => sheet_call(from, to, |_, to, sheet| list_of(to, sheet)),
+        b'd' => sheet_call(
+            from,
+            to,
+            |_, to, dds| length_of(to, dds, rinchovek_dds_import_length),
+        ),
+        b's' => sheet_call(
+            from,
+            to,
+            |_, to, sheet| length_of(to, sheet, rinchovek_dds_export_length),
+        ),
         b'O' => decode_row_call(from, to),
         b'V' => show_row_call(from, to),
-        b'I' => out_call(from, to, OutCall::Import),
-        b'X' => out_call(from, to, OutCall::Export),
-        b'i' => out_call(from, to, OutCall::ImportColour),
+        b'I' => moving_call(from, to, rinchovek_dds_import),
+        b'X' => moving_call(from, to, rinchovek_dds_export),
+        b'i' => out_call(from, to, |to, dds, sheet| import_colour_of(to, dds, sheet)),
         b'x' => export_colour_call(from, to),
-        b'T' => out_call(from, to, OutCall::ToTiles),
-        b'Z' => out_call(from, to, OutCall::ToRows),
+        b'T' => moving_call(from, to, rinchovek_sheet_to_tiles),
+        b'Z' => moving_call(from, to, rinchovek_sheet_to_rows),
         b'F' => pixel_floats_call(from, to),
         b'Y' => channel_call(from, to),
         b'f' => row_floats_call(from, to),
-        _ => Ok(false),
+        _ => Err(Ended::Input),
     }
 }
 
-fn next_call(from: &mut impl io::Read, to: &mut impl io::Write) -> io::Result<bool> {
-    let mut letter = [0u8; 1];
-    if !filled(from, &mut letter) {
-        return Ok(false);
-    }
-    call(from, to, letter[0])
+fn next_call<R: io::Read, W: io::Write>(from: &mut R, to: &mut W) -> Result<(), Ended> {
+    let letter = byte(from)?;
+    call(from, to, letter)
 }
 
 fn main(rt: HostRuntime) -> io::Result<()> {
     let mut from = rt.stdin();
     let mut to = rt.stdout();
     // a loop has to end: no input is as long as this
-    let mut left: u64 = 18446744073709551615;
-    while 0 < left {
-        if !next_call(&mut from, &mut to)? {
-            return Ok(());
+    for _ in 0..u64::MAX {
+        match next_call(&mut from, &mut to) {
+            Ok(()) => (),
+            Err(Ended::Input) => return Ok(()),
+            Err(Ended::Output(e)) => return Err(e),
         }
-        left -= 1;
     }
     Ok(())
 }
