@@ -4,8 +4,5 @@ use Rattle.std.proofs.Common.{length, ◌≡◌}
 use Rattle.std.specs.Io.KnownBytes.{Keeps}
 use Rattle.pipes.proofs.read_some.Given as goal
 
-abbrev pub invariant-loop-tries : goal.invariant-loop-tries
-invariant-loop-tries g l = (length l.buffer ≡ length l.initial.buffer) × Keeps (g.R.Read.remaining l.initial.from) (g.R.Read.remaining l.from)
-
-abbrev pub decreases-loop-tries : goal.decreases-loop-tries
-decreases-loop-tries g l = l.tries
+abbrev pub invariant-loop : goal.invariant-loop
+invariant-loop g l = (length l.buffer ≡ length l.initial.buffer) × Keeps (g.R.Read.remaining l.initial.from) (g.R.Read.remaining l.from)

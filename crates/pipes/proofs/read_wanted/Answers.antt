@@ -18,6 +18,6 @@ take_part a k n xs ys within fits =
 pub loop-done-preserved : goal.loop-done-preserved
 loop-done-preserved g c =
     let a = c.loop-done.done in
-    let n = c.read_some-got.result.count in
+    let n = c.in_ok-count.count in
     let (few, long, came) = c.loop-done.invariant in
-    (search rules, search rules, subst (Consumes _ _) (sym (take_part a _ n _ _ (omega arith) (search rules))) (Consumes-trans _ _ _ _ _ came c.read_some-got.ensures.next))
+    (search rules, search rules, subst (Consumes _ _) (sym (take_part a _ n _ _ (omega arith) (search rules))) (Consumes-trans _ _ _ _ _ came c.in_ok-count.ensures.next))
