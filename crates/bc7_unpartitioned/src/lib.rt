@@ -18,7 +18,7 @@ ghost use Rattle.bc7_unpartitioned.specs.Crossing.{Crossable, Paintable, TwoInde
 ghost use Rattle.bc7_unpartitioned.specs.Crossing.{kept_channels, kept_word};
 
 use bc7_drawing::colour::{Ends, Stored, alone, alone_p, high_colour, low_colour};
-use bc7_drawing::painting::paint_3_2;
+use bc7_drawing::painting::paint;
 use bc7_drawing::palette::{mix_16, two_shades};
 use bits::stream::BitStream;
 use drawing::keys::keys_2;
@@ -223,7 +223,7 @@ pub fn mode_5(stream: BitStream) -> [[u8; 4]; 16]
     let x = Indexes::new_p1(2, a.stream);
     let y = Indexes::new_p1(2, x.stream);
     swap_channels(
-        paint_3_2(
+        paint::<2, 2, 16>(
             palette_2_and_2(e),
             keys_2(y.indexes.uncompressed, 2, x.indexes.uncompressed),
         ),
