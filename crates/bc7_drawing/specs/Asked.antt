@@ -1,6 +1,6 @@
 -- What the functions ask of their arguments, and what some answer, each clause by its name.
 -- Assumes nothing.
-use Rattle.std.specs.Prelude.{◌≡◌, ℕ, ◌+◌, ◌-◌, ◌/◌, ◌%◌, ◌^◌, ◌≤◌, ◌<◌}
+use Rattle.std.specs.Prelude.{◌≡◌, ℕ, ◌+◌, ◌-◌, ◌*◌, ◌/◌, ◌%◌, ◌^◌, ◌≤◌, ◌<◌}
 use Rattle.bc7_drawing.specs.declared.colour.Ends.{Ends}
 use Rattle.bc7_drawing.specs.declared.colour.Stored.{Stored}
 use Rattle.bc7_drawing.specs.Words.{Alone, EndsOfBytes, Fitting, Lanes, LanesOfOne}
@@ -92,3 +92,15 @@ pub record Shaded2 (ws : ℕ) (e : Ends) : Type 0 where
 pub record ThreeSubsets (e f : Ends) : Type 0 where
   pub two : EndsOfBytes e
   pub third : EndsOfBytes f
+
+-- a palette of n colours, looked up by indexes of w bits above subsets of s
+pub record Keyed (w s n : ℕ) : Type 0 where
+  pub width : w ≤ 4
+  pub subsets : s ≤ 2
+  pub colours : n ≡ 2 ^ (w + s)
+
+-- a palette of n colours: t for each index of w bits
+pub record Coloured (w t n : ℕ) : Type 0 where
+  pub least : 2 ≤ w
+  pub most : w ≤ 4
+  pub colours : n ≡ t * 2 ^ w

@@ -229,21 +229,17 @@ pub fn two_colours(rb: u64, ga: u64) -> u64
     parts(rb, 8, 8) + (parts(ga, 8, 8) << 8)
 }
 
-fn byte_of(x: u64, k: u32) -> u8
-    requires { k < 8 }
-    ensures { result ≡ field x (8 * k) 8 }
-{
-    ((x >> (8 * k)) % 256) as u8
-}
-
+// The first of the two colours, and the second.
 pub fn low_colour(x: u64) -> [u8; 4]
     ensures { result ≡ take 4 (word_bytes x) }
 {
-    [byte_of(x, 0), byte_of(x, 1), byte_of(x, 2), byte_of(x, 3)]
+    let [r, g, b, a, ..] = x.to_le_bytes();
+    [r, g, b, a]
 }
 
 pub fn high_colour(x: u64) -> [u8; 4]
     ensures { result ≡ drop 4 (word_bytes x) }
 {
-    [byte_of(x, 4), byte_of(x, 5), byte_of(x, 6), byte_of(x, 7)]
+    let [.., r, g, b, a] = x.to_le_bytes();
+    [r, g, b, a]
 }

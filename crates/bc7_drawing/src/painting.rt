@@ -1,54 +1,26 @@
 // Painting: sixteen pixels, each looked up by its key in the palette of its block.
-ghost use Rattle.std.specs.Prelude.{◌≡◌};
+ghost use Rattle.std.specs.Prelude.{◌≡◌, [], ◌<◌, get_or};
 ghost use Rattle.drawing.specs.Keys.{key_at};
 ghost use Rattle.bc7_fields.specs.Painting.{painted};
+ghost use Rattle.bc7_drawing.specs.Asked.{Keyed};
 
-use drawing::keys::{Keys, key_of};
+use drawing::keys::Keys;
+use std::array;
 
-// Two subsets, indexes of 2 bits.
-pub fn paint_2_2(p: [[u8; 4]; 8], keys: Keys) -> [[u8; 4]; 16]
-    ensures { result ≡ painted (key_at 2 1 keys) p }
+// By indexes of W bits above subsets of S, so out of N colours, 2 ^ (W + S). With literal numbers for the three the compiler folds each key's
+// place in its word.
+pub fn paint<const W: u32, const S: u32, const N: usize>(
+    p: [[u8; 4]; N],
+    keys: Keys,
+) -> [[u8; 4]; 16]
+    requires { Keyed W S N }
+    ensures { result ≡ painted (key_at W S keys) p.entry }
 {
-    let mut output = [[0u8; 4]; 16];
-    for i in 0..8usize {
-        output[2 * i] = p[key_of(keys.even, 4, i, 8)];
-        output[2 * i + 1] = p[key_of(keys.odd, 4, i, 8)];
-    }
-    output
-}
-
-// Two subsets, indexes of 3 bits.
-pub fn paint_2_3(p: [[u8; 4]; 16], keys: Keys) -> [[u8; 4]; 16]
-    ensures { result ≡ painted (key_at 3 1 keys) p }
-{
-    let mut output = [[0u8; 4]; 16];
-    for i in 0..8usize {
-        output[2 * i] = p[key_of(keys.even, 6, i, 16)];
-        output[2 * i + 1] = p[key_of(keys.odd, 6, i, 16)];
-    }
-    output
-}
-
-// Three subsets, indexes of 2 bits; and vector and scalar with 2 bits each.
-pub fn paint_3_2(p: [[u8; 4]; 16], keys: Keys) -> [[u8; 4]; 16]
-    ensures { result ≡ painted (key_at 2 2 keys) p }
-{
-    let mut output = [[0u8; 4]; 16];
-    for i in 0..8usize {
-        output[2 * i] = p[key_of(keys.even, 4, i, 16)];
-        output[2 * i + 1] = p[key_of(keys.odd, 4, i, 16)];
-    }
-    output
-}
-
-// Three subsets, indexes of 3 bits.
-pub fn paint_3_3(p: [[u8; 4]; 32], keys: Keys) -> [[u8; 4]; 16]
-    ensures { result ≡ painted (key_at 3 2 keys) p }
-{
-    let mut output = [[0u8; 4]; 16];
-    for i in 0..8usize {
-        output[2 * i] = p[key_of(keys.even, 6, i, 32)];
-        output[2 * i + 1] = p[key_of(keys.odd, 6, i, 32)];
-    }
-    output
+    array::from_fn(
+        |q| -> [u8; 4]
+            requires colours { Keyed W S N }
+            requires pixel { q < 16 }
+            ensures { result ≡ get_or p (key_at W S keys q) [] }
+        { p[keys.key(W, S, q)] },
+    )
 }

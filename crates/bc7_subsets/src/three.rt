@@ -10,8 +10,8 @@ ghost use Rattle.bc7_subsets.specs.Asked.{Anchored3, AtMarker};
 
 use crate::extract_partition_set_id;
 use bc7_drawing::colour::{Stored, opaque, opaque_p};
-use bc7_drawing::painting::{paint_3_2, paint_3_3};
-use bc7_drawing::palette::{palette_3_2, palette_3_3};
+use bc7_drawing::painting::paint;
+use bc7_drawing::palette::palette_of_three;
 use bits::stream::BitStream;
 use drawing::keys::{keys_2, keys_3};
 use indexes::Indexes;
@@ -87,10 +87,10 @@ fn mode_0(stream: BitStream) -> [[u8; 4]; 16]
         a: 0,
         p: 0,
     };
-    let colours = palette_3_3(opaque_p(first, second, 4), opaque_p(third, none, 4));
+    let colours = palette_of_three::<3, 32>(opaque_p(first, second, 4), opaque_p(third, none, 4));
     let set = partition_word_3_3(id.value as u8);
     let x = indexes_3(3, p2.stream, set);
-    paint_3_3(colours, keys_3(x, 2, set))
+    paint::<3, 2, 32>(colours, keys_3(x, 2, set))
 }
 
 // All 64 partitions, no p bits.
@@ -136,8 +136,8 @@ fn mode_2(stream: BitStream) -> [[u8; 4]; 16]
         a: 0,
         p: 0,
     };
-    let colours = palette_3_2(opaque(first, second, 5), opaque(third, none, 5));
+    let colours = palette_of_three::<2, 16>(opaque(first, second, 5), opaque(third, none, 5));
     let set = partition_word_3_2(id.value as u8);
     let x = indexes_3(2, b2.stream, set);
-    paint_3_2(colours, keys_2(x, 2, set))
+    paint::<2, 2, 16>(colours, keys_2(x, 2, set))
 }

@@ -9,8 +9,8 @@ ghost use Rattle.bc7_subsets.specs.Asked.{Anchored2, AtMarker};
 
 use crate::extract_partition_set_id;
 use bc7_drawing::colour::{Stored, opaque_p, translucent_p};
-use bc7_drawing::painting::{paint_2_2, paint_2_3};
-use bc7_drawing::palette::{palette_2_2, palette_2_3};
+use bc7_drawing::painting::paint;
+use bc7_drawing::palette::palette_of_two;
 use bits::stream::BitStream;
 use drawing::keys::{keys_2, keys_3};
 use indexes::Indexes;
@@ -67,10 +67,10 @@ fn mode_1(stream: BitStream) -> [[u8; 4]; 16]
         a: 0,
         p: 3 * p1.value,
     };
-    let colours = palette_2_3(opaque_p(first, second, 6));
+    let colours = palette_of_two::<3, 16>(opaque_p(first, second, 6));
     let set = partition_word_2_3(id.value as u8);
     let x = indexes_2(3, p1.stream, set);
-    paint_2_3(colours, keys_3(x, 1, set))
+    paint::<3, 1, 16>(colours, keys_3(x, 1, set))
 }
 
 // A p bit for each endpoint.
@@ -101,10 +101,10 @@ fn mode_3(stream: BitStream) -> [[u8; 4]; 16]
         a: 0,
         p: p1.value,
     };
-    let colours = palette_2_2(opaque_p(first, second, 7));
+    let colours = palette_of_two::<2, 8>(opaque_p(first, second, 7));
     let set = partition_word_2_2(id.value as u8);
     let x = indexes_2(2, p1.stream, set);
-    paint_2_2(colours, keys_2(x, 1, set))
+    paint::<2, 1, 8>(colours, keys_2(x, 1, set))
 }
 
 // The only one of the three that stores alpha.
@@ -137,8 +137,8 @@ fn mode_7(stream: BitStream) -> [[u8; 4]; 16]
         a: a1.value,
         p: p1.value,
     };
-    let colours = palette_2_2(translucent_p(first, second, 5));
+    let colours = palette_of_two::<2, 8>(translucent_p(first, second, 5));
     let set = partition_word_2_2(id.value as u8);
     let x = indexes_2(2, p1.stream, set);
-    paint_2_2(colours, keys_2(x, 1, set))
+    paint::<2, 1, 8>(colours, keys_2(x, 1, set))
 }

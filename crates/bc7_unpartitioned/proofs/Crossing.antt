@@ -3,12 +3,12 @@
 use mathlib.Core.Path.{◌≡◌, refl, sym, ap, ap₂, ◌∙◌}
 use mathlib.Core.Bool.{Bool, true, false}
 use mathlib.Core.List.{List, [], ◌∷◌, ◌++◌}
-use Prim.Native.Nat.{ℕ, zero, suc, ◌+◌, ◌*◌, ◌/◌, ◌%◌, ◌^◌, ◌≤◌, ◌<◌}
+use Prim.Native.Nat.{ℕ, zero, suc, ◌+◌, ◌-◌, ◌*◌, ◌/◌, ◌%◌, ◌^◌, ◌≤◌, ◌<◌}
 use native.Mathlib.Nat.{mod-eq_of_lt, mod-lt, mod-mod}
 use native.Mathlib.Omega.{arith}
 use lib.Bits.{and_mask, and_zero_r, bit_and}
 use lib.ListN.{drop, get_or, replicate, take}
-use lib.Pow.{pow_pos, shr_lt}
+use lib.Pow.{pow-add, pow_pos, shr_lt}
 use Rattle.laws.specs.Digits.{Fit, join, more, none, split}
 use Rattle.laws.specs.Tables.{table}
 use Rattle.laws.proofs.Digits.{join_lt, join_split, split_join}
@@ -18,9 +18,13 @@ use Rattle.laws.proofs.Part.{get_d_table}
 use Rattle.laws.proofs.Putting.{split_and}
 use Rattle.laws.proofs.Rows.{split_mod}
 use Rattle.bcn_format.specs.Drawing.{weight_of}
+use Rattle.bcn_format.specs.Indexes.{part}
 use Rattle.bcn_format.proofs.Drawing.{drawn_lt, weight_le}
 use Rattle.bc7_fields.specs.Painting.{between}
 use Rattle.bcn_format.specs.Drawing.{Weighed}
+use Rattle.indexes.specs.declared.Indexes.{Indexes}
+use Rattle.indexes.specs.Reading.{Index}
+use Rattle.bc7_drawing.specs.Asked.{Coloured}
 use Rattle.bc7_drawing.specs.declared.colour.Ends.{Ends}
 use Rattle.bc7_drawing.specs.Words.{Alone, endpoint, word_bytes}
 use Rattle.bc7_drawing.specs.Colours.{shade}
@@ -258,3 +262,18 @@ module _ (e : Ends) (one : Alone e) where
     pub pairs : table 16 (pair_at alphas low high) ≡ table 16 (λ i. crossed (colour (i % 4)) (colour (i / 4)))
     unfolding pair_at crossed kept_channels
     pairs = table_same [] 16 _ _ (λ i h. ap₂ crossed (colour_is (i % 4) (mod-lt i (omega arith))) (alpha_is ea (i / 4) (omega arith)))
+
+-- an index of a known width
+module _ {x : Indexes} {b i r : ℕ} (wide : x.bits ≡ b) (index : Index x i r) where
+  pub index_below : r < 2 ^ b
+  index_below = rw wide at index.small
+
+  pub index_is : r ≡ part x.uncompressed b i
+  index_is = index.same ∙ ap (λ (w : ℕ). part x.uncompressed w i) wide
+
+-- the indexes of some bits come in pairs
+pub in_pairs : {b n : ℕ} → Coloured b 1 n → n ≡ 2 * (n / 2)
+in_pairs {b} {n} h =
+    let one : b ≡ 1 + (b - 1) = omega (arith, h.least) in
+    let e : 2 ^ b ≡ 2 * 2 ^ (b - 1) = ap (λ (k : ℕ). 2 ^ k) one ∙ pow-add 2 1 (b - 1) in
+    omega (arith, e, h.colours)

@@ -4,7 +4,7 @@
 
 #![tactic(auto)]
 
-ghost use Rattle.std.specs.Prelude.{◌≡◌, ◌++◌, ◌+◌, ◌*◌, ◌/◌, ◌%◌, ◌<◌, drop, get_or, replicate, take};
+ghost use Rattle.std.specs.Prelude.{◌≡◌, [], ◌++◌, ◌+◌, ◌*◌, ◌/◌, ◌%◌, ◌<◌, drop, get_or, replicate, take};
 ghost use Rattle.laws.specs.Digits.{join};
 ghost use Rattle.laws.specs.Tables.{pick, table};
 ghost use Rattle.bc7_format.specs.Lines.{rotated};
@@ -13,16 +13,18 @@ ghost use Rattle.bcn_format.specs.Indexes.{part};
 ghost use Rattle.bc7_fields.specs.Fields.{direct_pixels};
 ghost use Rattle.bc7_fields.specs.Painting.{four};
 ghost use Rattle.bc7_fields.specs.Rotating.{swapped};
+ghost use Rattle.bc7_drawing.specs.Asked.{Coloured};
 ghost use Rattle.bc7_drawing.specs.Words.{Alone, word_bytes};
 ghost use Rattle.bc7_unpartitioned.specs.Crossing.{Crossable, Paintable, TwoIndexes, colour_between, crossed, crossed_both};
 ghost use Rattle.bc7_unpartitioned.specs.Crossing.{kept_channels, kept_word};
 
 use bc7_drawing::colour::{Ends, Stored, alone, alone_p, high_colour, low_colour};
-use bc7_drawing::painting::paint_3_2;
+use bc7_drawing::painting::paint;
 use bc7_drawing::palette::{mix_16, two_shades};
 use bits::stream::BitStream;
 use drawing::keys::keys_2;
 use indexes::Indexes;
+use std::array;
 use weights::weight_256;
 
 fn chosen(yes: bool, x: u8, y: u8) -> u8
@@ -58,11 +60,13 @@ fn swap_channels(pixels: [[u8; 4]; 16], rotation: u8) -> [[u8; 4]; 16]
     requires { rotation < 4 }
     ensures { result ≡ swapped rotation pixels }
 {
-    let mut output = [[0u8; 4]; 16];
-    for i in 0..16usize {
-        output[i] = swap_channel(pixels[i], rotation);
-    }
-    output
+    array::from_fn(
+        |i| -> [u8; 4]
+            requires pixel { i < 16 }
+            requires turn { rotation < 4 }
+            ensures { result ≡ four (λ c. get_or (get_or pixels i []) (rotated rotation c) 0) }
+        { swap_channel(pixels[i], rotation) },
+    )
 }
 
 // Two colours side by side, of which only red, green and blue stay, or only alpha, which is the upper byte of each.
@@ -98,28 +102,17 @@ fn high_word(x: u64) -> u32
     (x >> 32) as u32
 }
 
-// All colours by an index of two bits, and by one of three, as words, in which red, green and blue stay or only alpha. One of
-// each kind makes a whole colour, by a sum: each byte of it is a byte of one word and 0 of the other.
-fn words_2(e: Ends, colour: bool) -> [u32; 4]
-    requires { Alone e }
-    ensures { result ≡ table 4 (λ k. kept_word colour (colour_between 2 e k)) }
+// All colours by an index of W bits, so N of them, as words, in which red, green and blue stay or only alpha. One of each kind makes a whole
+// colour, by a sum: each byte of it is a byte of one word and 0 of the other. A turn is two indexes, and stores both: a closure that is asked
+// for one of them would compute two and choose.
+fn words<const W: u32, const N: usize>(e: Ends, colour: bool) -> [u32; N]
+    requires colours { Coloured W 1 N }
+    requires ends { Alone e }
+    ensures { result ≡ table N (λ k. kept_word colour (colour_between W e k)) }
 {
-    let mut q = [0u32; 4];
-    for k in 0..2usize {
-        let x = keep(shades(e, 2, k), colour);
-        q[2 * k] = low_word(x);
-        q[2 * k + 1] = high_word(x);
-    }
-    q
-}
-
-fn words_3(e: Ends, colour: bool) -> [u32; 8]
-    requires { Alone e }
-    ensures { result ≡ table 8 (λ k. kept_word colour (colour_between 3 e k)) }
-{
-    let mut q = [0u32; 8];
-    for k in 0..4usize {
-        let x = keep(shades(e, 3, k), colour);
+    let mut q = [0u32; N];
+    for k in 0..N / 2 {
+        let x = keep(shades(e, W, k), colour);
         q[2 * k] = low_word(x);
         q[2 * k + 1] = high_word(x);
     }
@@ -131,13 +124,16 @@ fn paint_2_and_3(p: [u32; 4], q: [u32; 8], x: Indexes, y: Indexes) -> [[u8; 4]; 
     requires { Paintable p q x y }
     ensures { result ≡ table 16 (λ i. take 4 (word_bytes (get_or p (part x.uncompressed 2 i) 0 + get_or q (part y.uncompressed 3 i) 0))) }
 {
-    let mut output = [[0u8; 4]; 16];
-    for i in 0..16usize {
-        let pixel_index = i as u32;
-        let word = p[x.get_index(pixel_index) as usize] + q[y.get_index(pixel_index) as usize];
-        output[i] = low_colour(word as u64);
-    }
-    output
+    array::from_fn(
+        |i| -> [u8; 4]
+            requires pixel { i < 16 }
+            requires words { Paintable p q x y }
+            ensures { result ≡ take 4 (word_bytes (get_or p (part x.uncompressed 2 i) 0 + get_or q (part y.uncompressed 3 i) 0)) }
+        {
+            let word = p[x.get_index(i as u32) as usize] + q[y.get_index(i as u32) as usize];
+            low_colour(word as u64)
+        },
+    )
 }
 
 // The alpha of a word in both of two colours that have none. Times 2^32 + 1 it stands in both halves, and where one of two bytes
@@ -158,13 +154,13 @@ fn palette_2_and_2(e: Ends) -> [[u8; 4]; 16]
     requires { Alone e }
     ensures { result ≡ table 16 (λ i. crossed (colour_between 2 e (i % 4)) (colour_between 2 e (i / 4))) }
 {
-    let alphas = words_2(e, false);
+    let alphas = words::<2, 4>(e, false);
     let low = keep(shades(e, 2, 0), true);
     let high = keep(shades(e, 2, 1), true);
     let mut q = [[0u8; 4]; 16];
-    for j in 0..4usize {
-        let x = with_alphas(low, alphas[j]);
-        let y = with_alphas(high, alphas[j]);
+    for (j, alpha) in alphas.iter().enumerate() {
+        let x = with_alphas(low, *alpha);
+        let y = with_alphas(high, *alpha);
         q[4 * j] = low_colour(x);
         q[4 * j + 1] = high_colour(x);
         q[4 * j + 2] = low_colour(y);
@@ -194,8 +190,8 @@ pub fn mode_4(stream: BitStream) -> [[u8; 4]; 16]
     let e = alone(stored, 5, 6);
     let x = Indexes::new_p1(2, a.stream);
     let y = Indexes::new_p1(3, x.stream);
-    let first = words_2(e, index_mode.value == 0);
-    let second = words_3(e, index_mode.value != 0);
+    let first = words::<2, 4>(e, index_mode.value == 0);
+    let second = words::<3, 8>(e, index_mode.value != 0);
     swap_channels(
         paint_2_and_3(first, second, x.indexes, y.indexes),
         rotation.value as u8,
@@ -223,7 +219,7 @@ pub fn mode_5(stream: BitStream) -> [[u8; 4]; 16]
     let x = Indexes::new_p1(2, a.stream);
     let y = Indexes::new_p1(2, x.stream);
     swap_channels(
-        paint_3_2(
+        paint::<2, 2, 16>(
             palette_2_and_2(e),
             keys_2(y.indexes.uncompressed, 2, x.indexes.uncompressed),
         ),

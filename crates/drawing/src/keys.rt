@@ -8,7 +8,7 @@
 // goes below it. The odd pixels come the same way, a field further down.
 ghost use Rattle.std.specs.Prelude.{◌≡◌, ◌+◌, ◌*◌, ◌^◌, ◌≤◌};
 ghost use Rattle.std.specs.Int.Bits.{bit_and};
-ghost use Rattle.drawing.specs.Asked.{IsKey, Key, Moved};
+ghost use Rattle.drawing.specs.Asked.{IsKey, IsKeyAt, Key, KeyAt, Moved};
 ghost use Rattle.drawing.specs.Keys.{keys_of};
 
 // Those of the eight even and of the eight odd pixels.
@@ -16,6 +16,17 @@ ghost use Rattle.drawing.specs.Keys.{keys_of};
 pub struct Keys {
     pub even: u64,
     pub odd: u64,
+}
+
+impl Keys {
+    // The key of pixel q, where an index has `width` bits and a subset below it `below` bits.
+    pub fn key(self, width: u32, below: u32, q: usize) -> usize
+        requires { KeyAt width below q }
+        ensures { IsKeyAt width below self q result }
+    {
+        let half = if q % 2 == 0 { self.even } else { self.odd };
+        key_of(half, 2 * width, q / 2, 1 << (width + below))
+    }
 }
 
 // The lower two bits of every four, and the lower three of every six: the fields of the even pixels.

@@ -5,6 +5,7 @@ pub mod Cases
 pub mod Arms
 pub mod Part
 pub mod Filled
+pub mod FromFn
 pub mod Over
 pub mod Joining
 pub mod First

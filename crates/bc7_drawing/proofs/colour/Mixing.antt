@@ -7,6 +7,8 @@ use native.Mathlib.Nat.{add-mul, mod-eq_of_lt, mul-le-mul_right}
 use native.Mathlib.Omega.{arith}
 use lib.ListN.{get_or, replicate, take}
 use lib.Pow.{shr_lt, shr_mod, split as split_at}
+use Rattle.std.specs.Int.{to_le_bytes}
+use Rattle.std.proofs.Common.{w64}
 use Rattle.laws.specs.Digits.{Fit, join, more, none, split, total}
 use Rattle.laws.proofs.Digits.{join_lt, split_at_place, split_join}
 use Rattle.laws.proofs.Fitting.{fit_get}
@@ -153,3 +155,11 @@ module _ (rb ga : ℕ) {r g : ℕ} (er : r ≡ laned (map (λ v. field v 8 8) (l
 pub byte_at : (x k : ℕ) → k < 8 → field x (total (take k (replicate 8 8))) (get_or (replicate 8 8) k 0) ≡ get_or (word_bytes x) k 0
 unfolding word_bytes field
 byte_at x k h = sym (split_at_place (replicate 8 8) x k h)
+
+-- the bytes of a word by the library's method
+pub le_bytes : (x : ℕ) → to_le_bytes w64 x ≡ word_bytes x
+unfolding word_bytes field
+le_bytes x =
+    let at : (k : ℕ) → k < 8 → field x (total (take k (replicate 8 8))) (get_or (replicate 8 8) k 0) ≡ get_or (word_bytes x) k 0 = byte_at x in
+    λ i. x % 256 ∷ at 1 (omega arith) i ∷ at 2 (omega arith) i ∷ at 3 (omega arith) i ∷ at 4 (omega arith) i ∷ at 5 (omega arith) i
+    ∷ at 6 (omega arith) i ∷ at 7 (omega arith) i ∷ []

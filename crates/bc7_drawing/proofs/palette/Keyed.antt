@@ -13,7 +13,7 @@ use Rattle.bcn_format.specs.Drawing.{weight_of}
 use Rattle.bc7_fields.specs.Painting.{between}
 use Rattle.bcn_format.specs.Drawing.{Weighed}
 use Rattle.bc7_drawing.specs.declared.colour.Ends.{Ends}
-use Rattle.bc7_drawing.specs.Asked.{Mixable2, Shaded2}
+use Rattle.bc7_drawing.specs.Asked.{Coloured, Mixable2, Shaded2}
 use Rattle.bc7_drawing.specs.Words.{blend, blends, EndsOfBytes, endpoint, laned, Lanes, lanes_of, woven}
 use Rattle.bc7_drawing.proofs.colour.Mixing.{blend_lt, blends_fit}
 use Rattle.bc7_drawing.proofs.colour.Words.{fit_zip, lanes_laned}
@@ -70,6 +70,10 @@ keyed_at b t ends k l h =
     ap₂ (λ (i j : ℕ). between b (ends i 0) (ends i 1) j)
     (ap (λ (x : ℕ). (x + l) % t) (mul_comm t k) ∙ digits_mod k h)
     (ap (λ (x : ℕ). (x + l) / t) (mul_comm t k) ∙ digits_div k h)
+
+-- an index of a palette's colours
+pub indexed : {b t n k : ℕ} → Coloured b t n → k < 2 ^ b → Weighed b k
+indexed h l = record { least = h.least; most = h.most; within = l }
 
 -- a loop that lays the colours of t subsets at each turn
 module _ (n b t : ℕ) (ends : ℕ → ℕ → List ℕ) where

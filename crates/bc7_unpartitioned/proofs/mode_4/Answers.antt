@@ -4,7 +4,6 @@ use mathlib.Core.Path.{◌≡◌, refl, ap, ap₂, ◌∙◌}
 use mathlib.Core.List.{List, [], ◌∷◌}
 use Prim.Native.Nat.{ℕ, ◌+◌, ◌*◌, ◌<◌}
 use native.Mathlib.Omega.{arith}
-use borrow.Author.Rules.{rules}
 use lib.Dec.{eqb}
 use Rattle.laws.specs.Tables.{pick, table}
 use Rattle.bcn_format.specs.Block.{field}
@@ -28,30 +27,6 @@ use Rattle.bc7_unpartitioned.specs.Crossing.{crossed}
 use Rattle.bc7_unpartitioned.proofs.Laws.{by_set, vector_either, words_apart, words_summed}
 use Rattle.bc7_unpartitioned.proofs.mode_4.Goals as goal
 
-pub new_p1-y-requires : goal.new_p1-y-requires
-new_p1-y-requires c =
-    let a = c in
-    let b = a in
-    let g = b in
-    let r = g in
-    let mode = r in
-    let rotation = mode in
-    record {
-      anchors = search rules;
-      inside =
-          rw c.new_p1-x.ensures
-          (omega (
-            arith,
-            a.take-a.ensures.stands,
-            b.take-b.ensures.stands,
-            g.take-g.ensures.stands,
-            r.take-r.ensures.stands,
-            mode.take-index_mode.ensures.stands,
-            rotation.take-rotation.ensures.stands,
-            rotation.requires,
-          ));
-    }
-
 pub paint_2_and_3-requires : goal.paint_2_and_3-requires
 paint_2_and_3-requires c =
     let first = c in
@@ -59,22 +34,10 @@ paint_2_and_3-requires c =
     let x = y in
     let ends = x in
     record {
-      apart = words_apart _ ends.alone-e.result ends.alone-e.ensures.one first.words_2-first.ensures c.words_3-second.ensures;
+      apart = words_apart _ ends.alone-e.result ends.alone-e.ensures.one first.words-first.ensures c.words-second.ensures;
       two = rw x.new_p1-x.ensures refl;
       three = rw y.new_p1-y.ensures refl;
     }
-
-pub overflow_cast-rotation : goal.overflow_cast-rotation
-overflow_cast-rotation c =
-    let rotation =
-    c.take-rotation.ensures in
-    record { fits = omega (arith, rotation.small) }
-
-pub swap_channels-requires : goal.swap_channels-requires
-swap_channels-requires c =
-    let rotation =
-    c.take-rotation.ensures in
-    omega (arith, rotation.small)
 
 pub returns : goal.returns
 unfolding split_at kind_of_mode mode_row endpoint_count field value_start lead_end
@@ -128,7 +91,7 @@ returns c =
     let h : ℕ → List ℕ = λ q. between 3 (endpoint e 0 0) (endpoint e 0 1) (part y.new_p1-y.result.indexes.uncompressed 3 q) in
     c.swap_channels.ensures
     ∙ ap₂ swapped (got on_rotation 2 rotation.take-rotation.ensures.same)
-    (c.paint_2_and_3.ensures ∙ words_summed _ e ends.alone-e.ensures.one first.words_2-first.ensures third.words_3-second.ensures
+    (c.paint_2_and_3.ensures ∙ words_summed _ e ends.alone-e.ensures.one first.words-first.ensures third.words-second.ensures
     x.new_p1-x.result.indexes.uncompressed y.new_p1-y.result.indexes.uncompressed
     ∙ ap (λ (i : ℕ). table 16 (λ q. pick (eqb i 0) (crossed (f q) (h q)) (crossed (h q) (f q))))
     (got on-mode 1 index_mode_is.take-index_mode.ensures.same))

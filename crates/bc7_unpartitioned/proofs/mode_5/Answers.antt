@@ -4,7 +4,6 @@ use mathlib.Core.Path.{◌≡◌, refl, ap₂, ◌∙◌}
 use mathlib.Core.List.{List, [], ◌∷◌}
 use Prim.Native.Nat.{ℕ, ◌+◌, ◌*◌, ◌<◌}
 use native.Mathlib.Omega.{arith}
-use borrow.Author.Rules.{rules}
 use Rattle.bcn_format.specs.Block.{field}
 use Rattle.bc7_format.specs.Modes.{endpoint_count, kind_of_mode, mode_row}
 use Rattle.bc7_format.specs.Splits.{split_at}
@@ -25,21 +24,6 @@ use Rattle.drawing.specs.Keys.{key_at}
 use Rattle.bc7_fields.proofs.Ends.{translucent_shown}
 use Rattle.bc7_unpartitioned.proofs.Laws.{by_set, paired, vector_either}
 use Rattle.bc7_unpartitioned.proofs.mode_5.Goals as goal
-
-pub new_p1-y-requires : goal.new_p1-y-requires
-new_p1-y-requires c = record { anchors = search rules; inside = rw c.new_p1-x.ensures (omega arith) }
-
-pub overflow_cast-rotation : goal.overflow_cast-rotation
-overflow_cast-rotation c =
-    let rotation =
-    c.take-rotation.ensures in
-    record { fits = omega (arith, rotation.small) }
-
-pub swap_channels-requires : goal.swap_channels-requires
-swap_channels-requires c =
-    let rotation =
-    c.take-rotation.ensures in
-    omega (arith, rotation.small)
 
 pub returns : goal.returns
 unfolding split_at kind_of_mode mode_row endpoint_count field value_start lead_end
@@ -89,7 +73,7 @@ returns c =
     let second = got_indexes on-y 2 (0 ∷ []) 31 y.new_p1-y.ensures in
     c.swap_channels.ensures
     ∙ ap₂ swapped (got on_rotation 2 rotation.take-rotation.ensures.same)
-    (c.paint_3_2.ensures ∙ ap₂ (λ (k : Keys) (p : List (List ℕ)). painted (key_at 2 2 k) p) keys.keys_2.ensures
+    (c.paint.ensures ∙ ap₂ (λ (k : Keys) (p : List (List ℕ)). painted (key_at 2 2 k) p) keys.keys_2.ensures
     palette.palette_2_and_2.ensures
     ∙ paired x.new_p1-x.result.indexes.uncompressed y.new_p1-y.result.indexes.uncompressed (between 2 (endpoint e 0 0) (endpoint e 0 1)))
     ∙ vector_either 5 n (field n 6 2) 0 small (split_5 n) (omega arith) _ _

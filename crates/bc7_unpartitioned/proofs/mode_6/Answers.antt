@@ -21,9 +21,6 @@ use Rattle.bc7_fields.proofs.Ends.{translucent_p_shown, two_ps}
 use Rattle.bc7_unpartitioned.proofs.Laws.{whole_keys}
 use Rattle.bc7_unpartitioned.proofs.mode_6.Goals as goal
 
-pub mix_16-requires : goal.mix_16-requires
-mix_16-requires c = c.alone_p.ensures.one
-
 pub returns : goal.returns
 unfolding split_at kind_of_mode mode_row endpoint_count field value_start p_start lead_end
 returns c =

@@ -1,13 +1,12 @@
 -- All pairs of a colour and an alpha, four at a time.
 -- Assumes nothing.
-use mathlib.Core.Path.{◌≡◌, refl, ◌∙◌}
+use mathlib.Core.Path.{◌≡◌, ◌∙◌}
 use mathlib.Core.Bool.{false, true}
 use mathlib.Core.List.{◌++◌}
 use native.Mathlib.Omega.{arith}
 use Rattle.laws.specs.Tables.{table}
-use Rattle.laws.proofs.Filled.{filled_all, filled_four, filled_none}
+use Rattle.laws.proofs.Filled.{filled_all, filled_four}
 use Rattle.bc7_fields.specs.Painting.{between}
-use Rattle.bcn_format.proofs.Weighing.{two_bits}
 use Rattle.bc7_drawing.specs.declared.colour.Ends.{Ends}
 use Rattle.bc7_drawing.specs.Words.{Alone, endpoint, word_bytes}
 use Rattle.bc7_unpartitioned.specs.Crossing.{kept_channels, kept_word}
@@ -19,7 +18,7 @@ use Rattle.bc7_unpartitioned.proofs.palette_2_and_2.Goals.{After-keep-high}
 record Words (c : After-keep-high) : Type 0 where
   e : Ends
   one : Alone e
-  alphas_are : c.words_2-alphas.result ≡ table 4 (λ k. kept_word false (between 2 (endpoint e 0 0) (endpoint e 0 1) k))
+  alphas_are : c.words-alphas.result ≡ table 4 (λ k. kept_word false (between 2 (endpoint e 0 0) (endpoint e 0 1) k))
   low_is : word_bytes c.keep-low.result
       ≡ kept_channels true (between 2 (endpoint e 0 0) (endpoint e 0 1) 0) ++ kept_channels true (between 2 (endpoint e 0 0) (endpoint e 0 1) 1)
   high_is : word_bytes c.keep-high.result
@@ -32,99 +31,27 @@ words c =
     record {
       e = s.args.e;
       one = s.requires;
-      alphas_are = low.words_2-alphas.ensures;
+      alphas_are = low.words-alphas.ensures;
       low_is = both_kept true 2 0 1 _ _ low.shades.ensures low.keep-low.ensures;
       high_is = both_kept true 2 2 3 _ _ c.shades-2.ensures c.keep-high.ensures;
     }
 
-pub shades-requires : goal.shades-requires
-shades-requires c = record { indexes = two_bits (omega arith); ends = c.requires }
-
-pub shades-requires-2 : goal.shades-requires-2
-shades-requires-2 c = record { indexes = two_bits (omega arith); ends = c.requires }
-
-pub loop-j-init : goal.loop-j-init
-loop-j-init c = (omega arith, filled_none refl)
-
-pub offset_bounds-alphas-j : goal.offset_bounds-alphas-j
-offset_bounds-alphas-j c = omega arith
-
-pub bounds-alphas-j : goal.bounds-alphas-j
-bounds-alphas-j c = omega arith
-
 pub with_alphas-x-requires : goal.with_alphas-x-requires
 with_alphas-x-requires c =
-    let start = words c.before.before in
+    let start = words c.before.before.before.before.before.before in
     record {
       colours = colours_fit start.e start.one 0 1 (omega arith) (omega arith) start.low_is;
       alpha = alpha_fits start.e start.one start.alphas_are c.loop-j.j c.loop-j-test.true;
     }
 
-pub offset_bounds-alphas-j-in-loop-j : goal.offset_bounds-alphas-j-in-loop-j
-offset_bounds-alphas-j-in-loop-j c = omega arith
-
-pub bounds-alphas-j-in-loop-j : goal.bounds-alphas-j-in-loop-j
-bounds-alphas-j-in-loop-j c = omega arith
-
 pub with_alphas-y-requires : goal.with_alphas-y-requires
 with_alphas-y-requires c =
     let at = c in
-    let start = words c.before.before.before in
+    let start = words c.before.before.before.before.before.before.before in
     record {
       colours = colours_fit start.e start.one 2 3 (omega arith) (omega arith) start.high_is;
       alpha = alpha_fits start.e start.one start.alphas_are at.loop-j.j at.loop-j-test.true;
     }
-
-pub overflow_mul-q : goal.overflow_mul-q
-overflow_mul-q c = omega arith
-
-pub offset_bounds-q-j : goal.offset_bounds-q-j
-offset_bounds-q-j c = omega arith
-
-pub bounds-q-j : goal.bounds-q-j
-bounds-q-j c = omega arith
-
-pub overflow_mul-q-in-loop-j : goal.overflow_mul-q-in-loop-j
-overflow_mul-q-in-loop-j c = omega arith
-
-pub overflow_add-q : goal.overflow_add-q
-overflow_add-q c = omega arith
-
-pub offset_bounds-q-j-in-loop-j : goal.offset_bounds-q-j-in-loop-j
-offset_bounds-q-j-in-loop-j c = omega arith
-
-pub bounds-q-j-in-loop-j : goal.bounds-q-j-in-loop-j
-bounds-q-j-in-loop-j c = omega arith
-
-pub overflow_mul-q-in-loop-j-2 : goal.overflow_mul-q-in-loop-j-2
-overflow_mul-q-in-loop-j-2 c = omega arith
-
-pub overflow_add-q-in-loop-j : goal.overflow_add-q-in-loop-j
-overflow_add-q-in-loop-j c = omega arith
-
-pub offset_bounds-q-j-in-loop-j-2 : goal.offset_bounds-q-j-in-loop-j-2
-offset_bounds-q-j-in-loop-j-2 c = omega arith
-
-pub bounds-q-j-in-loop-j-2 : goal.bounds-q-j-in-loop-j-2
-bounds-q-j-in-loop-j-2 c = omega arith
-
-pub overflow_mul-q-in-loop-j-3 : goal.overflow_mul-q-in-loop-j-3
-overflow_mul-q-in-loop-j-3 c = omega arith
-
-pub overflow_add-q-in-loop-j-2 : goal.overflow_add-q-in-loop-j-2
-overflow_add-q-in-loop-j-2 c = omega arith
-
-pub offset_bounds-q-j-in-loop-j-3 : goal.offset_bounds-q-j-in-loop-j-3
-offset_bounds-q-j-in-loop-j-3 c = omega arith
-
-pub bounds-q-j-in-loop-j-3 : goal.bounds-q-j-in-loop-j-3
-bounds-q-j-in-loop-j-3 c = omega arith
-
-pub overflow_step-j : goal.overflow_step-j
-overflow_step-j c = omega arith
-
-pub loop-j-smaller : goal.loop-j-smaller
-loop-j-smaller c = omega arith
 
 pub loop-j-preserved : goal.loop-j-preserved
 loop-j-preserved c =
@@ -144,5 +71,5 @@ loop-j-preserved c =
 pub returns : goal.returns
 unfolding words
 returns c =
-    let start = words c.before.before in
+    let start = words c.before.before.before in
     filled_all c.loop-j.invariant.1 (omega arith) ∙ pairs start.e start.one _ _ start.alphas_are start.low_is start.high_is

@@ -10,18 +10,6 @@ use Rattle.weights.proofs.weight_64.Goals as goal
 cnt : (c : goal.Start) → Counted c.args.bits
 cnt c = counted c.args.bits c.requires.least c.requires.most
 
-pub overflow_shl-last : goal.overflow_shl-last
-overflow_shl-last c = omega (arith, c.requires.most)
-
-pub overflow_sub-last : goal.overflow_sub-last
-overflow_sub-last c = omega (arith, (cnt c).is, (cnt c).least)
-
-pub overflow_mul-result : goal.overflow_mul-result
-overflow_mul-result c = omega (arith, c.requires.within, (cnt c).most)
-
-pub overflow_add-result : goal.overflow_add-result
-overflow_add-result c = omega (arith, c.requires.within, (cnt c).is, (cnt c).most)
-
 pub nonzero_div-result-2 : goal.nonzero_div-result-2
 nonzero_div-result-2 c = omega (arith, (cnt c).is, (cnt c).least)
 

@@ -1,14 +1,8 @@
 -- One endpoint of four lanes.
 -- Assumes nothing.
 use native.Mathlib.Omega.{arith}
-use Rattle.bc7_drawing.proofs.colour.Words.{end_of_is, ends_within, parts_small}
+use Rattle.bc7_drawing.proofs.colour.Words.{end_of_is, parts_small}
 use Rattle.bc7_drawing.proofs.colour.end_of.Goals as goal
-
-pub overflow_mul-bits : goal.overflow_mul-bits
-overflow_mul-bits c = omega (arith, ends_within c.args.bits c.args.k c.args.x c.requires.two c.requires.width.most)
-
-pub parts-requires : goal.parts-requires
-parts-requires c = ends_within c.args.bits c.args.k c.args.x c.requires.two c.requires.width.most
 
 pub promote-requires : goal.promote-requires
 promote-requires c =

@@ -1,14 +1,8 @@
 -- One endpoint of four lanes, with p bits.
 -- Assumes nothing.
 use native.Mathlib.Omega.{arith}
-use Rattle.bc7_drawing.proofs.colour.Words.{end_of_p_is, ends_within, parts_small}
+use Rattle.bc7_drawing.proofs.colour.Words.{end_of_p_is, parts_small}
 use Rattle.bc7_drawing.proofs.colour.end_of_p.Goals as goal
-
-pub overflow_mul-bits : goal.overflow_mul-bits
-overflow_mul-bits c = omega (arith, ends_within c.args.bits c.args.k c.args.x c.requires.two (omega arith))
-
-pub parts-requires : goal.parts-requires
-parts-requires c = ends_within c.args.bits c.args.k c.args.x c.requires.two (omega arith)
 
 pub promote_p-requires : goal.promote_p-requires
 promote_p-requires c =

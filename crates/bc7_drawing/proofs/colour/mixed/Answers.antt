@@ -18,9 +18,6 @@ overflow_add-result c = record { fits = (on c).halves }
 pub overflow_mul-result-2 : goal.overflow_mul-result-2
 overflow_mul-result-2 c = omega (arith, on c)
 
-pub overflow_sub-result : goal.overflow_sub-result
-overflow_sub-result c = omega (arith, on c)
-
 pub overflow_mul-result-3 : goal.overflow_mul-result-3
 overflow_mul-result-3 c = record { fits = (on c).times }
 

@@ -8,11 +8,8 @@ use Rattle.bc7_fields.specs.Painting.{between}
 use Rattle.bcn_format.proofs.Weighing.{four_bits}
 use Rattle.bc7_drawing.specs.Words.{endpoint}
 use Rattle.bc7_drawing.proofs.palette.Keyed.{high_is, low_is}
-use Rattle.bc7_drawing.proofs.palette.Weighing.{all_columns, column, index_16, next_index, no_column, two_weights}
+use Rattle.bc7_drawing.proofs.palette.Weighing.{all_columns, column, index_16, next_index, two_weights}
 use Rattle.bc7_drawing.proofs.palette.mix_16.Goals as goal
-
-pub loop-i-init : goal.loop-i-init
-loop-i-init c = no_column refl
 
 pub two_shades-two-requires : goal.two_shades-two-requires
 two_shades-two-requires c =
@@ -22,27 +19,6 @@ two_shades-two-requires c =
     let w = two_weights s.args.x at.loop-i.i at.loop-i-test.true odd.weights_of-even.ensures c.weights_at.ensures in
     record { weights = record { low = w.low_256; high = w.high_256 }; ends = s.requires }
 
-pub overflow_mul-output : goal.overflow_mul-output
-overflow_mul-output c = omega arith
-
-pub offset_bounds-output-i : goal.offset_bounds-output-i
-offset_bounds-output-i c = omega arith
-
-pub bounds-output-i : goal.bounds-output-i
-bounds-output-i c = omega arith
-
-pub overflow_mul-output-in-loop-i : goal.overflow_mul-output-in-loop-i
-overflow_mul-output-in-loop-i c = omega arith
-
-pub overflow_add-output : goal.overflow_add-output
-overflow_add-output c = omega arith
-
-pub offset_bounds-output-i-in-loop-i : goal.offset_bounds-output-i-in-loop-i
-offset_bounds-output-i-in-loop-i c = omega arith
-
-pub bounds-output-i-in-loop-i : goal.bounds-output-i-in-loop-i
-bounds-output-i-in-loop-i c = omega arith
-
 pub two_shades-next-requires : goal.two_shades-next-requires
 two_shades-next-requires c =
     let at = c.before.before.before.before.before in
@@ -50,36 +26,6 @@ two_shades-next-requires c =
     let s = odd.before.before in
     let w = two_weights (s.args.x / 2 ^ 4) at.loop-i.i at.loop-i-test.true odd.weights_of-odd.ensures c.weights_at-in-loop-i.ensures in
     record { weights = record { low = w.low_256; high = w.high_256 }; ends = s.requires }
-
-pub overflow_mul-output-in-loop-i-2 : goal.overflow_mul-output-in-loop-i-2
-overflow_mul-output-in-loop-i-2 c = omega arith
-
-pub overflow_add-output-in-loop-i : goal.overflow_add-output-in-loop-i
-overflow_add-output-in-loop-i c = omega arith
-
-pub offset_bounds-output-i-in-loop-i-2 : goal.offset_bounds-output-i-in-loop-i-2
-offset_bounds-output-i-in-loop-i-2 c = omega arith
-
-pub bounds-output-i-in-loop-i-2 : goal.bounds-output-i-in-loop-i-2
-bounds-output-i-in-loop-i-2 c = omega arith
-
-pub overflow_mul-output-in-loop-i-3 : goal.overflow_mul-output-in-loop-i-3
-overflow_mul-output-in-loop-i-3 c = omega arith
-
-pub overflow_add-output-in-loop-i-2 : goal.overflow_add-output-in-loop-i-2
-overflow_add-output-in-loop-i-2 c = omega arith
-
-pub offset_bounds-output-i-in-loop-i-3 : goal.offset_bounds-output-i-in-loop-i-3
-offset_bounds-output-i-in-loop-i-3 c = omega arith
-
-pub bounds-output-i-in-loop-i-3 : goal.bounds-output-i-in-loop-i-3
-bounds-output-i-in-loop-i-3 c = omega arith
-
-pub overflow_step-i : goal.overflow_step-i
-overflow_step-i c = omega arith
-
-pub loop-i-smaller : goal.loop-i-smaller
-loop-i-smaller c = omega arith
 
 pub loop-i-preserved : goal.loop-i-preserved
 loop-i-preserved c =

@@ -140,5 +140,5 @@ returns c =
     (opaque_p_shown 0 n {l = 2} refl
     (record { red = got on-r2 8 r2; green = got on-g2 8 g2; blue = got on-b2 8 b2 })
     refl (two_ps 0 n 2 refl (got on-p2 2 p2)) refl)
-    colours.palette_3_3-colours.ensures)
-    c.paint_3_3.ensures
+    colours.palette_of_three-colours.ensures)
+    c.paint.ensures

@@ -119,5 +119,5 @@ returns c =
     (opaque_shown 2 n {l = 2} {a = 0} {p = 0} refl
     (record { red = got on-r2 10 r2; green = got on-g2 10 g2; blue = got on-b2 10 b2 })
     refl refl)
-    colours.palette_3_2-colours.ensures)
-    c.paint_3_2.ensures
+    colours.palette_of_three-colours.ensures)
+    c.paint.ensures

@@ -103,5 +103,5 @@ returns c =
     (opaque_p_shown 1 n {l = 1} refl
     (record { red = got on-r1 12 r1; green = got on-g1 12 g1; blue = got on-b1 12 b1 })
     refl (one_p 1 n 1 refl (ap (λ (v : ℕ). 3 * v) (got on-p1 1 p1))) refl)
-    colours.palette_2_3-colours.ensures)
-    c.paint_2_3.ensures
+    colours.palette_of_two-colours.ensures)
+    c.paint.ensures

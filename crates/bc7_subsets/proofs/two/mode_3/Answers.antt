@@ -102,5 +102,5 @@ returns c =
     (opaque_p_shown 3 n {l = 1} refl
     (record { red = got on-r1 14 r1; green = got on-g1 14 g1; blue = got on-b1 14 b1 })
     refl (two_ps 3 n 1 refl (got on-p1 2 p1)) refl)
-    colours.palette_2_2-colours.ensures)
-    c.paint_2_2.ensures
+    colours.palette_of_two-colours.ensures)
+    c.paint.ensures

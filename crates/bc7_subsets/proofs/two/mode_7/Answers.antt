@@ -115,5 +115,5 @@ returns c =
     (translucent_p_shown 7 n {l = 1} refl
     (record { red = got on-r1 10 r1; green = got on-g1 10 g1; blue = got on-b1 10 b1 })
     refl (two_ps 7 n 1 refl (got on-p1 2 p1)) refl (got on-a1 10 a1))
-    colours.palette_2_2-colours.ensures)
-    c.paint_2_2.ensures
+    colours.palette_of_two-colours.ensures)
+    c.paint.ensures
