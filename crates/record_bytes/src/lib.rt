@@ -59,34 +59,27 @@ pub fn record_bytes(from: Record) -> [u8; PLACES]
     bytes
 }
 
-// The bytes from a place on, as many as there is room for.
-fn copy_from(from: &[u8], at: usize, values: &mut [u8])
-    requires { at + length values.old ≤ length from.now }
-    ensures { values.new ≡ bytes_from from.now at (length values.old) }
+// The N bytes from a place on.
+fn part<const N: usize>(from: &[u8], at: usize) -> [u8; N]
+    requires { at + N ≤ length from.now }
+    ensures { result ≡ bytes_from from.now at N }
 {
-    let end = at + values.len();
-    values.copy_from_slice(&from[at..end]);
+    let mut values = [0u8; N];
+    values.copy_from_slice(&from[at..at + N]);
+    values
 }
 
 // The record of 66 bytes. A kind above 3 is read as 3: `pack_bytes` refuses it before.
 fn record_of_bytes(bytes: [u8; PLACES]) -> Record
     ensures { result ≡ record_of_bytes bytes }
 {
-    let mut endpoints = [0u8; 24];
-    copy_from(&bytes, VALUES, &mut endpoints);
-    let mut p = [0u8; 6];
-    copy_from(&bytes, P_BITS, &mut p);
-    let mut first = [0u8; 16];
-    copy_from(&bytes, FIRST, &mut first);
-    let mut second = [0u8; 16];
-    copy_from(&bytes, SECOND, &mut second);
     Record {
         mode: bytes[0],
         split: split_of_kind(bytes[1], bytes[2], bytes[2], bytes[3]),
-        endpoints: endpoints,
-        p: p,
-        first: first,
-        second: second,
+        endpoints: part(&bytes, VALUES),
+        p: part(&bytes, P_BITS),
+        first: part(&bytes, FIRST),
+        second: part(&bytes, SECOND),
     }
 }
 
@@ -125,14 +118,10 @@ pub fn pack_bytes(bytes: [u8; PLACES]) -> Result<[u8; 16], Refusal>
 pub fn replacement_of(bytes: [u8; 26]) -> Replacement
     ensures { ReadsReplacement bytes result }
 {
-    let mut endpoints = [0u8; 8];
-    copy_from(&bytes, 0, &mut endpoints);
-    let mut indexes = [0u8; 16];
-    copy_from(&bytes, 10, &mut indexes);
     Replacement {
-        endpoints: endpoints,
+        endpoints: part(&bytes, 0),
         p: [bytes[8], bytes[9]],
-        indexes: indexes,
+        indexes: part(&bytes, 10),
     }
 }
 
