@@ -13,7 +13,7 @@ use Rattle.bcn_format.specs.Partitions.{strings2, strings3}
 use Rattle.bcn_format.proofs.Fields.{field_below}
 use Rattle.bc7_format.specs.Lines.{pixel, rotated}
 use Rattle.bc7_format.specs.Modes.{index_mode_bits, mode_of, partition_bits, rotation_bits}
-use Rattle.pixel_rules.specs.declared.PixelRead.{PixelRead}
+use Rattle.refusals.specs.Answers.{Answer}
 use Rattle.pixel_rules.specs.Columns.{subset_count}
 use Rattle.pixel_rules.specs.Pixels.{pixel_read}
 use Rattle.pixel_rules.specs.Plain.{Spelt, channel_in, index_mode_in, letters_of, partition_in, plain_channel}
@@ -59,9 +59,9 @@ module _ (m n : ℕ) where
 
 -- an accepted answer
 pub answered : (bs : List ℕ) → Fit eights bs → (m q : ℕ) → m ≡ mode_of bs → m < 8 → q < 16 → {l : List ℕ}
-    → l ≡ table 4 (plain_channel m (number bs) q) → ◌≡◌ {A = PixelRead} (record { refusal = 0; rgba = l }) (pixel_read bs q)
+    → l ≡ table 4 (plain_channel m (number bs) q) → ◌≡◌ {A = Answer (List ℕ)} (record { refusal = 0; value = l }) (pixel_read bs q)
 answered bs sixteen m q e h hq is =
     let low : mode_of bs < 8 = subst (λ (x : ℕ). x < 8) e h in
-    ap (λ (l : List ℕ). record { refusal = 0; rgba = l })
+    ap (λ (l : List ℕ). record { refusal = 0; value = l })
     (is ∙ ap (λ (x : ℕ). table 4 (plain_channel x (number bs) q)) e ∙ table_same 0 4 _ (pixel bs q) (λ c hc. channel_shown bs sixteen low q c hq hc))
     ∙ sym (pixel_accepted bs q hq)

@@ -18,8 +18,7 @@ ghost use Rattle.bc7_plain.specs.Asked.{Bits, Byte, ChannelAsked, ChannelOf, Col
 ghost use Rattle.bc7_plain.specs.Asked.{IndexModeOf, TwoBytes, PixelAsked, PixelOf, Promoted, Rotatable, SetAsked, SetOf};
 ghost use Rattle.bc7_plain.specs.Asked.{ShortField, SplitRead};
 
-use pixel_rules::PixelRead;
-use refusals::NO_SUCH_PIXEL;
+use refusals::Refusal;
 use strings::{anchors_before, is_anchor, one, subset, three, two};
 
 mod strings;
@@ -410,24 +409,15 @@ fn read(block: [u8; 16], mode: usize, pixel: usize) -> [u8; 4]
 }
 
 // One pixel of a block: red, green, blue, alpha. Any sixteen bytes are a block; a reserved one shows 0 0 0 0. Pixel 16 and up is refused.
-pub fn pixel_of(block: [u8; 16], pixel: u32) -> PixelRead
+pub fn pixel_of(block: [u8; 16], pixel: u32) -> Result<[u8; 4], Refusal>
     ensures { ReadsPixel block pixel result }
 {
     if 16 <= pixel {
-        return PixelRead {
-            refusal: NO_SUCH_PIXEL,
-            rgba: [0u8; 4],
-        };
+        return Err(Refusal::NoSuchPixel);
     }
     let mode = mode_of(block);
     if mode == 8 {
-        return PixelRead {
-            refusal: 0,
-            rgba: [0u8; 4],
-        };
+        return Ok([0; 4]);
     }
-    PixelRead {
-        refusal: 0,
-        rgba: read(block, mode, pixel as usize),
-    }
+    Ok(read(block, mode, pixel as usize))
 }

@@ -4,7 +4,8 @@ use Rattle.std.specs.Prelude.{ℕ, List, [], ◌∷◌, ◌++◌, replicate}
 use Rattle.head_rules.specs.declared.Number.{Number}
 use Rattle.line_rules.specs.declared.Replacement.{Replacement}
 use Rattle.line_rules.specs.declared.Replaced.{Replaced}
-use Rattle.record_rules.specs.declared.Unpacked.{Unpacked}
+use Rattle.record_rules.specs.declared.Record.{Record}
+use Rattle.refusals.specs.Answers as answers
 use Rattle.bc7_format.specs.Lines.{pixels}
 use Rattle.record_rules.specs.Records.{taken_apart, unpacked_as, zero_record}
 use Rattle.head_rules.specs.Numbers.{found, no_number, number_bytes, read_number}
@@ -20,7 +21,7 @@ pub data Question : Type 0 where
 
 pub data Answer : Type 0 where
   sixteen : List (List ℕ) → Answer
-  unpacked : Unpacked → Answer
+  unpacked : answers.Answer Record → Answer
   block : Replaced → Answer
   bytes : List ℕ → Answer
   number : Number → Answer

@@ -18,7 +18,9 @@ use Rattle.bc7_format.specs.Modes.{endpoint_count, kind_of_mode, mode_of, mode_r
 use Rattle.bc7_format.specs.Places.{at_place, opened, place_at, pos, width, widths}
 use Rattle.bc7_format.specs.Splits.{split_at, split_of}
 use Rattle.bc7_format.proofs.Examples.{block0, block4, block7}
-use Rattle.pixel_rules.specs.declared.PixelRead.{PixelRead}
+use Rattle.refusals.specs.Answers.{Answer}
+use Rattle.std.specs.Prelude.{Ok, Err}
+use Rattle.refusals.specs.declared.Refusal.TheVariants.{NoSuchPixel}
 use Rattle.pixel_rules.specs.Columns.{column_of, printed_rows}
 use Rattle.pixel_rules.specs.Pixels.{pixel_read, pixel_refusal}
 use Rattle.pixel_rules.specs.Promises.{ReadsPixel}
@@ -75,8 +77,8 @@ pub refusals : map pixel_refusal (0 ∷ 15 ∷ 16 ∷ 17 ∷ 255 ∷ 256 ∷ 271
 unfolding pixel_refusal first
 refusals = refl
 
-abbrev answer : ℕ → List ℕ → PixelRead
-answer r l = record { refusal = r; rgba = l }
+abbrev answer : ℕ → List ℕ → Answer (List ℕ)
+answer r l = record { refusal = r; value = l }
 
 pub answers : (pixel_read block4 1 ≡ answer 0 (rgba 13 31 46 29)) × (pixel_read block4 16 ≡ answer 21 (rgba 0 0 0 0))
     × (pixel_read (replicate 16 0) 15 ≡ answer 0 (rgba 0 0 0 0)) × (pixel_read (replicate 16 0) 16 ≡ answer 21 (rgba 0 0 0 0))
@@ -86,9 +88,9 @@ unfolding first table table_from digits marks strings2 strings3 subset2 subset3 
 answers = (refl, refl, refl, refl)
 
 -- THE PROMISE: an accepted answer, a refused one, and one that it does not admit: the pixel before its rotation, which exchanges green and alpha
-pub promise_holds : ReadsPixel block4 1 (answer 0 (rgba 13 31 46 29)) × ReadsPixel block4 16 (answer 21 (rgba 0 0 0 0))
-    × (ReadsPixel block4 1 (answer 0 (rgba 13 29 46 31)) → ⊥)
+pub promise_holds : ReadsPixel block4 1 (Ok (rgba 13 31 46 29)) × ReadsPixel block4 16 (Err NoSuchPixel)
+    × (ReadsPixel block4 1 (Ok (rgba 13 29 46 31)) → ⊥)
 unfolding first table table_from digits marks strings2 strings3 subset2 subset3 anchors2 anchors3 weights weight_of drawn promoted eight
     mode_row kind_of_mode endpoint_count place_at pos width widths trailing number mode_of split_at split_of at_place opened has value_place p_place
     index_set_of index_place own line_of line_bits means_stored rotated line_at shown pixel pixel_refusal pixel_read
-promise_holds = (refl, refl, λ e. eqb_of _ _ (ap (λ (r : PixelRead). get_or r.rgba 1 0) e))
+promise_holds = (refl, refl, λ e. eqb_of _ _ (ap (λ (r : Answer (List ℕ)). get_or r.value 1 0) e))

@@ -22,8 +22,11 @@ use Rattle.bc7_format.specs.Places.{opened}
 use Rattle.bc7_format.specs.Splits.{split_of}
 use Rattle.bc7_format.proofs.Modes.{mode_le_8}
 use Rattle.bc7_format.proofs.Reserved.{reserved_mode}
-use Rattle.pixel_rules.specs.declared.PixelRead.{PixelRead}
-use Rattle.pixel_rules.specs.Pixels.{pixel_read, pixel_refusal, pixel_rules}
+use Rattle.refusals.specs.Answers.{Answer}
+use Rattle.std.specs.Prelude.{Result}
+use Rattle.refusals.specs.declared.Refusal.{Refusal}
+use Rattle.refusals.proofs.Answers.{answer_fixes}
+use Rattle.pixel_rules.specs.Pixels.{no_pixel, pixel_read, pixel_refusal, pixel_rules}
 use Rattle.pixel_rules.specs.Plain.{plain_pixel}
 use Rattle.pixel_rules.specs.Promises.{ReadsPixel}
 use Rattle.pixel_rules.proofs.Reading.{channel_shown}
@@ -54,31 +57,31 @@ plain_is_the_format bs sixteen q c hq hc = go (eqb (mode_of bs) 8) refl
         rw e (channel_shown bs sixteen (omega (arith, mode_le_8 bs, ne)) q c hq hc ∙ rw e)
 
 -- what is answered where it is accepted, and where not
-pub pixel_accepted : (bs : List ℕ) (q : ℕ) → q < 16 → pixel_read bs q ≡ record { refusal = 0; rgba = table 4 (pixel bs q) }
+pub pixel_accepted : (bs : List ℕ) (q : ℕ) → q < 16 → pixel_read bs q ≡ record { refusal = 0; value = table 4 (pixel bs q) }
 unfolding pixel_read
 pixel_accepted bs q h =
-    λ j. record { refusal = accepted_below_16 q h j; rgba = answer_0 (table 4 (pixel bs q)) (replicate 4 0) (accepted_below_16 q h) j }
+    λ j. record { refusal = accepted_below_16 q h j; value = answer_0 (table 4 (pixel bs q)) (replicate 4 0) (accepted_below_16 q h) j }
 
-pub pixel_refused : (bs : List ℕ) (q : ℕ) → 16 ≤ q → pixel_read bs q ≡ record { refusal = 21; rgba = replicate 4 0 }
+pub pixel_refused : (bs : List ℕ) (q : ℕ) → 16 ≤ q → pixel_read bs q ≡ record { refusal = 21; value = replicate 4 0 }
 unfolding pixel_read
 pixel_refused bs q h =
-    λ j. record { refusal = refused_from_16 q h j; rgba = answer_not_0 (table 4 (pixel bs q)) (replicate 4 0) (refused_from_16 q h) j }
+    λ j. record { refusal = refused_from_16 q h j; value = answer_not_0 (table 4 (pixel bs q)) (replicate 4 0) (refused_from_16 q h) j }
 
 -- it is the pixel that the sixteen have there
-pub pixel_of_the_sixteen : (bs : List ℕ) (q : ℕ) → q < 16 → get_or (pixels bs) q [] ≡ (pixel_read bs q).rgba
+pub pixel_of_the_sixteen : (bs : List ℕ) (q : ℕ) → q < 16 → get_or (pixels bs) q [] ≡ (pixel_read bs q).value
 unfolding pixels
 pixel_of_the_sixteen bs q h =
-    get_d_table 16 (λ q. table 4 (pixel bs q)) [] q h ∙ sym (ap (λ (r : PixelRead). r.rgba) (pixel_accepted bs q h))
+    get_d_table 16 (λ q. table 4 (pixel bs q)) [] q h ∙ sym (ap (λ (r : Answer (List ℕ)). r.value) (pixel_accepted bs q h))
 
 -- a reserved block is accepted, and shows 0 0 0 0
-pub reserved_accepted : (bs : List ℕ) (q : ℕ) → q < 16 → get_or bs 0 0 ≡ 0 → pixel_read bs q ≡ record { refusal = 0; rgba = replicate 4 0 }
+pub reserved_accepted : (bs : List ℕ) (q : ℕ) → q < 16 → get_or bs 0 0 ≡ 0 → pixel_read bs q ≡ record { refusal = 0; value = replicate 4 0 }
 unfolding pixel table table_from
 reserved_accepted bs q h z =
     pixel_accepted bs q h
-    ∙ ap (λ (l : List ℕ). record { refusal = 0; rgba = l })
+    ∙ ap (λ (l : List ℕ). record { refusal = 0; value = l })
     (table_same 0 4 (pixel bs q) (λ c. 0)
     (λ c hc. ap (λ (b : Bool). pick b 0 (shown (mode_of bs) (split_of bs) (opened bs) q c)) (eq-eqb (mode_of bs) 8 (reserved_mode bs z))))
 
 -- DEMAND 1: any two answers that the promise admits coincide
-pub determined_pixel : (bs : List ℕ) (q : ℕ) (a b : PixelRead) → ReadsPixel bs q a → ReadsPixel bs q b → a ≡ b
-determined_pixel bs q a b p r = p ∙ sym r
+pub determined_pixel : (bs : List ℕ) (q : ℕ) (a b : Result (List ℕ) Refusal) → ReadsPixel bs q a → ReadsPixel bs q b → a ≡ b
+determined_pixel bs q a b p r = answer_fixes no_pixel a b (p ∙ sym r)

@@ -1,8 +1,6 @@
 -- What is read of a block group by group, by the row of its mode.
 -- Assumes nothing.
 use Rattle.std.specs.Prelude.{◌≡◌, ℕ, ◌+◌, ◌-◌, ◌*◌, ◌/◌, ◌%◌, ◌≤◌, List, [], ◌∷◌, eqb, ltb, get_or, replicate}
-use Rattle.record.specs.declared.reading.ReadEndpoints.{ReadEndpoints}
-use Rattle.record.specs.declared.reading.ReadP.{ReadP}
 use Rattle.bc7_places.specs.declared.splits.Anchors.{Anchors}
 use Rattle.bc7_modes.specs.declared.ModeRow.{ModeRow}
 use Rattle.bits.specs.declared.stream.BitStream.{BitStream}
@@ -21,14 +19,14 @@ endpoints_of row red green blue alpha =
     table 24 (λ i. pick (ltb (i / 4) row.endpoints)
     (part (channel_of red green blue alpha (i % 4)) (pick (eqb (i % 4) 3) row.alpha row.colour) (i / 4)) 0)
 
--- four reads, a word for each channel
-unfoldable pub endpoints_read : ModeRow → BitStream → ReadEndpoints
+-- four reads, a word for each channel, and the stream past them
+unfoldable pub endpoints_read : ModeRow → BitStream → List ℕ × BitStream
 endpoints_read row s =
     let r = taken s (row.endpoints * row.colour) in
     let g = taken r.stream (row.endpoints * row.colour) in
     let b = taken g.stream (row.endpoints * row.colour) in
     let a = taken b.stream (row.endpoints * row.alpha) in
-    record { endpoints = endpoints_of row r.value g.value b.value a.value; stream = a.stream }
+    (endpoints_of row r.value g.value b.value a.value, a.stream)
 
 -- what they ask: their bits ahead
 pub record EndpointsAhead (row : ModeRow) (s : BitStream) : Type 0 where
@@ -36,8 +34,8 @@ pub record EndpointsAhead (row : ModeRow) (s : BitStream) : Type 0 where
   pub inside : s.at + 3 * (row.endpoints * row.colour) + row.endpoints * row.alpha ≤ 128
 
 -- one of all p bits, which asks for them
-unfoldable pub p_read : ModeRow → BitStream → ReadP
-p_read row s = let r = taken s row.p in record { p = table 6 (part r.value 1); stream = r.stream }
+unfoldable pub p_read : ModeRow → BitStream → List ℕ × BitStream
+p_read row s = let r = taken s row.p in (table 6 (part r.value 1), r.stream)
 
 pub record PAhead (row : ModeRow) (s : BitStream) : Type 0 where
   pub of_mode_is : OfMode row

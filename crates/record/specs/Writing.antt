@@ -1,6 +1,6 @@
 -- What is written of a record, group by group.
 -- Assumes nothing.
-use Rattle.std.specs.Prelude.{◌≡◌, ℕ, ◌^◌, ◌<◌, ◌+◌, ◌-◌, ◌*◌, ◌≤◌, T, get_or, List}
+use Rattle.std.specs.Prelude.{◌≡◌, ℕ, ◌^◌, ◌<◌, ◌+◌, ◌-◌, ◌*◌, ◌≤◌, T, get_or, length, List}
 use Rattle.bc7_format.specs.declared.Place.{Place}
 use Rattle.record_rules.specs.declared.Record.{Record}
 use Rattle.bc7_modes.specs.declared.ModeRow.{ModeRow}
@@ -17,16 +17,13 @@ use Rattle.bc7_places.specs.declared.splits.Anchors.{Anchors}
 use Rattle.bcn_format.specs.Indexes.{IndexWidth, Rising, anchor_count, anchors_with, index_widths}
 use Rattle.bc7_places.specs.Splits.{ArePixels, anchors_of}
 
--- values of a channel that fit their width, and p bits
-pub record ChannelFits (e : List ℕ) (n c w : ℕ) : Type 0 where
+-- n values of vs, as many steps apart, that fit their width: those of a channel, or p bits
+pub record Joinable (vs : List ℕ) (from step n w : ℕ) : Type 0 where
   pub count : n ≤ 6
-  pub channel : c < 4
   pub width : w ≤ 8
-  pub values : (k : ℕ) → k < n → get_or e (4 * k + c) 0 < 2 ^ w
-
-pub record PBitsFit (p : List ℕ) (n : ℕ) : Type 0 where
-  pub count : n ≤ 6
-  pub bits : (k : ℕ) → k < n → get_or p k 0 < 2 ^ 1
+  pub inside : (k : ℕ) → k < n → step * k + from < length vs
+  pub few : length vs ≤ 24
+  pub values : (k : ℕ) → k < n → get_or vs (step * k + from) 0 < 2 ^ w
 
 -- a set of indexes as it is stored: each at its width, and how many bits that makes
 abbrev pub stored_set : ℕ → Anchors → ℕ → List ℕ → ℕ

@@ -18,11 +18,7 @@ fn value_fits(value: u8, width: u32) -> bool
     requires { width < 64 }
     ensures { result ≡ ltb value (2 ^ width) }
 {
-    let rest = above(value, width);
-    if rest == 0 {
-        return true;
-    }
-    false
+    above(value, width) == 0
 }
 
 fn split_fits(split: Split, row: ModeRow) -> bool
@@ -83,13 +79,10 @@ fn endpoints_fit(e: [u8; 24], row: ModeRow) -> bool
 fn p_fits(p: [u8; 6], row: ModeRow) -> bool
     ensures { result ≡ below 6 (λ k. ltb (get_or p k 0) (2 ^ pick (ltb k row.p) 1 0)) }
 {
-    let mut k: usize = 0;
-    while k < 6 {
-        let width = if k < row.p { 1u32 } else { 0u32 };
-        if !value_fits(p[k], width) {
+    for (k, &bit) in p.iter().enumerate() {
+        if !value_fits(bit, u32::from(k < row.p)) {
             return false;
         }
-        k += 1;
     }
     true
 }

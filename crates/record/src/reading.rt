@@ -26,25 +26,17 @@ fn endpoints_of(row: ModeRow, red: u64, green: u64, blue: u64, alpha: u64) -> [u
     ensures { result ≡ endpoints_of row red green blue alpha }
 {
     let mut endpoints = [0u8; 24];
-    let mut e: usize = 0;
-    while e < row.endpoints {
+    for e in 0..row.endpoints {
         endpoints[4 * e] = part_of(red, row.colour, e);
         endpoints[4 * e + 1] = part_of(green, row.colour, e);
         endpoints[4 * e + 2] = part_of(blue, row.colour, e);
         endpoints[4 * e + 3] = part_of(alpha, row.alpha, e);
-        e += 1;
     }
     endpoints
 }
 
-#[derive(Clone, Copy)]
-pub struct ReadEndpoints {
-    pub endpoints: [u8; 24],
-    pub stream: BitStream,
-}
-
-// A channel's values stand side by side: one read for each channel.
-pub fn read_endpoints(row: ModeRow, stream: BitStream) -> ReadEndpoints
+// A channel's values stand side by side: one read for each channel. With them the stream past them.
+pub fn read_endpoints(row: ModeRow, stream: BitStream) -> ([u8; 24], BitStream)
     requires { EndpointsAhead row stream }
     ensures { result ≡ endpoints_read row stream }
 {
@@ -56,39 +48,26 @@ pub fn read_endpoints(row: ModeRow, stream: BitStream) -> ReadEndpoints
     let blue = s2.take(count * row.colour);
     let s3 = blue.stream;
     let alpha = s3.take(count * row.alpha);
-    let rest = alpha.stream;
     let endpoints = endpoints_of(row, red.value, green.value, blue.value, alpha.value);
-    ReadEndpoints {
-        endpoints: endpoints,
-        stream: rest,
-    }
-}
-
-#[derive(Clone, Copy)]
-pub struct ReadP {
-    pub p: [u8; 6],
-    pub stream: BitStream,
+    (endpoints, alpha.stream)
 }
 
 // What the mode hasn't got is 0, since a word of its p bits has no more.
-pub fn read_p(row: ModeRow, stream: BitStream) -> ReadP
+pub fn read_p(row: ModeRow, stream: BitStream) -> ([u8; 6], BitStream)
     requires { PAhead row stream }
     ensures { result ≡ p_read row stream }
 {
     let bits = stream.take(row.p as u32);
-    let rest = bits.stream;
     let word = bits.value;
-    ReadP {
-        p: [
-            part_of(word, 1, 0),
-            part_of(word, 1, 1),
-            part_of(word, 1, 2),
-            part_of(word, 1, 3),
-            part_of(word, 1, 4),
-            part_of(word, 1, 5),
-        ],
-        stream: rest,
-    }
+    let p = [
+        part_of(word, 1, 0),
+        part_of(word, 1, 1),
+        part_of(word, 1, 2),
+        part_of(word, 1, 3),
+        part_of(word, 1, 4),
+        part_of(word, 1, 5),
+    ];
+    (p, bits.stream)
 }
 
 // The second set of indexes, zeros where the mode has none.
@@ -111,12 +90,10 @@ pub fn read_record(block: [u8; 16], mode: u8, row: ModeRow) -> Record
 {
     let lead = read_lead(block, mode, row);
     let split = lead.split;
-    let values = read_endpoints(row, lead.stream);
-    let endpoints = values.endpoints;
-    let bits = read_p(row, values.stream);
-    let p = bits.p;
+    let (endpoints, behind) = read_endpoints(row, lead.stream);
+    let (p, rest) = read_p(row, behind);
     let anchors = anchors_of(split);
-    let set = read_indexes(row.kind, row.first, bits.stream, anchors.b, anchors.c);
+    let set = read_indexes(row.kind, row.first, rest, anchors.b, anchors.c);
     let indexes = set.indexes;
     let first = parts_of(indexes.uncompressed, row.first);
     let second = read_second(row, anchors, set.stream);

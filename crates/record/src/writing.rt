@@ -6,7 +6,7 @@ ghost use Rattle.bc7_format.specs.Places.{block_of, first_from, place_count, ps_
 ghost use Rattle.bcn_format.specs.Indexes.{anchor_count};
 ghost use Rattle.bits.specs.Writer.{pushed};
 ghost use Rattle.record_rules.specs.Records.{says};
-ghost use Rattle.record.specs.Writing.{ChannelFits, ChannelNext, IndexesNext, Next, PBitsFit, Packable, PackableWith, SetNext};
+ghost use Rattle.record.specs.Writing.{ChannelNext, IndexesNext, Joinable, Next, Packable, PackableWith, SetNext};
 ghost use Rattle.record.specs.Writing.{stored_set, upto};
 
 use bc7_modes::ModeRow;
@@ -16,30 +16,14 @@ use indexes::sets::word_of;
 use indexes::storing::{compressed, stored_bits};
 use record_rules::Record;
 
-// The values of a channel as one word, endpoint 0 lowest.
-fn channel_word(e: [u8; 24], count: usize, channel: usize, width: u32) -> u64
-    requires { ChannelFits e count channel width }
-    ensures { result ≡ evenly count width (λ k. get_or e (4 * k + channel) 0) }
+// Values that stand so many steps apart, from a place on, as one word: the first lowest.
+fn joined(values: &[u8], from: usize, step: usize, count: usize, width: u32) -> u64
+    requires { Joinable values.now from step count width }
+    ensures { result ≡ evenly count width (λ k. get_or values.now (step * k + from) 0) }
 {
-    let mut word: u64 = 0;
-    let mut k = count;
-    while k > 0 {
-        k -= 1;
-        word = (word << width) + e[4 * k + channel] as u64;
-    }
-    word
-}
-
-// The p bits as one word.
-fn p_word(p: [u8; 6], count: usize) -> u64
-    requires { PBitsFit p count }
-    ensures { result ≡ evenly count 1 (λ k. get_or p k 0) }
-{
-    let mut word: u64 = 0;
-    let mut k = count;
-    while k > 0 {
-        k -= 1;
-        word = (word << 1) + p[k] as u64;
+    let mut word = 0u64;
+    for k in (0..count).rev() {
+        word = (word << width) + values[step * k + from] as u64;
     }
     word
 }
@@ -69,7 +53,7 @@ fn push_channel(
     ensures { result ≡ upto «record» (values_from + 6 * channel + 6) }
 {
     let endpoints = record.endpoints;
-    let word = channel_word(endpoints, row.endpoints, channel, width);
+    let word = joined(&endpoints, channel, 4, row.endpoints, width);
     writer.push(word, row.endpoints as u32 * width)
 }
 
@@ -88,7 +72,7 @@ fn push_p(writer: BitWriter, record: Record, row: ModeRow) -> BitWriter
     ensures { result ≡ upto «record» first_from }
 {
     let p = record.p;
-    writer.push(p_word(p, row.p), row.p as u32)
+    writer.push(joined(&p, 0, 1, row.p, 1), row.p as u32)
 }
 
 // The indexes of a set, each at its stored width.

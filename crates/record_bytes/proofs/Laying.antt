@@ -52,11 +52,9 @@ lead_laid r k s i out long ek es ei =
     filled_next 3 i (filled_next 2 s (filled_next 1 k (filled_next {out = out} 0 r.mode (filled_none long) (lit< tt) refl) (lit< tt) ek)
     (lit< tt) es) (lit< tt) ei
 
--- a part of a list that is copied into a list of its length
-pub copied_part : (bs vs : List ℕ) (at : ℕ) → at + length vs ≤ length bs
-    → take (at + length vs - at) (drop at bs) ≡ bytes_from bs at (length vs)
-copied_part bs vs at h =
-    let n : ℕ = length vs in
+-- n values of a list from a place on
+pub copied_part : (bs : List ℕ) (n at : ℕ) → at + n ≤ length bs → take (at + n - at) (drop at bs) ≡ bytes_from bs at n
+copied_part bs n at h =
     let e : at + n - at ≡ n = omega arith in
     let long : length (take n (drop at bs)) ≡ n = length-take-le n (drop at bs) (omega (arith, length-drop at bs)) in
     rw e

@@ -4,10 +4,9 @@
 
 #![tactic(auto)]
 
-ghost use Rattle.std.specs.Prelude.{◌≡◌, ◌+◌, ◌≤◌, eqb, get_or, length, replicate};
+ghost use Rattle.std.specs.Prelude.{◌≡◌, ◌+◌, ◌≤◌, eqb, get_or, length};
 ghost use Rattle.laws.specs.Tables.{both, over};
 ghost use Rattle.bc7_format.specs.Splits.{index_mode};
-ghost use Rattle.record_rules.specs.Records.{packed_as};
 ghost use Rattle.record_rules.specs.Wire.{bytes_from, record_of_bytes, split_byte};
 ghost use Rattle.record_rules.specs.Promises.{PacksBytes, WritesRecord};
 ghost use Rattle.line_rules.specs.Promises.{ReadsReplacement, WritesReplacement};
@@ -17,8 +16,8 @@ use bc7_places::places::{FIRST, P_BITS, PLACES, SECOND, VALUES};
 use bc7_places::splits::{index_mode_of, kind_of, partition_of, rotation_of, split_of_kind};
 use line_rules::Replacement;
 use record::pack;
-use record_rules::{Packed, Record};
-use refusals::{VALUE_TOO_WIDE, WRONG_KIND};
+use record_rules::Record;
+use refusals::Refusal;
 
 // The partition or the rotation, whichever the split has.
 fn split_byte(split: Split) -> u8
@@ -60,34 +59,27 @@ pub fn record_bytes(from: Record) -> [u8; PLACES]
     bytes
 }
 
-// The bytes from a place on, as many as there is room for.
-fn copy_from(from: &[u8], at: usize, values: &mut [u8])
-    requires { at + length values.old ≤ length from.now }
-    ensures { values.new ≡ bytes_from from.now at (length values.old) }
+// The N bytes from a place on.
+fn part<const N: usize>(from: &[u8], at: usize) -> [u8; N]
+    requires { at + N ≤ length from.now }
+    ensures { result ≡ bytes_from from.now at N }
 {
-    let end = at + values.len();
-    values.copy_from_slice(&from[at..end]);
+    let mut values = [0u8; N];
+    values.copy_from_slice(&from[at..at + N]);
+    values
 }
 
 // The record of 66 bytes. A kind above 3 is read as 3: `pack_bytes` refuses it before.
 fn record_of_bytes(bytes: [u8; PLACES]) -> Record
     ensures { result ≡ record_of_bytes bytes }
 {
-    let mut endpoints = [0u8; 24];
-    copy_from(&bytes, VALUES, &mut endpoints);
-    let mut p = [0u8; 6];
-    copy_from(&bytes, P_BITS, &mut p);
-    let mut first = [0u8; 16];
-    copy_from(&bytes, FIRST, &mut first);
-    let mut second = [0u8; 16];
-    copy_from(&bytes, SECOND, &mut second);
     Record {
         mode: bytes[0],
         split: split_of_kind(bytes[1], bytes[2], bytes[2], bytes[3]),
-        endpoints: endpoints,
-        p: p,
-        first: first,
-        second: second,
+        endpoints: part(&bytes, VALUES),
+        p: part(&bytes, P_BITS),
+        first: part(&bytes, FIRST),
+        second: part(&bytes, SECOND),
     }
 }
 
@@ -101,47 +93,35 @@ fn spells(split: Split, third: u8, fourth: u8) -> bool
     fourth == index_mode_of(split)
 }
 
-fn refused(refusal: u8) -> Packed
-    ensures { result ≡ packed_as refusal (replicate 16 0) }
-{
-    Packed {
-        refusal: refusal,
-        block: [0; 16],
-    }
-}
-
 // Packing a record that is given in bytes. A byte that names no kind is a split of another kind than the mode's; one that says what
 // the kind hasn't got needs more than its width, which is 0.
-pub fn pack_bytes(bytes: [u8; PLACES]) -> Packed
+pub fn pack_bytes(bytes: [u8; PLACES]) -> Result<[u8; 16], Refusal>
     ensures { PacksBytes bytes result }
 {
     if 3 < bytes[1] {
-        return refused(WRONG_KIND);
+        return Err(Refusal::WrongKind);
     }
     let record = record_of_bytes(bytes);
     let packed = pack(record);
-    if packed.refusal == WRONG_KIND {
+    if let Err(refusal) = packed {
+        if refusal == Refusal::WrongKind {
+            return packed;
+        }
+    }
+    if spells(record.split, bytes[2], bytes[3]) {
         return packed;
     }
-    let split = record.split;
-    if spells(split, bytes[2], bytes[3]) {
-        return packed;
-    }
-    refused(VALUE_TOO_WIDE)
+    Err(Refusal::ValueTooWide)
 }
 
 // The replacement of 26 bytes: 8 endpoint values, 2 p bits, 16 indexes.
 pub fn replacement_of(bytes: [u8; 26]) -> Replacement
     ensures { ReadsReplacement bytes result }
 {
-    let mut endpoints = [0u8; 8];
-    copy_from(&bytes, 0, &mut endpoints);
-    let mut indexes = [0u8; 16];
-    copy_from(&bytes, 10, &mut indexes);
     Replacement {
-        endpoints: endpoints,
+        endpoints: part(&bytes, 0),
         p: [bytes[8], bytes[9]],
-        indexes: indexes,
+        indexes: part(&bytes, 10),
     }
 }
 

@@ -6,8 +6,9 @@ use mathlib.Core.List.{List, [], ◌∷◌, map}
 use Prim.Native.Nat.{ℕ, ◌+◌}
 use lib.ListN.{drop, get_or, replicate, set}
 use Rattle.record_rules.specs.declared.Record.{Record}
-use Rattle.record_rules.specs.declared.Unpacked.{Unpacked}
-use Rattle.record_rules.specs.declared.Packed.{Packed}
+use Rattle.std.specs.Prelude.{Ok, Err}
+use Rattle.refusals.specs.Answers.{Answer}
+use Rattle.refusals.specs.declared.Refusal.TheVariants.{AnchorBitSet, ReservedBlock, ValueTooWide}
 use Rattle.bc7_format.specs.declared.Split.{Split}
 use Rattle.bc7_format.specs.declared.Split.TheVariants.{Whole, Two, Vector}
 use Rattle.laws.specs.Refusals.{first}
@@ -71,13 +72,13 @@ zeros_of m = record {
   second = sixteen_zeros;
 }
 
-abbrev unpacked : ℕ → Record → Unpacked
-unpacked n r = record { refusal = n; «record» = r }
+abbrev unpacked : ℕ → Record → Answer Record
+unpacked n r = record { refusal = n; value = r }
 
-abbrev block : ℕ → List ℕ → Packed
-block n bs = record { refusal = n; block = bs }
+abbrev block : ℕ → List ℕ → Answer (List ℕ)
+block n bs = record { refusal = n; value = bs }
 
-abbrev refused : ℕ → Packed
+abbrev refused : ℕ → Answer (List ℕ)
 refused n = block n sixteen_zeros
 
 -- the records of two blocks; a reserved block is refused with 1
@@ -143,17 +144,17 @@ bytes_hold = record { of_records = refl; to_records = refl; to_blocks = refl }
 -- THE PROMISES: of each call an accepted answer, a refused one where it refuses, and one that it does not admit: the record of another block,
 -- 6 where a red is too wide, a kind that isn't the record's, 6 where the fourth byte isn't 0
 pub record Promised : Type 0 where
-  pub unpacks : Unpacks block7 (unpacked 0 record7)
-  pub unpacks_not : Unpacks sixteen_zeros (unpacked 1 (zeros_of 0))
-  pub no_other_record : Unpacks block7 (unpacked 0 record4) → ⊥
-  pub packs : Packs record7 (block 0 block7)
-  pub packs_not : Packs (like7 (Two 13) 32 top_set sixteen_zeros) (refused 3)
-  pub no_6_before_3 : Packs (like7 (Two 13) 32 top_set sixteen_zeros) (refused 6) → ⊥
+  pub unpacks : Unpacks block7 (Ok record7)
+  pub unpacks_not : Unpacks sixteen_zeros (Err ReservedBlock)
+  pub no_other_record : Unpacks block7 (Ok record4) → ⊥
+  pub packs : Packs record7 (Ok block7)
+  pub packs_not : Packs (like7 (Two 13) 32 top_set sixteen_zeros) (Err ValueTooWide)
+  pub no_6_before_3 : Packs (like7 (Two 13) 32 top_set sixteen_zeros) (Err AnchorBitSet) → ⊥
   pub writes_record : WritesRecord record4 (bytes4 3)
   pub no_other_kind : WritesRecord record4 (bytes4 1) → ⊥
-  pub packs_bytes : PacksBytes bytes7 (block 0 block7)
-  pub packs_bytes_not : PacksBytes (top_set7 1) (refused 3)
-  pub no_6_before_3_of_bytes : PacksBytes (top_set7 1) (refused 6) → ⊥
+  pub packs_bytes : PacksBytes bytes7 (Ok block7)
+  pub packs_bytes_not : PacksBytes (top_set7 1) (Err ValueTooWide)
+  pub no_6_before_3_of_bytes : PacksBytes (top_set7 1) (Err AnchorBitSet) → ⊥
 
 pub promises_hold : Promised
 unfolding taken_apart record_of made table table_from at_place opened place_at pos width widths trailing number mode_of split_at split_of mode_row kind_of_mode
@@ -162,13 +163,13 @@ unfolding taken_apart record_of made table table_from at_place opened place_at p
 promises_hold = record {
   unpacks = refl;
   unpacks_not = refl;
-  no_other_record = λ e. eqb_of _ _ (ap (λ (u : Unpacked). u.«record».mode) e);
+  no_other_record = λ e. eqb_of _ _ (ap (λ (a : Answer Record). a.value.mode) e);
   packs = refl;
   packs_not = refl;
-  no_6_before_3 = λ e. eqb_of _ _ (ap (λ (p : Packed). p.refusal) e);
+  no_6_before_3 = λ e. eqb_of _ _ (ap (λ (a : Answer (List ℕ)). a.refusal) e);
   writes_record = refl;
   no_other_kind = λ e. eqb_of _ _ (ap (λ (l : List ℕ). get_or l 1 0) e);
   packs_bytes = refl;
   packs_bytes_not = refl;
-  no_6_before_3_of_bytes = λ e. eqb_of _ _ (ap (λ (p : Packed). p.refusal) e);
+  no_6_before_3_of_bytes = λ e. eqb_of _ _ (ap (λ (a : Answer (List ℕ)). a.refusal) e);
 }

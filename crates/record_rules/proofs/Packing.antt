@@ -13,10 +13,9 @@ use lib.Pow.{pow_mono}
 use Rattle.bc7_format.specs.declared.Place.{Place}
 use Rattle.bc7_format.specs.declared.Place.TheVariants.{Lead, Value, PBit, Index}
 use Rattle.record_rules.specs.declared.Record.{Record}
-use Rattle.record_rules.specs.declared.Unpacked.{Unpacked}
+use Rattle.refusals.specs.Answers.{Answer}
 use Rattle.bc7_format.specs.declared.Split.{Split}
 use Rattle.laws.specs.Digits.{Fit}
-use Rattle.laws.specs.Refusals.{first}
 use Rattle.laws.specs.Tables.{pick, table}
 use Rattle.laws.proofs.Refusals.{Met, accepted_when}
 use Rattle.laws.proofs.Joining.{table_same}
@@ -119,7 +118,7 @@ packs_good r e =
 
 -- what taking apart answers, by the test of its mode
 module _ (bs : List ℕ) where
-  abbrev answer : Bool → Unpacked
+  abbrev answer : Bool → Answer Record
   answer b = pick b (unpacked_as 1 zero_record) (unpacked_as 0 (record_of bs))
 
   pub apart_reserved : mode_of bs ≡ 8 → taken_apart bs ≡ unpacked_as 1 zero_record

@@ -11,9 +11,11 @@ use borrow.Author.Tests.{eq-eqb, lt-ltb, le-ltb}
 use lib.Dec.{eqb, eqb→eq, lit<}
 use lib.ListN.{length, get_or}
 use lib.Seq.{ext_get_or}
-use Rattle.record_rules.specs.declared.Packed.{Packed}
+use Rattle.refusals.specs.Answers.{Answer}
 use Rattle.record_rules.specs.declared.Record.{Record}
-use Rattle.record_rules.specs.declared.Unpacked.{Unpacked}
+use Rattle.std.specs.Prelude.{Result}
+use Rattle.refusals.specs.declared.Refusal.{Refusal}
+use Rattle.refusals.proofs.Answers.{answer_fixes}
 use Rattle.bc7_format.specs.declared.Split.{Split}
 use Rattle.bc7_format.specs.declared.Split.TheVariants.{Whole, Two, Three, Vector}
 use Rattle.laws.specs.Digits.{Fit}
@@ -26,7 +28,7 @@ use Rattle.bcn_format.specs.Block.{eights}
 use Rattle.bc7_format.specs.Modes.{mode_of}
 use Rattle.bc7_format.specs.Splits.{index_mode, kind_of, of_kind}
 use Rattle.bc7_format.proofs.Reserved.{open_mode}
-use Rattle.record_rules.specs.Records.{Shaped, made, pack_refusal, packed, packed_as, record_of, taken_apart}
+use Rattle.record_rules.specs.Records.{Shaped, made, pack_refusal, packed, packed_as, record_of, taken_apart, zero_block}
 use Rattle.record_rules.proofs.Answering.{packing}
 use Rattle.record_rules.proofs.Packing.{apart_open}
 use Rattle.record_rules.proofs.Theorems.{pack_unpack, unpack_pack}
@@ -145,33 +147,33 @@ module _ (bs : List ℕ) (long : length bs ≡ place_count) (k : get_or bs 1 0 �
       get_d_table place_count (record_byte r) 0 i h ∙ ⊎_elim (lead_byte i) (λ g. array_byte i g h) (lt_or i values_from))
 
 -- a record that was taken apart has its arrays
-apart_shaped : (bs : List ℕ) → mode_of bs < 8 → Shaped (taken_apart bs).«record»
+apart_shaped : (bs : List ℕ) → mode_of bs < 8 → Shaped (taken_apart bs).value
 unfolding record_of made
 apart_shaped bs o =
-    rw (ap (λ (u : Unpacked). u.«record») (apart_open bs o))
+    rw (ap (λ (u : Answer Record). u.value) (apart_open bs o))
     (record { endpoints = length_table 24 _; p = length_table 6 _; first = length_table 16 _; second = length_table 16 _ })
 
 -- DEMAND 2 ON THE BYTES. Packing what taking a block apart wrote gives the block back
-pub pack_unpack_bytes : (bs : List ℕ) → Fit eights bs → get_or bs 0 0 ≢ 0 → packed_bytes (record_bytes (taken_apart bs).«record») ≡ packed_as 0 bs
+pub pack_unpack_bytes : (bs : List ℕ) → Fit eights bs → get_or bs 0 0 ≢ 0 → packed_bytes (record_bytes (taken_apart bs).value) ≡ packed_as 0 bs
 pack_unpack_bytes bs h n =
-    let r : Record = (taken_apart bs).«record» in
+    let r : Record = (taken_apart bs).value in
     let same : record_of_bytes (record_bytes r) ≡ r = record_of_its_bytes r (apart_shaped bs (open_mode bs h n)) in
     let accepted : pack_refusal (record_of_bytes (record_bytes r)) ≡ 0 = ap pack_refusal same ∙ packing_is r
-    ∙ ap (λ (p : Packed). p.refusal) (pack_unpack bs h n) in
+    ∙ ap (λ (a : Answer (List ℕ)). a.refusal) (pack_unpack bs h n) in
     sym (as_record (record_bytes r) (kind_named r) (λ e. let y : ⊥ = omega (arith, e, accepted) in y) (its_bytes_spell r same)) ∙ ap packed same
     ∙ pack_unpack bs h n
 
 -- and taking apart what packing made of accepted bytes gives those bytes
 pub unpack_pack_bytes : (bs : List ℕ) → length bs ≡ place_count → (packed_bytes bs).refusal ≡ 0
-    → record_bytes (taken_apart (packed_bytes bs).block).«record» ≡ bs
+    → record_bytes (taken_apart (packed_bytes bs).value).value ≡ bs
 unfolding packed_bytes
 unpack_pack_bytes bs long e =
     let (k, (low, (kind, (said, (w, (c, u)))))) = (bytes_packing bs).met e in
     let r : Record = record_of_bytes bs in
     let p : pack_refusal r ≡ 0 = (accepted_when (packing r)).1 (low, (kind, (w, (c, tt)))) in
     let same : packed r ≡ packed_bytes bs = as_record bs k (λ z. let y : ⊥ = omega (arith, z, p) in y) said in
-    ap (λ (b : Packed). record_bytes (taken_apart b.block).«record») (sym same)
-    ∙ ap (λ (u : Unpacked). record_bytes u.«record») (unpack_pack r (said_shaped bs) (sym (packing_is r) ∙ p))
+    ap (λ (b : Answer (List ℕ)). record_bytes (taken_apart b.value).value) (sym same)
+    ∙ ap (λ (u : Answer Record). record_bytes u.value) (unpack_pack r (said_shaped bs) (sym (packing_is r) ∙ p))
     ∙ bytes_of_its_record bs long k said
 
 -- each refusal number of packing bytes is given exactly when its rule says (`bytes_rules` has the words)
@@ -183,5 +185,5 @@ bytes_refused_when bs = exactly (bytes_packing bs)
 pub determined_record_bytes : (r : Record) (a b : List ℕ) → WritesRecord r a → WritesRecord r b → a ≡ b
 determined_record_bytes r a b p q = p ∙ sym q
 
-pub determined_pack_bytes : (bs : List ℕ) (a b : Packed) → PacksBytes bs a → PacksBytes bs b → a ≡ b
-determined_pack_bytes bs a b p q = p ∙ sym q
+pub determined_pack_bytes : (bs : List ℕ) (a b : Result (List ℕ) Refusal) → PacksBytes bs a → PacksBytes bs b → a ≡ b
+determined_pack_bytes bs a b p q = answer_fixes zero_block a b (p ∙ sym q)

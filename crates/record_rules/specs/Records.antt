@@ -4,8 +4,7 @@ use Rattle.std.specs.Prelude.{ℕ, ◌+◌, ◌*◌, ◌/◌, ◌%◌, ◌^◌, 
 use Rattle.bc7_format.specs.declared.Place.{Place}
 use Rattle.bc7_format.specs.declared.Place.TheVariants.{Lead, Value, PBit, Index}
 use Rattle.record_rules.specs.declared.Record.{Record}
-use Rattle.record_rules.specs.declared.Unpacked.{Unpacked}
-use Rattle.record_rules.specs.declared.Packed.{Packed}
+use Rattle.refusals.specs.Answers.{Answer}
 use Rattle.bc7_format.specs.declared.Split.{Split}
 use Rattle.bc7_format.specs.declared.Split.TheVariants.{Whole}
 use Rattle.laws.specs.Refusals.{first, refuse}
@@ -33,11 +32,15 @@ says r (PBit k) = get_or r.p k 0
 says r (Index a q) = pick (eqb a 0) (get_or r.first q 0) (get_or r.second q 0)
 
 -- what is answered
-abbrev pub unpacked_as : ℕ → Record → Unpacked
-unpacked_as n r = record { refusal = n; «record» = r }
+abbrev pub unpacked_as : ℕ → Record → Answer Record
+unpacked_as n r = record { refusal = n; value = r }
 
-abbrev pub packed_as : ℕ → List ℕ → Packed
-packed_as n bs = record { refusal = n; block = bs }
+abbrev pub packed_as : ℕ → List ℕ → Answer (List ℕ)
+packed_as n bs = record { refusal = n; value = bs }
+
+-- what stands beside a refusal of packing
+abbrev pub zero_block : List ℕ
+zero_block = replicate 16 0
 
 abbrev pub zero_record : Record
 zero_record = record {
@@ -53,7 +56,7 @@ zero_record = record {
 unfoldable pub record_of : List ℕ → Record
 record_of bs = made (mode_of bs) (split_of bs) (opened bs)
 
-unfoldable pub taken_apart : List ℕ → Unpacked
+unfoldable pub taken_apart : List ℕ → Answer Record
 taken_apart bs = pick (eqb (mode_of bs) 8) (unpacked_as 1 zero_record) (unpacked_as 0 (record_of bs))
 
 -- does what stands at each place fit its width, where the pixels of `an` are anchors
@@ -70,7 +73,7 @@ pack_refusal r =
     refuse 6 (not (fits r.mode (anchors r.split) (says r))) ∷
     [])
 
-unfoldable pub packed : Record → Packed
+unfoldable pub packed : Record → Answer (List ℕ)
 packed r = packed_as (pack_refusal r) (pick (eqb (pack_refusal r) 0) (block_of r.mode r.split (says r)) (replicate 16 0))
 
 -- a record's arrays have their lengths

@@ -2,7 +2,7 @@
 -- Assumes nothing.
 use Rattle.std.specs.Prelude.{◌≡◌, Bool, not, true, ℕ, ◌+◌, ◌-◌, ◌≤◌, List, [], ◌∷◌, eqb, ltb, get_or, replicate}
 use Rattle.record_rules.specs.declared.Record.{Record}
-use Rattle.record_rules.specs.declared.Packed.{Packed}
+use Rattle.refusals.specs.Answers.{Answer}
 use Rattle.bc7_format.specs.declared.Split.{Split}
 use Rattle.bc7_format.specs.declared.Split.TheVariants.{Whole, Two, Three, Vector}
 use Rattle.laws.specs.Refusals.{Rule, first, refuse, unless}
@@ -62,8 +62,8 @@ bytes_refusal bs =
     pack_refusal r ∷
     [])
 
-unfoldable pub packed_bytes : List ℕ → Packed
-packed_bytes bs = packed_as (bytes_refusal bs) (pick (eqb (bytes_refusal bs) 0) (packed (record_of_bytes bs)).block (replicate 16 0))
+unfoldable pub packed_bytes : List ℕ → Answer (List ℕ)
+packed_bytes bs = packed_as (bytes_refusal bs) (pick (eqb (bytes_refusal bs) 0) (packed (record_of_bytes bs)).value (replicate 16 0))
 
 -- the rules of packing bytes: they get the number of the first that they break
 abbrev pub bytes_rules : List ℕ → List Rule

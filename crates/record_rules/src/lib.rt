@@ -15,17 +15,3 @@ pub struct Record {
     pub first: [u8; 16],
     pub second: [u8; 16],
 }
-
-// What taking apart answers: a refusal number (0: accepted) beside the record.
-#[derive(Clone, Copy)]
-pub struct Unpacked {
-    pub refusal: u8,
-    pub record: Record,
-}
-
-// What packing answers: a refusal number (0: accepted) beside the block.
-#[derive(Clone, Copy)]
-pub struct Packed {
-    pub refusal: u8,
-    pub block: [u8; 16],
-}

@@ -63,26 +63,26 @@ pub fn rinchovek_bc6h_decode_block(block: &[u8; 16], is_signed: u32, halves: &mu
 pub fn rinchovek_bc7_unpack(block: &[u8; 16], bytes: &mut [u8; PLACES]) -> u32
     ensures { Unpacks block.now bytes.old result bytes.new }
 {
-    let unpacked = unpack(*block);
-    if unpacked.refusal != 0 {
-        return unpacked.refusal as u32;
+    match unpack(*block) {
+        Ok(record) => {
+            *bytes = record_bytes(record);
+            0
+        }
+        Err(refusal) => refusal.number() as u32,
     }
-    let apart = unpacked.record;
-    *bytes = record_bytes(apart);
-    0
 }
 
 // The block of a record that is given in 66 bytes.
 pub fn rinchovek_bc7_pack(bytes: &[u8; PLACES], block: &mut [u8; 16]) -> u32
     ensures { Packs bytes.now block.old result block.new }
 {
-    let packed = pack_bytes(*bytes);
-    if packed.refusal != 0 {
-        return packed.refusal as u32;
+    match pack_bytes(*bytes) {
+        Ok(packed) => {
+            *block = packed;
+            0
+        }
+        Err(refusal) => refusal.number() as u32,
     }
-    let packed_block = packed.block;
-    *block = packed_block;
-    0
 }
 
 // A line of a block as it stands, in the 26 bytes of a replacement, and how many bits each of them has.
@@ -169,13 +169,13 @@ pub fn rinchovek_bc7_is_opaque(block: &[u8; 16], columns: u32, rows: u32) -> u32
 pub fn rinchovek_bc7_pixel(block: &[u8; 16], pixel: u32, rgba: &mut [u8; 4]) -> u32
     ensures { ReadsPixel block.now pixel rgba.old result rgba.new }
 {
-    let read = pixel_of(*block, pixel);
-    if read.refusal != 0 {
-        return read.refusal as u32;
+    match pixel_of(*block, pixel) {
+        Ok(channels) => {
+            *rgba = channels;
+            0
+        }
+        Err(refusal) => refusal.number() as u32,
     }
-    let channels = read.rgba;
-    *rgba = channels;
-    0
 }
 
 // The head of a sheet of either form in eight numbers: width, height, the place of the first block, the numbers of the colour space and

@@ -10,7 +10,7 @@ use Rattle.line_rules.specs.Replace.{call_of, replaced}
 use Rattle.line_rules.proofs.Theorems.{refused_same}
 use Rattle.line_rules.specs.Read.{replacement_of}
 use Rattle.sheet_rules.proofs.Theorems.{refused_row_leaves, refused_sheet_leaves}
-use Rattle.pixel_rules.specs.declared.PixelRead.{PixelRead}
+use Rattle.refusals.specs.Answers.{Answer}
 use Rattle.pixel_rules.specs.Pixels.{pixel_read}
 use Rattle.pixel_rules.proofs.Theorems.{pixel_accepted, pixel_of_the_sixteen}
 use Rattle.head_rules.specs.declared.ColourSpace.TheVariants.{Unspecified}
@@ -255,7 +255,7 @@ refused_row_floats_leaves pixels before = refused_leaves _ _ before
 pub pixel_is_the_decoded : (block : List ℕ) (pixel : ℕ) (before after : List ℕ) (answer : ℕ) (sixteen : List (List ℕ))
     → Decodes block sixteen → ReadsPixel block pixel before answer after → pixel < 16 → (answer ≡ 0) × (after ≡ get_or sixteen pixel [])
 pixel_is_the_decoded block pixel before after answer sixteen d r h =
-    let zero : (pixel_read block pixel).refusal ≡ 0 = ap (λ (a : PixelRead). a.refusal) (pixel_accepted block pixel h) in (
+    let zero : (pixel_read block pixel).refusal ≡ 0 = ap (λ (a : Answer (List ℕ)). a.refusal) (pixel_accepted block pixel h) in (
       r.answers ∙ zero,
       r.leaves ∙ rw (eq-eqb (pixel_read block pixel).refusal 0 zero) (sym (pixel_of_the_sixteen block pixel h))
           ∙ sym (ap (λ (l : List (List ℕ)). get_or l pixel []) d),

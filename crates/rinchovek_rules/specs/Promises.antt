@@ -54,10 +54,10 @@ abbrev pub DecodesBc6h : List ℕ → ℕ → List (List ℕ) → Type 0
 DecodesBc6h block sign after = after ≡ halves (not (eqb sign 0)) block
 
 abbrev pub Unpacks : List ℕ → List ℕ → ℕ → List ℕ → Type 0
-Unpacks block before = Writes (taken_apart block).refusal (record_bytes (taken_apart block).«record») before
+Unpacks block before = Writes (taken_apart block).refusal (record_bytes (taken_apart block).value) before
 
 abbrev pub Packs : List ℕ → List ℕ → ℕ → List ℕ → Type 0
-Packs bytes before = Writes (packed_bytes bytes).refusal (packed_bytes bytes).block before
+Packs bytes before = Writes (packed_bytes bytes).refusal (packed_bytes bytes).value before
 
 -- a line's 26 bytes and their widths
 abbrev pub line_and_widths : LineRead → List ℕ × List ℕ
@@ -84,7 +84,7 @@ TellsOpaque block columns rows answer = answer ≡ pick (opaque columns rows blo
 
 -- one pixel of a block
 abbrev pub ReadsPixel : List ℕ → ℕ → List ℕ → ℕ → List ℕ → Type 0
-ReadsPixel block pixel before = Writes (pixel_read block pixel).refusal (pixel_read block pixel).rgba before
+ReadsPixel block pixel before = Writes (pixel_read block pixel).refusal (pixel_read block pixel).value before
 
 -- of a sheet of either form: width, height, where the blocks start, the numbers of the colour space and of the form, and how many columns,
 -- rows and blocks there are

@@ -20,7 +20,7 @@ use Rattle.laws.proofs.Fitting.{fits_all, fits_each}
 use Rattle.laws.proofs.Part.{get_d_table}
 use Rattle.laws.proofs.Rows.{fit_table}
 use Rattle.laws.proofs.Scan.{scan_same}
-use Rattle.laws.proofs.Tests.{at, both_left, both_right, both_true, no_both, not_so, true_T}
+use Rattle.laws.proofs.Tests.{both_left, both_right, both_true, no_both, not_so, true_T}
 use Rattle.bc7_format.specs.Modes.{index_bits, second_bits}
 use Rattle.bcn_format.specs.Partitions.{among, or}
 use Rattle.bc7_format.specs.Places.{width}

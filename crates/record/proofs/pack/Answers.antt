@@ -30,13 +30,12 @@ full c =
     }
 
 pub returns-then-mode-gt7 : goal.returns-then-mode-gt7
-returns-then-mode-gt7 c = c.refused.ensures ∙ refused_as _ (here (λ low. omega (arith, c.if-mode-gt7.true)))
+returns-then-mode-gt7 c = refused_as _ (here (λ low. omega (arith, c.if-mode-gt7.true)))
 
 pub returns-then-kind_of-row : goal.returns-then-kind_of-row
 returns-then-kind_of-row c =
     let kinds = c in
-    c.refused-then-kind_of-row.ensures
-    ∙ refused_as _ (then c.if-mode-gt7.false
+    refused_as _ (then c.if-mode-gt7.false
     (here (λ e. c.if-kind_of-row.true (kinds.kind_of.ensures ∙ e ∙ sym (ap (λ (r : ModeRow). r.kind) kinds.mode_row-row.ensures)))))
 
 pub record_fits-requires : goal.record_fits-requires
@@ -45,9 +44,8 @@ record_fits-requires c = record { low = omega arith; is = c.mode_row-row.ensures
 pub returns-then-not-record_fits : goal.returns-then-not-record_fits
 returns-then-not-record_fits c =
     let else2 = c in
-    c.refused-then-not-record_fits.ensures
-    ∙ refused_as _ (then c.if-mode-gt7.false
-    (then (same_kind c.before.before.before) (here (λ w. no_both (fits_of _ _ _ w)
+    refused_as _ (then c.if-mode-gt7.false
+    (then (same_kind c.before.before) (here (λ w. no_both (fits_of _ _ _ w)
     (sym c.record_fits.ensures ∙ c.if-not-record_fits.true)))))
 
 pub anchors_of-anchors-requires : goal.anchors_of-anchors-requires
@@ -58,13 +56,12 @@ anchors_fit-requires c = record { full = full c.before; anchors_are = c.anchors_
 
 pub returns-then-not-anchors_fit : goal.returns-then-not-anchors_fit
 returns-then-not-anchors_fit c =
-    let f = full c.before.before.before.before in
-    c.refused-then-not-anchors_fit.ensures
-    ∙ refused_as _ (then c.if-mode-gt7.false
+    let f = full c.before.before.before in
+    refused_as _ (then c.if-mode-gt7.false
     (then f.kind (then f.within (here (tops_set f (sym c.anchors_fit.ensures ∙ c.if-not-anchors_fit.true))))))
 
-pub write_record-block-requires : goal.write_record-block-requires
-write_record-block-requires c =
+pub write_record-requires : goal.write_record-requires
+write_record-requires c =
     record {
       packs = packs (full c.before.before.before) (sym c.anchors_fit.ensures ∙ c.if-not-anchors_fit.false);
       anchors_are = c.anchors_of-anchors.ensures;
@@ -73,4 +70,4 @@ write_record-block-requires c =
 pub returns : goal.returns
 returns c =
     written (full c.before.before.before.before) (sym c.anchors_fit.ensures ∙ c.if-not-anchors_fit.false)
-    c.write_record-block.ensures
+    c.write_record.ensures

@@ -66,7 +66,7 @@ module _ (row : ModeRow) (red green blue alpha : ℕ) where
 pub endpoints_read_is : (row : ModeRow) (s : BitStream) {r g b a : Read} {es : List ℕ} → r ≡ taken s (row.endpoints * row.colour)
     → g ≡ taken r.stream (row.endpoints * row.colour) → b ≡ taken g.stream (row.endpoints * row.colour)
     → a ≡ taken b.stream (row.endpoints * row.alpha) → es ≡ endpoints_of row r.value g.value b.value a.value
-    → record { endpoints = es; stream = a.stream } ≡ endpoints_read row s
+    → (es, a.stream) ≡ endpoints_read row s
 unfolding endpoints_read
 endpoints_read_is row s er eg eb ea ee = rw (ee, ea, eb, eg, er)
 
@@ -74,6 +74,6 @@ endpoints_read_is row s er eg eb ea ee = rw (ee, ea, eb, eg, er)
 pub p_read_is : (row : ModeRow) (s : BitStream) {x : Read} {p0 p1 p2 p3 p4 p5 : ℕ} → x ≡ taken s row.p
     → p0 ≡ part x.value 1 0 → p1 ≡ part x.value 1 1 → p2 ≡ part x.value 1 2 → p3 ≡ part x.value 1 3 → p4 ≡ part x.value 1 4
     → p5 ≡ part x.value 1 5
-    → record { p = p0 ∷ p1 ∷ p2 ∷ p3 ∷ p4 ∷ p5 ∷ []; stream = x.stream } ≡ p_read row s
+    → (p0 ∷ p1 ∷ p2 ∷ p3 ∷ p4 ∷ p5 ∷ [], x.stream) ≡ p_read row s
 unfolding p_read table table_from
 p_read_is row s ex e0 e1 e2 e3 e4 e5 = rw (e0, e1, e2, e3, e4, e5, ex)

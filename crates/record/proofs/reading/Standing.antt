@@ -15,8 +15,6 @@ use lib.ListN.{replicate}
 use lib.Pow.{field as part_of, mod-mod-pow, pow_mono, shr-shr}
 use Rattle.bc7_format.specs.declared.Place.{Place}
 use Rattle.bc7_format.specs.declared.Place.TheVariants.{Value, PBit, Index}
-use Rattle.record.specs.declared.reading.ReadEndpoints.{ReadEndpoints}
-use Rattle.record.specs.declared.reading.ReadP.{ReadP}
 use Rattle.bc7_places.specs.declared.splits.ReadSplit.{ReadSplit}
 use Rattle.bc7_places.specs.declared.splits.Anchors.{Anchors}
 use Rattle.bc7_modes.specs.declared.ModeRow.{ModeRow}
@@ -145,7 +143,7 @@ module _ (m : ℕ) (s : Split) (n : ℕ) (hm : m < 8) where
         ap (λ (x : ℕ). part x b e) (channel_word c hc) ∙ part_field n _ (k * b) b e room
         ∙ ap (λ (x : ℕ). field n x b) place ∙ sym (value_at_is m s n hm c e hc he)
 
-    pub values_stand : (endpoints_read (mode_row_of m) t).endpoints ≡ table 24 (λ i. at (Value (i % 4) (i / 4)))
+    pub values_stand : (endpoints_read (mode_row_of m) t).0 ≡ table 24 (λ i. at (Value (i % 4) (i / 4)))
     unfolding endpoints_read endpoints_of width
     values_stand = table_same 0 24 _ _ (λ i l. stands (i % 4) (i / 4) (omega arith) (omega arith))
       where
@@ -159,13 +157,13 @@ module _ (m : ℕ) (s : Split) (n : ℕ) (hm : m < 8) where
             (λ l. rw (le-ltb e (endpoint_count m) l) (sym (nothing (Value c e) (inside_value hc he) (rw (le-ltb e (endpoint_count m) l)))))
             (lt_or e (endpoint_count m))
 
-    pub values_on : On n (values_end m) (endpoints_read (mode_row_of m) t).stream
+    pub values_on : On n (values_end m) (endpoints_read (mode_row_of m) t).1
     unfolding endpoints_read
     values_on = subst (λ (a : ℕ). On n a alphas.stream) (values_end_is m) (on_read on_alphas y refl)
 
   -- the p bits
   module _ {t : BitStream} (o : On n (values_end m) t) where
-    pub ps_stand : (p_read (mode_row_of m) t).p ≡ table 6 (λ k. at (PBit k))
+    pub ps_stand : (p_read (mode_row_of m) t).0 ≡ table 6 (λ k. at (PBit k))
     unfolding p_read width
     ps_stand = table_same 0 6 _ _ (λ k l. ap (λ (x : ℕ). part x 1 k) (got o (p_count m) refl) ∙ stands k l)
       where
@@ -177,7 +175,7 @@ module _ (m : ℕ) (s : Split) (n : ℕ) (hm : m < 8) where
             (λ l. part_past n (values_end m) (p_count m) k l ∙ sym (nothing (PBit k) (inside_pbit h) (rw (le-ltb k (p_count m) l))))
             (lt_or k (p_count m))
 
-    pub ps_on : On n (start m s first_from) (p_read (mode_row_of m) t).stream
+    pub ps_on : On n (start m s first_from) (p_read (mode_row_of m) t).1
     unfolding p_read
     ps_on = rw (first_start_is m s hm) (on_read o (p_count m) refl)
 
@@ -280,18 +278,18 @@ module _ (bs : List ℕ) (sixteen : Fit eights bs) {m : ℕ} (em : m ≡ mode_of
       inside = rw (er, lead_on.stands) (omega (arith, values_end_is m, groups_128 m hm));
     }
 
-    module _ {v : ReadEndpoints} (ev : v ≡ endpoints_read row h.stream) where
-      values_behind : On n (values_end m) v.stream
+    module _ {v : List ℕ × BitStream} (ev : v ≡ endpoints_read row h.stream) where
+      values_behind : On n (values_end m) v.1
       values_behind = rw (ev, er) (values_on m h.split n hm lead_on)
 
-      pub p_ahead : PAhead row v.stream
+      pub p_ahead : PAhead row v.1
       p_ahead = record { of_mode_is = of_mode_is; inside = rw (er, values_behind.stands) (omega (arith, groups_128 m hm)) }
 
-      module _ {p : ReadP} (ep : p ≡ p_read row v.stream) where
-        p_behind : On n (start m h.split first_from) p.stream
+      module _ {p : List ℕ × BitStream} (ep : p ≡ p_read row v.1) where
+        p_behind : On n (start m h.split first_from) p.1
         p_behind = rw (ep, er) (ps_on m h.split n hm values_behind)
 
-        pub first_ahead : {a : Anchors} → a ≡ anchors_of h.split → SetAhead p.stream row.kind row.first a.b a.c
+        pub first_ahead : {a : Anchors} → a ≡ anchors_of h.split → SetAhead p.1 row.kind row.first a.b a.c
         first_ahead ea = record {
           width = record { least = omega (arith, (small of_mode_is).least); most = (small of_mode_is).most };
           rising = rise lead.split ea;
@@ -299,7 +297,7 @@ module _ (bs : List ℕ) (sixteen : Fit eights bs) {m : ℕ} (em : m ≡ mode_of
         }
 
         pub second_ahead : {a : Anchors} → a ≡ anchors_of h.split → {set : NewIndexes}
-            → set ≡ new_indexes row.first (anchors_with row.kind a.b a.c) p.stream (16 * row.first - anchor_count row.kind)
+            → set ≡ new_indexes row.first (anchors_with row.kind a.b a.c) p.1 (16 * row.first - anchor_count row.kind)
             → SecondAhead row a set.stream
         second_ahead ea eset = record {
           of_mode_is = of_mode_is;
@@ -310,14 +308,14 @@ module _ (bs : List ℕ) (sixteen : Fit eights bs) {m : ℕ} (em : m ≡ mode_of
         }
 
         pub record_read : {a : Anchors} → a ≡ anchors_of h.split → {set : NewIndexes}
-            → set ≡ new_indexes row.first (anchors_with row.kind a.b a.c) p.stream (16 * row.first - anchor_count row.kind)
+            → set ≡ new_indexes row.first (anchors_with row.kind a.b a.c) p.1 (16 * row.first - anchor_count row.kind)
             → {first second : List ℕ} → first ≡ table 16 (part set.indexes.uncompressed row.first) → second ≡ second_read row a set.stream
-            → record { mode = m; split = h.split; endpoints = v.endpoints; p = p.p; first = first; second = second } ≡ record_of bs
+            → record { mode = m; split = h.split; endpoints = v.0; p = p.0; first = first; second = second } ≡ record_of bs
         unfolding record_of made opened split_of
         record_read {a} ea {set} eset {first} {second} ef eg =
             let s : Split = h.split in
-            let e1 : v.endpoints ≡ table 24 (λ i. at_place m s n (Value (i % 4) (i / 4))) = rw (ev, er) (values_stand m s n hm lead_on) in
-            let e2 : p.p ≡ table 6 (λ k. at_place m s n (PBit k)) = rw (ep, er) (ps_stand m s n hm values_behind) in
+            let e1 : v.0 ≡ table 24 (λ i. at_place m s n (Value (i % 4) (i / 4))) = rw (ev, er) (values_stand m s n hm lead_on) in
+            let e2 : p.0 ≡ table 6 (λ k. at_place m s n (PBit k)) = rw (ep, er) (ps_stand m s n hm values_behind) in
             let e3 : first ≡ table 16 (λ q. at_place m s n (Index 0 q)) = ef ∙ rw eset (first_stands lead.split ea p_behind) in
             let e4 : second ≡ table 16 (λ q. at_place m s n (Index 1 q)) =
             eg ∙ second_stands lead.split ea (second_on lead.split ea p_behind eset) in

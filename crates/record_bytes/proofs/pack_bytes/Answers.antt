@@ -4,40 +4,65 @@ use mathlib.Core.Path.{◌≡◌, ap, sym, ◌∙◌}
 use mathlib.Core.Logic.{◌≢◌}
 use mathlib.Core.List.{List}
 use Prim.Native.Nat.{ℕ}
+use borrow.Author.Rules.{rules}
+use denote.Enum.Bare.{same_true, same_false}
+use native.Mathlib.Omega.{arith}
 use lib.Dec.{eqb}
 use lib.ListN.{get_or}
-use Rattle.record_rules.specs.declared.Packed.{Packed}
+use Rattle.std.specs.Prelude.{Result, Ok, Err}
+use Rattle.refusals.specs.Answers.{Answer, answer_of, number, number_of}
+use Rattle.refusals.proofs.Answers.{number_injective}
+use Rattle.refusals.specs.contracts.Refusal.{the_type}
+use Rattle.refusals.specs.declared.Refusal.{Refusal}
+use Rattle.refusals.specs.declared.Refusal.TheVariants.{WrongKind}
 use Rattle.record_rules.specs.declared.Record.{Record}
 use Rattle.laws.specs.Tables.{both}
 use Rattle.bc7_format.specs.Splits.{index_mode}
-use Rattle.record_rules.specs.Records.{pack_refusal, packed}
+use Rattle.record_rules.specs.Records.{pack_refusal, packed, zero_block}
 use Rattle.record_rules.specs.Wire.{record_of_bytes, spelt, split_byte}
 use Rattle.record_rules.proofs.WirePacking.{another_kind, as_record, more_said, no_kind}
 use Rattle.record_bytes.proofs.pack_bytes.Goals as goal
-use Rattle.record_bytes.proofs.pack_bytes.Goals.{After-pack-packed, After-spells}
+use Rattle.record_bytes.proofs.pack_bytes.Goals.{After-pack-packed, After-spells, in-Err+else-eq, in_default}
 
 pub returns-then-bytes-gt3 : goal.returns-then-bytes-gt3
-returns-then-bytes-gt3 c = c.refused.ensures ∙ no_kind _ c.if-bytes-gt3.true
+returns-then-bytes-gt3 c = no_kind _ c.if-bytes-gt3.true
+
+-- an answer of packing that isn't WRONG_KIND has another number
+module _ (r : Record) where
+  other_number : (a : Result (List ℕ) Refusal) → answer_of zero_block a ≡ packed r → (a ≡ Err WrongKind → ⊥) → pack_refusal r ≢ 5
+  unfolding packed
+  other_number (Ok block) e other z = let never : ⊥ = omega (arith, ap (λ (a : Answer (List ℕ)). a.refusal) e, z) in never
+  other_number (Err refusal) e other z = other (ap Err (number_injective (ap (λ (a : Answer (List ℕ)). a.refusal) e ∙ z)))
 
 -- the bytes that were given, and what the record that they say packs to
 abbrev given : After-pack-packed → List ℕ
 given c = c.args.bytes
 
-answered : (c : After-pack-packed) → c.pack-packed.result ≡ packed (record_of_bytes (given c))
+answered : (c : After-pack-packed) → answer_of zero_block c.pack-packed.result ≡ packed (record_of_bytes (given c))
 answered c = c.pack-packed.ensures ∙ ap packed c.record_of_bytes-record.ensures
 
-refusal_is : (c : After-pack-packed) → c.pack-packed.result.refusal ≡ pack_refusal (record_of_bytes (given c))
+pub returns-then-eq : goal.returns-then-eq
 unfolding packed
-refusal_is c = ap (λ (p : Packed). p.refusal) (answered c)
-
-pub returns-then-packed-eq-WRONG_KIND : goal.returns-then-packed-eq-WRONG_KIND
-returns-then-packed-eq-WRONG_KIND c =
-    let at = c in
-    answered c.before.before ∙ another_kind _ at.if-bytes-gt3.false (sym (refusal_is c.before.before) ∙ c.if-packed-eq-WRONG_KIND.true)
+returns-then-eq c =
+    let at = (goal.at.returns-then-eq c).After-pack-packed in
+    let kind : c.in-Err.refusal ≡ WrongKind = same_true the_type (search rules) _ _ (sym c.eq.ensures ∙ c.if-eq.true) in
+    let same = sym (ap (answer_of zero_block) c.in-Err.is) ∙ answered at in
+    same ∙ another_kind _ at.if-bytes-gt3.false (sym (ap (λ (a : Answer (List ℕ)). a.refusal) same) ∙ ap number kind)
 
 -- where the record's answer isn't 5: whether the bytes spell the split
 abbrev packing : After-spells → After-pack-packed
-packing c = c.before.before.before
+packing c = c.before.before
+
+answer_is : (c : After-spells) → c.match-packed.packed ≡ (packing c).pack-packed.result
+answer_is c = elim c.match-packed.branch [ in-Err+else-eq w ↦ w.packed-is ∙ sym w.in-Err.is | in_default w ↦ w.packed-is ]
+
+not_5 : (c : After-spells) → pack_refusal (record_of_bytes (given (packing c))) ≢ 5
+not_5 c =
+    other_number _ _ (answered (packing c))
+    (elim c.match-packed.branch [
+      | in-Err+else-eq w ↦ λ e. same_false the_type w.in-Err.refusal WrongKind (sym w.eq.ensures ∙ w.if-eq.false) (number_injective (ap number_of (sym w.in-Err.is ∙ e)))
+      | in_default w ↦ λ e. w.in_default.not-Err WrongKind e
+    ])
 
 spelt_is : (c : After-spells) → c.spells.result ≡ spelt (given (packing c))
 unfolding spelt
@@ -47,15 +72,11 @@ spelt_is c =
     ∙ ap (λ (r : Record). both (eqb (get_or bs 2 0) (split_byte r.split)) (eqb (get_or bs 3 0) (index_mode r.split)))
     (packing c).record_of_bytes-record.ensures
 
-not_5 : (c : After-spells) → pack_refusal (record_of_bytes (given (packing c))) ≢ 5
-not_5 c e = c.if-packed-eq-WRONG_KIND.false (refusal_is (packing c) ∙ e)
-
 pub returns-then-spells : goal.returns-then-spells
 returns-then-spells c =
-    let at = c in
-    answered (packing c.before) ∙ as_record _ (packing c.before).if-bytes-gt3.false (not_5 c.before) (sym (spelt_is c.before) ∙ c.if-spells.true)
+    let at = packing c.before in
+    ap (answer_of zero_block) (answer_is c.before) ∙ answered at
+    ∙ as_record _ at.if-bytes-gt3.false (not_5 c.before) (sym (spelt_is c.before) ∙ c.if-spells.true)
 
 pub returns : goal.returns
-returns c =
-    let at = c in
-    c.refused-2.ensures ∙ more_said _ (packing c.before.before).if-bytes-gt3.false (not_5 c.before.before) (sym (spelt_is c.before.before) ∙ c.if-spells.false)
+returns c = more_said _ (packing c.before).if-bytes-gt3.false (not_5 c.before) (sym (spelt_is c.before) ∙ c.if-spells.false)

@@ -30,47 +30,33 @@ of_mode_is s = record { mode = _; low = s.requires.low; is = s.requires.mode_row
 pub read_lead-lead-requires : goal.read_lead-lead-requires
 read_lead-lead-requires c = c.requires
 
-pub read_endpoints-values-requires : goal.read_endpoints-values-requires
-read_endpoints-values-requires c =
-    let s = c in
-    endpoints_ahead _ (sixteen c.before.before) s.requires.mode_is s.requires.low s.requires.mode_row_is c.read_lead-lead.ensures
+pub read_endpoints-requires : goal.read_endpoints-requires
+read_endpoints-requires c =
+    endpoints_ahead _ (sixteen (goal.at.read_endpoints-requires c).Start) c.requires.mode_is c.requires.low c.requires.mode_row_is c.read_lead-lead.ensures
 
-pub read_p-bits-requires : goal.read_p-bits-requires
-read_p-bits-requires c =
-    let values = c in
-    let s = values in
-    p_ahead _ (sixteen c.before.before.before.before.before) s.requires.mode_is s.requires.low s.requires.mode_row_is values.read_lead-lead.ensures
-    values.read_endpoints-values.ensures
+pub read_p-requires : goal.read_p-requires
+read_p-requires c =
+    p_ahead _ (sixteen (goal.at.read_p-requires c).Start) c.requires.mode_is c.requires.low c.requires.mode_row_is c.read_lead-lead.ensures
+    c.read_endpoints.ensures
 
 pub anchors_of-anchors-requires : goal.anchors_of-anchors-requires
 anchors_of-anchors-requires c = c.read_lead-lead.ensures.few
 
 pub read_indexes-set-requires : goal.read_indexes-set-requires
 read_indexes-set-requires c =
-    let bits = c in
-    let values = bits in
-    let s = values in
-    first_ahead _ (sixteen c.before.before.before.before.before.before.before.before.before) s.requires.mode_is s.requires.low s.requires.mode_row_is values.read_lead-lead.ensures
-    values.read_endpoints-values.ensures bits.read_p-bits.ensures c.anchors_of-anchors.ensures
+    first_ahead _ (sixteen (goal.at.read_indexes-set-requires c).Start) c.requires.mode_is c.requires.low c.requires.mode_row_is c.read_lead-lead.ensures
+    c.read_endpoints.ensures c.read_p.ensures c.anchors_of-anchors.ensures
 
 pub parts_of-first-requires : goal.parts_of-first-requires
-parts_of-first-requires c = (small (of_mode_is c.before.before.before.before.before.before.before.before.before.before.before)).most
+parts_of-first-requires c = (small (of_mode_is (goal.at.parts_of-first-requires c).Start)).most
 
 pub read_second-second-requires : goal.read_second-second-requires
 read_second-second-requires c =
-    let set = c in
-    let anchors = set in
-    let bits = anchors in
-    let values = bits in
-    let s = values in
-    second_ahead _ (sixteen c.before.before.before.before.before.before.before.before.before.before.before.before.before) s.requires.mode_is s.requires.low s.requires.mode_row_is values.read_lead-lead.ensures
-    values.read_endpoints-values.ensures bits.read_p-bits.ensures anchors.anchors_of-anchors.ensures set.read_indexes-set.ensures
+    second_ahead _ (sixteen (goal.at.read_second-second-requires c).Start) c.requires.mode_is c.requires.low c.requires.mode_row_is c.read_lead-lead.ensures
+    c.read_endpoints.ensures c.read_p.ensures c.anchors_of-anchors.ensures c.read_indexes-set.ensures
 
 pub returns : goal.returns
 returns c =
-    let anchors = c in
-    let values = anchors in
-    let s = values in
-    record_read _ (sixteen c.before.before.before.before.before.before.before.before.before.before.before.before.before.before) s.requires.mode_is s.requires.low s.requires.mode_row_is values.read_lead-lead.ensures
-    values.read_endpoints-values.ensures anchors.read_p-bits.ensures anchors.anchors_of-anchors.ensures
+    record_read _ (sixteen (goal.at.returns c).Start) c.requires.mode_is c.requires.low c.requires.mode_row_is c.read_lead-lead.ensures
+    c.read_endpoints.ensures c.read_p.ensures c.anchors_of-anchors.ensures
     c.read_indexes-set.ensures c.parts_of-first.ensures c.read_second-second.ensures
