@@ -32,12 +32,10 @@ fn passes(alpha: u8, q: usize, columns: usize, rows: usize) -> bool
 fn all_pass(drawn: [[u8; 4]; 16], columns: usize, rows: usize) -> bool
     ensures { result ≡ opaque_drawn columns rows drawn }
 {
-    let mut q: usize = 0;
-    while q < 16 {
-        if !passes(drawn[q][3], q, columns, rows) {
+    for (q, pixel) in drawn.iter().enumerate() {
+        if !passes(pixel[3], q, columns, rows) {
             return false;
         }
-        q += 1;
     }
     true
 }
