@@ -70,7 +70,7 @@ fn number_at(s: &[u8], at: usize) -> u32
     requires { at + 4 ≤ length s.now }
     ensures { result ≡ number_at s.now at }
 {
-    wide(s[at]) + 256 * wide(s[at + 1]) + 65536 * wide(s[at + 2]) + 16777216 * wide(s[at + 3])
+    u32::from_le_bytes([s[at], s[at + 1], s[at + 2], s[at + 3]])
 }
 
 // Whether a file is what import takes: one texture of two dimensions in BC7, no cube, one level at the most.
@@ -222,12 +222,8 @@ fn bytes_of(numbers: [u32; NUMBERS]) -> [u8; HEADER]
     ensures { result ≡ table 148 (bytes_in numbers) }
 {
     let mut bytes = [0u8; HEADER];
-    for i in 0..NUMBERS {
-        let n = numbers[i];
-        bytes[4 * i] = (n % 256) as u8;
-        bytes[4 * i + 1] = (n / 256 % 256) as u8;
-        bytes[4 * i + 2] = (n / 65536 % 256) as u8;
-        bytes[4 * i + 3] = (n / 16777216 % 256) as u8;
+    for (i, n) in numbers.iter().enumerate() {
+        bytes[4 * i..4 * i + 4].copy_from_slice(&n.to_le_bytes());
     }
     bytes
 }
