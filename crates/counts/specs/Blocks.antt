@@ -3,7 +3,7 @@
 use Rattle.std.specs.Prelude.{ℕ, ◌<◌, ◌≤◌, ◌≡◌, ◌≢◌, Bool, true, false, List, [], ◌∷◌, length}
 use Rattle.laws.specs.Refusals.{first}
 use Rattle.bc7_format.specs.Modes.{mode_of}
-use Rattle.head_rules.specs.declared.Head.{Head}
+use Rattle.head_rules.specs.Answers.{Head}
 use Rattle.head_rules.specs.Geometry.{blocks_of, most_blocks, place_of, whole_length}
 use Rattle.head_rules.specs.Heads.{Sized, read_head}
 use Rattle.bcn_format.specs.Block.{put_block}

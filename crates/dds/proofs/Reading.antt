@@ -10,8 +10,8 @@ use borrow.Author.Tests.{eq-eqb}
 use lib.ListN.{length, drop, length-append, replicate, take}
 use lib.Seq.{take_all, take-append_seam}
 use Rattle.head_rules.specs.declared.ColourSpace.{ColourSpace}
-use Rattle.head_rules.specs.declared.Head.{Head}
-use Rattle.head_rules.specs.declared.HeadBytes.{HeadBytes}
+use Rattle.head_rules.specs.Answers.{Head}
+use Rattle.head_rules.specs.Answers.{HeadBytes}
 use Rattle.head_rules.specs.Geometry.{blocks_of, whole_length}
 use Rattle.head_rules.specs.Heads.{Sized, head_bytes, head_of, limit, seven_of, size_refusal, under, write_head, write_head_up_to}
 use Rattle.head_rules.specs.Whole.{whole_head}

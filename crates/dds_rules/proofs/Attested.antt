@@ -9,7 +9,7 @@ use lib.Seq.{sets}
 use Rattle.head_rules.specs.declared.ColourSpace.{ColourSpace}
 use Rattle.head_rules.specs.declared.ColourSpace.TheVariants.{Unspecified, Linear, Srgb}
 use Rattle.head_rules.specs.declared.Form.TheVariants.{Rows}
-use Rattle.head_rules.specs.declared.Head.{Head}
+use Rattle.head_rules.specs.Answers.{Head}
 use Rattle.head_rules.specs.Colours.{colour_number, colour_of, colour_refusal}
 use Rattle.head_rules.specs.Geometry.{blocks_of}
 use Rattle.head_rules.specs.Heads.{colour_in, form_in, form_of, head_bytes, head_refusal_up_to, height_in, of_form_refusal_up_to, old_head, read_head_up_to}

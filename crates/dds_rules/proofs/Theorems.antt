@@ -11,7 +11,7 @@ use lib.Seq.{drop-drop}
 use Rattle.dds_rules.specs.declared.Length.{Length}
 use Rattle.head_rules.specs.declared.ColourSpace.{ColourSpace}
 use Rattle.head_rules.specs.declared.ColourSpace.TheVariants.{Unspecified, Linear, Srgb}
-use Rattle.head_rules.specs.declared.Head.{Head}
+use Rattle.head_rules.specs.Answers.{Head}
 use Rattle.head_rules.specs.Geometry.{blocks_of, place_of, stored_at}
 use Rattle.head_rules.specs.Heads.{head_of, read_head, under}
 use Rattle.head_rules.specs.Numbers.{Bytes}

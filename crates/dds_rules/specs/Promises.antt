@@ -4,7 +4,7 @@
 use Rattle.std.specs.Prelude.{◌≡◌, List, ℕ, length}
 use Rattle.dds_rules.specs.declared.Length.{Length}
 use Rattle.head_rules.specs.declared.ColourSpace.{ColourSpace}
-use Rattle.head_rules.specs.declared.Head.{Head}
+use Rattle.head_rules.specs.Answers.{Head}
 use Rattle.dds_rules.specs.Files.{export_after, export_length, export_refusal, import_after, import_answer, import_length, numbered_after}
 use Rattle.dds_rules.specs.Files.{numbered_refusal, sheet_head}
 

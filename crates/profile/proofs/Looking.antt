@@ -11,7 +11,7 @@ use lib.Arith.{digits_lt}
 use Rattle.laws.specs.Tables.{below, pick}
 use Rattle.laws.proofs.Cases.{lt_or}
 use Rattle.laws.proofs.Scan.{scan_fails}
-use Rattle.head_rules.specs.declared.Head.{Head}
+use Rattle.head_rules.specs.Answers.{Head}
 use Rattle.head_rules.specs.Geometry.{across, blocks_of, most_blocks, number_at, place_of, stored_at}
 use Rattle.head_rules.proofs.Blocks.{few_blocks}
 use Rattle.head_rules.proofs.Orders.{blocks_within, each_place, number_again, numbered_in, stored_in}

@@ -5,7 +5,7 @@ use Prim.Native.Nat.{ℕ}
 use mathlib.Core.Path.{◌≡◌, ◌∙◌, ap}
 use native.Mathlib.Omega.{arith}
 use Rattle.head_rules.specs.declared.Form.TheVariants.{Rows}
-use Rattle.head_rules.specs.declared.Head.{Head}
+use Rattle.head_rules.specs.Answers.{Head}
 use Rattle.head_rules.specs.Whole.{whole_head}
 use Rattle.head_rules.proofs.Whole.{of_form_sized}
 use Rattle.dds_rules.specs.Files.{sheet_head}

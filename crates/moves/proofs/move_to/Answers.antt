@@ -7,7 +7,7 @@ use native.Mathlib.Omega.{arith}
 use Rattle.laws.specs.Refusals.{here, then}
 use Rattle.head_rules.specs.declared.Form.{Form}
 use Rattle.head_rules.specs.Colours.{colour_number}
-use Rattle.head_rules.specs.declared.Head.{Head}
+use Rattle.head_rules.specs.Answers.{Head}
 use Rattle.head_rules.specs.Heads.{read_of_form}
 use Rattle.head_rules.specs.Whole.{whole_head}
 use Rattle.head_rules.proofs.Whole.{of_form_sized}

@@ -3,7 +3,7 @@
 use mathlib.Core.Path.{◌≡◌, ◌∙◌, ap, sym}
 use mathlib.Core.List.{List}
 use Prim.Native.Nat.{ℕ}
-use Rattle.head_rules.specs.declared.Head.{Head}
+use Rattle.head_rules.specs.Answers.{Head}
 use mathlib.Core.Bool.{Bool}
 use borrow.Author.Rules.{rules}
 use Rattle.profile_rules.specs.Profile.{admits}

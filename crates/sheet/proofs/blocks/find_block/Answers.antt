@@ -3,7 +3,7 @@
 use Rattle.std.specs.Prelude.{List, ℕ}
 use mathlib.Core.Path.{◌≡◌, ◌∙◌, ap}
 use native.Mathlib.Omega.{arith}
-use Rattle.head_rules.specs.declared.Head.{Head}
+use Rattle.head_rules.specs.Answers.{Head}
 use Rattle.head_rules.specs.Heads.{read_head}
 use Rattle.head_rules.specs.Whole.{whole_head}
 use Rattle.head_rules.proofs.Whole.{read_sized}
