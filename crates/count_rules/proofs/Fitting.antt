@@ -16,7 +16,7 @@ use Rattle.laws.specs.Counting.{sum}
 use Rattle.laws.proofs.Sums.{sum_add, sum_same}
 use Rattle.bc7_format.specs.Modes.{mode_of}
 use Rattle.bc7_format.proofs.Modes.{mode_le_8}
-use Rattle.head_rules.specs.declared.Head.{Head}
+use Rattle.head_rules.specs.Answers.{Head}
 use Rattle.head_rules.specs.Geometry.{blocks_of}
 use Rattle.opacity_rules.specs.Opacity.{opaque_in}
 use Rattle.sheet_rules.specs.Sheets.{block_by}

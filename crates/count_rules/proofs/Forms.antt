@@ -13,7 +13,7 @@ use Rattle.laws.specs.Counting.{count}
 use Rattle.laws.proofs.Counting.{count_same}
 use Rattle.bc7_format.specs.Modes.{mode_of}
 use Rattle.head_rules.specs.declared.Form.{Form}
-use Rattle.head_rules.specs.declared.Head.{Head}
+use Rattle.head_rules.specs.Answers.{Head}
 use Rattle.head_rules.specs.Geometry.{across, blocks_of, number_at, whole_length}
 use Rattle.head_rules.specs.Heads.{read_head}
 use Rattle.head_rules.specs.Numbers.{Bytes}

@@ -11,7 +11,7 @@ use Rattle.laws.specs.Tables.{both}
 use Rattle.laws.proofs.Refusals.{Answers, Decided, accepted_when, answers, by_answer, by_eqb, by_not_eqb, by_test, none, rule, rules}
 use Rattle.laws.proofs.Tests.{no_both}
 use Rattle.bc7_format.specs.Modes.{mode_of}
-use Rattle.head_rules.specs.declared.Head.{Head}
+use Rattle.head_rules.specs.Answers.{Head}
 use Rattle.head_rules.specs.Geometry.{blocks_of}
 use Rattle.head_rules.specs.Heads.{read_head}
 use Rattle.head_rules.specs.Whole.{whole_refusal}

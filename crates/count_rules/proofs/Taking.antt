@@ -16,7 +16,7 @@ use Rattle.laws.proofs.Sums.{sum_same}
 use Rattle.bcn_format.specs.Block.{eights, put_block}
 use Rattle.bc7_format.specs.Modes.{mode_of}
 use Rattle.bc7_format.proofs.Modes.{mode_le_8}
-use Rattle.head_rules.specs.declared.Head.{Head}
+use Rattle.head_rules.specs.Answers.{Head}
 use Rattle.head_rules.specs.Geometry.{blocks_of, place_of}
 use Rattle.head_rules.specs.Heads.{read_head}
 use Rattle.opacity_rules.specs.Opacity.{opaque_in}

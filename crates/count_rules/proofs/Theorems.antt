@@ -25,7 +25,7 @@ use Rattle.bc7_format.specs.Lines.{pixel}
 use Rattle.bc7_format.specs.Modes.{lines, mode_of}
 use Rattle.bc7_format.specs.Splits.{split_of}
 use Rattle.bc7_format.proofs.Reserved.{reserved_mode, zero_byte}
-use Rattle.head_rules.specs.declared.Head.{Head}
+use Rattle.head_rules.specs.Answers.{Head}
 use Rattle.head_rules.specs.Geometry.{across, blocks_of, most_blocks, place_of}
 use Rattle.head_rules.specs.Heads.{Sized, read_head}
 use Rattle.head_rules.specs.Numbers.{Bytes}

@@ -18,7 +18,7 @@ use Rattle.laws.specs.Counting.{count}
 use Rattle.laws.proofs.Counting.{count_more}
 use Rattle.bc7_format.specs.Modes.{mode_of}
 use Rattle.bc7_format.proofs.Modes.{mode_le_8}
-use Rattle.head_rules.specs.declared.Head.{Head}
+use Rattle.head_rules.specs.Answers.{Head}
 use Rattle.sheet_rules.specs.Sheets.{block_by}
 use Rattle.count_rules.specs.Counts.{has_mode, is_opaque}
 use Rattle.count_rules.specs.Keeping.{changed}

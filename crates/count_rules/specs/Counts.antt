@@ -5,7 +5,7 @@ use Rattle.laws.specs.Counting.{count}
 use Rattle.laws.specs.Refusals.{Rule}
 use Rattle.laws.specs.Tables.{pick, table}
 use Rattle.bc7_format.specs.Modes.{mode_of}
-use Rattle.head_rules.specs.declared.Head.{Head}
+use Rattle.head_rules.specs.Answers.{Head}
 use Rattle.head_rules.specs.Geometry.{blocks_of}
 use Rattle.head_rules.specs.Heads.{head_rules, read_head}
 use Rattle.head_rules.specs.Whole.{whole_refusal, whole_rule}

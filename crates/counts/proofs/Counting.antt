@@ -2,7 +2,8 @@
 -- Assumes nothing.
 use mathlib.Core.Path.{◌≡◌, refl, sym, ap, ap₂, ◌∙◌}
 use mathlib.Core.Logic.{◌≢◌}
-use mathlib.Core.Bool.{Bool}
+use mathlib.Core.Bool.{Bool, true, false}
+use mir.Val.{bool_byte}
 use mathlib.Core.List.{List}
 use Prim.Native.Nat.{ℕ, ◌+◌, ◌<◌, ◌≤◌}
 use native.Mathlib.Omega.{arith}
@@ -14,7 +15,7 @@ use Rattle.laws.specs.Tables.{pick, table, table_from}
 use Rattle.laws.proofs.Part.{get_d_table}
 use Rattle.bc7_format.specs.Modes.{mode_of}
 use Rattle.bc7_format.proofs.Modes.{mode_le_8}
-use Rattle.head_rules.specs.declared.Head.{Head}
+use Rattle.head_rules.specs.Answers.{Head}
 use Rattle.head_rules.specs.Geometry.{blocks_of, most_blocks}
 use Rattle.head_rules.specs.Heads.{Sized, read_head}
 use Rattle.head_rules.proofs.Blocks.{few_blocks}
@@ -60,6 +61,15 @@ module _ (s : List ℕ) {h : Head} (w : ReadsWhole s h) where
         ap (counted 0) (e ∙ ap (λ (x : Head). counts_of x s) (w.same a))
         ∙ sym (ap (λ (r : ℕ). counted r (pick (eqb r 0) (counts_of (read_head s) s) no_counts)) accepted_whole)
 
+-- one where it is, and none where it isn't
+pub one_is : (b : Bool) → bool_byte b ≡ one b
+one_is true = refl
+one_is false = refl
+
+pub byte_small : (b : Bool) → bool_byte b ≤ 1
+byte_small true = omega arith
+byte_small false = omega arith
+
 few_in : (h : Head) → Sized h.width h.height → blocks_of h ≤ most_blocks
 unfolding blocks_of
 few_in h z = few_blocks z
@@ -99,12 +109,12 @@ module _ {h : Head} {s : List ℕ} {b : ℕ} {n : Counts} (k : CountedBelow h s 
   unfolding is_opaque
   opaque_as eb et = et ∙ ap (opaque_in h.width h.height b) eb
 
-  pub one_more : {v o : ℕ} {t : Bool} → v ≡ mode_of (block_by h s b) → t ≡ is_opaque h s b → o ≡ n.opaque + pick t 1 0
-      → record { modes = set n.modes v (get_or n.modes v 0 + 1); opaque = o } ≡ counts_below h s (b + 1)
+  pub one_more : {v o : ℕ} {t : Bool} → v ≡ mode_of (block_by h s b) → t ≡ is_opaque h s b → o ≡ bool_byte t
+      → record { modes = set n.modes v (get_or n.modes v 0 + 1); opaque = n.opaque + o } ≡ counts_below h s (b + 1)
   unfolding counts_below
-  one_more {v} {o} ev et eo =
+  one_more {v} {o} {t} ev et eo =
       ap₂ (λ (ms : List ℕ) (x : ℕ). record { modes = ms; opaque = x }) (counted_next h s b n.modes modes_are v ev)
-      (eo ∙ ap₂ (λ (x : ℕ) (y : Bool). x + one y) opaque_is et ∙ sym (opaque_next h s b))
+      (ap₂ (λ (x y : ℕ). x + y) opaque_is (eo ∙ one_is t ∙ ap one et) ∙ sym (opaque_next h s b))
 
 pub mode_in_is : (block : List ℕ) {v : ℕ} → v ≡ mode_of block → v < 9
 mode_in_is block e = omega (arith, e, mode_le_8 block)

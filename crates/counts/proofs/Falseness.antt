@@ -1,9 +1,12 @@
 -- The ways of `false_refusal`, each by the ground that it looked at.
 -- Assumes nothing.
-use mathlib.Core.Path.{◌≡◌, sym, ◌∙◌}
-use mathlib.Core.Logic.{◌≢◌}
+use mathlib.Core.Path.{◌≡◌, sym, ap, ◌∙◌}
+use mathlib.Core.Logic.{◌≢◌, ◌⊎◌, ⊎_elim}
 use mathlib.Core.Bool.{Bool, true, false}
-use Prim.Native.Nat.{ℕ, ◌+◌, ◌<◌, ◌≤◌}
+use mathlib.Core.List.{List, [], ◌∷◌}
+use Prim.Native.Nat.{ℕ, zero, suc, ◌+◌, ◌<◌, ◌≤◌}
+use lib.ListN.{get_or, length}
+use Rattle.std.specs.List as list
 use native.Mathlib.Omega.{arith}
 use Rattle.laws.specs.Counting.{sum}
 use Rattle.laws.specs.Refusals.{here, then}
@@ -13,11 +16,26 @@ use Rattle.count_rules.specs.declared.Counts.{Counts}
 use Rattle.count_rules.specs.Keeping.{false_of, of_all_modes, of_mode}
 use Rattle.count_rules.proofs.Refusing.{falsehood_of}
 
--- nine in three times three
-pub nine_are : (n : Counts) {a b c : ℕ} → a ≡ of_mode n 0 + of_mode n 1 + of_mode n 2 → b ≡ of_mode n 3 + of_mode n 4 + of_mode n 5
-    → c ≡ of_mode n 6 + of_mode n 7 + of_mode n 8 → a + b + c ≡ of_all_modes n
-unfolding of_all_modes sum
-nine_are n ea eb ec = omega (arith, ea, eb, ec)
+-- a sum over numbers from below, and the sum of a list
+shifted : (n : ℕ) (f : ℕ → ℕ) → sum (suc n) f ≡ f 0 + sum n (λ k. f (suc k))
+unfolding sum
+shifted zero f = omega arith
+shifted (suc n) f = let e = shifted n f in omega (arith, e)
+
+summed_on : (a : ℕ) (xs : List ℕ) → list.fold ◌+◌ a xs ≡ a + sum (length xs) (λ m. get_or xs m 0)
+unfolding sum
+summed_on a [] = omega arith
+summed_on a (x ∷ xs) =
+    let e = summed_on (a + x) xs in
+    let f = shifted (length xs) (λ m. get_or (x ∷ xs) m 0) in
+    e ∙ omega (arith, f)
+
+summed : (xs : List ℕ) → list.sum xs ≡ sum (length xs) (λ m. get_or xs m 0)
+summed xs = summed_on 0 xs ∙ omega arith
+
+pub nine_are : (n : Counts) {t : ℕ} → length n.modes ≡ 9 → t ≡ list.sum n.modes → t ≡ of_all_modes n
+unfolding of_all_modes
+nine_are n long e = e ∙ summed n.modes ∙ ap (λ (k : ℕ). sum k (of_mode n)) long
 
 module _ (n : Counts) (blocks mode : ℕ) (opaque : Bool) {t : ℕ} (et : t ≡ of_all_modes n) where
   pub sum_false : t ≢ blocks → 19 ≡ false_of blocks mode opaque n
@@ -31,17 +49,13 @@ module _ (n : Counts) (blocks mode : ℕ) (opaque : Bool) {t : ℕ} (et : t ≡ 
       pub opaque_false : opaque ≡ true → n.opaque ≡ 0 → 19 ≡ false_of blocks mode opaque n
       opaque_false o z = sym ((exactly (falsehood_of blocks mode opaque n) 19).1 (then (sym et ∙ same) (then some (here (λ f. f o z)))))
 
-      pub opaque_true : opaque ≡ true → n.opaque ≢ 0 → 0 ≡ false_of blocks mode opaque n
-      opaque_true o ne =
-          sym ((accepted_when (falsehood_of blocks mode opaque n)).1
-          (sym et ∙ same, (some, (λ x. ne, (λ x. absurd (no_both o x), tt)))))
-
       pub rest_false : opaque ≡ false → blocks ≤ n.opaque → 19 ≡ false_of blocks mode opaque n
       rest_false o l =
           sym ((exactly (falsehood_of blocks mode opaque n) 19).1
           (then (sym et ∙ same) (then some (then (λ x. absurd (no_both x o)) (here (λ f. let q = f o in omega arith))))))
 
-      pub rest_true : opaque ≡ false → n.opaque < blocks → 0 ≡ false_of blocks mode opaque n
-      rest_true o l =
+      pub none_false : ((opaque ≡ true) × (n.opaque ≢ 0)) ⊎ (opaque ≡ false) → ((opaque ≡ false) × (n.opaque < blocks)) ⊎ (opaque ≡ true)
+          → 0 ≡ false_of blocks mode opaque n
+      none_false as_opaque as_not =
           sym ((accepted_when (falsehood_of blocks mode opaque n)).1
-          (sym et ∙ same, (some, (λ x. absurd (no_both x o), (λ x. l, tt)))))
+          (sym et ∙ same, (some, (λ x. ⊎_elim (λ w. w.1) (λ f. absurd (no_both x f)) as_opaque, (λ x. ⊎_elim (λ w. w.1) (λ t. absurd (no_both t x)) as_not, tt)))))

@@ -12,7 +12,7 @@ use Rattle.laws.specs.Refusals.{Given, accepted, first, handed, here, then, unle
 use Rattle.laws.proofs.First.{first_here, first_last, first_skip}
 use Rattle.laws.proofs.Refusals.{accepted_when, exactly}
 use Rattle.bc7_format.specs.Modes.{mode_of}
-use Rattle.head_rules.specs.declared.Head.{Head}
+use Rattle.head_rules.specs.Answers.{Head}
 use Rattle.head_rules.specs.Geometry.{blocks_of, place_of, whole_length}
 use Rattle.head_rules.specs.Heads.{read_head}
 use Rattle.head_rules.proofs.Orders.{blocks_within}

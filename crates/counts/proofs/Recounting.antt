@@ -6,15 +6,15 @@ use mathlib.Core.Bool.{Bool, true, false}
 use mathlib.Core.List.{List}
 use Prim.Native.Nat.{ℕ, ◌+◌, ◌-◌, ◌<◌, ◌≤◌}
 use native.Mathlib.Decide.{ℕ_discrete}
-use native.Mathlib.Nat.{add-zero, eq-zero-or-pos}
+use native.Mathlib.Nat.{eq-zero-or-pos}
 use native.Mathlib.Omega.{arith}
 use lib.ListN.{get_or, length, set}
 use lib.Seq.{get_or-set_other, get_or-set_same}
-use Rattle.laws.specs.Tables.{pick}
-use Rattle.laws.proofs.Tests.{no_both}
+use mir.Syntax.{w32}
+use mir.Val.{Fits, bool_byte}
 use Rattle.bc7_format.specs.Modes.{mode_of}
 use Rattle.bc7_format.proofs.Modes.{mode_le_8}
-use Rattle.head_rules.specs.declared.Head.{Head}
+use Rattle.head_rules.specs.Answers.{Head}
 use Rattle.head_rules.specs.Geometry.{blocks_of, most_blocks}
 use Rattle.head_rules.specs.Heads.{Sized, read_head}
 use Rattle.head_rules.proofs.Blocks.{few_blocks}
@@ -29,27 +29,13 @@ use Rattle.count_rules.specs.Counts.{is_opaque}
 use Rattle.count_rules.specs.Keeping.{recounted_as}
 use Rattle.count_rules.proofs.Fitting.{of_all_has}
 use Rattle.count_rules.proofs.Refusing.{falsehood}
-use Rattle.count_rules.proofs.Tallies.{one}
 use Rattle.count_rules.proofs.Ways.{recounted_by_two}
 use Rattle.counts.specs.declared.NamedBlock.{NamedBlock}
-use Rattle.counts.specs.Blocks.{Here, PutThere, RecountAsked, most_number}
-
--- one more, one less, or not
-pub raised_yes : {is : Bool} (count : ℕ) → is ≡ true → count + 1 ≡ count + pick is 1 0
-raised_yes count e = ap (λ (t : Bool). count + one t) (sym e)
-
-pub raised_no : {is : Bool} (count : ℕ) → is ≡ false → count ≡ count + pick is 1 0
-raised_no count e = sym (add-zero count) ∙ ap (λ (t : Bool). count + one t) (sym e)
+use Rattle.counts.proofs.Counting.{one_is}
+use Rattle.counts.specs.Blocks.{Here, PutThere, RecountAsked}
 
 pub not_none : {count : ℕ} → count ≢ 0 → 1 ≤ count
 not_none {count} ne = ⊎_elim (λ z. absurd (ne z)) (λ p. p) (eq-zero-or-pos count)
-
-pub lowered_yes : {was : Bool} (count : ℕ) → was ≡ true → count - 1 ≡ count - pick was 1 0
-lowered_yes count e = ap (λ (t : Bool). count - one t) (sym e)
-
-pub lowered_no : (was : Bool) (count : ℕ) → was ≡ false → count ≡ count - pick was 1 0
-lowered_no true count e = absurd (no_both refl e)
-lowered_no false count e = omega arith
 
 module _ {n : Counts} {had has : ℕ} {was is : Bool} (k : RecountAsked n had was has is) where
   pub some_left : 1 ≤ get_or n.modes had 0
@@ -67,22 +53,33 @@ module _ {n : Counts} {had has : ℕ} {was is : Bool} (k : RecountAsked n had wa
           omega (arith, g, each_few had k.a_mode))
       go (no ne) = omega (arith, get_or-set_other n.modes had has (get_or n.modes had 0 - 1) 0 ne, each_few has k.another)
 
-  lowered_room : (w : Bool) → was ≡ w → n.opaque < most_number + 1 → n.opaque - pick w 1 0 < most_number
-  lowered_room true e l = omega (arith, l, not_none (k.some_opaque e))
-  lowered_room false e l = omega (arith, k.room e)
+  -- what is lowered is there
+  some_lowered : (w : Bool) → was ≡ w → bool_byte w ≤ n.opaque
+  some_lowered true e = not_none (k.some_opaque e)
+  some_lowered false e = omega arith
 
-  pub room_for_one : n.opaque < most_number + 1 → {low : ℕ} → low ≡ n.opaque - pick was 1 0 → low < most_number
-  room_for_one l e = omega (arith, e, lowered_room was refl l)
+  pub lowered_some : bool_byte was ≤ n.opaque
+  lowered_some = some_lowered was refl
 
-  pub both_changed : length n.modes ≡ 9 → {low o : ℕ} → low ≡ n.opaque - pick was 1 0 → o ≡ low + pick is 1 0
+  -- and what is raised has room
+  few_raised : (w : Bool) → was ≡ w → (i : Bool) → n.opaque < 4294967296 → n.opaque - bool_byte w + bool_byte i < 4294967296
+  few_raised true e true l = omega (arith, l, not_none (k.some_opaque e))
+  few_raised true e false l = omega (arith, l)
+  few_raised false e true l = omega (arith, k.room e)
+  few_raised false e false l = omega (arith, l)
+
+  pub raised_few : n.opaque < 4294967296 → {low up : ℕ} → low ≡ bool_byte was → up ≡ bool_byte is → Fits w32 (n.opaque - low + up)
+  raised_few l el eu = record { fits = rw (el, eu) (few_raised was refl is l) }
+
+  pub both_changed : length n.modes ≡ 9 → {low up : ℕ} → low ≡ bool_byte was → up ≡ bool_byte is
       → record {
         modes = set (set n.modes had (get_or n.modes had 0 - 1)) has (get_or (set n.modes had (get_or n.modes had 0 - 1)) has 0 + 1);
-        opaque = o;
+        opaque = n.opaque - low + up;
       } ≡ recounted_as had was has is n
   unfolding recounted_as
-  both_changed e {low} {o} el eo =
+  both_changed e {low} {up} el eu =
       ap₂ (λ (ms : List ℕ) (x : ℕ). record { modes = ms; opaque = x }) (recounted_by_two n.modes e had has k.a_mode k.another)
-      (eo ∙ ap (λ (x : ℕ). x + pick is 1 0) el)
+      (ap₂ (λ (x y : ℕ). n.opaque - x + y) (el ∙ one_is was) (eu ∙ one_is is))
 
 -- the block that is named
 module _ (s : List ℕ) (n : Counts) (b : ℕ) {r : NamedBlock} (k : Here s n b r) where

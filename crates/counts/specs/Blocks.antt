@@ -1,9 +1,9 @@
 -- What the functions on counts ask and promise.
 -- Assumes nothing.
-use Rattle.std.specs.Prelude.{ℕ, ◌+◌, ◌<◌, ◌≤◌, ◌≡◌, ◌≢◌, Bool, true, false, List, [], ◌∷◌, length}
+use Rattle.std.specs.Prelude.{ℕ, ◌<◌, ◌≤◌, ◌≡◌, ◌≢◌, Bool, true, false, List, [], ◌∷◌, length}
 use Rattle.laws.specs.Refusals.{first}
 use Rattle.bc7_format.specs.Modes.{mode_of}
-use Rattle.head_rules.specs.declared.Head.{Head}
+use Rattle.head_rules.specs.Answers.{Head}
 use Rattle.head_rules.specs.Geometry.{blocks_of, most_blocks, place_of, whole_length}
 use Rattle.head_rules.specs.Heads.{Sized, read_head}
 use Rattle.bcn_format.specs.Block.{put_block}
@@ -13,10 +13,6 @@ use Rattle.head_rules.specs.Whole.{whole_refusal}
 use Rattle.count_rules.specs.Counts.{counts_below, is_opaque}
 use Rattle.count_rules.specs.Keeping.{false_refusal, of_all_modes, of_mode, recounted}
 use Rattle.counts.specs.declared.NamedBlock.{NamedBlock}
-
--- the largest number of 32 bits
-abbrev pub most_number : ℕ
-most_number = 4294967295
 
 -- the head of a sheet with all its blocks
 pub record ReadsWhole (s : List ℕ) (r : Head) : Type 0 where
@@ -47,11 +43,6 @@ pub record Here (s : List ℕ) (n : Counts) (b : ℕ) (r : NamedBlock) : Type 0 
 pub record Names (s : List ℕ) (n : Counts) (b : ℕ) (r : NamedBlock) : Type 0 where
   pub refusal : r.refusal ≡ first (find_refusal (read_head s) s b ∷ false_refusal (read_head s) s b n ∷ [])
   pub here : r.refusal ≡ 0 → Here s n b r
-
--- three numbers of 32 bits, far below 2 ^ 64
-pub record SumsThree (a b c r : ℕ) : Type 0 where
-  pub same : r ≡ a + b + c
-  pub small : r < 17179869184
 
 -- counts that are changed: no count falls below 0, and none outgrows its place
 pub record RecountAsked (n : Counts) (had : ℕ) (was : Bool) (has : ℕ) (is : Bool) : Type 0 where

@@ -3,12 +3,11 @@
 
 #![tactic(auto)]
 
-ghost use Rattle.std.specs.Prelude.{◌≡◌, true, ◌≢◌, ◌+◌, ◌-◌, ◌<◌};
-ghost use Rattle.laws.specs.Tables.{pick};
+ghost use Rattle.std.specs.Prelude.{◌≡◌, ◌+◌, ◌<◌};
+ghost use Rattle.refusals.specs.Answers.{number_of};
 ghost use Rattle.count_rules.specs.Counts.{CountsSheet, counted, counts_below, counts_of, no_counts};
 ghost use Rattle.count_rules.specs.Keeping.{ReplacesBlockCounted, ReplacesLineCounted, false_of, of_all_modes, recounted_as};
-ghost use Rattle.counts.specs.Blocks.{CountedBelow, Here, Names, PutThere, ReadsWhole, RecountAsked, SumsThree};
-ghost use Rattle.counts.specs.Blocks.{WholeBlocks, most_number};
+ghost use Rattle.counts.specs.Blocks.{CountedBelow, Here, Names, PutThere, ReadsWhole, RecountAsked, WholeBlocks};
 
 use bc7_modes::mode_of;
 use block_bytes::{load, store};
@@ -16,7 +15,7 @@ use count_rules::{Counted, Counts};
 use head_rules::Head;
 use line_rules::Replacement;
 use opacity::is_opaque_at;
-use refusals::FALSE_COUNTS;
+use refusals::{Refusal, number_of};
 use sheet::blocks::block_of;
 use sheet_head::geometry::{blocks_of, place_of};
 use sheet_head::{read_head, whole};
@@ -39,27 +38,6 @@ fn answer(refusal: u8, counts: Counts) -> Counted
     }
 }
 
-// One more where a block is now counted, one less where it was.
-fn raised(count: u32, is: bool) -> u32
-    requires { is ≡ true → count < most_number }
-    ensures { result ≡ count + pick is 1 0 }
-{
-    if is {
-        return count + 1;
-    }
-    count
-}
-
-fn lowered(count: u32, was: bool) -> u32
-    requires { was ≡ true → count ≢ 0 }
-    ensures { result ≡ count - pick was 1 0 }
-{
-    if was {
-        return count - 1;
-    }
-    count
-}
-
 // The head of a sheet that has all its blocks, or the first refusal that applies: the head's, 10.
 fn whole_head(sheet: &[u8]) -> Head
     ensures { ReadsWhole sheet.now result }
@@ -75,10 +53,10 @@ fn count_block(head: Head, sheet: &[u8], number: u32, counts: Counts) -> Counts
     let block = block_of(head, sheet, number);
     let mode = mode_of(block) as usize;
     let mut modes = counts.modes;
-    modes[mode] = modes[mode] + 1;
+    modes[mode] += 1;
     Counts {
-        modes: modes,
-        opaque: raised(counts.opaque, is_opaque_at(head, number, block)),
+        modes,
+        opaque: counts.opaque + u32::from(is_opaque_at(head, number, block)),
     }
 }
 
@@ -106,43 +84,32 @@ pub fn count_sheet(sheet: &[u8]) -> Counted
     answer(0, count_blocks(head, sheet))
 }
 
-// Three counts together.
-fn three(a: u32, b: u32, c: u32) -> u64
-    ensures { SumsThree a b c result }
-{
-    a as u64 + b as u64 + c as u64
-}
-
 // The nine mode counts together. Nine numbers of 32 bits don't come round in 64.
 fn sum_of(counts: Counts) -> u64
     ensures { result ≡ of_all_modes counts }
 {
-    let m = counts.modes;
-    three(m[0], m[1], m[2]) + three(m[3], m[4], m[5]) + three(m[6], m[7], m[8])
+    counts.modes.iter().map(|&count| u64::from(count)).sum()
 }
 
 // 19, where the counts are false of a block with this mode that is opaque or not, in a sheet of so many blocks.
-fn false_refusal(counts: Counts, blocks: u32, mode: u8, opaque: bool) -> u8
+fn check_counts(counts: Counts, blocks: u32, mode: u8, opaque: bool) -> Result<(), Refusal>
     requires { mode < 9 }
-    ensures { result ≡ false_of blocks mode opaque counts }
+    ensures { number_of result ≡ false_of blocks mode opaque counts }
 {
-    if sum_of(counts) != blocks as u64 {
-        return FALSE_COUNTS;
+    if sum_of(counts) != u64::from(blocks) {
+        return Err(Refusal::FalseCounts);
     }
     let modes = counts.modes;
     if modes[mode as usize] == 0 {
-        return FALSE_COUNTS;
+        return Err(Refusal::FalseCounts);
     }
-    if opaque {
-        if counts.opaque == 0 {
-            return FALSE_COUNTS;
-        }
-        return 0;
+    if opaque && counts.opaque == 0 {
+        return Err(Refusal::FalseCounts);
     }
-    if counts.opaque >= blocks {
-        return FALSE_COUNTS;
+    if !opaque && counts.opaque >= blocks {
+        return Err(Refusal::FalseCounts);
     }
-    0
+    Ok(())
 }
 
 // The block that a call names, and what it is counted as, with the head of its sheet; or why there is none.
@@ -186,7 +153,7 @@ fn named_block(sheet: &[u8], counts: Counts, number: u32) -> NamedBlock
     let mode = mode_of(block);
     let opaque = is_opaque_at(head, number, block);
     NamedBlock {
-        refusal: false_refusal(counts, blocks, mode, opaque),
+        refusal: number_of(check_counts(counts, blocks, mode, opaque)),
         head: head,
         at: at,
         block: block,
@@ -201,13 +168,11 @@ fn recount(counts: Counts, had: u8, was: bool, has: u8, is: bool) -> Counts
     ensures { result ≡ recounted_as had was has is counts }
 {
     let mut modes = counts.modes;
-    let old = had as usize;
-    let new = has as usize;
-    modes[old] = modes[old] - 1;
-    modes[new] = modes[new] + 1;
+    modes[had as usize] -= 1;
+    modes[has as usize] += 1;
     Counts {
-        modes: modes,
-        opaque: raised(lowered(counts.opaque, was), is),
+        modes,
+        opaque: counts.opaque - u32::from(was) + u32::from(is),
     }
 }
 

@@ -1,16 +1,16 @@
 -- Numbers of four bytes, read and laid out.
 -- Assumes nothing.
-use mathlib.Core.Path.{◌≡◌, ◌∙◌, ap, ap₂, sym}
+use mathlib.Core.Path.{◌≡◌}
 use mathlib.Core.List.{List, [], ◌∷◌}
-use Prim.Native.Nat.{ℕ, ◌+◌, ◌*◌, ◌/◌, ◌%◌, ◌<◌}
-use native.Mathlib.Nat.{add-zero, div-one}
+use Prim.Native.Nat.{ℕ, ◌+◌, ◌*◌}
+use native.Mathlib.Nat.{add-zero}
 use native.Mathlib.Omega.{arith}
 use lib.ListN.{get_or}
-use Rattle.head_rules.specs.declared.Head.{Head}
+use Rattle.head_rules.specs.Answers.{Head}
 use Rattle.head_rules.specs.Geometry.{blocks_of}
 use Rattle.laws.specs.Digits.{evenly}
 use Rattle.laws.specs.Tables.{table, table_from}
-use Rattle.dds_rules.specs.Header.{byte_of, bytes_in, entries, format_of, header_number, number_at}
+use Rattle.dds_rules.specs.Header.{entries, format_of, header_number, number_at}
 
 pub four_bytes : (bs : List ℕ) (at : ℕ)
     → get_or bs at 0 + 256 * get_or bs (at + 1) 0 + 65536 * get_or bs (at + 2) 0 + 16777216 * get_or bs (at + 3) 0 ≡ number_at bs at
@@ -23,13 +23,3 @@ pub numbers_laid : (h : Head) (n f : ℕ) → n ≡ 16 * blocks_of h → f ≡ f
     0 ∷ 0 ∷ 0 ∷ 0 ∷ 0 ∷ 0x1000 ∷ 0 ∷ 0 ∷ 0 ∷ 0 ∷ f ∷ 3 ∷ 0 ∷ 1 ∷ 0 ∷ [] ≡ table 37 (header_number h)
 unfolding table table_from header_number entries
 numbers_laid h n f e k = rw (e, k)
-
--- byte j of number i of a list, at its place k among all bytes
-pub byte_is : (numbers : List ℕ) (i j k : ℕ) → j < 4 → k ≡ 4 * i + j → byte_of (get_or numbers i 0) j ≡ bytes_in numbers k
-byte_is numbers i j k l e =
-    let at : k / 4 ≡ i = omega arith in
-    let in_it : k % 4 ≡ j = omega arith in
-    sym (ap₂ (λ (m n : ℕ). byte_of (get_or numbers m 0) n) at in_it)
-
-pub low_byte_is : (numbers : List ℕ) (i : ℕ) → get_or numbers i 0 % 256 ≡ bytes_in numbers (4 * i)
-low_byte_is numbers i = sym (ap (λ (n : ℕ). n % 256) (div-one (get_or numbers i 0))) ∙ byte_is numbers i 0 (4 * i) (omega arith) (omega arith)

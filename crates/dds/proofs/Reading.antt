@@ -10,8 +10,8 @@ use borrow.Author.Tests.{eq-eqb}
 use lib.ListN.{length, drop, length-append, replicate, take}
 use lib.Seq.{take_all, take-append_seam}
 use Rattle.head_rules.specs.declared.ColourSpace.{ColourSpace}
-use Rattle.head_rules.specs.declared.Head.{Head}
-use Rattle.head_rules.specs.declared.HeadBytes.{HeadBytes}
+use Rattle.head_rules.specs.Answers.{Head}
+use Rattle.head_rules.specs.Answers.{HeadBytes}
 use Rattle.head_rules.specs.Geometry.{blocks_of, whole_length}
 use Rattle.head_rules.specs.Heads.{Sized, head_bytes, head_of, limit, seven_of, size_refusal, under, write_head, write_head_up_to}
 use Rattle.head_rules.specs.Whole.{whole_head}
@@ -30,7 +30,7 @@ use Rattle.dds_rules.proofs.Refusing.{Taken}
 use Rattle.dds_rules.proofs.Numbers.{header_long}
 use Rattle.dds_rules.proofs.Textures.{a_texture}
 use Rattle.dds.specs.Filling.{Fills}
-use Rattle.dds.proofs.Answers.{a_file, export_done, import_done, import_sized, import_taken, no_file}
+use Rattle.dds.proofs.Answers.{a_file, export_done, import_done, import_taken, no_file}
 
 -- 15
 pub another : (dds : List ℕ) → is_texture dds ≡ false → head_of 15 0 0 0 ≡ import_head dds
@@ -62,9 +62,10 @@ module _ (w h : ℕ) {b : HeadBytes} (e : b ≡ write_head w h) where
   pub counted : b.refusal ≡ 0 → b.count ≡ length (head_bytes w h)
   counted z = ap (λ (x : HeadBytes). x.count) (seven (sides z))
 
-  pub laid : Sized w h → take (length (head_bytes w h)) b.bytes ≡ head_bytes w h
-  unfolding padded
-  laid z = ap (λ (x : HeadBytes). take (length (head_bytes w h)) x.bytes) (seven z) ∙ take-append_seam (head_bytes w h) _
+-- and the bytes of one that has a size
+pub laid : (w h : ℕ) {b : HeadBytes} → b ≡ seven_of (head_bytes w h) → take (length (head_bytes w h)) b.bytes ≡ head_bytes w h
+unfolding padded
+laid w h e = ap (λ (x : HeadBytes). take (length (head_bytes w h)) x.bytes) e ∙ take-append_seam (head_bytes w h) _
 
 -- 9, 10, or the head
 module _ (dds : List ℕ) {w h : ℕ} {b : HeadBytes} (t : Texture dds) (ew : w ≡ field_in dds width) (eh : h ≡ field_in dds height)
@@ -90,7 +91,7 @@ module _ (dds : List ℕ) {w h : ℕ} {b : HeadBytes} (t : Texture dds) (ew : w 
     a_head l = is_made ∙ a_file dds (record { texture = t; size = sides _ _ said z; long = l ∙ ap file_length is_made })
 
 -- the sheet: the head's bytes, and the blocks
-pub sheet_laid : (dds : List ℕ) {x : Head} {b : HeadBytes} → Taken dds → x ≡ head_made dds → b ≡ write_head x.width x.height
+pub sheet_laid : (dds : List ℕ) {x : Head} {b : HeadBytes} → Taken dds → x ≡ head_made dds → b ≡ seven_of (head_bytes x.width x.height)
     → take x.start b.bytes ++ drop header_length dds ≡ sheet_made dds
 unfolding head_made sheet_made
 sheet_laid dds {x} {b} t e eb =
@@ -100,9 +101,9 @@ sheet_laid dds {x} {b} t e eb =
     let high : x.height ≡ h = ap (λ (y : Head). y.height) e in
     let starts : x.start ≡ length (head_bytes w h) = ap (λ (y : Head). y.start) e in
     ap (λ (l : List ℕ). l ++ drop header_length dds)
-    (ap (λ (n : ℕ). take n b.bytes) starts ∙ laid w h (eb ∙ ap₂ write_head wide high) t.size)
+    (ap (λ (n : ℕ). take n b.bytes) starts ∙ laid w h (eb ∙ ap₂ (λ (m n : ℕ). seven_of (head_bytes m n)) wide high))
 
-module _ (dds out : List ℕ) {x : Head} (e : x ≡ import_head dds) (z : x.refusal ≡ 0) {b : HeadBytes} (eb : b ≡ write_head x.width x.height)
+module _ (dds out : List ℕ) {x : Head} (e : x ≡ import_head dds) (z : x.refusal ≡ 0) {b : HeadBytes} (eb : b ≡ seven_of (head_bytes x.width x.height))
     (l : length out ≡ whole_length x) where
   abbrev take_dds : Taken dds
   take_dds = (import_taken dds out e z).0
@@ -118,7 +119,7 @@ module _ (dds out : List ℕ) {x : Head} (e : x ≡ import_head dds) (z : x.refu
   unfolding padded
   import_fits =
       let bytes = head_bytes x.width x.height in
-      let s = ap (λ (y : HeadBytes). length y.bytes) (seven x.width x.height eb (import_sized dds e z)) in
+      let s = ap (λ (y : HeadBytes). length y.bytes) eb in
       record {
         count_there = omega (arith, s, starts, length-append bytes (replicate (7 - length bytes) 0));
         start_there = take_dds.texture.long;

@@ -1,11 +1,6 @@
--- Bytes of a file: one as a number of 32 bits, and many laid into an output.
+-- Bytes of a file, laid into an output.
 -- Assumes nothing.
-use Rattle.std.specs.Prelude.{◌≡◌, ℕ, ◌+◌, ◌<◌, ◌≤◌}
-
--- the number that a byte is
-pub record Widens (x r : ℕ) : Type 0 where
-  pub same : r ≡ x
-  pub small : r < 256
+use Rattle.std.specs.Prelude.{◌≡◌, ℕ, ◌+◌, ◌≤◌}
 
 -- what is asked of lengths: so many bytes of a head, and a list from a place on, fill the output
 pub record Fills (head count from start out : ℕ) : Type 0 where

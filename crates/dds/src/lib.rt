@@ -5,20 +5,20 @@
 #![tactic(auto)]
 
 ghost use Rattle.std.specs.Prelude.{◌≡◌, ◌++◌, ◌+◌, ◌≤◌, drop, length, take};
+ghost use Rattle.refusals.specs.Answers.{number_of};
+ghost use Rattle.head_rules.specs.Answers.{head_answered, known};
 ghost use Rattle.head_rules.specs.Heads.{Sized};
 ghost use Rattle.laws.specs.Tables.{table};
 ghost use Rattle.dds_rules.specs.Header.{bytes_in, format_of, format_says, header_number, is_texture, number_at};
 ghost use Rattle.dds_rules.specs.Files.{file_length, import_head};
 ghost use Rattle.dds_rules.specs.Promises.{ExportNeeds, Exports, ExportsNumbered, ImportNeeds, Imports};
-ghost use Rattle.dds.specs.Filling.{Fills, Widens};
+ghost use Rattle.dds.specs.Filling.{Fills};
 
-use dds_rules::Length;
 use head_rules::{ColourSpace, Form, Head};
-use refusals::{NOT_A_BC7_TEXTURE, WRONG_BLOCK_BYTES, WRONG_OUTPUT_LENGTH};
-use sheet_head::colours::{colour_of, colour_refusal, under};
+use refusals::Refusal;
+use sheet_head::colours::{colour_of, under};
 use sheet_head::geometry::{blocks_of, whole_length};
-use sheet_head::reader::no_head;
-use sheet_head::{read_of_form, read_of_form_with, whole, write_head};
+use sheet_head::{read_of_form_with, read_whole_of_form, write_head};
 
 // The bytes of a header, and the 37 numbers of four bytes that they are.
 const HEADER: usize = 148;
@@ -59,18 +59,12 @@ const BC7_SRGB: u32 = 99;
 
 const TWO_DIMENSIONS: u32 = 3;
 
-fn wide(x: u8) -> u32
-    ensures { Widens x result }
-{
-    x as u32
-}
-
 // The number whose four bytes start at a place.
 fn number_at(s: &[u8], at: usize) -> u32
     requires { at + 4 ≤ length s.now }
     ensures { result ≡ number_at s.now at }
 {
-    wide(s[at]) + 256 * wide(s[at + 1]) + 65536 * wide(s[at + 2]) + 16777216 * wide(s[at + 3])
+    u32::from_le_bytes([s[at], s[at + 1], s[at + 2], s[at + 3]])
 }
 
 // Whether a file is what import takes: one texture of two dimensions in BC7, no cube, one level at the most.
@@ -137,43 +131,39 @@ fn format_says(format: u32) -> ColourSpace
 // The bytes of a file with all blocks of a sheet.
 fn file_length(head: Head) -> usize
     requires { Sized head.width head.height }
-    ensures { result ≡ file_length head }
+    ensures { result ≡ file_length (known head) }
 {
     HEADER + 16 * blocks_of(head) as usize
 }
 
 // The head that a file makes, or the first refusal that applies: 15, 9, 10.
-fn read_file(dds: &[u8]) -> Head
-    ensures { result ≡ import_head dds.now }
+fn read_file(dds: &[u8]) -> Result<Head, Refusal>
+    ensures { head_answered result ≡ import_head dds.now }
 {
     if !is_texture(dds) {
-        return no_head(NOT_A_BC7_TEXTURE);
+        return Err(Refusal::NotABc7Texture);
     }
     let height = number_at(dds, HEIGHT);
     let width = number_at(dds, WIDTH);
     let colour_space = format_says(number_at(dds, FORMAT));
-    let written = write_head(width, height);
-    if written.refusal != 0 {
-        return no_head(written.refusal);
-    }
+    let written = write_head(width, height)?;
     let head = Head {
-        refusal: 0,
         form: Form::Rows,
-        width: width,
-        height: height,
-        start: wide(written.count),
-        colour_space: colour_space,
+        width,
+        height,
+        start: u32::from(written.count),
+        colour_space,
     };
     if dds.len() != file_length(head) {
-        return no_head(WRONG_BLOCK_BYTES);
+        return Err(Refusal::WrongBlockBytes);
     }
-    head
+    Ok(head)
 }
 
 // The 37 numbers of the header that export writes, in their order.
 fn numbers_of(head: Head) -> [u32; NUMBERS]
     requires { Sized head.width head.height }
-    ensures { result ≡ table 37 (header_number head) }
+    ensures { result ≡ table 37 (header_number (known head)) }
 {
     let colour_space = head.colour_space;
     [
@@ -222,12 +212,8 @@ fn bytes_of(numbers: [u32; NUMBERS]) -> [u8; HEADER]
     ensures { result ≡ table 148 (bytes_in numbers) }
 {
     let mut bytes = [0u8; HEADER];
-    for i in 0..NUMBERS {
-        let n = numbers[i];
-        bytes[4 * i] = (n % 256) as u8;
-        bytes[4 * i + 1] = (n / 256 % 256) as u8;
-        bytes[4 * i + 2] = (n / 65536 % 256) as u8;
-        bytes[4 * i + 3] = (n / 16777216 % 256) as u8;
+    for (i, n) in numbers.iter().enumerate() {
+        bytes[4 * i..4 * i + 4].copy_from_slice(&n.to_le_bytes());
     }
     bytes
 }
@@ -243,80 +229,52 @@ fn fill(head: &[u8], count: usize, from: &[u8], start: usize, out: &mut [u8])
 
 // A file as a sheet of form 1: its head, then the blocks as they stand. The head is answered too, with the colour space that form 1 has
 // no room for. A refused call leaves the output as it was.
-pub fn import_dds(dds: &[u8], out: &mut [u8]) -> Head
-    ensures { Imports dds.now out.old result out.new }
+pub fn import_dds(dds: &[u8], out: &mut [u8]) -> Result<Head, Refusal>
+    ensures { Imports dds.now out.old (head_answered result) out.new }
 {
-    let head = read_file(dds);
-    if head.refusal != 0 {
-        return head;
-    }
+    let head = read_file(dds)?;
     if out.len() != whole_length(head) {
-        return no_head(WRONG_OUTPUT_LENGTH);
+        return Err(Refusal::WrongOutputLength);
     }
-    let written = write_head(head.width, head.height);
+    let written = sheet_head::bytes_of(head.width, head.height);
     let bytes = written.bytes;
     fill(&bytes, head.start as usize, dds, HEADER, out);
-    head
+    Ok(head)
 }
 
 // A sheet of form 1 as a file under a colour space: the header, then the blocks as they stand. A refused call leaves the output as it was.
-pub fn export_dds(sheet: &[u8], colour_space: ColourSpace, out: &mut [u8]) -> u8
-    ensures { Exports sheet.now colour_space out.old result out.new }
+pub fn export_dds(sheet: &[u8], colour_space: ColourSpace, out: &mut [u8]) -> Result<(), Refusal>
+    ensures { Exports sheet.now colour_space out.old (number_of result) out.new }
 {
-    let head = whole(read_of_form(Form::Rows, sheet), sheet);
-    if head.refusal != 0 {
-        return head.refusal;
-    }
+    let head = read_whole_of_form(Form::Rows, sheet)?;
     if out.len() != file_length(head) {
-        return WRONG_OUTPUT_LENGTH;
+        return Err(Refusal::WrongOutputLength);
     }
     let header = bytes_of(numbers_of(under(colour_space, head)));
     fill(&header, HEADER, sheet, head.start as usize, out);
-    0
+    Ok(())
 }
 
 // The same, for who has the colour space as a number. One that there is not is refused behind 7 and 8 of the sheet's head, and before 9.
-pub fn export_numbered(sheet: &[u8], number: u32, out: &mut [u8]) -> u8
-    ensures { ExportsNumbered sheet.now number out.old result out.new }
+pub fn export_numbered(sheet: &[u8], number: u32, out: &mut [u8]) -> Result<(), Refusal>
+    ensures { ExportsNumbered sheet.now number out.old (number_of result) out.new }
 {
-    let refusal = colour_refusal(number);
-    if refusal == 0 {
-        return export_dds(sheet, colour_of(number), out);
+    match colour_of(number) {
+        Ok(colour_space) => export_dds(sheet, colour_space, out),
+        Err(refusal) => read_of_form_with(Form::Rows, Err(refusal), sheet).and(Ok(())),
     }
-    let head = read_of_form_with(Form::Rows, refusal, sheet);
-    head.refusal
 }
 
 // The length of the output that importing needs.
-pub fn import_length(dds: &[u8]) -> Length
+pub fn import_length(dds: &[u8]) -> Result<u32, Refusal>
     ensures { ImportNeeds dds.now result }
 {
-    let head = read_file(dds);
-    if head.refusal != 0 {
-        return Length {
-            refusal: head.refusal,
-            length: 0,
-        };
-    }
-    Length {
-        refusal: 0,
-        length: whole_length(head) as u32,
-    }
+    Ok(whole_length(read_file(dds)?) as u32)
 }
 
 // The length of the output that exporting needs.
-pub fn export_length(sheet: &[u8]) -> Length
+pub fn export_length(sheet: &[u8]) -> Result<u32, Refusal>
     ensures { ExportNeeds sheet.now result }
 {
-    let head = whole(read_of_form(Form::Rows, sheet), sheet);
-    if head.refusal != 0 {
-        return Length {
-            refusal: head.refusal,
-            length: 0,
-        };
-    }
-    Length {
-        refusal: 0,
-        length: file_length(head) as u32,
-    }
+    Ok(file_length(read_whole_of_form(Form::Rows, sheet)?) as u32)
 }

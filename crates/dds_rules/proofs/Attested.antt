@@ -9,7 +9,7 @@ use lib.Seq.{sets}
 use Rattle.head_rules.specs.declared.ColourSpace.{ColourSpace}
 use Rattle.head_rules.specs.declared.ColourSpace.TheVariants.{Unspecified, Linear, Srgb}
 use Rattle.head_rules.specs.declared.Form.TheVariants.{Rows}
-use Rattle.head_rules.specs.declared.Head.{Head}
+use Rattle.head_rules.specs.Answers.{Head}
 use Rattle.head_rules.specs.Colours.{colour_number, colour_of, colour_refusal}
 use Rattle.head_rules.specs.Geometry.{blocks_of}
 use Rattle.head_rules.specs.Heads.{colour_in, form_in, form_of, head_bytes, head_refusal_up_to, height_in, of_form_refusal_up_to, old_head, read_head_up_to}
@@ -21,7 +21,9 @@ use Rattle.laws.specs.Refusals.{first}
 use Rattle.head_rules.specs.Whole.{whole_head, whole_refusal}
 use Rattle.laws.specs.Tables.{table, table_from}
 use Rattle.laws.proofs.Tests.{eqb_of}
-use Rattle.dds_rules.specs.declared.Length.{Length}
+use Rattle.std.specs.Prelude.{Ok, Err}
+use Rattle.refusals.specs.declared.Refusal.TheVariants.{BadNumber, WrongBlockBytes}
+use Rattle.dds_rules.specs.Lengths.{Length}
 use Rattle.dds_rules.specs.Header.{alpha_mask, array_size, bit_count, blue_mask, canonical_header, caps, caps2, caps3, caps4, depth}
 use Rattle.dds_rules.specs.Header.{dimension, entries, format, format_code, format_flags, format_of, format_says, format_size, green_mask}
 use Rattle.dds_rules.specs.Header.{header_flags, header_number, header_size, height, is_texture, linear_size, magic, mip_count, misc, misc2}
@@ -326,16 +328,16 @@ pub record Promised : Type 0 where
   pub no_format_of_another : ExportsNumbered sheet53 2 (nines 180) 0 file53 → ⊥
   pub no_number_let_through : ExportsNumbered sheet53 3 (nines 180) 0 (nines 180) → ⊥
   pub no_file_numbered : ExportsNumbered sheet53 3 (nines 180) 18 (set (nines 180) 179 32) → ⊥
-  pub import_needs : ImportNeeds file53 (needs 0 35)
-  pub import_needs_not : ImportNeeds header53 (needs 10 0)
-  pub no_length_of_the_file : ImportNeeds file53 (needs 0 180) → ⊥
-  pub no_length_refused : ImportNeeds header53 (needs 10 35) → ⊥
-  pub no_length_let_through : ImportNeeds header53 (needs 0 0) → ⊥
-  pub export_needs : ExportNeeds sheet53 (needs 0 180)
-  pub export_needs_not : ExportNeeds [] (needs 7 0)
-  pub no_length_of_the_sheet : ExportNeeds sheet53 (needs 0 35) → ⊥
-  pub no_length_of_nothing : ExportNeeds [] (needs 7 148) → ⊥
-  pub no_nothing_let_through : ExportNeeds [] (needs 0 0) → ⊥
+  pub import_needs : ImportNeeds file53 (Ok 35)
+  pub import_needs_not : ImportNeeds header53 (Err WrongBlockBytes)
+  pub no_length_of_the_file : ImportNeeds file53 (Ok 180) → ⊥
+  pub no_length_refused : import_length header53 ≡ needs 10 35 → ⊥
+  pub no_length_let_through : ImportNeeds header53 (Ok 0) → ⊥
+  pub export_needs : ExportNeeds sheet53 (Ok 180)
+  pub export_needs_not : ExportNeeds [] (Err BadNumber)
+  pub no_length_of_the_sheet : ExportNeeds sheet53 (Ok 35) → ⊥
+  pub no_length_of_nothing : export_length [] ≡ needs 7 148 → ⊥
+  pub no_nothing_let_through : ExportNeeds [] (Ok 0) → ⊥
 
 pub promises_hold : Promised
 unfolding evenly table table_from first number_at entries header_number canonical_header is_texture head_made sheet_made file_refusal_up_to import_refusal_up_to

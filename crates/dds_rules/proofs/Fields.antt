@@ -11,7 +11,7 @@ use Rattle.laws.specs.Tables.{pick, table, table_from}
 use Rattle.laws.proofs.Joining.{table_same}
 use Rattle.laws.proofs.Refusals.{answer_0}
 use Rattle.head_rules.specs.declared.ColourSpace.{ColourSpace}
-use Rattle.head_rules.specs.declared.Head.{Head}
+use Rattle.head_rules.specs.Answers.{Head}
 use Rattle.head_rules.specs.Geometry.{blocks_of}
 use Rattle.head_rules.specs.Heads.{Sized, under}
 use Rattle.head_rules.proofs.Blocks.{few_blocks}

@@ -7,3 +7,4 @@ pub mod Fields
 pub mod Numbered
 pub mod Limits
 pub mod Theorems
+pub mod Lengths

@@ -11,7 +11,7 @@ use lib.ListN.{length}
 use Rattle.laws.specs.Refusals.{first}
 use Rattle.head_rules.specs.declared.ColourSpace.{ColourSpace}
 use Rattle.head_rules.specs.declared.Form.TheVariants.{Rows, Tiles}
-use Rattle.head_rules.specs.declared.Head.{Head}
+use Rattle.head_rules.specs.Answers.{Head}
 use Rattle.head_rules.specs.Colours.{colour_of}
 use Rattle.head_rules.specs.Geometry.{whole_length}
 use Rattle.head_rules.specs.Heads.{SizedUpTo, form_in, form_number, head_as, head_of, limit, old_head, old_limit, read_head}

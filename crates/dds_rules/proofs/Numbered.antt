@@ -6,7 +6,7 @@ use mathlib.Core.List.{List, [], ◌∷◌}
 use Prim.Native.Nat.{ℕ, ◌≤◌}
 use lib.Dec.{eqb}
 use Rattle.head_rules.specs.declared.Form.TheVariants.{Rows}
-use Rattle.head_rules.specs.declared.Head.{Head}
+use Rattle.head_rules.specs.Answers.{Head}
 use Rattle.head_rules.specs.Colours.{colour_refusal}
 use Rattle.head_rules.proofs.Between.{nothing_before_9, with_answers, with_same}
 use Rattle.head_rules.proofs.Colours.{colour_test}

@@ -8,10 +8,12 @@ use Prim.Native.Nat.{ℕ, ◌+◌, ◌*◌}
 use borrow.Author.Tests.{ne_eqb}
 use lib.ListN.{length, drop, take, take-append-drop}
 use lib.Seq.{drop-drop}
-use Rattle.dds_rules.specs.declared.Length.{Length}
+use Rattle.std.specs.Prelude.{Result}
+use Rattle.refusals.specs.declared.Refusal.{Refusal}
+use Rattle.dds_rules.proofs.Lengths.{length_fixes}
 use Rattle.head_rules.specs.declared.ColourSpace.{ColourSpace}
 use Rattle.head_rules.specs.declared.ColourSpace.TheVariants.{Unspecified, Linear, Srgb}
-use Rattle.head_rules.specs.declared.Head.{Head}
+use Rattle.head_rules.specs.Answers.{Head}
 use Rattle.head_rules.specs.Geometry.{blocks_of, place_of, stored_at}
 use Rattle.head_rules.specs.Heads.{head_of, read_head, under}
 use Rattle.head_rules.specs.Numbers.{Bytes}
@@ -199,8 +201,8 @@ pub determined_export_numbered : (s : List ℕ) (n : ℕ) (before : List ℕ) (a
     → ExportsNumbered s n before b y → (a ≡ b) × (x ≡ y)
 determined_export_numbered s n before a b x y p q = (p.0 ∙ sym q.0, p.1 ∙ sym q.1)
 
-pub determined_import_length : (dds : List ℕ) (a b : Length) → ImportNeeds dds a → ImportNeeds dds b → a ≡ b
-determined_import_length dds a b p q = p ∙ sym q
+pub determined_import_length : (dds : List ℕ) (a b : Result ℕ Refusal) → ImportNeeds dds a → ImportNeeds dds b → a ≡ b
+determined_import_length dds a b p q = length_fixes a b (p ∙ sym q)
 
-pub determined_export_length : (s : List ℕ) (a b : Length) → ExportNeeds s a → ExportNeeds s b → a ≡ b
-determined_export_length s a b p q = p ∙ sym q
+pub determined_export_length : (s : List ℕ) (a b : Result ℕ Refusal) → ExportNeeds s a → ExportNeeds s b → a ≡ b
+determined_export_length s a b p q = length_fixes a b (p ∙ sym q)

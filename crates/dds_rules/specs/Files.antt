@@ -1,10 +1,10 @@
 -- IMPORT AND EXPORT: what a DDS file becomes as a sheet, and a sheet as a DDS file; why either is refused, and how long the output has to be.
 -- Assumes nothing.
 use Rattle.std.specs.Prelude.{ℕ, ◌+◌, ◌*◌, ◌≤◌, ◌≡◌, not, List, [], ◌∷◌, ◌++◌, eqb, length, drop}
-use Rattle.dds_rules.specs.declared.Length.{Length}
+use Rattle.dds_rules.specs.Lengths.{Length}
 use Rattle.head_rules.specs.declared.ColourSpace.{ColourSpace}
 use Rattle.head_rules.specs.declared.ColourSpace.TheVariants.{Unspecified, Linear, Srgb}
-use Rattle.head_rules.specs.declared.Head.{Head}
+use Rattle.head_rules.specs.Answers.{Head}
 use Rattle.head_rules.specs.Colours.{colour_of, colour_refusal}
 use Rattle.head_rules.specs.Geometry.{blocks_of, whole_length}
 use Rattle.head_rules.specs.declared.Form.TheVariants.{Rows}

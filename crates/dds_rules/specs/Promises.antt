@@ -1,10 +1,11 @@
 -- What the calls promise, under one name each: the contract and `determined-*` say the same. Import and export promise their answer and
 -- every byte of the output.
 -- Assumes nothing.
-use Rattle.std.specs.Prelude.{◌≡◌, List, ℕ, length}
-use Rattle.dds_rules.specs.declared.Length.{Length}
+use Rattle.std.specs.Prelude.{◌≡◌, List, ℕ, Result, length}
+use Rattle.refusals.specs.declared.Refusal.{Refusal}
+use Rattle.dds_rules.specs.Lengths.{length_answered}
 use Rattle.head_rules.specs.declared.ColourSpace.{ColourSpace}
-use Rattle.head_rules.specs.declared.Head.{Head}
+use Rattle.head_rules.specs.Answers.{Head}
 use Rattle.dds_rules.specs.Files.{export_after, export_length, export_refusal, import_after, import_answer, import_length, numbered_after}
 use Rattle.dds_rules.specs.Files.{numbered_refusal, sheet_head}
 
@@ -18,8 +19,8 @@ Exports sheet c before answer after =
 abbrev pub ExportsNumbered : List ℕ → ℕ → List ℕ → ℕ → List ℕ → Type 0
 ExportsNumbered sheet n before answer after = (answer ≡ numbered_refusal sheet n (length before)) × (after ≡ numbered_after sheet n before)
 
-abbrev pub ImportNeeds : List ℕ → Length → Type 0
-ImportNeeds dds answer = answer ≡ import_length dds
+abbrev pub ImportNeeds : List ℕ → Result ℕ Refusal → Type 0
+ImportNeeds dds answer = length_answered answer ≡ import_length dds
 
-abbrev pub ExportNeeds : List ℕ → Length → Type 0
-ExportNeeds sheet answer = answer ≡ export_length sheet
+abbrev pub ExportNeeds : List ℕ → Result ℕ Refusal → Type 0
+ExportNeeds sheet answer = length_answered answer ≡ export_length sheet

@@ -2,10 +2,3 @@
 // mean, and that the way there and back restores the bytes. Definitions and theorems, no code.
 
 #![tactic(auto)]
-
-// How many bytes a call needs for its output; 0 where it would be refused whatever the output's length.
-#[derive(Clone, Copy)]
-pub struct Length {
-    pub refusal: u8,
-    pub length: u32,
-}

@@ -1,7 +1,7 @@
 -- Document 01's blocks and numbers marked P, as one list.
 -- Assumes nothing.
 use Rattle.std.specs.Prelude.{ℕ, List, [], ◌∷◌, ◌++◌, replicate}
-use Rattle.head_rules.specs.declared.Number.{Number}
+use Rattle.head_rules.specs.Answers.{Number}
 use Rattle.line_rules.specs.declared.Replacement.{Replacement}
 use Rattle.line_rules.specs.declared.Replaced.{Replaced}
 use Rattle.record_rules.specs.declared.Record.{Record}

@@ -1,15 +1,18 @@
 -- WHAT HOLDS THE DEFINITIONS OF A HEAD: numbers and heads with their bytes, written out, at both ends of what is accepted.
 -- Assumes nothing.
-use mathlib.Core.Path.{◌≡◌, refl, ap}
+use mathlib.Core.Path.{◌≡◌, refl, ap, sym}
 use mathlib.Core.List.{List, [], ◌∷◌, map}
 use Prim.Native.Nat.{ℕ}
 use lib.ListN.{get_or}
-use Rattle.head_rules.specs.declared.Number.{Number}
+use Rattle.std.specs.Prelude.{Result, Ok, Err}
+use Rattle.refusals.specs.declared.Refusal.{Refusal}
+use Rattle.refusals.specs.declared.Refusal.TheVariants.{BadNumber, BadSide}
+use Rattle.head_rules.specs.declared.HeadBytes as bytes
 use Rattle.head_rules.specs.declared.ColourSpace.{ColourSpace}
 use Rattle.head_rules.specs.declared.ColourSpace.TheVariants.{Unspecified, Linear, Srgb}
-use Rattle.head_rules.specs.declared.Head.{Head}
+use Rattle.head_rules.specs.declared.Head as heads
 use Rattle.head_rules.specs.declared.Form.TheVariants.{Rows, Tiles}
-use Rattle.head_rules.specs.declared.HeadBytes.{HeadBytes}
+use Rattle.head_rules.specs.Answers.{Head, HeadBytes, Number}
 use lib.ListN.{replicate}
 use Rattle.laws.specs.Padding.{padded}
 use Rattle.laws.specs.Refusals.{first}
@@ -52,6 +55,13 @@ head_srgb = record { refusal = 0; form = Rows; width = 5; height = 6; start = 3;
 abbrev tiled : ColourSpace → ℕ → ℕ → ℕ → Head
 tiled c w h start = record { refusal = 0; form = Tiles; width = w; height = h; start = start; colour_space = c }
 
+-- and what a call answers that read one
+abbrev told : ℕ → ℕ → ℕ → Result heads.Head Refusal
+told w h start = Ok (record { form = Rows; width = w; height = h; start = start; colour_space = Unspecified })
+
+abbrev told_tiled : ColourSpace → ℕ → ℕ → ℕ → Result heads.Head Refusal
+told_tiled c w h start = Ok (record { form = Tiles; width = w; height = h; start = start; colour_space = c })
+
 -- what was read byte by byte, and the bytes behind it
 abbrev reading : Head → List ℕ → Reading
 reading h rest = record { head = h; rest = rest }
@@ -59,6 +69,10 @@ reading h rest = record { head = h; rest = rest }
 -- a head that was written
 abbrev written : ℕ → List ℕ → ℕ → HeadBytes
 written r bs n = record { refusal = r; bytes = bs; count = n }
+
+-- and what a call answers that wrote it
+abbrev wrote : List ℕ → ℕ → Result bytes.HeadBytes Refusal
+wrote bs n = Ok (record { bytes = bs; count = n })
 
 -- sheets of 5 by 9 pixels, six blocks, of either form: a head, and so many bytes behind it
 abbrev in_rows : ℕ → List ℕ
@@ -179,24 +193,24 @@ heads_hold = record {
 -- THE PROMISES: of each call an accepted answer, a refused one, and answers that it does not admit: the sides exchanged, tiles taken for rows,
 -- another colour space, another start, another refusal, sides or bytes beside a refusal, a byte behind the head, another count
 pub record Promised : Type 0 where
-  pub reads_head : ReadsHead (0x01 ∷ 0x05 ∷ 0x06 ∷ 0x60 ∷ []) (head 5 6 3)
-  pub reads_tiled : ReadsHead (0x02 ∷ 0x05 ∷ 0x06 ∷ 0x01 ∷ []) (tiled Linear 5 6 4)
-  pub reads_largest : ReadsHead (0x01 ∷ 0x80 ∷ 0x80 ∷ 0x01 ∷ 0x80 ∷ 0x80 ∷ 0x01 ∷ []) (head 16384 16384 7)
-  pub reads_head_not : ReadsHead (0x01 ∷ 0x00 ∷ 0x06 ∷ []) (no_head 9)
-  pub no_other_side : ReadsHead (0x01 ∷ 0x05 ∷ 0x06 ∷ 0x60 ∷ []) (head 6 5 3) → ⊥
-  pub no_other_start : ReadsHead (0x01 ∷ 0x05 ∷ 0x06 ∷ 0x60 ∷ []) (head 5 6 4) → ⊥
-  pub no_other_form : ReadsHead (0x02 ∷ 0x05 ∷ 0x06 ∷ 0x00 ∷ []) (head 5 6 4) → ⊥
-  pub no_other_colours : ReadsHead (0x02 ∷ 0x05 ∷ 0x06 ∷ 0x01 ∷ []) (tiled Srgb 5 6 4) → ⊥
-  pub no_other_refusal : ReadsHead (0x01 ∷ 0x00 ∷ 0x06 ∷ []) (no_head 7) → ⊥
-  pub no_refused_sides : ReadsHead (0x01 ∷ 0x00 ∷ 0x06 ∷ []) (refused_beside 9 6) → ⊥
-  pub writes_head : WritesHead 5 6 (written 0 (0x01 ∷ 0x05 ∷ 0x06 ∷ 0 ∷ 0 ∷ 0 ∷ 0 ∷ []) 3)
-  pub writes_largest : WritesHead 16384 16384 (written 0 (0x01 ∷ 0x80 ∷ 0x80 ∷ 0x01 ∷ 0x80 ∷ 0x80 ∷ 0x01 ∷ []) 7)
-  pub writes_head_not : WritesHead 0 6 (written 9 (0 ∷ 0 ∷ 0 ∷ 0 ∷ 0 ∷ 0 ∷ 0 ∷ []) 0)
-  pub no_other_bytes : WritesHead 5 6 (written 0 (0x01 ∷ 0x06 ∷ 0x05 ∷ 0 ∷ 0 ∷ 0 ∷ 0 ∷ []) 3) → ⊥
-  pub no_byte_behind : WritesHead 5 6 (written 0 (0x01 ∷ 0x05 ∷ 0x06 ∷ 0 ∷ 0 ∷ 0 ∷ 9 ∷ []) 3) → ⊥
-  pub no_other_count : WritesHead 5 6 (written 0 (0x01 ∷ 0x05 ∷ 0x06 ∷ 0 ∷ 0 ∷ 0 ∷ 0 ∷ []) 7) → ⊥
-  pub no_refused_head : WritesHead 5 6 (written 9 (0x01 ∷ 0x05 ∷ 0x06 ∷ 0 ∷ 0 ∷ 0 ∷ 0 ∷ []) 3) → ⊥
-  pub no_refused_bytes : WritesHead 0 6 (written 9 (0x01 ∷ 0x00 ∷ 0x06 ∷ 0 ∷ 0 ∷ 0 ∷ 0 ∷ []) 0) → ⊥
+  pub reads_head : ReadsHead (0x01 ∷ 0x05 ∷ 0x06 ∷ 0x60 ∷ []) (told 5 6 3)
+  pub reads_tiled : ReadsHead (0x02 ∷ 0x05 ∷ 0x06 ∷ 0x01 ∷ []) (told_tiled Linear 5 6 4)
+  pub reads_largest : ReadsHead (0x01 ∷ 0x80 ∷ 0x80 ∷ 0x01 ∷ 0x80 ∷ 0x80 ∷ 0x01 ∷ []) (told 16384 16384 7)
+  pub reads_head_not : ReadsHead (0x01 ∷ 0x00 ∷ 0x06 ∷ []) (Err BadSide)
+  pub no_other_side : ReadsHead (0x01 ∷ 0x05 ∷ 0x06 ∷ 0x60 ∷ []) (told 6 5 3) → ⊥
+  pub no_other_start : ReadsHead (0x01 ∷ 0x05 ∷ 0x06 ∷ 0x60 ∷ []) (told 5 6 4) → ⊥
+  pub no_other_form : ReadsHead (0x02 ∷ 0x05 ∷ 0x06 ∷ 0x00 ∷ []) (told 5 6 4) → ⊥
+  pub no_other_colours : ReadsHead (0x02 ∷ 0x05 ∷ 0x06 ∷ 0x01 ∷ []) (told_tiled Srgb 5 6 4) → ⊥
+  pub no_other_refusal : ReadsHead (0x01 ∷ 0x00 ∷ 0x06 ∷ []) (Err BadNumber) → ⊥
+  pub no_refused_sides : read_head (0x01 ∷ 0x00 ∷ 0x06 ∷ []) ≡ refused_beside 9 6 → ⊥
+  pub writes_head : WritesHead 5 6 (wrote (0x01 ∷ 0x05 ∷ 0x06 ∷ 0 ∷ 0 ∷ 0 ∷ 0 ∷ []) 3)
+  pub writes_largest : WritesHead 16384 16384 (wrote (0x01 ∷ 0x80 ∷ 0x80 ∷ 0x01 ∷ 0x80 ∷ 0x80 ∷ 0x01 ∷ []) 7)
+  pub writes_head_not : WritesHead 0 6 (Err BadSide)
+  pub no_other_bytes : WritesHead 5 6 (wrote (0x01 ∷ 0x06 ∷ 0x05 ∷ 0 ∷ 0 ∷ 0 ∷ 0 ∷ []) 3) → ⊥
+  pub no_byte_behind : WritesHead 5 6 (wrote (0x01 ∷ 0x05 ∷ 0x06 ∷ 0 ∷ 0 ∷ 0 ∷ 9 ∷ []) 3) → ⊥
+  pub no_other_count : WritesHead 5 6 (wrote (0x01 ∷ 0x05 ∷ 0x06 ∷ 0 ∷ 0 ∷ 0 ∷ 0 ∷ []) 7) → ⊥
+  pub no_refused_head : WritesHead 5 6 (Err BadSide) → ⊥
+  pub no_refused_bytes : write_head 0 6 ≡ written 9 (0x01 ∷ 0x00 ∷ 0x06 ∷ 0 ∷ 0 ∷ 0 ∷ 0 ∷ []) 0 → ⊥
 
 pub promises_hold : Promised
 unfolding groups read_groups read_number raised read_head_up_to head_refusal_up_to form_in width_in height_in colour_in first size_refusal_up_to write_head_up_to
@@ -211,7 +225,7 @@ promises_hold = record {
   no_other_form = λ e. eqb_of _ _ (ap (λ (h : Head). form_number h.form) e);
   no_other_colours = λ e. eqb_of _ _ (ap (λ (h : Head). colour_number h.colour_space) e);
   no_other_refusal = λ e. eqb_of _ _ (ap (λ (h : Head). h.refusal) e);
-  no_refused_sides = λ e. eqb_of _ _ (ap (λ (h : Head). h.height) e);
+  no_refused_sides = λ e. eqb_of _ _ (sym (ap (λ (h : Head). h.height) e));
   writes_head = refl;
   writes_largest = refl;
   writes_head_not = refl;
@@ -219,5 +233,5 @@ promises_hold = record {
   no_byte_behind = λ e. eqb_of _ _ (ap (λ (b : HeadBytes). get_or b.bytes 6 0) e);
   no_other_count = λ e. eqb_of _ _ (ap (λ (b : HeadBytes). b.count) e);
   no_refused_head = λ e. eqb_of _ _ (ap (λ (b : HeadBytes). b.refusal) e);
-  no_refused_bytes = λ e. eqb_of _ _ (ap (λ (b : HeadBytes). get_or b.bytes 0 0) e);
+  no_refused_bytes = λ e. eqb_of _ _ (sym (ap (λ (b : HeadBytes). get_or b.bytes 0 0) e));
 }

@@ -8,7 +8,7 @@ use native.Mathlib.Omega.{arith}
 use borrow.Author.Tests.{ne_eqb}
 use Rattle.head_rules.specs.declared.Form.{Form}
 use Rattle.head_rules.specs.declared.Form.TheVariants.{Rows, Tiles}
-use Rattle.head_rules.specs.declared.Head.{Head}
+use Rattle.head_rules.specs.Answers.{Head}
 use Rattle.laws.specs.Refusals.{Given, Rule, accepted, handed, here, then, unless}
 use Rattle.laws.proofs.Refusals.{Answers, Decided, accepted_when, answer_0, by_answer, exactly}
 use Rattle.head_rules.specs.Heads.{IsForm, colour_behind, colour_in, form_in, form_number, form_of, head_as, head_of, head_told, height_in}

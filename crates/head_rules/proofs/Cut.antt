@@ -16,7 +16,7 @@ use Rattle.laws.specs.Tables.{pick}
 use Rattle.laws.proofs.First.{first_here, first_skip, refuse_no}
 use Rattle.head_rules.specs.declared.Form.{Form}
 use Rattle.head_rules.specs.declared.Form.TheVariants.{Rows, Tiles}
-use Rattle.head_rules.specs.declared.Number.{Number}
+use Rattle.head_rules.specs.Answers.{Number}
 use Rattle.head_rules.specs.Heads.{IsForm, colour_behind, colour_in, form_in, form_number, form_of, head_refusal_up_to, head_told, height_in}
 use Rattle.head_rules.specs.Heads.{of_form_refusal_up_to, read_head_up_to, read_of_form_up_to, width_in}
 use Rattle.head_rules.specs.Numbers.{found, raised, read_groups, read_number}

@@ -1,3 +1,4 @@
+pub mod Answers
 pub mod Attested
 pub mod Reading
 pub mod Cut

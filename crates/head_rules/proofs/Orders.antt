@@ -15,7 +15,7 @@ use Rattle.laws.specs.Counting.{count}
 use mathlib.Core.Bool.{Bool}
 use Rattle.head_rules.specs.declared.Form.{Form}
 use Rattle.head_rules.specs.declared.Form.TheVariants.{Rows, Tiles}
-use Rattle.head_rules.specs.declared.Head.{Head}
+use Rattle.head_rules.specs.Answers.{Head}
 use Rattle.head_rules.specs.Geometry.{across, blocks_of, most_blocks, number_at, number_by, place_of, stored_at, stored_by}
 use Rattle.head_rules.specs.Geometry.{whole_length}
 use Rattle.head_rules.specs.Heads.{Sized}

@@ -2,7 +2,7 @@
 -- Assumes nothing.
 use mathlib.Core.Path.{◌≡◌, refl, ◌∙◌, ap, sym, subst}
 use mathlib.Core.List.{List, [], ◌∷◌}
-use mathlib.Core.Logic.{⊎_elim}
+use mathlib.Core.Logic.{◌≢◌, ◌⊎◌, inl, inr, ⊎_elim}
 use Prim.Native.Nat.{ℕ, zero, suc, ◌+◌, ◌*◌, ◌%◌, ◌^◌, ◌<◌, ◌≤◌}
 use native.Mathlib.Nat.{eq-zero-or-pos, lt_of_lt_of_le, one-le-pow, pow-le-pow_right, pow-suc}
 use native.Mathlib.Numerals.{add-one}
@@ -10,7 +10,7 @@ use native.Mathlib.Omega.{arith}
 use lib.ListN.{length, get_or, drop, drop_of_length-le}
 use lib.Seq.{drop-cons}
 use borrow.Author.Tests.{lt-ltb, le-ltb, eq-eqb, ne_eqb}
-use Rattle.head_rules.specs.declared.Number.{Number}
+use Rattle.head_rules.specs.Answers.{Number}
 use Rattle.laws.proofs.Cases.{lt_or}
 use Rattle.head_rules.specs.Numbers.{found, no_number, raised, read_groups, read_number}
 
@@ -69,6 +69,12 @@ pub near : (s : List ℕ) (at : ℕ) {r : Number} → r ≡ read_number s at →
 unfolding read_number
 near s at e = rw e (next_near 3 at (drop at s))
 
+-- no number is read in one way only
+nothing_else : (k at : ℕ) (bs : List ℕ) {r : Number} → r ≡ read_groups k at bs → r.refusal ≢ 0 → r ≡ no_number
+nothing_else k at bs {r} e ne =
+    ⊎_elim (λ n. e ∙ n) (λ z. absurd (ne (ap (λ (x : Number). x.refusal) e ∙ z)))
+    (every_number (λ k at bs r. (r ≡ no_number) ⊎ (r.refusal ≡ 0)) (λ k at bs. inl refl) (λ k at b bs l. inr refl) (λ k at b bs r l n h. inr refl) k at bs)
+
 -- the ways of reading a number in at most k groups
 module _ (s : List ℕ) (at : ℕ) where
   abbrev read : ℕ → ℕ → Number
@@ -88,6 +94,12 @@ module _ (s : List ℕ) (at : ℕ) where
       sym
       (rw (drop-cons s at 0 h) (read_more k at (get_or s at 0) _ l ∙ ap (raised (get_or s at 0))
       (ap (λ (j : ℕ). read_groups k (at + 1) (drop j s)) (sym (add-one at)) ∙ sym e)))
+
+  -- where none stands above the low group, none stands here
+  pub no_more : (k : ℕ) → at < length s → 128 ≤ get_or s at 0 → {above : Number} → above ≡ read k (at + 1) → above.refusal ≢ 0 → above ≡ read (suc k) at
+  no_more k h l e ne =
+      let none = nothing_else k (at + 1) _ e ne in
+      none ∙ sym (raised_none (get_or s at 0) no_number refl) ∙ more_groups k h l (sym none ∙ e)
 
   -- one group is not enough
   pub no_group : at < length s → 128 ≤ get_or s at 0 → no_number ≡ read 1 at

@@ -9,13 +9,16 @@ use native.Mathlib.Nat.{div-lt_iff_lt-mul, eq-zero-or-pos, pow-suc, zero-add}
 use native.Mathlib.Omega.{arith}
 use lib.ListN.{length, drop, replicate, take, length-append}
 use lib.Seq.{drop-drop, drop-append_seam, get_or-drop, take-append_seam}
-use Rattle.head_rules.specs.declared.Number.{Number}
+use Rattle.head_rules.specs.declared.HeadBytes as bytes
+use Rattle.std.specs.Prelude.{Result}
+use Rattle.refusals.specs.declared.Refusal.{Refusal}
 use Rattle.head_rules.specs.declared.ColourSpace.{ColourSpace}
 use Rattle.head_rules.specs.declared.ColourSpace.TheVariants.{Unspecified, Linear, Srgb}
-use Rattle.head_rules.specs.declared.Head.{Head}
+use Rattle.head_rules.specs.declared.Head as heads
 use Rattle.head_rules.specs.declared.Form.{Form}
 use Rattle.head_rules.specs.declared.Form.TheVariants.{Rows, Tiles}
-use Rattle.head_rules.specs.declared.HeadBytes.{HeadBytes}
+use Rattle.head_rules.specs.Answers.{Head, HeadBytes, Number}
+use Rattle.head_rules.proofs.Answers.{bytes_fixes, head_fixes}
 use Rattle.laws.specs.Padding.{padded}
 use Rattle.laws.specs.Refusals.{Given, Rule, here, then}
 use Rattle.laws.proofs.Cases.{lt_or}
@@ -550,11 +553,11 @@ head_not_written_when w h = exactly (rw same (alone (size_test limit w h)))
         (λ p. sym (ap (λ (b : HeadBytes). b.refusal) (nothing w h refl (λ q. omega arith)))) (eq-zero-or-pos (size_refusal w h))
 
 -- any two answers that a call's promise admits coincide
-pub determined_read_head : (sheet : List ℕ) (a b : Head) → ReadsHead sheet a → ReadsHead sheet b → a ≡ b
-determined_read_head sheet a b p q = p ∙ sym q
+pub determined_read_head : (sheet : List ℕ) (a b : Result heads.Head Refusal) → ReadsHead sheet a → ReadsHead sheet b → a ≡ b
+determined_read_head sheet a b p q = head_fixes a b (p ∙ sym q)
 
-pub determined_write_head : (w h : ℕ) (a b : HeadBytes) → WritesHead w h a → WritesHead w h b → a ≡ b
-determined_write_head w h a b p q = p ∙ sym q
+pub determined_write_head : (w h : ℕ) (a b : Result bytes.HeadBytes Refusal) → WritesHead w h a → WritesHead w h b → a ≡ b
+determined_write_head w h a b p q = bytes_fixes a b (p ∙ sym q)
 
 -- the blocks across a side are as few as show all of it
 pub across_shows_all : (n : ℕ) → n ≤ 4 * across n

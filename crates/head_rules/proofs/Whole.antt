@@ -9,7 +9,7 @@ use borrow.Author.Tests.{ne_eqb}
 use lib.Dec.{eqb}
 use lib.ListN.{length}
 use Rattle.head_rules.specs.declared.Form.{Form}
-use Rattle.head_rules.specs.declared.Head.{Head}
+use Rattle.head_rules.specs.Answers.{Head}
 use Rattle.laws.specs.Refusals.{Given, Rule, handed, refuse}
 use Rattle.laws.proofs.Refusals.{Answers, Decided, accepted_when, answer_0, answers, by_answer, by_not_eqb, exactly, none, rule, rules}
 use Rattle.head_rules.specs.Geometry.{whole_length}

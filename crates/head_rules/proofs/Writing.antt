@@ -8,7 +8,7 @@ use native.Mathlib.Omega.{arith}
 use lib.ListN.{drop, get_or, length, length-append, length-replicate, replicate}
 use lib.Seq.{ext_get_or}
 use borrow.Author.Tests.{lt-ltb, le-ltb, eq-eqb, ne_eqb}
-use Rattle.head_rules.specs.declared.HeadBytes.{HeadBytes}
+use Rattle.head_rules.specs.Answers.{HeadBytes}
 use Rattle.laws.specs.Padding.{padded}
 use Rattle.laws.proofs.Cases.{lt_or}
 use Rattle.laws.proofs.Padding.{stored_append, stored_zeros}
@@ -16,10 +16,9 @@ use Rattle.head_rules.specs.declared.ColourSpace.TheVariants.{Unspecified}
 use Rattle.head_rules.specs.declared.Form.{Form}
 use Rattle.head_rules.specs.declared.Form.TheVariants.{Rows, Tiles}
 use Rattle.head_rules.specs.declared.FormBytes.{FormBytes}
-use Rattle.head_rules.specs.Heads.{Sized, form_number, head_bytes, limit, no_bytes, seven_of, size_refusal, tiled_bytes, with_bytes, write_form}
+use Rattle.head_rules.specs.Heads.{form_number, head_bytes, no_bytes, seven_of, size_refusal, tiled_bytes, with_bytes, write_form}
 use Rattle.head_rules.specs.Heads.{write_head, write_head_up_to}
 use Rattle.head_rules.specs.Numbers.{groups, number_bytes, numbers_end}
-use Rattle.head_rules.proofs.Heading.{size_0}
 
 -- the groups of a number
 pub groups_last : (k n : ℕ) → n < 128 → groups (suc k) n ≡ n ∷ []
@@ -75,7 +74,7 @@ module _ (w h : ℕ) where
   unfolding head_bytes
   short = simp length-append (omega (arith, one_byte, few 3 w, few 3 h))
 
-  all : with_bytes (with_bytes (with_bytes (no_bytes 0) (number_bytes (form_number Rows))) (number_bytes w)) (number_bytes h) ≡ seven_of (head_bytes w h)
+  pub all : with_bytes (with_bytes (with_bytes (no_bytes 0) (number_bytes (form_number Rows))) (number_bytes w)) (number_bytes h) ≡ seven_of (head_bytes w h)
   unfolding head_bytes
   all =
       ap (λ (x : HeadBytes). with_bytes x (number_bytes h)) (with_append (no_bytes 0) (number_bytes (form_number Rows)) (number_bytes w))
@@ -83,10 +82,9 @@ module _ (w h : ℕ) where
       ∙ ap (with_bytes (no_bytes 0)) (append_assoc (number_bytes (form_number Rows)) (number_bytes w) (number_bytes h))
       ∙ ap (λ (p : List ℕ × ℕ). record { refusal = 0; bytes = p.0; count = p.1 }) (stored_zeros 7 _ short)
 
-  pub written : {r : ℕ} → r ≡ size_refusal w h → r ≡ 0 → with_bytes (with_bytes (with_bytes (no_bytes 0) (number_bytes (form_number Rows))) (number_bytes w))
-      (number_bytes h) ≡ write_head w h
+  pub written : {r : ℕ} → r ≡ size_refusal w h → r ≡ 0 → seven_of (head_bytes w h) ≡ write_head w h
   unfolding write_head_up_to
-  written e z = all ∙ sym (rw (eq-eqb (size_refusal w h) 0 (sym e ∙ z)))
+  written e z = sym (rw (eq-eqb (size_refusal w h) 0 (sym e ∙ z)))
 
 -- the ways of `write_form`: a zero behind the seven bytes of `write_head`, and 2 in front of them for form 2
 seven_of_is : (l : List ℕ) → length l ≡ 7 → get_or l 0 0 ∷ get_or l 1 0 ∷ get_or l 2 0 ∷ get_or l 3 0 ∷ get_or l 4 0 ∷ get_or l 5 0 ∷ get_or l 6 0 ∷ [] ≡ l
@@ -154,11 +152,7 @@ one_longer w h = simp length-append (omega arith)
 abbrev form_bytes : List ℕ → ℕ → FormBytes
 form_bytes bs n = record { bytes = bs; count = n }
 
-module _ (w h : ℕ) (z : Sized w h) {x : HeadBytes} (ex : x ≡ write_head w h) where
-  head_written : x ≡ seven_of (head_bytes w h)
-  unfolding write_head_up_to
-  head_written = ex ∙ rw (size_0 limit w h z)
-
+module _ (w h : ℕ) {x : HeadBytes} (head_written : x ≡ seven_of (head_bytes w h)) where
   abbrev b : List ℕ
   b = x.bytes
 

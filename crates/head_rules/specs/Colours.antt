@@ -1,6 +1,8 @@
 -- COLOUR SPACES BY NUMBER: 0 unspecified, 1 linear, 2 sRGB; 18 for a number above 2.
 -- Assumes nothing.
-use Rattle.std.specs.Prelude.{ℕ, eqb, ltb}
+use Rattle.std.specs.Prelude.{ℕ, ◌≡◌, Result, eqb, ltb}
+use Rattle.refusals.specs.declared.Refusal.{Refusal}
+use Rattle.refusals.specs.Answers.{answer_of}
 use Rattle.head_rules.specs.declared.ColourSpace.{ColourSpace}
 use Rattle.head_rules.specs.declared.ColourSpace.TheVariants.{Unspecified, Linear, Srgb}
 use Rattle.laws.specs.Refusals.{refuse}
@@ -17,3 +19,7 @@ colour_of n = pick (eqb n 2) Srgb (pick (eqb n 1) Linear Unspecified)
 
 unfoldable pub colour_refusal : ℕ → ℕ
 colour_refusal n = refuse 18 (ltb 2 n)
+
+-- what is answered of a number: both at once
+abbrev pub FindsColour : ℕ → Result ColourSpace Refusal → Type 0
+FindsColour n answer = answer_of Unspecified answer ≡ record { refusal = colour_refusal n; value = colour_of n }

@@ -5,7 +5,7 @@ use Rattle.std.specs.Prelude.{ℕ, ◌+◌, ◌-◌, ◌*◌, ◌/◌, min}
 use Rattle.tile_rules.specs.Tiles.{number_in_tiles, stored_in_tiles}
 use Rattle.head_rules.specs.declared.Form.{Form}
 use Rattle.head_rules.specs.declared.Form.TheVariants.{Rows, Tiles}
-use Rattle.head_rules.specs.declared.Head.{Head}
+use Rattle.head_rules.specs.Answers.{Head}
 use Rattle.head_rules.specs.Heads.{limit}
 
 -- columns of blocks in a width, rows of blocks in a height

@@ -1,14 +1,15 @@
 -- The head of a sheet: form, width, height; and in form 2 the number of its colour space.
 -- Assumes nothing.
-use Rattle.std.specs.Prelude.{ℕ, ◌≤◌, ◌≡◌, ◌⊎◌, Bool, not, List, [], ◌∷◌, ◌++◌, eqb, leb, length, replicate}
-use Rattle.head_rules.specs.declared.Number.{Number}
+use Rattle.std.specs.Prelude.{ℕ, ◌≤◌, ◌≡◌, ◌⊎◌, Bool, not, List, [], ◌∷◌, ◌++◌, Result, eqb, leb, length, replicate}
 use Rattle.head_rules.specs.declared.ColourSpace.{ColourSpace}
 use Rattle.head_rules.specs.declared.ColourSpace.TheVariants.{Unspecified}
 use Rattle.head_rules.specs.declared.Form.{Form}
 use Rattle.head_rules.specs.declared.Form.TheVariants.{Rows, Tiles}
-use Rattle.head_rules.specs.declared.Head.{Head}
+use Rattle.head_rules.specs.declared.Head as heads
 use Rattle.head_rules.specs.declared.FormBytes.{FormBytes}
-use Rattle.head_rules.specs.declared.HeadBytes.{HeadBytes}
+use Rattle.head_rules.specs.declared.HeadBytes as bytes
+use Rattle.refusals.specs.declared.Refusal.{Refusal}
+use Rattle.head_rules.specs.Answers.{Head, HeadBytes, Number, bytes_answered, head_answered}
 use Rattle.laws.specs.Padding.{padded, stored}
 use Rattle.laws.specs.Refusals.{Rule, first, handed, refuse, unless}
 use Rattle.laws.specs.Tables.{both, pick}
@@ -217,11 +218,11 @@ unfoldable pub write_form : Form → ℕ → ℕ → FormBytes
 write_form f w h = let bs = head_spelt f Unspecified w h in record { bytes = padded 8 bs; count = length bs }
 
 -- what the two public calls promise: their answers, whole
-abbrev pub ReadsHead : List ℕ → Head → Type 0
-ReadsHead sheet answer = answer ≡ read_head sheet
+abbrev pub ReadsHead : List ℕ → Result heads.Head Refusal → Type 0
+ReadsHead sheet answer = head_answered answer ≡ read_head sheet
 
-abbrev pub WritesHead : ℕ → ℕ → HeadBytes → Type 0
-WritesHead w h answer = answer ≡ write_head w h
+abbrev pub WritesHead : ℕ → ℕ → Result bytes.HeadBytes Refusal → Type 0
+WritesHead w h answer = bytes_answered answer ≡ write_head w h
 
 -- bytes behind those of h
 abbrev pub with_bytes : HeadBytes → List ℕ → HeadBytes

@@ -2,7 +2,7 @@
 -- three groups.
 -- Assumes nothing.
 use Rattle.std.specs.Prelude.{ℕ, zero, suc, ◌+◌, ◌*◌, ◌/◌, ◌%◌, ◌<◌, List, [], ◌∷◌, eqb, ltb, get_or, drop}
-use Rattle.head_rules.specs.declared.Number.{Number}
+use Rattle.head_rules.specs.Answers.{Number}
 use Rattle.laws.specs.Tables.{pick}
 
 abbrev pub Bytes : List ℕ → Type 0

@@ -2,8 +2,8 @@
 -- the head has ended, or the input has. The groups of a number come low group first, so a byte behind g groups counts 128 ^ g.
 -- Assumes nothing.
 use Rattle.std.specs.Prelude.{ℕ, ◌+◌, ◌*◌, ◌%◌, ◌^◌, ◌<◌, ◌≤◌, ◌≡◌, Bool, true, false, List, [], ◌∷◌, eqb, ltb}
-use Rattle.head_rules.specs.declared.Head.{Head}
-use Rattle.head_rules.specs.declared.HeadReader.{HeadReader}
+use Rattle.head_rules.specs.Answers.{Head}
+use Rattle.head_rules.specs.Answers.{HeadReader}
 use Rattle.head_rules.specs.declared.Stage.{Stage}
 use Rattle.head_rules.specs.declared.Form.TheVariants.{Rows, Tiles}
 use Rattle.head_rules.specs.declared.Form as order

@@ -2,7 +2,7 @@
 -- looks at this first.
 -- Assumes nothing.
 use Rattle.std.specs.Prelude.{ℕ, ◌≡◌, not, List, [], ◌∷◌, eqb, length}
-use Rattle.head_rules.specs.declared.Head.{Head}
+use Rattle.head_rules.specs.Answers.{Head}
 use Rattle.laws.specs.Refusals.{Rule, first, refuse, unless}
 use Rattle.head_rules.specs.Geometry.{whole_length}
 use Rattle.head_rules.specs.Heads.{head_as}

@@ -3,10 +3,9 @@
 
 #![tactic(auto)]
 
-// A number, and the place behind its last byte; zeros where it is refused.
+// A number, and the place behind its last byte.
 #[derive(Clone, Copy)]
 pub struct Number {
-    pub refusal: u8,
     pub value: u32,
     pub next: usize,
 }
@@ -26,11 +25,9 @@ pub enum ColourSpace {
     Srgb,
 }
 
-// The form, width and height in pixels, the place of the first block, and the colour space; form 1, zeros and unspecified where the head is
-// refused.
+// The form, width and height in pixels, the place of the first block, and the colour space.
 #[derive(Clone, Copy)]
 pub struct Head {
-    pub refusal: u8,
     pub form: Form,
     pub width: u32,
     pub height: u32,
@@ -38,10 +35,9 @@ pub struct Head {
     pub colour_space: ColourSpace,
 }
 
-// The bytes of a head and their count, with zeros behind; zeros where the head is refused.
+// The bytes of a head and their count, with zeros behind.
 #[derive(Clone, Copy)]
 pub struct HeadBytes {
-    pub refusal: u8,
     pub bytes: [u8; 7],
     pub count: u8,
 }
@@ -53,7 +49,7 @@ pub struct FormBytes {
     pub count: u8,
 }
 
-// Which number of the head is to come; or the head has ended, accepted or refused.
+// Which number of the head is to come; or the head has ended.
 #[derive(Clone, Copy)]
 pub enum Stage {
     Form,

@@ -6,7 +6,7 @@ use Prim.Native.Nat.{ℕ, ◌+◌, ◌*◌}
 use native.Mathlib.Numerals.{add-one}
 use Rattle.laws.specs.Padding.{Written}
 use Rattle.laws.proofs.Padding.{written_none, written_then}
-use Rattle.head_rules.specs.declared.Head.{Head}
+use Rattle.head_rules.specs.Answers.{Head}
 use Rattle.head_rules.specs.Geometry.{number_at}
 use Rattle.bcn_format.specs.Block.{block_at}
 use Rattle.listing_rules.specs.Listing.{block_listed, blocks_text}

@@ -1,8 +1,8 @@
 -- What the functions of the listing ask.
 -- Assumes nothing.
 use Rattle.std.specs.Prelude.{ℕ, ◌+◌, ◌*◌, ◌/◌, ◌<◌, ◌≤◌}
-use Rattle.head_rules.specs.declared.Head.{Head}
-use Rattle.head_rules.specs.declared.HeadReader.{HeadReader}
+use Rattle.head_rules.specs.Answers.{Head}
+use Rattle.head_rules.specs.Answers.{HeadReader}
 use Rattle.head_rules.specs.Geometry.{blocks_of}
 use Rattle.head_rules.specs.Heads.{Sized}
 use Rattle.head_rules.specs.Reader.{Going}

@@ -1,8 +1,8 @@
 -- What the functions of the listing promise: an equation or a text, and beside it what the next call asks for.
 -- Assumes nothing.
 use Rattle.std.specs.Prelude.{◌≡◌, true, List, ℕ, ◌+◌, ◌-◌, ◌*◌, ◌≤◌, length}
-use Rattle.head_rules.specs.declared.Head.{Head}
-use Rattle.head_rules.specs.declared.HeadReader.{HeadReader}
+use Rattle.head_rules.specs.Answers.{Head}
+use Rattle.head_rules.specs.Answers.{HeadReader}
 use Rattle.head_rules.specs.Geometry.{blocks_of}
 use Rattle.head_rules.specs.Heads.{Sized}
 use Rattle.head_rules.specs.Reader.{has_ended}

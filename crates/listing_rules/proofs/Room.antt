@@ -9,7 +9,7 @@ use Rattle.listing_rules.specs.declared.Machine.{Machine}
 use Rattle.listing_rules.specs.declared.Phase.{Phase}
 use Rattle.listing_rules.specs.declared.Phase.TheVariants.{Head, Blocks, End, Listed, Refused}
 use Rattle.head_rules.specs.Geometry.{blocks_of}
-use Rattle.head_rules.specs.declared.HeadReader.{HeadReader}
+use Rattle.head_rules.specs.Answers.{HeadReader}
 use Rattle.laws.specs.Tables.{pick}
 use Rattle.laws.proofs.Cases.{pick_either}
 use Rattle.listing_rules.specs.Machine.{begun, blocks_phase, ended, in_blocks, next_in_blocks, run_of, spare_in, spare_of}

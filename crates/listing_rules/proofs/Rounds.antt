@@ -10,7 +10,7 @@ use lib.ListN.{length, get_or, take, drop}
 use lib.Seq.{length-take-le, take_all}
 use borrow.Author.Tests.{eq-eqb, eqb-false, eqb-true, leb-false, leb-true, ne_eqb}
 use Rattle.head_rules.specs.Geometry.{blocks_of, most_blocks}
-use Rattle.head_rules.specs.declared.HeadReader.{HeadReader}
+use Rattle.head_rules.specs.Answers.{HeadReader}
 use Rattle.listing_rules.specs.declared.Machine.{Machine}
 use Rattle.listing_rules.specs.declared.Phase.{Phase}
 use Rattle.listing_rules.specs.declared.Phase.TheVariants.{Head, Blocks, End, Listed, Refused}

@@ -12,7 +12,7 @@ use lib.Seq.{drop-append-add, drop-append-le, length-take-le, take-add, take_all
 use borrow.Author.Tests.{eq-eqb, eqb-false, eqb-true, ne_eqb}
 use Rattle.bcn_format.specs.Block.{block_at}
 use Rattle.laws.specs.Tables.{pick}
-use Rattle.head_rules.specs.declared.Head.{Head}
+use Rattle.head_rules.specs.Answers.{Head}
 use Rattle.head_rules.specs.Geometry.{across, blocks_of}
 use Rattle.head_rules.specs.Geometry.{number_at}
 use Rattle.head_rules.specs.Heads.{read_head}

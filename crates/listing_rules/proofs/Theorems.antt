@@ -17,7 +17,7 @@ use Rattle.bcn_format.specs.Partitions.{anchors2, anchors3, digits, marks, strin
 use Rattle.bc7_format.specs.Places.{at_place, opened, place_at, pos, width, widths}
 use Rattle.bc7_format.specs.Splits.{split_at, split_of}
 use Rattle.head_rules.specs.declared.Form.TheVariants.{Rows, Tiles}
-use Rattle.head_rules.specs.declared.Head.{Head}
+use Rattle.head_rules.specs.Answers.{Head}
 use Rattle.head_rules.specs.Geometry.{blocks_of}
 use Rattle.head_rules.specs.Colours.{colour_refusal}
 use Rattle.head_rules.specs.Geometry.{number_at}

@@ -4,7 +4,7 @@ use Rattle.std.specs.Prelude.{ℕ, zero, suc, ◌+◌, ◌*◌, ◌/◌, Bool, L
 use Rattle.laws.specs.Tables.{pick}
 use Rattle.bc7_format.specs.Modes.{mode_of}
 use Rattle.bc7_format.specs.Lines.{pixels}
-use Rattle.head_rules.specs.declared.Head.{Head}
+use Rattle.head_rules.specs.Answers.{Head}
 use Rattle.head_rules.specs.Geometry.{blocks_of, number_at}
 use Rattle.laws.specs.Text.{refused_text}
 use Rattle.listing_rules.specs.Text.{block_text, sheet_text}

@@ -7,7 +7,7 @@ use Rattle.listing_rules.specs.declared.Phase.TheVariants.{Head, Blocks, End, Li
 use Rattle.head_rules.specs.Geometry.{across, blocks_of, most_blocks}
 use Rattle.head_rules.specs.Heads.{Sized}
 use Rattle.head_rules.specs.declared.Head.{Head as SheetHead}
-use Rattle.head_rules.specs.declared.HeadReader.{HeadReader}
+use Rattle.head_rules.specs.Answers.{HeadReader}
 use Rattle.laws.specs.Tables.{pick}
 use Rattle.head_rules.specs.Reader.{Going, at_form, byte_taken, has_ended, refused_with}
 use Rattle.laws.specs.Text.{refused_text}

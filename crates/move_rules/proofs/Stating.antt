@@ -15,7 +15,7 @@ use Rattle.head_rules.specs.declared.ColourSpace.{ColourSpace}
 use Rattle.head_rules.specs.declared.ColourSpace.TheVariants.{Unspecified, Linear, Srgb}
 use Rattle.head_rules.specs.declared.Form.{Form}
 use Rattle.head_rules.specs.declared.Form.TheVariants.{Rows, Tiles}
-use Rattle.head_rules.specs.declared.Head.{Head}
+use Rattle.head_rules.specs.Answers.{Head}
 use Rattle.head_rules.specs.Colours.{colour_number, colour_of}
 use Rattle.head_rules.specs.Geometry.{place_of, stored_at, whole_length}
 use Rattle.head_rules.specs.Heads.{bytes_of_head, form_number, head_in, head_spelt, read_head, read_of_form, tiled_bytes, under}

@@ -16,7 +16,7 @@ use Rattle.laws.proofs.Refusals.{accepted_when, exactly}
 use Rattle.head_rules.specs.declared.ColourSpace.TheVariants.{Unspecified}
 use Rattle.head_rules.specs.declared.Form.{Form}
 use Rattle.head_rules.specs.declared.Form.TheVariants.{Rows, Tiles}
-use Rattle.head_rules.specs.declared.Head.{Head}
+use Rattle.head_rules.specs.Answers.{Head}
 use Rattle.head_rules.specs.Geometry.{blocks_of, whole_length}
 use Rattle.head_rules.specs.Heads.{colour_in, head_spelt, read_head, read_of_form}
 use Rattle.head_rules.specs.Numbers.{Bytes}

@@ -15,7 +15,7 @@ use Rattle.laws.proofs.Part.{get_d_table}
 use Rattle.head_rules.specs.declared.ColourSpace.{ColourSpace}
 use Rattle.head_rules.specs.declared.Form.{Form}
 use Rattle.head_rules.specs.declared.Form.TheVariants.{Rows, Tiles}
-use Rattle.head_rules.specs.declared.Head.{Head}
+use Rattle.head_rules.specs.Answers.{Head}
 use Rattle.head_rules.specs.Colours.{colour_number}
 use Rattle.head_rules.specs.Geometry.{across, blocks_of, number_by, place_of, whole_length}
 use Rattle.head_rules.specs.Heads.{bytes_of_head, form_number, head_bytes, head_spelt, read_head, tiled_bytes}

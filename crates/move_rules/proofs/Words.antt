@@ -11,7 +11,7 @@ use Rattle.laws.proofs.First.{first_none, first_skip}
 use Rattle.laws.proofs.Refusals.{Answers, Decided, Met, Tests, accepted_when, answers, by_not_eqb, none, rule, rules}
 use Rattle.head_rules.specs.declared.Form.{Form}
 use Rattle.head_rules.specs.declared.Form.TheVariants.{Rows, Tiles}
-use Rattle.head_rules.specs.declared.Head.{Head}
+use Rattle.head_rules.specs.Answers.{Head}
 use Rattle.head_rules.specs.Colours.{colour_number}
 use Rattle.head_rules.specs.Geometry.{whole_length}
 use Rattle.head_rules.specs.Heads.{colour_in, limit, of_form_rules, read_head, read_of_form}

@@ -6,7 +6,7 @@ use Rattle.laws.specs.Tables.{pick}
 use Rattle.head_rules.specs.declared.ColourSpace.TheVariants.{Unspecified}
 use Rattle.head_rules.specs.declared.Form.{Form}
 use Rattle.head_rules.specs.declared.Form.TheVariants.{Rows, Tiles}
-use Rattle.head_rules.specs.declared.Head.{Head}
+use Rattle.head_rules.specs.Answers.{Head}
 use Rattle.head_rules.specs.Colours.{colour_number}
 use Rattle.head_rules.specs.Geometry.{whole_length}
 use Rattle.head_rules.specs.Heads.{Sized, bytes_of_head, colour_in, form_in, form_number, head_in, head_spelt, height_in, read_head, read_of_form, rows_rules}

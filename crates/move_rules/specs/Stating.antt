@@ -4,7 +4,7 @@ use Rattle.std.specs.Prelude.{ℕ, ◌≤◌, ◌≡◌, List, [], ◌∷◌, �
 use Rattle.laws.specs.Refusals.{Rule, first, unless}
 use Rattle.laws.specs.Tables.{pick}
 use Rattle.head_rules.specs.declared.Form.TheVariants.{Tiles}
-use Rattle.head_rules.specs.declared.Head.{Head}
+use Rattle.head_rules.specs.Answers.{Head}
 use Rattle.head_rules.specs.Colours.{colour_of, colour_refusal}
 use Rattle.head_rules.specs.Heads.{bytes_of_head, of_form_rules, read_of_form, under}
 use Rattle.head_rules.specs.Whole.{whole_refusal, whole_rule}

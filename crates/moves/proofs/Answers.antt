@@ -8,7 +8,7 @@ use lib.ListN.{length}
 use Rattle.laws.specs.Refusals.{Given, here, then}
 use Rattle.laws.proofs.Refusals.{Met, accepted_when, exactly}
 use Rattle.head_rules.specs.declared.Form.{Form}
-use Rattle.head_rules.specs.declared.Head.{Head}
+use Rattle.head_rules.specs.Answers.{Head}
 use Rattle.head_rules.specs.Geometry.{whole_length}
 use Rattle.head_rules.specs.Heads.{Sized, read_of_form}
 use Rattle.head_rules.specs.Whole.{whole_head, whole_refusal}

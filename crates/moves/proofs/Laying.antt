@@ -12,7 +12,7 @@ use Rattle.head_rules.specs.declared.ColourSpace.TheVariants.{Unspecified}
 use Rattle.head_rules.specs.declared.Form.{Form}
 use Rattle.head_rules.specs.declared.Form.TheVariants.{Rows, Tiles}
 use Rattle.head_rules.specs.declared.FormBytes.{FormBytes}
-use Rattle.head_rules.specs.declared.Head.{Head}
+use Rattle.head_rules.specs.Answers.{Head}
 use Rattle.head_rules.specs.Geometry.{blocks_of, whole_length}
 use Rattle.head_rules.specs.Heads.{head_spelt, write_form}
 use Rattle.head_rules.proofs.Writing.{one_longer, padded_long, short}

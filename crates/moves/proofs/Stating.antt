@@ -9,7 +9,7 @@ use lib.ListN.{length, set}
 use Rattle.laws.specs.Refusals.{here, then}
 use Rattle.laws.proofs.Refusals.{accepted_when, decided_is, decided_not, decided_so, exactly}
 use Rattle.head_rules.specs.declared.Form.TheVariants.{Tiles}
-use Rattle.head_rules.specs.declared.Head.{Head}
+use Rattle.head_rules.specs.Answers.{Head}
 use Rattle.head_rules.specs.Colours.{colour_refusal}
 use Rattle.head_rules.specs.Heads.{read_head, read_of_form}
 use Rattle.head_rules.specs.Numbers.{Bytes}

@@ -10,7 +10,7 @@ use Rattle.laws.proofs.Over.{part_over}
 use Rattle.laws.proofs.Part.{Part, part_all, part_none}
 use Rattle.tile_rules.proofs.Theorems.{has_columns}
 use Rattle.head_rules.specs.declared.Form.{Form}
-use Rattle.head_rules.specs.declared.Head.{Head}
+use Rattle.head_rules.specs.Answers.{Head}
 use Rattle.head_rules.specs.Geometry.{across, blocks_of, most_blocks, number_by, place_of, stored_at, stored_by, whole_length}
 use Rattle.head_rules.specs.Heads.{Sized}
 use Rattle.head_rules.proofs.Blocks.{few_blocks}

@@ -2,7 +2,7 @@
 -- Assumes nothing.
 use Rattle.std.specs.Prelude.{ℕ, ◌*◌, ◌<◌, ◌≡◌}
 use Rattle.head_rules.specs.declared.Form.{Form}
-use Rattle.head_rules.specs.declared.Head.{Head}
+use Rattle.head_rules.specs.Answers.{Head}
 use Rattle.head_rules.specs.Geometry.{blocks_of, stored_by, whole_length}
 use Rattle.head_rules.specs.Heads.{Sized}
 use Rattle.move_rules.specs.Moving.{head_in_form}

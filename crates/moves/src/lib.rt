@@ -3,6 +3,7 @@
 
 #![tactic(auto)]
 
+ghost use Rattle.head_rules.specs.Answers.{known};
 ghost use Rattle.std.specs.Prelude.{◌≡◌, length};
 ghost use Rattle.head_rules.specs.declared.Form.TheVariants.{Rows, Tiles};
 ghost use Rattle.head_rules.specs.Geometry.{whole_length};
@@ -16,9 +17,9 @@ ghost use Rattle.moves.specs.Rooms.{Lays, MovesBlocks, Stores};
 use block_bytes::{load, store};
 use head_rules::{Form, Head};
 use refusals::{COLOUR_SPACE_STATED, WRONG_OUTPUT_LENGTH};
-use sheet_head::colours::{colour_refusal, number_of};
+use sheet_head::colours::{colour_of, number_of};
 use sheet_head::geometry::{blocks_across, blocks_of};
-use sheet_head::{read_of_form, whole, write_form};
+use sheet_head::{read_whole_of_form, write_form};
 
 // Which of the stored blocks of a form a block is. The columns and rows are found once for all blocks: `place_of` would find them
 // again for each, and a move would take a hundred instructions a block.
@@ -34,8 +35,8 @@ fn stored_by(form: Form, columns: usize, rows: usize, block: usize) -> usize
 
 // All blocks of a sheet, each from where the sheet has it to where the form stores it.
 fn move_blocks(form: Form, head: Head, sheet: &[u8], to: &mut [u8])
-    requires { MovesBlocks head (length sheet.now) (length to.old) }
-    ensures { to.new ≡ blocks_as form head sheet.now }
+    requires { MovesBlocks (known head) (length sheet.now) (length to.old) }
+    ensures { to.new ≡ blocks_as form (known head) sheet.now }
 {
     let columns = blocks_across(head.width) as usize;
     let rows = blocks_across(head.height) as usize;
@@ -61,7 +62,7 @@ fn other(form: Form) -> Form
 // The bytes of a sheet in a form, whose head in the other is given.
 fn length_as(form: Form, head: Head) -> usize
     requires { Sized head.width head.height }
-    ensures { result ≡ whole_length (head_in_form form head) }
+    ensures { result ≡ whole_length (head_in_form form (known head)) }
 {
     let written = write_form(form, head.width, head.height);
     written.count as usize + 16 * blocks_of(head) as usize
@@ -69,8 +70,8 @@ fn length_as(form: Form, head: Head) -> usize
 
 // The head in a form, and behind it all blocks of a sheet in that form's order: the whole output.
 fn lay(form: Form, head: Head, sheet: &[u8], out: &mut [u8])
-    requires { Lays form head (length sheet.now) (length out.old) }
-    ensures { out.new ≡ moved_to form head sheet.now }
+    requires { Lays form (known head) (length sheet.now) (length out.old) }
+    ensures { out.new ≡ moved_to form (known head) sheet.now }
 {
     let written = write_form(form, head.width, head.height);
     let count = written.count as usize;
@@ -83,10 +84,10 @@ fn lay(form: Form, head: Head, sheet: &[u8], out: &mut [u8])
 fn move_to(form: Form, sheet: &[u8], out: &mut [u8]) -> u8
     ensures { MovesTo form sheet.now out.old result out.new }
 {
-    let head = whole(read_of_form(other(form), sheet), sheet);
-    if head.refusal != 0 {
-        return head.refusal;
-    }
+    let head = match read_whole_of_form(other(form), sheet) {
+        Ok(head) => head,
+        Err(refusal) => return refusal.number(),
+    };
     if out.len() != length_as(form, head) {
         return WRONG_OUTPUT_LENGTH;
     }
@@ -115,15 +116,16 @@ pub fn to_rows(sheet: &[u8], out: &mut [u8]) -> u8
 pub fn state_colour(sheet: &mut [u8], number: u32) -> u8
     ensures { StatesColour sheet.old number result sheet.new }
 {
-    let head = whole(read_of_form(Form::Tiles, sheet), sheet);
-    if head.refusal != 0 {
-        return head.refusal;
+    let head = match read_whole_of_form(Form::Tiles, sheet) {
+        Ok(head) => head,
+        Err(refusal) => return refusal.number(),
+    };
+    match colour_of(number) {
+        Ok(_) => {
+            let at = head.start as usize - 1;
+            sheet[at] = number as u8;
+            0
+        }
+        Err(refusal) => refusal.number(),
     }
-    let refusal = colour_refusal(number);
-    if refusal != 0 {
-        return refusal;
-    }
-    let at = head.start as usize - 1;
-    sheet[at] = number as u8;
-    0
 }

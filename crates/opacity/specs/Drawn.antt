@@ -3,7 +3,7 @@
 use Rattle.std.specs.Prelude.{ℕ, ◌<◌, ◌≡◌, Bool, List, [], eqb, get_or}
 use Rattle.laws.specs.Tables.{below, implies}
 use Rattle.bc7_format.specs.Lines.{pixels}
-use Rattle.head_rules.specs.declared.Head.{Head}
+use Rattle.head_rules.specs.Answers.{Head}
 use Rattle.head_rules.specs.Geometry.{blocks_of}
 use Rattle.head_rules.specs.Heads.{Sized}
 use Rattle.opacity_rules.specs.Opacity.{is_visible}

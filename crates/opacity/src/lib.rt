@@ -3,6 +3,7 @@
 
 #![tactic(auto)]
 
+ghost use Rattle.head_rules.specs.Answers.{known};
 ghost use Rattle.std.specs.Prelude.{◌≡◌, ltb};
 ghost use Rattle.bc7_format.specs.Modes.{mode_of};
 ghost use Rattle.opacity.specs.Drawn.{InSheet, alpha_passes, opaque_drawn};
@@ -32,12 +33,10 @@ fn passes(alpha: u8, q: usize, columns: usize, rows: usize) -> bool
 fn all_pass(drawn: [[u8; 4]; 16], columns: usize, rows: usize) -> bool
     ensures { result ≡ opaque_drawn columns rows drawn }
 {
-    let mut q: usize = 0;
-    while q < 16 {
-        if !passes(drawn[q][3], q, columns, rows) {
+    for (q, pixel) in drawn.iter().enumerate() {
+        if !passes(pixel[3], q, columns, rows) {
             return false;
         }
-        q += 1;
     }
     true
 }
@@ -61,7 +60,7 @@ pub fn is_opaque(block: [u8; 16], columns: u32, rows: u32) -> bool
 
 // Is a block of a sheet opaque, whose pixels are drawn already? Blocks count row by row.
 pub fn is_opaque_in(head: Head, number: u32, block: [u8; 16], drawn: [[u8; 4]; 16]) -> bool
-    requires { InSheet head number block drawn }
+    requires { InSheet (known head) number block drawn }
     ensures { result ≡ opaque_in head.width head.height number block }
 {
     if stores_no_alpha(block) {
@@ -76,7 +75,7 @@ pub fn is_opaque_in(head: Head, number: u32, block: [u8; 16], drawn: [[u8; 4]; 1
 
 // The same of a block that isn't drawn yet; where the mode tells, it isn't drawn at all.
 pub fn is_opaque_at(head: Head, number: u32, block: [u8; 16]) -> bool
-    requires { BlockAsked head number }
+    requires { BlockAsked (known head) number }
     ensures { result ≡ opaque_in head.width head.height number block }
 {
     if stores_no_alpha(block) {

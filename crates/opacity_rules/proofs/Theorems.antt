@@ -17,7 +17,7 @@ use Rattle.bcn_format.specs.Block.{eights}
 use Rattle.bc7_format.specs.Lines.{pixel}
 use Rattle.bc7_format.specs.Modes.{mode_of}
 use Rattle.bc7_format.proofs.Reserved.{reserved_mode}
-use Rattle.head_rules.specs.declared.Head.{Head}
+use Rattle.head_rules.specs.Answers.{Head}
 use Rattle.head_rules.specs.Geometry.{across, blocks_of, side_shown}
 use Rattle.head_rules.specs.Heads.{Sized}
 use Rattle.bc7_format.proofs.FullAlpha.{full_alpha}

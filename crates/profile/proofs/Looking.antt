@@ -11,7 +11,7 @@ use lib.Arith.{digits_lt}
 use Rattle.laws.specs.Tables.{below, pick}
 use Rattle.laws.proofs.Cases.{lt_or}
 use Rattle.laws.proofs.Scan.{scan_fails}
-use Rattle.head_rules.specs.declared.Head.{Head}
+use Rattle.head_rules.specs.Answers.{Head}
 use Rattle.head_rules.specs.Geometry.{across, blocks_of, most_blocks, number_at, place_of, stored_at}
 use Rattle.head_rules.proofs.Blocks.{few_blocks}
 use Rattle.head_rules.proofs.Orders.{blocks_within, each_place, number_again, numbered_in, stored_in}
@@ -94,13 +94,9 @@ module _ (h : Head) (s : List ℕ) (p l : ℕ) where
   unfolding lowest_with
   kept_as_it_was e = rw e
 
-  pub kept_lower : {n : ℕ} → n ≡ number_at h p → n < l → admits (stored_block h s p) ≡ false → n ≡ lowest_with h s p l
+  pub kept_lower : {n m : ℕ} → n ≡ number_at h p → m ≡ min n l → admits (stored_block h s p) ≡ false → m ≡ lowest_with h s p l
   unfolding lowest_with
-  kept_lower e g off = rw off (omega (arith, e, g))
-
-  pub kept_lowest : {n : ℕ} → n ≡ number_at h p → l ≤ n → admits (stored_block h s p) ≡ false → l ≡ lowest_with h s p l
-  unfolding lowest_with
-  kept_lowest e g off = rw off (omega (arith, e, g))
+  kept_lower e g off = rw off (g ∙ ap (λ (k : ℕ). min k l) e)
 
 -- where a block of a whole sheet stands
 module _ {h : Head} {many : ℕ} where

@@ -2,7 +2,7 @@
 -- Assumes nothing.
 use Rattle.std.specs.Prelude.{ℕ, ◌+◌, ◌*◌, ◌<◌, min, ◌≡◌, List}
 use Rattle.laws.specs.Tables.{pick}
-use Rattle.head_rules.specs.declared.Head.{Head}
+use Rattle.head_rules.specs.Answers.{Head}
 use Rattle.head_rules.specs.Geometry.{across, number_at, whole_length}
 use Rattle.head_rules.specs.Heads.{Sized}
 use Rattle.sheet_head.specs.Asked.{BlockAsked}

@@ -4,7 +4,9 @@
 
 #![tactic(auto)]
 
+ghost use Rattle.head_rules.specs.Answers.{known};
 ghost use Rattle.std.specs.Prelude.{◌≡◌, length};
+ghost use Rattle.refusals.specs.Answers.{number_of};
 ghost use Rattle.profile_rules.specs.Profile.{ChecksProfile, admits, first_breaking, sides_refusal};
 ghost use Rattle.profile_rules.specs.Small.{row_admits};
 ghost use Rattle.profile.specs.Looking.{RowThere, SheetThere, StoredThere, lowest_with};
@@ -13,70 +15,59 @@ use bc7_modes::mode_of;
 use block_bytes::load;
 use head_rules::Head;
 use profile_rules::Checked;
-use refusals::{PROFILE_BLOCK, PROFILE_SIDES};
+use refusals::{PROFILE_BLOCK, Refusal, number_of};
 use sheet_head::geometry::{blocks_across, blocks_of, number_at, place_of};
-use sheet_head::{read_head, whole};
+use sheet_head::read_whole;
 
 // Modes 4, 5 and 6 are admitted.
 pub fn is_admitted(block: [u8; 16]) -> bool
     ensures { result ≡ admits block }
 {
     let mode = mode_of(block);
-    if mode < 4 {
-        return false;
-    }
-    mode <= 6
+    4 <= mode && mode <= 6
 }
 
 // 17, where the width or the height is no multiple of 4.
-pub fn sides_refusal(head: Head) -> u8
-    ensures { result ≡ sides_refusal head }
+pub fn check_sides(head: Head) -> Result<(), Refusal>
+    ensures { number_of result ≡ sides_refusal (known head) }
 {
-    if head.width % 4 != 0 {
-        return PROFILE_SIDES;
+    if head.width % 4 != 0 || head.height % 4 != 0 {
+        return Err(Refusal::ProfileSides);
     }
-    if head.height % 4 != 0 {
-        return PROFILE_SIDES;
-    }
-    0
+    Ok(())
 }
 
 // Is every block of a row admitted? The first that isn't ends the search.
 pub fn row_is_admitted(head: Head, row: u32, sheet: &[u8]) -> bool
-    requires { RowThere head row (length sheet.now) }
-    ensures { result ≡ row_admits head sheet.now row }
+    requires { RowThere (known head) row (length sheet.now) }
+    ensures { result ≡ row_admits (known head) sheet.now row }
 {
     let columns = blocks_across(head.width);
     let first = row * columns;
-    let mut c: u32 = 0;
-    while c < columns {
+    for c in 0..columns {
         if !is_admitted(load(sheet, place_of(head, first + c))) {
             return false;
         }
-        c += 1;
     }
     true
 }
 
 // The lowest number of a block that breaks the profile, of the blocks that were looked at and of the one that is stored next.
 fn lowest_with(head: Head, sheet: &[u8], stored: u32, lowest: u32) -> u32
-    requires { StoredThere head stored (length sheet.now) }
-    ensures { result ≡ lowest_with head sheet.now stored lowest }
+    requires { StoredThere (known head) stored (length sheet.now) }
+    ensures { result ≡ lowest_with (known head) sheet.now stored lowest }
 {
     if is_admitted(load(sheet, head.start as usize + 16 * stored as usize)) {
         return lowest;
     }
     let number = number_at(head, stored) as u32;
-    if number < lowest {
-        return number;
-    }
-    lowest
+    number.min(lowest)
 }
 
 // The first block that breaks the profile, by its number; as many as there are blocks where none does.
 fn first_breaking(head: Head, sheet: &[u8]) -> u32
-    requires { SheetThere head (length sheet.now) }
-    ensures { result ≡ first_breaking head sheet.now }
+    requires { SheetThere (known head) (length sheet.now) }
+    ensures { result ≡ first_breaking (known head) sheet.now }
 {
     let blocks = blocks_of(head);
     let mut lowest = blocks;
@@ -90,14 +81,14 @@ fn first_breaking(head: Head, sheet: &[u8]) -> u32
 pub fn check_profile(sheet: &[u8]) -> Checked
     ensures { ChecksProfile sheet.now result }
 {
-    let head = whole(read_head(sheet), sheet);
-    if head.refusal != 0 {
-        return Checked {
-            refusal: head.refusal,
+    let head = match read_whole(sheet) {
+        Ok(head) => head,
+        Err(refusal) => return Checked {
+            refusal: refusal.number(),
             block: 0,
-        };
-    }
-    let sides = sides_refusal(head);
+        },
+    };
+    let sides = number_of(check_sides(head));
     if sides != 0 {
         return Checked {
             refusal: sides,

@@ -18,7 +18,7 @@ use Rattle.laws.proofs.Refusals.{Answers, Decided, answers, by_answer, by_not, b
 use Rattle.laws.proofs.Tests.{both_true, not_so}
 use Rattle.head_rules.specs.declared.Form.{Form}
 use Rattle.head_rules.specs.declared.Form.TheVariants.{Rows, Tiles}
-use Rattle.head_rules.specs.declared.Head.{Head}
+use Rattle.head_rules.specs.Answers.{Head}
 use Rattle.head_rules.specs.Colours.{colour_refusal}
 use Rattle.head_rules.specs.Geometry.{blocks_of, whole_length}
 use Rattle.head_rules.specs.Heads.{colour_behind, colour_in, form_in, form_number, form_of, head_refusal_up_to, height_in, limit, read_head, size_refusal_up_to}

@@ -7,7 +7,7 @@ use Prim.Native.Nat.{ℕ, ◌+◌, ◌*◌, ◌<◌}
 use Rattle.laws.specs.Refusals.{handed, refuse}
 use Rattle.laws.proofs.Refusals.{Answers, Decided, answers, by_answer, by_leb, by_not, by_not_eqb, none, rule, rules}
 use Rattle.laws.proofs.Tests.{T_true, at, below_intro, no_both, true_T}
-use Rattle.head_rules.specs.declared.Head.{Head}
+use Rattle.head_rules.specs.Answers.{Head}
 use Rattle.head_rules.specs.Geometry.{across}
 use Rattle.head_rules.specs.Heads.{read_head}
 use Rattle.head_rules.specs.Whole.{whole_refusal}

@@ -18,7 +18,7 @@ use Rattle.laws.proofs.Refusals.{accepted_when, alone, answer_0, by_not, decided
 use Rattle.bc7_format.specs.Lines.{pixels}
 use Rattle.bc7_format.proofs.Reserved.{reserved_mode}
 use Rattle.head_rules.specs.declared.Form.{Form}
-use Rattle.head_rules.specs.declared.Head.{Head}
+use Rattle.head_rules.specs.Answers.{Head}
 use Rattle.head_rules.specs.Geometry.{across, blocks_of, side_shown}
 use Rattle.head_rules.specs.Heads.{read_head}
 use Rattle.head_rules.specs.Numbers.{Bytes}

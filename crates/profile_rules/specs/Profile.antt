@@ -5,7 +5,7 @@ use Rattle.profile_rules.specs.declared.Checked.{Checked}
 use Rattle.laws.specs.Refusals.{Rule, first, refuse, unless}
 use Rattle.laws.specs.Tables.{both, pick}
 use Rattle.bc7_format.specs.Modes.{mode_of}
-use Rattle.head_rules.specs.declared.Head.{Head}
+use Rattle.head_rules.specs.Answers.{Head}
 use Rattle.head_rules.specs.Geometry.{blocks_of}
 use Rattle.head_rules.specs.Heads.{head_rules, read_head}
 use Rattle.head_rules.specs.Whole.{Whole, whole_refusal, whole_rule}

@@ -4,7 +4,7 @@ use Rattle.std.specs.Prelude.{ℕ, ◌+◌, ◌*◌, ◌<◌, ◌≡◌, Bool, n
 use Rattle.laws.specs.Refusals.{Rule, first, refuse, unless}
 use Rattle.laws.specs.Tables.{below, pick}
 use Rattle.bc7_format.specs.Lines.{pixels}
-use Rattle.head_rules.specs.declared.Head.{Head}
+use Rattle.head_rules.specs.Answers.{Head}
 use Rattle.head_rules.specs.Geometry.{across, side_shown}
 use Rattle.head_rules.specs.Heads.{head_rules, read_head}
 use Rattle.head_rules.specs.Whole.{whole_refusal, whole_rule}

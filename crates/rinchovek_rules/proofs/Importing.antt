@@ -7,7 +7,7 @@ use mathlib.Core.List.{List, [], ◌∷◌}
 use borrow.Author.Tests.{ne_eqb}
 use lib.ListN.{length}
 use Rattle.laws.proofs.Refusals.{answer_0}
-use Rattle.head_rules.specs.declared.Head.{Head}
+use Rattle.head_rules.specs.Answers.{Head}
 use Rattle.head_rules.specs.Colours.{colour_number}
 use Rattle.dds_rules.specs.Files.{head_made, import_after_up_to, import_refusal, sheet_made}
 use Rattle.dds_rules.specs.Promises.{Imports}

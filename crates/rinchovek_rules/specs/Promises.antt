@@ -7,7 +7,7 @@ use Rattle.bc7_format.specs.Lines.{pixels}
 use Rattle.bc6h_format.specs.Halves.{halves}
 use Rattle.head_rules.specs.declared.ColourSpace.TheVariants.{Unspecified}
 use Rattle.head_rules.specs.declared.Form.TheVariants.{Rows, Tiles}
-use Rattle.head_rules.specs.declared.Head.{Head}
+use Rattle.head_rules.specs.Answers.{Head}
 use Rattle.head_rules.specs.Colours.{colour_number}
 use Rattle.head_rules.specs.Geometry.{across, blocks_of}
 use Rattle.head_rules.specs.Heads.{form_number, read_head, read_of_form, write_head}

@@ -7,7 +7,7 @@ use Prim.Native.Nat.{ℕ}
 use lib.ListN.{length}
 use Rattle.laws.specs.Refusals.{Given, here, then}
 use Rattle.laws.proofs.Refusals.{Met, accepted_when, exactly}
-use Rattle.head_rules.specs.declared.Head.{Head}
+use Rattle.head_rules.specs.Answers.{Head}
 use Rattle.head_rules.specs.Geometry.{side_shown}
 use Rattle.head_rules.specs.Heads.{Sized, read_head}
 use Rattle.head_rules.specs.Whole.{Whole, whole_head, whole_refusal}

@@ -1,7 +1,7 @@
 -- The scanlines of a block, laid into their column of a row.
 -- Assumes nothing.
 use Rattle.std.specs.Prelude.{◌≡◌, ℕ, ◌+◌, ◌*◌, ◌/◌, ◌%◌, ◌≤◌, ◌<◌, List, eqb, length, get_or}
-use Rattle.head_rules.specs.declared.Head.{Head}
+use Rattle.head_rules.specs.Answers.{Head}
 use Rattle.laws.specs.Tables.{pick, table}
 use Rattle.head_rules.specs.Geometry.{across, out_length, row_length, side_shown, whole_length}
 use Rattle.head_rules.specs.Heads.{read_head}

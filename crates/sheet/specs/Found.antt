@@ -1,7 +1,7 @@
 -- What `find_block` answers.
 -- Assumes nothing.
 use Rattle.std.specs.Prelude.{ℕ, ◌≡◌, List, eqb}
-use Rattle.head_rules.specs.declared.Head.{Head}
+use Rattle.head_rules.specs.Answers.{Head}
 use Rattle.sheet_head.specs.Asked.{BlockAsked}
 use Rattle.sheet.specs.declared.blocks.Found.{Found}
 use Rattle.laws.specs.Tables.{pick}

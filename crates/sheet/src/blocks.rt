@@ -1,4 +1,5 @@
 // Blocks of a sheet, found by their number. Where a block stands in a sheet is found by one function, `find_block`.
+ghost use Rattle.head_rules.specs.Answers.{known};
 ghost use Rattle.std.specs.Prelude.{◌≡◌, length};
 ghost use Rattle.sheet_rules.specs.Sheets.{block_by};
 ghost use Rattle.sheet.specs.Found.{BlockThere, find_block, found_at};
@@ -6,7 +7,7 @@ ghost use Rattle.sheet.specs.Found.{BlockThere, find_block, found_at};
 use block_bytes::load;
 use head_rules::Head;
 use sheet_head::geometry::{blocks_of, place_of};
-use sheet_head::{read_head, whole};
+use sheet_head::read_whole;
 
 // The place of a block, or why it has none.
 #[derive(Clone, Copy)]
@@ -28,10 +29,10 @@ fn not_found(refusal: u8) -> Found
 pub fn find_block(sheet: &[u8], block: u32) -> Found
     ensures { result ≡ find_block sheet.now block }
 {
-    let head = whole(read_head(sheet), sheet);
-    if head.refusal != 0 {
-        return not_found(head.refusal);
-    }
+    let head = match read_whole(sheet) {
+        Ok(head) => head,
+        Err(refusal) => return not_found(refusal.number()),
+    };
     if block >= blocks_of(head) {
         return not_found(12);
     }
@@ -43,8 +44,8 @@ pub fn find_block(sheet: &[u8], block: u32) -> Found
 
 // Block `number` of a whole sheet whose head was read.
 pub fn block_of(head: Head, sheet: &[u8], number: u32) -> [u8; 16]
-    requires { BlockThere head number (length sheet.now) }
-    ensures { result ≡ block_by head sheet.now number }
+    requires { BlockThere (known head) number (length sheet.now) }
+    ensures { result ≡ block_by (known head) sheet.now number }
 {
     load(sheet, place_of(head, number))
 }

@@ -13,7 +13,7 @@ use crate::rows::{put_row, put_sheet_row, row_refusal};
 use block_bytes::{load, store};
 use refusals::{BEYOND_SHEET, WRONG_OUTPUT_LENGTH};
 use sheet_head::geometry::{blocks_across, out_length, shown_in};
-use sheet_head::{read_head, whole};
+use sheet_head::read_whole;
 use sheet_rules::BlockRead;
 
 pub mod blocks;
@@ -41,10 +41,10 @@ pub fn decode_row(width: u32, height: u32, row: u32, blocks: &[u8], out: &mut [u
 pub fn decode_sheet_row(sheet: &[u8], row: u32, out: &mut [u8]) -> u8
     ensures { DecodesSheetRow sheet.now row out.old result out.new }
 {
-    let head = whole(read_head(sheet), sheet);
-    if head.refusal != 0 {
-        return head.refusal;
-    }
+    let head = match read_whole(sheet) {
+        Ok(head) => head,
+        Err(refusal) => return refusal.number(),
+    };
     if row >= blocks_across(head.height) {
         return BEYOND_SHEET;
     }

@@ -10,10 +10,7 @@ fn put_pixel(pixel: [u8; 4], at: usize, out: &mut [u8])
     requires { at + 4 ≤ length out.old }
     ensures { out.new ≡ over out.old at 4 (λ j. get_or pixel j 0) }
 {
-    out[at] = pixel[0];
-    out[at + 1] = pixel[1];
-    out[at + 2] = pixel[2];
-    out[at + 3] = pixel[3];
+    out[at..at + 4].copy_from_slice(&pixel);
 }
 
 // The first n pixels of scanline y of a block.
@@ -22,8 +19,7 @@ fn put_scanline(px: [[u8; 4]; 16], y: usize, n: usize, at: usize, out: &mut [u8]
     ensures { out.new ≡ over out.old at (4 * n) (scanline_byte px y) }
 {
     for k in 0..n {
-        let pixel = px[4 * y + k];
-        put_pixel(pixel, at + 4 * k, out);
+        put_pixel(px[4 * y + k], at + 4 * k, out);
     }
 }
 

@@ -1,5 +1,6 @@
 // A row of blocks: why it is refused, and its blocks decoded and laid into the output. Blocks go
 // straight from the decoder to their columns, so no buffer stands between.
+ghost use Rattle.head_rules.specs.Answers.{known};
 ghost use Rattle.std.specs.Prelude.{◌≡◌, length};
 ghost use Rattle.sheet_rules.specs.Rows.{row_bytes, row_refusal};
 ghost use Rattle.sheet_rules.specs.SheetRows.{row_blocks};
@@ -8,14 +9,15 @@ ghost use Rattle.sheet.specs.Columns.{SheetRow, WholeRow};
 use crate::output::put_block;
 use block_bytes::load;
 use head_rules::Head;
-use refusals::{BEYOND_SHEET, WRONG_BLOCK_BYTES, WRONG_OUTPUT_LENGTH};
+use refusals::{BEYOND_SHEET, WRONG_BLOCK_BYTES, WRONG_OUTPUT_LENGTH, number_of};
+use sheet_head::check_size;
 use sheet_head::geometry::{blocks_across, out_length, place_of, row_length, shown_in};
 
 // Of the block bytes and the output only the lengths matter.
 pub fn row_refusal(width: u32, height: u32, row: u32, given: usize, room: usize) -> u8
     ensures { result ≡ row_refusal width height row given room }
 {
-    let size = sheet_head::size_refusal(width, height);
+    let size = number_of(check_size(width, height));
     if size != 0 {
         return size;
     }
@@ -45,7 +47,7 @@ pub fn put_row(w: usize, scanlines: usize, blocks: &[u8], out: &mut [u8])
 
 // All blocks of a row of a whole sheet, each loaded from where it stands.
 pub fn put_sheet_row(head: Head, row: u32, scanlines: usize, sheet: &[u8], out: &mut [u8])
-    requires { SheetRow head row scanlines sheet.now (length out.old) }
+    requires { SheetRow (known head) row scanlines sheet.now (length out.old) }
     ensures { out.new ≡ row_bytes head.width scanlines (row_blocks sheet.now row) }
 {
     let columns = blocks_across(head.width);

@@ -1,12 +1,15 @@
 // Colour spaces by number, and a head under one.
 ghost use Rattle.std.specs.Prelude.{◌≡◌};
-ghost use Rattle.head_rules.specs.Colours.{colour_number, colour_of, colour_refusal};
+ghost use Rattle.head_rules.specs.Colours.{FindsColour, colour_number};
+ghost use Rattle.head_rules.specs.Answers.{known};
 ghost use Rattle.head_rules.specs.Heads.{under};
 
 use head_rules::{ColourSpace, Head};
-use refusals::BAD_COLOUR_SPACE;
+use refusals::Refusal;
 
-// The numbers of the colour spaces: unspecified is 0.
+// The numbers of the colour spaces.
+const UNSPECIFIED: u32 = 0;
+
 const LINEAR: u32 = 1;
 
 const SRGB: u32 = 2;
@@ -15,46 +18,30 @@ pub fn number_of(colour_space: ColourSpace) -> u32
     ensures { result ≡ colour_number colour_space }
 {
     match colour_space {
-        ColourSpace::Unspecified => 0,
+        ColourSpace::Unspecified => UNSPECIFIED,
         ColourSpace::Linear => LINEAR,
         ColourSpace::Srgb => SRGB,
     }
 }
 
-// The colour space of a number, which is unspecified where there is none.
-pub fn colour_of(number: u32) -> ColourSpace
-    ensures { result ≡ colour_of number }
+// The colour space of a number; 18, where it has none.
+pub fn colour_of(number: u32) -> Result<ColourSpace, Refusal>
+    ensures { FindsColour number result }
 {
-    if number == SRGB {
-        return ColourSpace::Srgb;
+    match number {
+        UNSPECIFIED => Ok(ColourSpace::Unspecified),
+        LINEAR => Ok(ColourSpace::Linear),
+        SRGB => Ok(ColourSpace::Srgb),
+        _ => Err(Refusal::BadColourSpace),
     }
-    if number == LINEAR {
-        return ColourSpace::Linear;
-    }
-    ColourSpace::Unspecified
-}
-
-// 18, where a number has no colour space.
-pub fn colour_refusal(number: u32) -> u8
-    ensures { result ≡ colour_refusal number }
-{
-    if number > SRGB {
-        return BAD_COLOUR_SPACE;
-    }
-    0
 }
 
 // A head with all that it says, but for the colour space.
 pub fn under(colour_space: ColourSpace, head: Head) -> Head
-    ensures { result ≡ under colour_space head }
+    ensures { known result ≡ under colour_space (known head) }
 {
-    let form = head.form;
     Head {
-        refusal: head.refusal,
-        form: form,
-        width: head.width,
-        height: head.height,
-        start: head.start,
         colour_space: colour_space,
+        ..head
     }
 }

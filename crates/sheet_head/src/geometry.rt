@@ -2,6 +2,7 @@
 // each stands. Nothing else in the code knows these formulas.
 ghost use Rattle.std.specs.Prelude.{◌≡◌, ◌*◌, ◌≤◌, ◌<◌};
 ghost use Rattle.head_rules.specs.Geometry.{across, out_length, place_of, row_length, side_shown, whole_length};
+ghost use Rattle.head_rules.specs.Answers.{known};
 ghost use Rattle.head_rules.specs.Heads.{Sized, limit};
 ghost use Rattle.sheet_head.specs.Asked.{BlockAsked, ScanlinesAsked};
 ghost use Rattle.sheet_head.specs.Promised.{CountsBlocks, NumbersAt, StoresAt};
@@ -44,18 +45,17 @@ pub fn out_length(width: usize, scanlines: usize) -> usize
 // How many blocks a sheet has.
 pub fn blocks_of(head: Head) -> u32
     requires { Sized head.width head.height }
-    ensures { CountsBlocks head result }
+    ensures { CountsBlocks (known head) result }
 {
     blocks_across(head.height) * blocks_across(head.width)
 }
 
 // How many blocks are stored before a block; and the number of the block that has so many stored before it.
 pub fn stored_at(head: Head, block: u32) -> usize
-    requires { BlockAsked head block }
-    ensures { StoresAt head block result }
+    requires { BlockAsked (known head) block }
+    ensures { StoresAt (known head) block result }
 {
-    let form = head.form;
-    match form {
+    match head.form {
         Form::Rows => block as usize,
         Form::Tiles => tiles::stored_in_tiles(
             blocks_across(head.width) as usize,
@@ -66,11 +66,10 @@ pub fn stored_at(head: Head, block: u32) -> usize
 }
 
 pub fn number_at(head: Head, stored: u32) -> usize
-    requires { BlockAsked head stored }
-    ensures { NumbersAt head stored result }
+    requires { BlockAsked (known head) stored }
+    ensures { NumbersAt (known head) stored result }
 {
-    let form = head.form;
-    match form {
+    match head.form {
         Form::Rows => stored as usize,
         Form::Tiles => tiles::number_in_tiles(
             blocks_across(head.width) as usize,
@@ -82,8 +81,8 @@ pub fn number_at(head: Head, stored: u32) -> usize
 
 // The place of a block: its first byte in the sheet.
 pub fn place_of(head: Head, block: u32) -> usize
-    requires { BlockAsked head block }
-    ensures { result ≡ place_of head block }
+    requires { BlockAsked (known head) block }
+    ensures { result ≡ place_of (known head) block }
 {
     head.start as usize + 16 * stored_at(head, block)
 }
@@ -91,7 +90,7 @@ pub fn place_of(head: Head, block: u32) -> usize
 // The bytes of a whole sheet, which end behind its last block.
 pub fn whole_length(head: Head) -> usize
     requires { Sized head.width head.height }
-    ensures { result ≡ whole_length head }
+    ensures { result ≡ whole_length (known head) }
 {
     head.start as usize + 16 * blocks_of(head) as usize
 }

@@ -9,7 +9,7 @@ use native.Mathlib.Omega.{arith}
 use lib.ListN.{length}
 use Rattle.laws.specs.Refusals.{first}
 use Rattle.head_rules.specs.declared.Form.TheVariants.{Rows, Tiles}
-use Rattle.head_rules.specs.declared.Head.{Head}
+use Rattle.head_rules.specs.Answers.{Head}
 use Rattle.line_rules.specs.declared.Replacement.{Replacement}
 use Rattle.head_rules.specs.Heads.{SizedUpTo, form_in, form_number, limit, old_head, old_limit, read_head}
 use Rattle.head_rules.specs.Whole.{whole_refusal}

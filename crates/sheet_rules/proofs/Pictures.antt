@@ -15,7 +15,7 @@ use Rattle.bc7_format.specs.Lines.{pixel, pixels}
 use Rattle.tile_rules.proofs.Theorems.{has_columns}
 use Rattle.head_rules.specs.declared.Form.{Form}
 use Rattle.head_rules.specs.declared.Form.TheVariants.{Rows}
-use Rattle.head_rules.specs.declared.Head.{Head}
+use Rattle.head_rules.specs.Answers.{Head}
 use Rattle.head_rules.specs.Geometry.{across, blocks_of, number_at, number_by, place_of, side_shown, stored_by, whole_length}
 use Rattle.head_rules.specs.Heads.{Sized, read_head}
 use Rattle.head_rules.proofs.Orders.{blocks_within, each_place, form_order}

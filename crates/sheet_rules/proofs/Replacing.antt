@@ -10,7 +10,7 @@ use Rattle.laws.specs.Refusals.{handed}
 use Rattle.laws.proofs.Refusals.{Answers, answers, by_answer, none, rule, rules}
 use Rattle.head_rules.specs.Geometry.{place_of}
 use Rattle.head_rules.specs.Heads.{read_head}
-use Rattle.head_rules.specs.declared.Head.{Head}
+use Rattle.head_rules.specs.Answers.{Head}
 use Rattle.sheet_rules.specs.Sheets.{find_refusal, find_rules, replaced_in, sheet_after, sheet_refusal}
 use Rattle.sheet_rules.proofs.Finding.{finding}
 

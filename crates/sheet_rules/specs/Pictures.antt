@@ -5,7 +5,7 @@ use Rattle.laws.specs.Tables.{table}
 use Rattle.bc7_format.specs.Lines.{pixels}
 use Rattle.head_rules.specs.declared.Form.{Form}
 use Rattle.head_rules.specs.declared.Form.TheVariants.{Rows}
-use Rattle.head_rules.specs.declared.Head.{Head}
+use Rattle.head_rules.specs.Answers.{Head}
 use Rattle.head_rules.specs.Geometry.{across, blocks_of, number_by}
 use Rattle.head_rules.specs.Heads.{read_head}
 use Rattle.bcn_format.specs.Block.{block_at}

@@ -3,7 +3,7 @@
 use mathlib.Core.Path.{◌∙◌, ap}
 use native.Mathlib.Omega.{arith}
 use Rattle.bc7_format.specs.Modes.{mode_of}
-use Rattle.counts.proofs.Counting.{mode_in_is, mode_small, one_more, opaque_as, opaque_small}
+use Rattle.counts.proofs.Counting.{byte_small, mode_in_is, mode_small, one_more, opaque_as, opaque_small}
 use Rattle.counts.proofs.count_block.Goals as goal
 
 pub bounds-modes-mode : goal.bounds-modes-mode
@@ -15,13 +15,10 @@ overflow_add-modes c = omega (arith, mode_small c.requires _ (mode_in_is _ c.mod
 pub bounds-modes-mode-2 : goal.bounds-modes-mode-2
 bounds-modes-mode-2 c = omega (arith, mode_in_is _ c.mode_of-mode.ensures)
 
-pub raised-requires : goal.raised-requires
-raised-requires c = λ e. omega (arith, opaque_small c.requires)
+pub overflow_add-result : goal.overflow_add-result
+overflow_add-result c = omega (arith, opaque_small c.requires, byte_small c.is_opaque_at.result, c.from.ensures)
 
 pub returns : goal.returns
 returns c =
-    let m = c in
-    let b = m in
-    let s = b in
-    one_more s.requires (m.mode_of-mode.ensures ∙ ap mode_of b.block_of-block.ensures)
-    (opaque_as s.requires b.block_of-block.ensures c.is_opaque_at.ensures) c.raised.ensures
+    one_more c.requires (c.mode_of-mode.ensures ∙ ap mode_of c.block_of-block.ensures)
+    (opaque_as c.requires c.block_of-block.ensures c.is_opaque_at.ensures) c.from.ensures

@@ -1,5 +1,6 @@
 -- `named_block` meets its contract.
 -- Assumes nothing.
+use mathlib.Core.Path.{◌∙◌}
 use Rattle.counts.proofs.Counting.{mode_in_is, whole_blocks}
 use Rattle.counts.proofs.Naming.{asked_of, block_named, no_block, no_sheet, room_of}
 use Rattle.counts.proofs.named_block.Goals as goal
@@ -33,8 +34,8 @@ is_opaque_at-opaque-requires c =
     let e = i in
     asked_of _ _ e.whole_head-head.ensures e.if-head-ne0.false i.blocks_of-blocks.ensures i.if-number-blocks.false
 
-pub false_refusal-requires : goal.false_refusal-requires
-false_refusal-requires c = mode_in_is _ c.mode_of-mode.ensures
+pub check_counts-requires : goal.check_counts-requires
+check_counts-requires c = mode_in_is _ c.mode_of-mode.ensures
 
 pub returns : goal.returns
 returns c =
@@ -45,4 +46,4 @@ returns c =
     let i = p in
     let e = i in
     block_named _ _ _ e.whole_head-head.ensures e.if-head-ne0.false i.blocks_of-blocks.ensures i.if-number-blocks.false p.place_of-at.ensures
-    l.load-block.ensures m.mode_of-mode.ensures o.is_opaque_at-opaque.ensures c.false_refusal.ensures
+    l.load-block.ensures m.mode_of-mode.ensures o.is_opaque_at-opaque.ensures (c.number_of.ensures ∙ c.check_counts.ensures)

@@ -5,4 +5,4 @@ use Rattle.dds.proofs.Headers.{four_bytes}
 use Rattle.dds.proofs.number_at.Goals as goal
 
 pub returns : goal.returns
-returns c = let s = c.args in omega (arith, four_bytes s.s.now s.at)
+returns c = let s = c.args in omega (arith, c.from_le_bytes.ensures, four_bytes s.s.now s.at)

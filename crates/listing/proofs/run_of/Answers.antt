@@ -3,7 +3,7 @@
 use mathlib.Core.Path.{◌≡◌}
 use Prim.Native.Nat.{ℕ}
 use native.Mathlib.Omega.{arith}
-use Rattle.head_rules.specs.declared.Head.{Head}
+use Rattle.head_rules.specs.Answers.{Head}
 use Rattle.listing_rules.specs.Machine.{InBlocks, run_of}
 use Rattle.listing_rules.proofs.Runs.{column_there, run_full, run_inside, run_rest, run_within}
 use Rattle.listing.specs.Promised.{TellsRun}

@@ -4,6 +4,7 @@ use mathlib.Core.Path.{◌∙◌, ap, sym}
 use mathlib.Core.List.{List, ◌++◌}
 use Prim.Native.Nat.{ℕ}
 use lib.ListN.{drop}
+use Rattle.head_rules.specs.Answers.{known}
 use Rattle.moves.proofs.Laying.{blocks_room, count_in, count_room, head_fits, laid, part_long, room_long}
 use Rattle.moves.proofs.lay.Goals as goal
 
@@ -14,15 +15,15 @@ pub slice_bounds-copy_from_slice-end-2 : goal.slice_bounds-copy_from_slice-end-2
 slice_bounds-copy_from_slice-end-2 c = room_long _ _ c.write_form-written.ensures c.args.sheet.now c.args.out.now c.requires
 
 pub slice_bounds-bytes-end : goal.slice_bounds-bytes-end
-slice_bounds-bytes-end c = count_room _ c.args.head c.write_form-written.ensures
+slice_bounds-bytes-end c = count_room _ (known c.args.head) c.write_form-written.ensures
 
 pub slice_bounds-copy_from_slice-end-3 : goal.slice_bounds-copy_from_slice-end-3
-slice_bounds-copy_from_slice-end-3 c = part_long _ c.args.head c.write_form-written.ensures
+slice_bounds-copy_from_slice-end-3 c = part_long _ (known c.args.head) c.write_form-written.ensures
 
 pub copy_from_slice-requires : goal.copy_from_slice-requires
 copy_from_slice-requires c =
     sym (room_long _ _ c.write_form-written.ensures c.args.sheet.now c.args.out.now c.requires)
-    ∙ part_long _ c.args.head c.write_form-written.ensures
+    ∙ part_long _ (known c.args.head) c.write_form-written.ensures
 
 pub slice_bounds-move_blocks-count : goal.slice_bounds-move_blocks-count
 slice_bounds-move_blocks-count c =

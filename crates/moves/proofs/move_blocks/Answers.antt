@@ -3,8 +3,9 @@
 use mathlib.Core.Path.{◌≡◌, ◌∙◌, sym, subst}
 use Prim.Native.Nat.{ℕ, ◌*◌, ◌<◌}
 use native.Mathlib.Omega.{arith}
+use Rattle.head_rules.specs.Answers.{known}
 use Rattle.head_rules.specs.Geometry.{across}
-use Rattle.head_rules.specs.declared.Head.{Head}
+use Rattle.head_rules.specs.Answers.{Head}
 use Rattle.moves.specs.Rooms.{MovesBlocks}
 use Rattle.moves.proofs.Steps.{Counted, Moved, all_moved, all_of, block_there, count_fits, moved_on, none_moved, numbered, stored_within}
 use Rattle.moves.proofs.move_blocks.Goals as goal
@@ -20,7 +21,7 @@ overflow_mul-b-end c =
 
 pub loop-b-init : goal.loop-b-init
 loop-b-init c =
-    (omega arith, none_moved c.args.form c.args.head c.args.sheet.now c.requires.room)
+    (omega arith, none_moved c.args.form (known c.args.head) c.args.sheet.now c.requires.room)
 
 pub stored_by-requires : goal.stored_by-requires
 stored_by-requires c =
@@ -86,6 +87,6 @@ pub returns : goal.returns
 returns c =
     let k = counted c.requires c.blocks_across-columns.ensures c.blocks_across-rows.ensures in
     let e : c.loop-b.b ≡ c.blocks_across-rows.result * c.blocks_across-columns.result = omega arith in
-    all_moved c.args.form c.args.head c.args.sheet.now
-    (subst (λ (b : ℕ). Moved c.args.form c.args.head c.args.sheet.now b c.loop-b.to) (e ∙ all_of k)
+    all_moved c.args.form (known c.args.head) c.args.sheet.now
+    (subst (λ (b : ℕ). Moved c.args.form (known c.args.head) c.args.sheet.now b c.loop-b.to) (e ∙ all_of k)
     c.loop-b.invariant.1)

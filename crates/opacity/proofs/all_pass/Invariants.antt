@@ -2,13 +2,9 @@
 -- Assumes nothing.
 use mathlib.Core.Path.{◌≡◌}
 use mathlib.Core.Bool.{true}
-use Prim.Native.Nat.{◌-◌, ◌≤◌}
 use Rattle.laws.specs.Tables.{below}
 use Rattle.opacity.specs.Drawn.{drawn_passes}
 use Rattle.opacity.proofs.all_pass.Given as goal
 
 abbrev pub invariant-loop-q : goal.invariant-loop-q
-invariant-loop-q l = (l.q ≤ 16) × (below l.q (drawn_passes l.columns l.rows l.drawn) ≡ true)
-
-abbrev pub decreases-loop-q : goal.decreases-loop-q
-decreases-loop-q l = 16 - l.q
+invariant-loop-q l = below l.q (drawn_passes l.fn.columns l.fn.rows l.fn.drawn) ≡ true

@@ -8,6 +8,7 @@ use lib.ListN.{get_or, length}
 use mir.Syntax.{w8}
 use mir.Val.{Fits}
 use Rattle.laws.specs.Digits.{Fit}
+use Rattle.head_rules.specs.Answers.{known}
 use Rattle.bcn_format.specs.Block.{eights}
 use Rattle.bc7_format.proofs.Subsets.{sixteen_bytes}
 use Rattle.opacity_rules.specs.Opacity.{opaque_in}
@@ -26,7 +27,7 @@ sixteen : (s : Start) → Fit eights s.args.block
 sixteen s = sixteen_bytes _ (size s) (λ i l. (byte s i).fits)
 
 placed : (s : Start) → Stands s.args.head.width s.args.head.height s.args.number
-placed s = stands _ s.requires.sized _ s.requires.there
+placed s = stands (known s.args.head) s.requires.sized _ s.requires.there
 
 pub returns-then-stores_no_alpha : goal.returns-then-stores_no_alpha
 unfolding opaque_in

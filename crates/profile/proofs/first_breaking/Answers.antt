@@ -3,6 +3,7 @@
 use mathlib.Core.Path.{◌≡◌, sym, subst}
 use Prim.Native.Nat.{◌<◌}
 use native.Mathlib.Omega.{arith}
+use Rattle.head_rules.specs.Answers.{known}
 use Rattle.head_rules.specs.Geometry.{blocks_of}
 use Rattle.profile.proofs.Looking.{Looked, looked_all, looked_more, looked_none}
 use Rattle.profile.proofs.first_breaking.Goals as goal
@@ -15,7 +16,7 @@ loop-stored-init c = (omega arith, subst (Looked _ _ 0) (sym c.blocks_of-blocks.
 
 pub lowest_with-lowest-requires : goal.lowest_with-lowest-requires
 lowest_with-lowest-requires c =
-    let inside : c.loop-stored.stored < blocks_of c.args.head = omega (arith, c.blocks_of-blocks.ensures.same) in
+    let inside : c.loop-stored.stored < blocks_of (known c.args.head) = omega (arith, c.blocks_of-blocks.ensures.same) in
     record {
       asked = record { size = c.requires.sized; number = inside };
       whole = c.requires.whole;
@@ -29,10 +30,10 @@ loop-stored-smaller c = omega arith
 
 pub loop-stored-preserved : goal.loop-stored-preserved
 loop-stored-preserved c =
-    let inside : c.loop-stored.stored < blocks_of c.args.head = omega (arith, c.blocks_of-blocks.ensures.same) in
+    let inside : c.loop-stored.stored < blocks_of (known c.args.head) = omega (arith, c.blocks_of-blocks.ensures.same) in
     (omega arith, subst (Looked _ _ _) (sym c.lowest_with-lowest.ensures) (looked_more _ _ inside c.loop-stored.invariant.1))
 
 pub returns : goal.returns
 returns c =
-    let all : c.loop-stored.stored ≡ blocks_of c.args.head = omega (arith, c.blocks_of-blocks.ensures.same) in
+    let all : c.loop-stored.stored ≡ blocks_of (known c.args.head) = omega (arith, c.blocks_of-blocks.ensures.same) in
     looked_all _ _ all c.loop-stored.invariant.1

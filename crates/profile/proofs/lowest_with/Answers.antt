@@ -3,11 +3,13 @@
 use mathlib.Core.Path.{◌≡◌, ◌∙◌, ap, sym}
 use mathlib.Core.List.{List}
 use Prim.Native.Nat.{ℕ}
-use Rattle.head_rules.specs.declared.Head.{Head}
+use Rattle.head_rules.specs.Answers.{known}
+use Rattle.head_rules.specs.Answers.{Head}
 use mathlib.Core.Bool.{Bool}
+use borrow.Author.Rules.{rules}
 use Rattle.profile_rules.specs.Profile.{admits}
 use Rattle.profile.specs.Looking.{stored_block}
-use Rattle.profile.proofs.Looking.{kept_as_it_was, kept_lower, kept_lowest}
+use Rattle.profile.proofs.Looking.{kept_as_it_was, kept_lower}
 use Rattle.profile.proofs.lowest_with.Goals as goal
 
 -- what the test says of the stored block
@@ -16,14 +18,9 @@ tested : (h : Head) (s : List ℕ) (p : ℕ) {t b : Bool} {block : List ℕ} →
 tested h s p told at e = sym (told ∙ ap admits at) ∙ e
 
 pub returns-then-is_admitted : goal.returns-then-is_admitted
-returns-then-is_admitted c = kept_as_it_was _ _ _ _ (tested c.args.head _ _ c.is_admitted.ensures c.load.ensures c.if-is_admitted.true)
-
-pub returns-then-number-lowest : goal.returns-then-number-lowest
-returns-then-number-lowest c =
-    kept_lower _ _ _ _ c.number_at-number.ensures.same c.if-number-lowest.true
-    (tested c.args.head _ _ c.is_admitted.ensures c.load.ensures c.if-is_admitted.false)
+returns-then-is_admitted c = kept_as_it_was _ _ _ _ (tested (known c.args.head) _ _ c.is_admitted.ensures c.load.ensures c.if-is_admitted.true)
 
 pub returns : goal.returns
 returns c =
-    kept_lowest _ _ _ _ c.number_at-number.ensures.same c.if-number-lowest.false
-    (tested c.args.head _ _ c.is_admitted.ensures c.load.ensures c.if-is_admitted.false)
+    kept_lower _ _ _ _ c.number_at-number.ensures.same (search rules)
+    (tested (known c.args.head) _ _ c.is_admitted.ensures c.load.ensures c.if-is_admitted.false)

@@ -13,7 +13,7 @@ pub overflow_mul-first : goal.overflow_mul-first
 overflow_mul-first c = let few = row_first c.requires c.blocks_across-columns.ensures in omega (arith, few)
 
 pub loop-c-init : goal.loop-c-init
-loop-c-init c = (omega arith, refl)
+loop-c-init c = refl
 
 pub overflow_add-first : goal.overflow_add-first
 overflow_add-first c =
@@ -26,28 +26,17 @@ pub load-requires : goal.load-requires
 load-requires c =
     row_room c.requires c.blocks_across-columns.ensures c.loop-c-test.true c.place_of.ensures
 
-pub is_admitted-requires : goal.is_admitted-requires
-is_admitted-requires c = tt
-
 pub returns-then-not-is_admitted : goal.returns-then-not-is_admitted
 returns-then-not-is_admitted c =
     row_breaks _ _ _ c.blocks_across-columns.ensures c.loop-c-test.true
     (sym (c.is_admitted.ensures ∙ loaded_in_row _ _ _ _ c.blocks_across-columns.ensures c.place_of.ensures c.load.ensures) ∙ c.if-not-is_admitted.true)
 
-pub overflow_add-c : goal.overflow_add-c
-overflow_add-c c = omega arith
-
-pub loop-c-smaller : goal.loop-c-smaller
-loop-c-smaller c = omega arith
-
 pub loop-c-preserved : goal.loop-c-preserved
-loop-c-preserved c = (
-  omega arith,
-  scan_more (row_test _ _ _) c.loop-c.c c.loop-c.invariant.1
-      (sym (c.is_admitted.ensures ∙ loaded_in_row _ _ _ _ c.blocks_across-columns.ensures c.place_of.ensures c.load.ensures) ∙ c.if-not-is_admitted.false),
-)
+loop-c-preserved c =
+    scan_more (row_test _ _ _) c.loop-c.c c.loop-c.invariant
+    (sym (c.is_admitted.ensures ∙ loaded_in_row _ _ _ _ c.blocks_across-columns.ensures c.place_of.ensures c.load.ensures) ∙ c.if-not-is_admitted.false)
 
 pub returns : goal.returns
 returns c =
     let end : c.loop-c.c ≡ c.blocks_across-columns.result = omega arith in
-    row_keeps _ _ _ c.blocks_across-columns.ensures end c.loop-c.invariant.1
+    row_keeps _ _ _ c.blocks_across-columns.ensures end c.loop-c.invariant

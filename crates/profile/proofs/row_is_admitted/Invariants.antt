@@ -2,13 +2,10 @@
 -- Assumes nothing.
 use mathlib.Core.Path.{◌≡◌}
 use mathlib.Core.Bool.{true}
-use Prim.Native.Nat.{◌-◌, ◌≤◌}
+use Rattle.head_rules.specs.Answers.{known}
 use Rattle.laws.specs.Tables.{below}
 use Rattle.profile.proofs.Looking.{row_test}
 use Rattle.profile.proofs.row_is_admitted.Given as goal
 
 abbrev pub invariant-loop-c : goal.invariant-loop-c
-invariant-loop-c l = (l.c ≤ l.columns) × (below l.c (row_test l.head l.sheet l.row) ≡ true)
-
-abbrev pub decreases-loop-c : goal.decreases-loop-c
-decreases-loop-c l = l.columns - l.c
+invariant-loop-c l = below l.c (row_test (known l.head) l.sheet l.row) ≡ true

@@ -2,7 +2,7 @@
 -- Assumes nothing.
 use mathlib.Core.Path.{sym, ap, ◌∙◌}
 use borrow.Author.Tests.{eq-eqb, ne_eqb}
-use Rattle.dds_rules.specs.declared.Length.{Length}
+use Rattle.dds_rules.specs.Lengths.{Length}
 use Rattle.rinchovek.proofs.rinchovek_dds_import_length.Goals as goal
 
 pub returns-then-needed-ne0 : goal.returns-then-needed-ne0

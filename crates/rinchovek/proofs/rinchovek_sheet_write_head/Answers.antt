@@ -2,7 +2,7 @@
 -- Assumes nothing.
 use mathlib.Core.Path.{sym, ap, ◌∙◌}
 use borrow.Author.Tests.{eq-eqb, ne_eqb}
-use Rattle.head_rules.specs.declared.HeadBytes.{HeadBytes}
+use Rattle.head_rules.specs.Answers.{HeadBytes}
 use Rattle.rinchovek.proofs.rinchovek_sheet_write_head.Goals as goal
 
 pub returns-then-written-ne0 : goal.returns-then-written-ne0

@@ -10,7 +10,7 @@ use lib.ListN.{length}
 use borrow.Author.Tests.{eq-eqb, ne_eqb}
 use Rattle.sheet.specs.declared.blocks.Found.{Found}
 use Rattle.head_rules.specs.Geometry.{blocks_of, place_of}
-use Rattle.head_rules.specs.declared.Head.{Head}
+use Rattle.head_rules.specs.Answers.{Head}
 use Rattle.laws.specs.Refusals.{here, then}
 use Rattle.laws.proofs.Refusals.{accepted_when, exactly}
 use Rattle.head_rules.specs.Heads.{Sized, read_head}

@@ -1,20 +1,14 @@
 -- `output::put_pixel` meets its contract.
 -- Assumes nothing.
+use mathlib.Core.Path.{◌≡◌}
+use Prim.Native.Nat.{ℕ}
 use native.Mathlib.Omega.{arith}
-use lib.ListN.{length-set}
-use native.Mathlib.Nat.{add-zero}
-use Rattle.laws.specs.Tables.{over}
+use lib.ListN.{length}
+use borrow.Author.Rules.{rules}
+use Rattle.laws.proofs.Over.{copied_over}
 use Rattle.sheet.proofs.output.put_pixel.Goals as goal
 
-pub bounds-out-at-2 : goal.bounds-out-at-2
-bounds-out-at-2 c = simp length-set (omega arith)
-
-pub bounds-out-at-3 : goal.bounds-out-at-3
-bounds-out-at-3 c = simp length-set (omega arith)
-
-pub bounds-out-at-4 : goal.bounds-out-at-4
-bounds-out-at-4 c = simp length-set (omega arith)
-
 pub returns : goal.returns
-unfolding over
-returns c = rw add-zero
+returns c =
+    let four : length c.args.pixel ≡ 4 = search rules in
+    rw c.copy_from_slice.ensures.after (rw four at (copied_over {A = ℕ} c.args.out.now c.args.pixel c.args.at 0 (omega (arith, four, c.requires))))

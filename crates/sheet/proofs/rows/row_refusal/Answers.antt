@@ -12,11 +12,11 @@ use Rattle.sheet.proofs.rows.row_refusal.Goals as goal
 use Rattle.sheet.proofs.rows.row_refusal.Goals.{Else-size-ne0}
 
 size : (c : Else-size-ne0) → Sized c.args.width c.args.height
-size c = sized _ _ _ (sym c.size_refusal-size.ensures ∙ c.if-size-ne0.false)
+size c = sized _ _ _ (sym (c.number_of-size.ensures ∙ c.check_size.ensures) ∙ c.if-size-ne0.false)
 
 pub returns-then-size-ne0 : goal.returns-then-size-ne0
 returns-then-size-ne0 c =
-    let x = size_refused _ _ _ c.size_refusal-size.ensures c.if-size-ne0.true in
+    let x = size_refused _ _ _ (c.number_of-size.ensures ∙ c.check_size.ensures) c.if-size-ne0.true in
     x.0 ∙ sym ((exactly (row_rules_is _ _ _ _ _) 9).1 (here x.1))
 
 pub blocks_across-requires : goal.blocks_across-requires

@@ -3,7 +3,7 @@
 use mathlib.Core.Path.{◌≡◌, ◌∙◌}
 use Prim.Native.Nat.{ℕ}
 use native.Mathlib.Omega.{arith}
-use Rattle.head_rules.specs.declared.Head.{Head}
+use Rattle.head_rules.specs.Answers.{Head, known}
 use Rattle.head_rules.specs.Geometry.{number_at}
 use Rattle.head_rules.proofs.Orders.{in_all, number_few, number_in_rows, number_in_tiles_is}
 use Rattle.sheet_head.specs.Asked.{BlockAsked}
@@ -19,7 +19,7 @@ number_in_tiles-requires c =
     record {
       wide = omega (arith, c.blocks_across.ensures, c.requires.size.within_wide);
       high = omega (arith, c.blocks_across-in-Tiles.ensures, c.requires.size.within_high);
-      number = in_all c.args.head c.blocks_across.ensures c.blocks_across-in-Tiles.ensures c.requires.number;
+      number = in_all (known c.args.head) c.blocks_across.ensures c.blocks_across-in-Tiles.ensures c.requires.number;
     }
 
 pub returns-in-Rows : goal.returns-in-Rows
@@ -27,5 +27,5 @@ returns-in-Rows c = found c.requires (number_in_rows _ c.in-Rows.is _)
 
 pub returns-in-Tiles : goal.returns-in-Tiles
 returns-in-Tiles c =
-    found c.requires (c.number_in_tiles.ensures ∙ number_in_tiles_is c.args.head c.blocks_across.ensures c.blocks_across-in-Tiles.ensures
+    found c.requires (c.number_in_tiles.ensures ∙ number_in_tiles_is (known c.args.head) c.blocks_across.ensures c.blocks_across-in-Tiles.ensures
     c.in-Tiles.is c.args.stored)

@@ -1,16 +1,24 @@
 -- `reader::take_form` meets its contract.
 -- Assumes nothing.
 use mathlib.Core.Path.{◌∙◌, ap}
-use Rattle.head_rules.specs.Reader.{awaiting}
+use native.Mathlib.Omega.{arith}
+use Rattle.head_rules.specs.declared.Form.{Form}
+use Rattle.head_rules.specs.declared.ColourSpace.TheVariants.{Unspecified}
 use Rattle.head_rules.specs.declared.Stage.TheVariants.{Width}
+use Rattle.head_rules.specs.Heads.{head_in}
+use Rattle.head_rules.specs.Reader.{awaiting}
 use Rattle.head_rules.proofs.Bytewise.{none_taken, rows_taken, tiles_taken}
+use Rattle.sheet_head.proofs.reader.take_form.Goals.{in-1, in-2}
 use Rattle.sheet_head.proofs.reader.take_form.Goals as goal
 
-pub returns-then-n-eq-ROWS : goal.returns-then-n-eq-ROWS
-returns-then-n-eq-ROWS c = c.at_stage.ensures ∙ ap (awaiting Width) c.known.ensures ∙ rows_taken _ _ c.if-n-eq-ROWS.true
-
-pub returns-then-n-eq-TILES : goal.returns-then-n-eq-TILES
-returns-then-n-eq-TILES c = c.at_stage-then-n-eq-TILES.ensures ∙ ap (awaiting Width) c.known-then-n-eq-TILES.ensures ∙ tiles_taken _ _ c.if-n-eq-TILES.true
+pub returns-in_default : goal.returns-in_default
+returns-in_default c = none_taken _ _ (λ e. omega (arith, e)) (λ e. omega (arith, e))
 
 pub returns : goal.returns
-returns c = c.refused_with.ensures ∙ none_taken _ _ c.if-n-eq-ROWS.false c.if-n-eq-TILES.false
+returns c =
+    let next = c.args.next in
+    c.at_stage.ensures ∙ ap (awaiting Width) c.sides_known.ensures
+    ∙ elim c.match-n.branch [
+      | in-1 w ↦ ap (λ (f : Form). awaiting Width (head_in f Unspecified 0 0 0 next)) w.form-is ∙ rows_taken _ _ w.in-1.is
+      | in-2 w ↦ ap (λ (f : Form). awaiting Width (head_in f Unspecified 0 0 0 next)) w.form-is ∙ tiles_taken _ _ w.in-2.is
+    ]
