@@ -8,7 +8,7 @@
 ghost use Rattle.std.specs.Prelude.{◌≡◌, ◌+◌, ◌*◌, ◌≤◌, ◌<◌, length};
 
 use bc7_places::places::PLACES;
-use bits::stream::{BitStream, Read};
+use bits::stream::{BitStream, Read, ShortRead};
 use listing::list_sheet;
 use rinchovek::{
     rinchovek_bc6h_decode_block, rinchovek_bc7_decode_block, rinchovek_bc7_exact_index,
@@ -727,49 +727,46 @@ fn show_row_call(from: &mut impl io::Read, to: &mut impl io::Write) -> io::Resul
     out_call(from, to, OutCall::ShowRow(number(&row, 0)))
 }
 
-// A read that was asked for: whether there is such a read, and the stream behind it.
-#[derive(Clone, Copy)]
-struct NextRead {
-    known: bool,
+// The answer of a read, written: the refusal, the value, the first bit, the bits that remain. The stream behind it is handed on.
+fn written(
+    to: &mut impl io::Write,
     stream: BitStream,
-}
-
-fn unknown(stream: BitStream) -> NextRead {
-    NextRead {
-        known: false,
-        stream: stream,
-    }
-}
-
-// The answer of a read, written: the refusal, the value, the first bit, the bits that remain.
-fn written(to: &mut impl io::Write, read: Read) -> io::Result<NextRead> {
-    write_small(to, read.refusal)?;
+    answer: Result<Read, ShortRead>,
+) -> io::Result<BitStream> {
+    let refusal = match answer {
+        Ok(_) => 0,
+        Err(short) => short.number(),
+    };
+    let read = match answer {
+        Ok(read) => read,
+        Err(_) => Read {
+            value: 0,
+            first: stream.at,
+            remaining: 128u32.saturating_sub(stream.at),
+            stream,
+        },
+    };
+    write_small(to, refusal as u32)?;
     write_u32(to, (read.value % 4294967296) as u32)?;
     write_u32(to, (read.value >> 32) as u32)?;
     write_small(to, read.first)?;
     write_small(to, read.remaining)?;
-    let stream = read.stream;
-    Ok(NextRead {
-        known: true,
-        stream: stream,
-    })
+    Ok(read.stream)
 }
 
-// The read that a byte asks for: 0 is one bit, 1 to 8 are that many, 128 and c are c bits of 1 to 64.
-fn answered(to: &mut impl io::Write, stream: BitStream, kind: u8) -> io::Result<NextRead> {
-    if kind == 0 {
-        return written(to, stream.consume_bit());
-    }
-    if kind <= 8 {
-        return written(to, stream.consume_bits(kind as u32));
-    }
-    if kind <= 128 {
-        return Ok(unknown(stream));
-    }
-    if 192 < kind {
-        return Ok(unknown(stream));
-    }
-    written(to, stream.consume_bits_64(kind as u32 - 128))
+// The read that a byte asks for: 0 is one bit, 1 to 8 are that many, 128 and c are c bits of 1 to 64. The stream behind it; none where there is
+// no such read.
+fn answered(to: &mut impl io::Write, stream: BitStream, kind: u8) -> io::Result<Option<BitStream>> {
+    let answer = if kind == 0 {
+        stream.consume_bit()
+    } else if kind <= 8 {
+        stream.consume_bits(kind as u32)
+    } else if 128 < kind && kind <= 192 {
+        stream.consume_bits_64(kind as u32 - 128)
+    } else {
+        return Ok(None);
+    };
+    Ok(Some(written(to, stream, answer)?))
 }
 
 fn reads_of(
@@ -782,12 +779,11 @@ fn reads_of(
         return Ok(false);
     }
     let mut stream = BitStream::new(block);
-    for i in 0..kinds.len() {
-        let next = answered(to, stream, kinds[i])?;
-        if !next.known {
+    for &kind in kinds.iter() {
+        let Some(next) = answered(to, stream, kind)? else {
             return Ok(false);
-        }
-        stream = next.stream;
+        };
+        stream = next;
     }
     Ok(true)
 }
