@@ -192,8 +192,8 @@ pub fn mode_4(stream: BitStream) -> [[u8; 4]; 16]
         p: 0,
     };
     let e = alone(stored, 5, 6);
-    let x = Indexes::new_p1(2, a.stream);
-    let y = Indexes::new_p1(3, x.stream);
+    let x = Indexes::new(2, a.stream, []);
+    let y = Indexes::new(3, x.stream, []);
     let first = words_2(e, index_mode.value == 0);
     let second = words_3(e, index_mode.value != 0);
     swap_channels(
@@ -220,8 +220,8 @@ pub fn mode_5(stream: BitStream) -> [[u8; 4]; 16]
         p: 0,
     };
     let e = alone(stored, 7, 8);
-    let x = Indexes::new_p1(2, a.stream);
-    let y = Indexes::new_p1(2, x.stream);
+    let x = Indexes::new(2, a.stream, []);
+    let y = Indexes::new(2, x.stream, []);
     swap_channels(
         paint_3_2(
             palette_2_and_2(e),
@@ -248,6 +248,6 @@ pub fn mode_6(stream: BitStream) -> [[u8; 4]; 16]
         a: a.value,
         p: p.value,
     };
-    let x = Indexes::new_p1(4, p.stream);
+    let x = Indexes::new(4, p.stream, []);
     mix_16(alone_p(stored, 7), x.indexes.uncompressed)
 }

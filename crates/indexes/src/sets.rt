@@ -22,13 +22,11 @@ pub fn read_indexes(
     requires { SetAhead stream fixups bits second third }
     ensures { result ≡ new_indexes bits (anchors_with fixups second third) stream (16 * bits - anchor_count fixups) }
 {
-    if fixups == 1 {
-        return Indexes::new_p2(bits, stream, second as u32);
+    match fixups {
+        1 => Indexes::new(bits, stream, [second as u32]),
+        2 => Indexes::new(bits, stream, [second as u32, third as u32]),
+        _ => Indexes::new(bits, stream, []),
     }
-    if fixups == 2 {
-        return Indexes::new_p3(bits, stream, second as u32, third as u32);
-    }
-    Indexes::new_p1(bits, stream)
 }
 
 // The sixteen parts of a word.
