@@ -10,7 +10,7 @@ use lib.Pow.{shr-shr}
 use Rattle.bits.specs.declared.stream.BitStream.{BitStream}
 use Rattle.laws.specs.Digits.{split, total}
 use Rattle.bcn_format.specs.Block.{field}
-use Rattle.bits.specs.Stream.{Answer, On, Stood, reads_of}
+use Rattle.bits.specs.Stream.{Answer, On, Stood, read_of, reads_of}
 use Rattle.bits.proofs.On.{accepts, got, left, on_read, stood}
 
 -- THE LAW OF READS IN ORDER
@@ -27,7 +27,8 @@ in_order {n} {a} {s} o (w ∷ ws) h none zero l =
       leaves = rw (add-zero a) (left o w refl);
     })
 in_order {n} {a} {s} o (w ∷ ws) h none (suc i) l =
-    let behind = in_order {a = a + w} (rw (accepts o w (omega arith) refl) (on_read o w refl)) ws (omega arith) none i (le_of_suc-le-suc l) in
+    let next : On n (a + w) (read_of s w).stream = rw (accepts o w (omega arith) refl) (on_read o w refl) in
+    let behind = in_order {a = a + w} next ws (omega arith) none i (le_of_suc-le-suc l) in
     let before : a + w + total (take i ws) ≡ a + (total (take i ws) + w) = omega arith in
     record {
       accepted = behind.accepted;

@@ -35,18 +35,11 @@ impl ShortRead {
     }
 }
 
-// Eight bytes as a word, the first lowest. Joined with `|`, they become one load.
+// Eight bytes as a word, the first lowest.
 pub fn word(b0: u8, b1: u8, b2: u8, b3: u8, b4: u8, b5: u8, b6: u8, b7: u8) -> u64
     ensures { result ≡ join (replicate 8 8) (b0 ∷ b1 ∷ b2 ∷ b3 ∷ b4 ∷ b5 ∷ b6 ∷ b7 ∷ []) }
 {
-    (b0 as u64)
-        | ((b1 as u64) << 8)
-        | ((b2 as u64) << 16)
-        | ((b3 as u64) << 24)
-        | ((b4 as u64) << 32)
-        | ((b5 as u64) << 40)
-        | ((b6 as u64) << 48)
-        | ((b7 as u64) << 56)
+    u64::from_le_bytes([b0, b1, b2, b3, b4, b5, b6, b7])
 }
 
 // The 64 bits of a block from a position on, zeros above its last. Below 64 they are what is left of `low` and, on top of it, `high`

@@ -36,9 +36,9 @@ pub fn parts_of(word: u64, width: u32) -> [u8; 16]
 {
     let mut parts = [0u8; 16];
     let mut rest = word;
-    for i in 0..16usize {
-        parts[i] = (rest % (1u64 << width)) as u8;
-        rest = rest >> width;
+    for part in parts.iter_mut() {
+        *part = (rest % (1u64 << width)) as u8;
+        rest >>= width;
     }
     parts
 }
@@ -49,9 +49,7 @@ pub fn word_of(indexes: [u8; 16], width: u32) -> u64
     ensures { result ≡ join (index_widths width []) indexes }
 {
     let mut word: u64 = 0;
-    let mut i: usize = 16;
-    while i > 0 {
-        i -= 1;
+    for i in (0..16usize).rev() {
         word = (word << width) + indexes[i] as u64;
     }
     word
