@@ -73,7 +73,7 @@ fn two_subsets(mode: u64, low: u64, high: u64, signed: bool, output: &mut [[u16;
     };
     let id = s.skip(77).take(5);
     let set = partition_word_2_3(id.value as u8);
-    let x = Indexes::new_p2(3, id.stream, (set >> 48) as u32);
+    let x = Indexes::new(3, id.stream, [(set >> 48) as u32]);
     let indexes = x.indexes;
     paint_2(words_of(q), keys_3(indexes.uncompressed, 1, set), output);
 }
@@ -90,7 +90,7 @@ fn one_subset(mode: u64, low: u64, high: u64, signed: bool, output: &mut [[u16; 
     };
     let v = fields_1(mode, low, high);
     let q = colours_1(v, width_1(mode), signed);
-    let x = Indexes::new_p1(4, s.skip(65));
+    let x = Indexes::new(4, s.skip(65), []);
     let indexes = x.indexes;
     paint_1(words_of(q), indexes.uncompressed, output);
 }

@@ -7,8 +7,7 @@ use native.Mathlib.Nat.{div-one, zero-add}
 use native.Mathlib.Omega.{arith}
 use lib.ListN.{get_or}
 use Rattle.bits.specs.declared.stream.BitStream.{BitStream}
-use Rattle.bits.specs.declared.stream.Read.{Read}
-use Rattle.bits.specs.Stream.{On, reads_of}
+use Rattle.bits.specs.Stream.{Answer, On, reads_of}
 use Rattle.bits.proofs.InOrder.{in_order}
 use Rattle.laws.specs.Digits.{split}
 use Rattle.bc7_format.specs.declared.Split.{Split}
@@ -19,7 +18,7 @@ use Rattle.bc7_format.proofs.Places.{length_widths, pos_place_at, total_128}
 use Rattle.bc7_places.specs.Reads.{FieldRead}
 
 pub fields_stood : (m : ℕ) (s : Split) → m < 8 → kind_of s ≡ kind_of_mode m → partition s < 2 ^ partition_bits m → {n : ℕ} {b : BitStream}
-    → On n 0 b → (none : Read) (i : ℕ) → i < place_count → FieldRead m s n i (get_or (reads_of b (widths m s)) i none)
+    → On n 0 b → (none : Answer) (i : ℕ) → i < place_count → FieldRead m s n i (get_or (reads_of b (widths m s)) i none)
 unfolding start at_place
 fields_stood m s hm hk hp {n} o none i h =
     let r = in_order o (widths m s) (omega (arith, total_128 m s hm hk hp)) none i (rw (length_widths m s) h) in

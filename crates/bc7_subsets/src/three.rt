@@ -36,7 +36,7 @@ fn indexes_3(bits: u32, stream: BitStream, set: u64) -> u64
 {
     let second = ((set >> 48) % 16) as u32;
     let third = (set >> 52) as u32;
-    let read = Indexes::new_p3(bits, stream, second, third);
+    let read = Indexes::new(bits, stream, [second, third]);
     let indexes = read.indexes;
     indexes.uncompressed
 }

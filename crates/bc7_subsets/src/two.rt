@@ -34,7 +34,7 @@ fn indexes_2(bits: u32, stream: BitStream, set: u64) -> u64
     requires { Anchored2 bits stream set }
     ensures { result ≡ expanded bits (0 ∷ anchor_in2 set ∷ []) (taken stream (16 * bits - 2)).value }
 {
-    let read = Indexes::new_p2(bits, stream, (set >> 48) as u32);
+    let read = Indexes::new(bits, stream, [(set >> 48) as u32]);
     let indexes = read.indexes;
     indexes.uncompressed
 }

@@ -5,14 +5,13 @@ use mathlib.Core.Path.{◌≡◌, refl}
 use mathlib.Core.List.{[], ◌∷◌}
 use Prim.Native.Nat.{ℕ}
 use Rattle.bits.specs.declared.stream.BitStream.{BitStream}
-use Rattle.bits.specs.declared.stream.Read.{Read}
 use Rattle.bcn_format.specs.Block.{field}
-use Rattle.bits.specs.Stream.{held, read_of, reads_of}
+use Rattle.bits.specs.Stream.{Answer, held, read_of, reads_of}
 
 abbrev at : ℕ → BitStream
 at a = record { low = 18364758544493064720; high = 14924415952137906552; at = a }
 
-abbrev answer : ℕ → ℕ → ℕ → ℕ → ℕ → Read
+abbrev answer : ℕ → ℕ → ℕ → ℕ → ℕ → Answer
 answer r v f left a = record { refusal = r; value = v; first = f; remaining = left; stream = at a }
 
 -- refusal, value, first bit, bits that remain, and where the stream stands then: the first byte; a byte across the halves, 8F; all 64 bits

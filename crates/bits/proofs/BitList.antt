@@ -18,7 +18,7 @@ use Rattle.laws.specs.Digits.{Fit, join, more, none}
 use Rattle.laws.proofs.Cases.{lt_or}
 use Rattle.laws.proofs.Digits.{join_lt}
 use Rattle.bcn_format.specs.Block.{bits_of, bits_of_bytes, eights, field, number, value_of_bits}
-use Rattle.bits.specs.Stream.{On, read_of, taken}
+use Rattle.bits.specs.Stream.{Answer, On, read_of, taken}
 use Rattle.bits.proofs.On.{accepts, got, on_read}
 
 -- the bits of a number
@@ -101,9 +101,9 @@ module _ {bs : List ℕ} (block : Fit eights bs) where
       sym (field_bits 128 (join eights bs) at w (join_lt block)) ∙ ap (λ (l : List ℕ). value_of_bits (take w (drop at l))) (sym (bytes_bits 16 block))
 
   -- each read of a stream that stands at bit a of the block
-  module _ {a : ℕ} {s : BitStream} (o : On (number bs) a s) (w : ℕ) {r : Read} where
-    pub taken_bits : r ≡ taken s w → (r.value ≡ listed bs a w) × On (number bs) (a + w) r.stream
+  module _ {a : ℕ} {s : BitStream} (o : On (number bs) a s) (w : ℕ) where
+    pub taken_bits : {r : Read} → r ≡ taken s w → (r.value ≡ listed bs a w) × On (number bs) (a + w) r.stream
     taken_bits e = (got o w e ∙ field_is_bits a w, on_read o w e)
 
-    pub read_bits : a + w ≤ 128 → r ≡ read_of s w → (r.value ≡ listed bs a w) × On (number bs) (a + w) r.stream
-    read_bits h e = taken_bits (accepts o w h e)
+    pub read_bits : a + w ≤ 128 → {r : Answer} → r ≡ read_of s w → (r.value ≡ listed bs a w) × On (number bs) (a + w) r.stream
+    read_bits h e = rw (accepts o w h e) (taken_bits refl)

@@ -1,14 +1,15 @@
--- Sixteen bytes are two words of eight, and a word of eight as the machine joins it.
+-- Sixteen bytes are two words of eight.
 -- Assumes nothing.
-use mathlib.Core.Path.{◌≡◌, refl}
-use mathlib.Core.List.{List, [], ◌∷◌}
-use Prim.Native.Nat.{ℕ, zero, suc, ◌+◌, ◌*◌, ◌%◌, ◌^◌, ◌<◌}
+use mathlib.Core.Path.{◌≡◌, refl, sym, ap, ap₂, ◌∙◌}
+use mathlib.Core.List.{List, [], ◌∷◌, ◌++◌}
+use Prim.Native.Nat.{ℕ, zero, suc, ◌+◌, ◌*◌, ◌/◌, ◌%◌, ◌^◌, ◌<◌}
 use native.Mathlib.Omega.{arith}
 use lib.ListN.{get_or, drop, replicate}
-use lib.Bits.{bit_or}
-use Rattle.laws.specs.Digits.{join}
-use Rattle.bcn_format.specs.Block.{number}
-use Rattle.laws.proofs.Words.{or_byte}
+use lib.Pow.{high, low, shr-shr}
+use Rattle.laws.specs.Digits.{join, split}
+use Rattle.bcn_format.specs.Block.{bytes_of, number}
+use Rattle.laws.proofs.Putting.{split_append}
+use Rattle.laws.proofs.Rows.{split_mod}
 
 abbrev pub word8 : List ℕ → ℕ
 word8 bs = join (replicate 8 8) bs
@@ -50,18 +51,20 @@ pub number_words : (l : List ℕ) → word8 (eight_at l 8) * 2 ^ 64 + word8 (eig
 unfolding number
 number_words l = omega (arith, next_eight 8 0 l, next_eight 0 8 l)
 
--- the machine's form of eight bytes
-pub or_eight : (b0 b1 b2 b3 b4 b5 b6 b7 : ℕ) → b0 < 256 → b1 < 256 → b2 < 256 → b3 < 256 → b4 < 256 → b5 < 256 → b6 < 256 → b7 < 256
-    → let at : ℕ → ℕ → ℕ = λ b k. (b * 2 ^ k) % 2 ^ 64 in
-    bit_or (bit_or (bit_or (bit_or (bit_or (bit_or (bit_or b0 (at b1 8)) (at b2 16)) (at b3 24)) (at b4 32)) (at b5 40)) (at b6 48)) (at b7 56)
-    ≡ word8 (b0 ∷ b1 ∷ b2 ∷ b3 ∷ b4 ∷ b5 ∷ b6 ∷ b7 ∷ [])
-or_eight b0 b1 b2 b3 b4 b5 b6 b7 h0 h1 h2 h3 h4 h5 h6 h7 =
-    rw (
-      or_byte b0 b1 8 (omega arith) h1 (omega arith),
-      or_byte (b1 * 2 ^ 8 + b0) b2 16 (omega arith) h2 (omega arith),
-      or_byte (b2 * 2 ^ 16 + (b1 * 2 ^ 8 + b0)) b3 24 (omega arith) h3 (omega arith),
-      or_byte (b3 * 2 ^ 24 + (b2 * 2 ^ 16 + (b1 * 2 ^ 8 + b0))) b4 32 (omega arith) h4 (omega arith),
-      or_byte (b4 * 2 ^ 32 + (b3 * 2 ^ 24 + (b2 * 2 ^ 16 + (b1 * 2 ^ 8 + b0)))) b5 40 (omega arith) h5 (omega arith),
-      or_byte (b5 * 2 ^ 40 + (b4 * 2 ^ 32 + (b3 * 2 ^ 24 + (b2 * 2 ^ 16 + (b1 * 2 ^ 8 + b0))))) b6 48 (omega arith) h6 (omega arith),
-      or_byte (b6 * 2 ^ 48 + (b5 * 2 ^ 40 + (b4 * 2 ^ 32 + (b3 * 2 ^ 24 + (b2 * 2 ^ 16 + (b1 * 2 ^ 8 + b0)))))) b7 56 (omega arith) h7 (omega arith),
-    ) (omega arith)
+-- and a number's bytes those of its two words, which the machine takes apart
+abbrev taken_apart : ℕ → List ℕ
+taken_apart n =
+    n % 256 ∷ n / 256 % 256 ∷ n / 65536 % 256 ∷ n / 16777216 % 256 ∷ n / 4294967296 % 256 ∷ n / 1099511627776 % 256 ∷ n / 281474976710656 % 256
+    ∷ n / 72057594037927936 % 256 ∷ []
+
+word_bytes : (n : ℕ) → taken_apart n ≡ split (replicate 8 8) n
+word_bytes n = rw (shr-shr n 8 8, shr-shr n 16 8, shr-shr n 24 8, shr-shr n 32 8, shr-shr n 40 8, shr-shr n 48 8) refl
+
+pub bytes_apart : (h l : ℕ) → l < 2 ^ 64 → taken_apart l ++ taken_apart h ≡ bytes_of (h * 2 ^ 64 + l)
+unfolding bytes_of
+bytes_apart h l small =
+    let us : List ℕ = replicate 8 8 in
+    ap₂ {C = List ℕ} (λ x y. x ++ y)
+    (word_bytes l ∙ ap (split us) (sym (low h 64 small)) ∙ split_mod us (h * 2 ^ 64 + l))
+    (word_bytes h ∙ ap (split us) (sym (high h 64 small)))
+    ∙ sym (split_append us us (h * 2 ^ 64 + l))

@@ -8,27 +8,27 @@ use native.Mathlib.Omega.{arith}
 use lib.ListN.{length, get_or, take}
 use lib.Pow.{shr-shr}
 use Rattle.bits.specs.declared.stream.BitStream.{BitStream}
-use Rattle.bits.specs.declared.stream.Read.{Read}
 use Rattle.laws.specs.Digits.{split, total}
 use Rattle.bcn_format.specs.Block.{field}
-use Rattle.bits.specs.Stream.{On, Stood, reads_of}
-use Rattle.bits.proofs.On.{accepts, got, left, not_refused, on_read, stood}
+use Rattle.bits.specs.Stream.{Answer, On, Stood, read_of, reads_of}
+use Rattle.bits.proofs.On.{accepts, got, left, on_read, stood}
 
 -- THE LAW OF READS IN ORDER
-pub in_order : {n a : ℕ} {s : BitStream} → On n a s → (ws : List ℕ) → a + total ws ≤ 128 → (none : Read) (i : ℕ) → i < length ws
+pub in_order : {n a : ℕ} {s : BitStream} → On n a s → (ws : List ℕ) → a + total ws ≤ 128 → (none : Answer) (i : ℕ) → i < length ws
     → Stood n a ws i (get_or (reads_of s ws) i none)
 unfolding reads_of field
 in_order o [] h none i l = absurd (not-suc-le-zero l)
 in_order {n} {a} {s} o (w ∷ ws) h none zero l =
-    let e = accepts o w (omega arith) refl in
-    record {
-      accepted = not_refused o w e;
-      digit = got o w e;
-      starts = rw (add-zero a) (stood o w e);
-      leaves = rw (add-zero a) (left o w e);
-    }
+    rw (accepts o w (omega arith) refl)
+    (record {
+      accepted = refl;
+      digit = got o w refl;
+      starts = rw (add-zero a) (stood o w refl);
+      leaves = rw (add-zero a) (left o w refl);
+    })
 in_order {n} {a} {s} o (w ∷ ws) h none (suc i) l =
-    let behind = in_order {a = a + w} (on_read o w (accepts o w (omega arith) refl)) ws (omega arith) none i (le_of_suc-le-suc l) in
+    let next : On n (a + w) (read_of s w).stream = rw (accepts o w (omega arith) refl) (on_read o w refl) in
+    let behind = in_order {a = a + w} next ws (omega arith) none i (le_of_suc-le-suc l) in
     let before : a + w + total (take i ws) ≡ a + (total (take i ws) + w) = omega arith in
     record {
       accepted = behind.accepted;

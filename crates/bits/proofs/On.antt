@@ -3,6 +3,7 @@
 use mathlib.Core.Path.{◌≡◌, refl, sym, ap, ap₂, ◌∙◌}
 use mathlib.Core.Logic.{◌↔◌, ⊎_elim}
 use mathlib.Core.List.{[], ◌∷◌}
+use Rattle.std.specs.Prelude.{Result}
 use Prim.Native.Nat.{ℕ, ◌+◌, ◌-◌, ◌*◌, ◌/◌, ◌%◌, ◌^◌, ◌≤◌, ◌<◌}
 use native.Mathlib.Nat.{mod-one}
 use native.Mathlib.Omega.{arith}
@@ -10,6 +11,7 @@ use borrow.Author.Tests.{lt-ltb, le-ltb}
 use lib.Pow.{pow_pos}
 use Rattle.bits.specs.declared.stream.BitStream.{BitStream}
 use Rattle.bits.specs.declared.stream.Read.{Read}
+use Rattle.bits.specs.declared.stream.ShortRead.{ShortRead}
 use Rattle.laws.specs.Digits.{split, total}
 use Rattle.laws.specs.Refusals.{Given, unless}
 use Rattle.laws.specs.Tables.{table}
@@ -19,12 +21,12 @@ use Rattle.laws.proofs.Rows.{split_table}
 use Rattle.laws.proofs.Words.{rem_window}
 use Rattle.bcn_format.specs.Block.{field}
 pub use Rattle.bcn_format.proofs.Fields.{field_below, field_lt}
-use Rattle.bits.specs.Stream.{Reads, Taken, held, read_of, short_read, skipped, taken}
+use Rattle.bits.specs.Stream.{Answer, Reads, Taken, accepted, answer_of, held, read_of, short_read, skipped, taken}
 pub use Rattle.bits.specs.Stream.{On}
 
 -- a read by whether its bits are there
 module _ (s : BitStream) (w : ℕ) where
-  pub read_fits : s.at + w ≤ 128 → read_of s w ≡ taken s w
+  pub read_fits : s.at + w ≤ 128 → read_of s w ≡ accepted (taken s w)
   unfolding read_of
   read_fits h = rw (le-ltb 128 (s.at + w) h)
 
@@ -40,9 +42,9 @@ module _ (s : BitStream) (w : ℕ) where
   decided : Decided (read_of s w).refusal 22 (s.at + w ≤ 128)
   decided =
       ⊎_elim
-      (λ (l : 128 < s.at + w). fails (λ h. let z : ⊥ = omega arith in z) (ap (λ (r : Read). r.refusal) (read_short l))
+      (λ (l : 128 < s.at + w). fails (λ h. let z : ⊥ = omega arith in z) (ap (λ (r : Answer). r.refusal) (read_short l))
       (λ e. let z : ⊥ = omega arith in z))
-      (λ (l : s.at + w ≤ 128). holds l (ap (λ (r : Read). r.refusal) (read_fits l)))
+      (λ (l : s.at + w ≤ 128). holds l (ap (λ (r : Answer). r.refusal) (read_fits l)))
       (lt_or 128 (s.at + w))
 
   -- EXACTLY WHEN: 22 where the bits aren't all there, else 0
@@ -50,7 +52,7 @@ module _ (s : BitStream) (w : ℕ) where
   refused_when = exactly (alone decided)
 
   -- what a read promises, and what one promises that was asked for its room
-  pub reads : {r : Read} → r ≡ read_of s w → Reads s w r
+  pub reads : {r : Result Read ShortRead} → answer_of s r ≡ read_of s w → Reads s w r
   reads e = record { same = e; small = rw e read_small }
 
   pub takes : {r : Read} → r ≡ taken s w → Taken s w r
@@ -78,15 +80,11 @@ module _ {n a : ℕ} {s : BitStream} (o : On n a s) where
   next_is w = ap₂ (λ (x y : ℕ). field x y w) o.of o.stands
 
   -- a read takes its bits where they are there
-  pub accepts : (w : ℕ) → a + w ≤ 128 → {r : Read} → r ≡ read_of s w → r ≡ taken s w
+  pub accepts : (w : ℕ) → a + w ≤ 128 → {r : Answer} → r ≡ read_of s w → r ≡ accepted (taken s w)
   accepts w h e = e ∙ read_fits s w (rw o.stands h)
 
--- w bits taken from bit a of n on: that they are not refused, what they are, where they stood and what remains, and where the stream stands
--- then
+-- w bits taken from bit a of n on: what they are, where they stood and what remains, and where the stream stands then
 module _ {n a : ℕ} {s : BitStream} (o : On n a s) (w : ℕ) {r : Read} (e : r ≡ taken s w) where
-  pub not_refused : r.refusal ≡ 0
-  not_refused = ap (λ (r : Read). r.refusal) e
-
   pub got : r.value ≡ field n a w
   got = ap (λ (r : Read). r.value) e ∙ next_is o w
 

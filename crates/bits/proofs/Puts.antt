@@ -1,23 +1,19 @@
 -- A value put above what is written: the machine's forms, and a row of pushes as a join.
 -- Assumes nothing.
 use mathlib.Core.Path.{◌≡◌, refl, sym, ap, ap₂, ◌∙◌}
-use mathlib.Core.List.{List}
 use Prim.Native.Nat.{ℕ, ◌+◌, ◌-◌, ◌*◌, ◌/◌, ◌%◌, ◌^◌, ◌≤◌, ◌<◌}
-use native.Mathlib.Nat.{add_assoc, add-mul, add-zero, div-add-mod', div-eq_of_lt, lt_of_lt_of_le, mod-lt, mul_assoc, mul_comm, zero-add, zero-mul}
+use native.Mathlib.Nat.{add_assoc, add-mul, add-zero, div-add-mod', div-eq_of_lt, lt_of_lt_of_le, mod-lt, mul_assoc, zero-add, zero-mul}
 use native.Mathlib.Numerals.{add-one}
 use native.Mathlib.Omega.{arith}
 use lib.Arith.{lt-one}
 use lib.Pow.{pow_pos, pow-add, pow_mono, shl_exact, shr_lt, shr-shr, high, low}
 use lib.Bits.{bit_or, or_lt, or_shifted_r}
 use Rattle.bits.specs.declared.writer.BitWriter.{BitWriter}
-use Rattle.laws.specs.Digits.{join, split, total}
-use Rattle.laws.specs.Tables.{table, table_from}
+use Rattle.laws.specs.Digits.{join, total}
+use Rattle.laws.specs.Tables.{table}
 use Rattle.laws.proofs.Digits.{join_lt}
-use Rattle.laws.proofs.Joining.{table_same}
-use Rattle.laws.proofs.Rows.{fit_table, join_more, table_none, total_more, total_room, total_same}
-use Rattle.bcn_format.specs.Block.{bytes_of, eights, field}
+use Rattle.laws.proofs.Rows.{fit_table, join_more, table_none, total_more, total_room}
 use Rattle.bits.specs.Writer.{Pushable, pushed, writer_of, written}
-use Rattle.bits.proofs.On.{split_fields}
 use Rattle.laws.proofs.Words.{shl_keeps}
 
 -- a writer is what it has written, and its position
@@ -111,14 +107,3 @@ module _ (f v : ℕ → ℕ) (n : ℕ) (fits : (k : ℕ) → k < n → v k < 2 ^
 -- what the loop has written in the end
 pub pushes_written : (f v : ℕ → ℕ) (n : ℕ) {w : BitWriter} → w ≡ writer_after f v n → written w ≡ join (table n f) (table n v)
 pushes_written f v n e = ap written e ∙ written_of (join (table n f) (table n v)) (total (table n f))
-
--- the bytes of a number, each as a field
-eights_table : table 16 (λ (k : ℕ). 8) ≡ eights
-unfolding table table_from
-eights_table = refl
-
-pub bytes_fields : (n : ℕ) → bytes_of n ≡ table 16 (λ k. field n (8 * k) 8)
-unfolding bytes_of
-bytes_fields n =
-    ap (λ (ws : List ℕ). split ws n) (sym eights_table) ∙ split_fields 16 (λ k. 8) n
-    ∙ table_same 0 16 _ _ (λ k h. ap (λ (a : ℕ). field n a 8) (total_same (λ j. 8) 8 k (λ j l. refl) ∙ mul_comm k 8))

@@ -3,7 +3,7 @@
 ghost use Rattle.std.specs.Prelude.{◌≡◌, [], ◌∷◌, ◌+◌, ◌*◌, ◌/◌, ◌%◌, ◌^◌, ◌≤◌, ◌<◌, replicate};
 ghost use Rattle.laws.specs.Digits.{join};
 ghost use Rattle.bcn_format.specs.Block.{number};
-ghost use Rattle.bits.specs.Stream.{answered, On, Reads, Room, short_read, skipped, Taken};
+ghost use Rattle.bits.specs.Stream.{answered, On, Reads, Room, short_number, skipped, Taken};
 
 // Bits count from the lowest of `low`, which is byte 0's, to the highest of `high`.
 #[derive(Clone, Copy)]
@@ -13,32 +13,33 @@ pub struct BitStream {
     pub at: u32,
 }
 
-// What every read answers: 0, or 22 where it wants more bits than remain; the value; the number of its first bit; how many of the 128
-// bits remain afterwards; and the stream behind it. A refused read has the value 0, and leaves the stream where it stands.
+// What a read gives: the value; the number of its first bit; how many of the 128 bits remain afterwards; and the stream behind it.
 #[derive(Clone, Copy)]
 pub struct Read {
-    pub refusal: u32,
     pub value: u64,
     pub first: u32,
     pub remaining: u32,
     pub stream: BitStream,
 }
 
-// The refusal of a read that wants more bits than remain.
-const SHORT: u32 = 22;
+// A read wants more bits than remain. The stream that it was asked of stands where it stood.
+#[derive(Clone, Copy, PartialEq, Eq)]
+pub struct ShortRead;
 
-// Eight bytes as a word, the first lowest. Joined with `|`, they become one load.
+impl ShortRead {
+    // Its number among the refusals.
+    pub fn number(self) -> u8
+        ensures { result ≡ short_number }
+    {
+        22
+    }
+}
+
+// Eight bytes as a word, the first lowest.
 pub fn word(b0: u8, b1: u8, b2: u8, b3: u8, b4: u8, b5: u8, b6: u8, b7: u8) -> u64
     ensures { result ≡ join (replicate 8 8) (b0 ∷ b1 ∷ b2 ∷ b3 ∷ b4 ∷ b5 ∷ b6 ∷ b7 ∷ []) }
 {
-    (b0 as u64)
-        | ((b1 as u64) << 8)
-        | ((b2 as u64) << 16)
-        | ((b3 as u64) << 24)
-        | ((b4 as u64) << 32)
-        | ((b5 as u64) << 40)
-        | ((b6 as u64) << 48)
-        | ((b7 as u64) << 56)
+    u64::from_le_bytes([b0, b1, b2, b3, b4, b5, b6, b7])
 }
 
 // The 64 bits of a block from a position on, zeros above its last. Below 64 they are what is left of `low` and, on top of it, `high`
@@ -102,30 +103,30 @@ impl BitStream {
     }
 
     // For whoever doesn't: the same where the bits are there, else refused.
-    fn consume(self, count: u32) -> Read
+    fn consume(self, count: u32) -> Result<Read, ShortRead>
         requires { count < 64 }
         ensures { Reads self count result }
     {
         if self.at as u64 + count as u64 > 128 {
-            return self.short();
+            return Err(ShortRead);
         }
-        self.take(count)
+        Ok(self.take(count))
     }
 
-    pub fn consume_bit(self) -> Read
+    pub fn consume_bit(self) -> Result<Read, ShortRead>
         ensures { Reads self 1 result }
     {
         self.consume(1)
     }
 
-    pub fn consume_bits(self, count: u32) -> Read
+    pub fn consume_bits(self, count: u32) -> Result<Read, ShortRead>
         requires { (0 < count) × (count ≤ 8) }
         ensures { Reads self count result }
     {
         self.consume(count)
     }
 
-    pub fn consume_bits_64(self, count: u32) -> Read
+    pub fn consume_bits_64(self, count: u32) -> Result<Read, ShortRead>
         requires { (0 < count) × (count ≤ 64) }
         ensures { Reads self count result }
     {
@@ -133,41 +134,21 @@ impl BitStream {
             return self.consume(count);
         }
         if self.at > 64 {
-            return self.short();
+            return Err(ShortRead);
         }
-        self.accepted(64, window(self.low, self.high, self.at))
+        Ok(self.accepted(64, window(self.low, self.high, self.at)))
     }
 
-    // The answer of a read that fits. Nothing of it costs anything where it isn't looked at.
+    // What a read gives that fits. Nothing of it costs anything where it isn't looked at.
     fn accepted(self, count: u32, value: u64) -> Read
         requires { self.at + count ≤ 128 }
         ensures { result ≡ answered self count value }
     {
-        let stream = self.skip(count);
         Read {
-            refusal: 0,
-            value: value,
+            value,
             first: self.at,
             remaining: 128 - (self.at + count),
-            stream: stream,
-        }
-    }
-
-    // The answer of a read that doesn't.
-    fn short(self) -> Read
-        ensures { result ≡ short_read self }
-    {
-        let at = self.at;
-        let mut remaining: u32 = 0;
-        if at < 128 {
-            remaining = 128 - at;
-        }
-        Read {
-            refusal: SHORT,
-            value: 0,
-            first: at,
-            remaining: remaining,
-            stream: self,
+            stream: self.skip(count),
         }
     }
 }

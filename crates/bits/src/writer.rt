@@ -3,8 +3,6 @@ ghost use Rattle.std.specs.Prelude.{◌≡◌};
 ghost use Rattle.bcn_format.specs.Block.{bytes_of};
 ghost use Rattle.bits.specs.Writer.{Pushable, pushed, writer_of, written};
 
-use crate::stream::BitStream;
-
 #[derive(Clone, Copy)]
 pub struct BitWriter {
     pub low: u64,
@@ -47,20 +45,13 @@ impl BitWriter {
         }
     }
 
-    // The bytes, each read by the reader.
+    // The bytes, those of `low` first.
     pub fn finish(self) -> [u8; 16]
         ensures { result ≡ bytes_of (written self) }
     {
         let mut bytes = [0u8; 16];
-        for i in 0..16usize {
-            let stream = BitStream {
-                low: self.low,
-                high: self.high,
-                at: 8 * (i as u32),
-            };
-            let bits = stream.low_u8();
-            bytes[i] = bits.value as u8;
-        }
+        bytes[..8].copy_from_slice(&self.low.to_le_bytes());
+        bytes[8..].copy_from_slice(&self.high.to_le_bytes());
         bytes
     }
 }

@@ -1,2 +1,3 @@
 pub mod Remove
 pub mod Reading
+pub mod Anchoring

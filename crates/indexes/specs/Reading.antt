@@ -1,12 +1,12 @@
 -- The indexes that stand in a number, and in the next bits of a stream.
 -- Assumes nothing.
-use Rattle.std.specs.Prelude.{◌≡◌, List, [], ℕ, ◌+◌, ◌-◌, ◌*◌, ◌^◌, ◌≤◌, ◌<◌}
+use Rattle.std.specs.Prelude.{◌≡◌, ⊤, List, [], ◌∷◌, length, ℕ, ◌+◌, ◌-◌, ◌*◌, ◌^◌, ◌≤◌, ◌<◌}
 use Rattle.indexes.specs.declared.Indexes.{Indexes}
 use Rattle.indexes.specs.declared.NewIndexes.{NewIndexes}
 use Rattle.bits.specs.declared.stream.BitStream.{BitStream}
 use Rattle.bits.specs.Stream.{taken}
 use Rattle.laws.specs.Digits.{Fit}
-use Rattle.bcn_format.specs.Indexes.{IndexWidth, OneFixup, Rising, TwoFixups, anchor_count, expanded, index_widths, part}
+use Rattle.bcn_format.specs.Indexes.{IndexWidth, Rising, anchor_count, expanded, index_widths, part}
 
 -- index i, which is within its width
 pub record Index (x : Indexes) (i r : ℕ) : Type 0 where
@@ -20,14 +20,19 @@ indexes_of w an n = record { uncompressed = expanded w an n; bits = w }
 abbrev pub new_indexes : ℕ → List ℕ → BitStream → ℕ → NewIndexes
 new_indexes w an s t = record { indexes = indexes_of w an (taken s t).value; stream = (taken s t).stream }
 
--- what is asked of indexes with two or three anchors, beside their width: the fix-ups rise
-pub record Anchors2 (w p : ℕ) : Type 0 where
-  pub width : IndexWidth w
-  pub fixup : OneFixup p
+-- fix-ups are pixels, each above the one before
+abbrev pub RisesFrom : ℕ → List ℕ → Type 0
+RisesFrom a [] = ⊤
+RisesFrom a (p ∷ ps) = (a < p) × (p < 16) × RisesFrom p ps
 
-pub record Anchors3 (w p q : ℕ) : Type 0 where
+-- what is asked of indexes with anchors behind pixel 0, beside their width: that these rise
+pub record AnchorsOf (w : ℕ) (fixups : List ℕ) : Type 0 where
   pub width : IndexWidth w
-  pub fixups : TwoFixups p q
+  pub rising : RisesFrom 0 fixups
+
+-- how many bits they have, each anchor's one less
+abbrev pub stored_size : ℕ → List ℕ → ℕ
+stored_size w fixups = 16 * w - length (0 ∷ fixups)
 
 -- and of a stream that they are read from: their t bits lie ahead
 pub record Ahead (Anchors : Type 0) (s : BitStream) (t : ℕ) : Type 0 where

@@ -7,7 +7,7 @@
 ghost use Rattle.std.specs.Prelude.{◌≡◌, [], ◌∷◌, ◌+◌, ◌-◌, ◌*◌, ◌≤◌, ◌<◌};
 ghost use Rattle.laws.specs.Digits.{inserted};
 ghost use Rattle.bcn_format.specs.Indexes.{IndexWidth};
-ghost use Rattle.indexes.specs.Reading.{Ahead, Anchors2, Anchors3, Compressed, Index, Insertable, indexes_of, new_indexes};
+ghost use Rattle.indexes.specs.Reading.{Ahead, AnchorsOf, Compressed, Index, Insertable, indexes_of, new_indexes, stored_size};
 
 use bits::stream::BitStream;
 
@@ -39,77 +39,28 @@ fn decompress_single_index(bits: u32, compressed: u64, index: u32) -> u64
 }
 
 impl Indexes {
-    pub fn new_p1(bits: u32, stream: BitStream) -> NewIndexes
-        requires { Ahead (IndexWidth bits) stream (16 * bits - 1) }
-        ensures { result ≡ new_indexes bits (0 ∷ []) stream (16 * bits - 1) }
+    // The indexes that come next, by their fix-ups: the anchors behind pixel 0, which is always one, in pixel order. The Rust has a function for
+    // none, for one and for two of them.
+    pub fn new<const N: usize>(bits: u32, stream: BitStream, fixups: [u32; N]) -> NewIndexes
+        requires { Ahead (AnchorsOf bits fixups) stream (stored_size bits fixups) }
+        ensures { result ≡ new_indexes bits (0 ∷ fixups.entry) stream (stored_size bits fixups.entry) }
     {
-        let compressed = stream.take(16 * bits - 1);
-        let indexes = Indexes::from_compressed_p1(bits, compressed.value);
-        let rest = compressed.stream;
+        let compressed = stream.take(16 * bits - (1 + N as u32));
         NewIndexes {
-            indexes: indexes,
-            stream: rest,
+            indexes: Indexes::from_compressed(bits, compressed.value, fixups),
+            stream: compressed.stream,
         }
     }
 
-    pub fn new_p2(bits: u32, stream: BitStream, p2_fixup: u32) -> NewIndexes
-        requires { Ahead (Anchors2 bits p2_fixup) stream (16 * bits - 2) }
-        ensures { result ≡ new_indexes bits (0 ∷ p2_fixup ∷ []) stream (16 * bits - 2) }
+    pub fn from_compressed<const N: usize>(bits: u32, compressed: u64, fixups: [u32; N]) -> Self
+        requires { Compressed (AnchorsOf bits fixups) compressed (stored_size bits fixups) }
+        ensures { result ≡ indexes_of bits (0 ∷ fixups.entry) compressed }
     {
-        let compressed = stream.take(16 * bits - 2);
-        let indexes = Indexes::from_compressed_p2(bits, compressed.value, p2_fixup);
-        let rest = compressed.stream;
-        NewIndexes {
-            indexes: indexes,
-            stream: rest,
+        let mut uncompressed = decompress_single_index(bits, compressed, 0);
+        for &fixup in fixups.iter() {
+            uncompressed = decompress_single_index(bits, uncompressed, fixup);
         }
-    }
-
-    pub fn new_p3(bits: u32, stream: BitStream, p2_fixup: u32, p3_fixup: u32) -> NewIndexes
-        requires { Ahead (Anchors3 bits p2_fixup p3_fixup) stream (16 * bits - 3) }
-        ensures { result ≡ new_indexes bits (0 ∷ p2_fixup ∷ p3_fixup ∷ []) stream (16 * bits - 3) }
-    {
-        let compressed = stream.take(16 * bits - 3);
-        let indexes = Indexes::from_compressed_p3(bits, compressed.value, p2_fixup, p3_fixup);
-        let rest = compressed.stream;
-        NewIndexes {
-            indexes: indexes,
-            stream: rest,
-        }
-    }
-
-    // Pixel 0 is always an anchor, and the fix-ups are the others in pixel order.
-    pub fn from_compressed_p1(bits: u32, compressed: u64) -> Self
-        requires { Compressed (IndexWidth bits) compressed (16 * bits - 1) }
-        ensures { result ≡ indexes_of bits (0 ∷ []) compressed }
-    {
-        Indexes {
-            uncompressed: decompress_single_index(bits, compressed, 0),
-            bits: bits,
-        }
-    }
-
-    pub fn from_compressed_p2(bits: u32, compressed: u64, p2_fixup: u32) -> Self
-        requires { Compressed (Anchors2 bits p2_fixup) compressed (16 * bits - 2) }
-        ensures { result ≡ indexes_of bits (0 ∷ p2_fixup ∷ []) compressed }
-    {
-        let first = decompress_single_index(bits, compressed, 0);
-        Indexes {
-            uncompressed: decompress_single_index(bits, first, p2_fixup),
-            bits: bits,
-        }
-    }
-
-    pub fn from_compressed_p3(bits: u32, compressed: u64, p2_fixup: u32, p3_fixup: u32) -> Self
-        requires { Compressed (Anchors3 bits p2_fixup p3_fixup) compressed (16 * bits - 3) }
-        ensures { result ≡ indexes_of bits (0 ∷ p2_fixup ∷ p3_fixup ∷ []) compressed }
-    {
-        let first = decompress_single_index(bits, compressed, 0);
-        let second = decompress_single_index(bits, first, p2_fixup);
-        Indexes {
-            uncompressed: decompress_single_index(bits, second, p3_fixup),
-            bits: bits,
-        }
+        Indexes { uncompressed, bits }
     }
 
     pub fn get_index(self, pixel_index: u32) -> u8

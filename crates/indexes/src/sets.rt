@@ -22,13 +22,11 @@ pub fn read_indexes(
     requires { SetAhead stream fixups bits second third }
     ensures { result ≡ new_indexes bits (anchors_with fixups second third) stream (16 * bits - anchor_count fixups) }
 {
-    if fixups == 1 {
-        return Indexes::new_p2(bits, stream, second as u32);
+    match fixups {
+        1 => Indexes::new(bits, stream, [second as u32]),
+        2 => Indexes::new(bits, stream, [second as u32, third as u32]),
+        _ => Indexes::new(bits, stream, []),
     }
-    if fixups == 2 {
-        return Indexes::new_p3(bits, stream, second as u32, third as u32);
-    }
-    Indexes::new_p1(bits, stream)
 }
 
 // The sixteen parts of a word.
@@ -38,9 +36,9 @@ pub fn parts_of(word: u64, width: u32) -> [u8; 16]
 {
     let mut parts = [0u8; 16];
     let mut rest = word;
-    for i in 0..16usize {
-        parts[i] = (rest % (1u64 << width)) as u8;
-        rest = rest >> width;
+    for part in parts.iter_mut() {
+        *part = (rest % (1u64 << width)) as u8;
+        rest >>= width;
     }
     parts
 }
@@ -51,9 +49,7 @@ pub fn word_of(indexes: [u8; 16], width: u32) -> u64
     ensures { result ≡ join (index_widths width []) indexes }
 {
     let mut word: u64 = 0;
-    let mut i: usize = 16;
-    while i > 0 {
-        i -= 1;
+    for i in (0..16usize).rev() {
         word = (word << width) + indexes[i] as u64;
     }
     word

@@ -20,16 +20,18 @@ pub fn compressed(fixups: u8, bits: u32, p2_fixup: u32, p3_fixup: u32, word: u64
     requires { Storable fixups bits p2_fixup p3_fixup word }
     ensures { result ≡ join (index_widths bits (anchors_with fixups p2_fixup p3_fixup)) (split (index_widths bits []) word) }
 {
-    if fixups == 1 {
-        let second = compress_single_index(bits, word, p2_fixup);
-        return compress_single_index(bits, second, 0);
+    match fixups {
+        1 => {
+            let second = compress_single_index(bits, word, p2_fixup);
+            compress_single_index(bits, second, 0)
+        }
+        2 => {
+            let third = compress_single_index(bits, word, p3_fixup);
+            let second = compress_single_index(bits, third, p2_fixup);
+            compress_single_index(bits, second, 0)
+        }
+        _ => compress_single_index(bits, word, 0),
     }
-    if fixups == 2 {
-        let third = compress_single_index(bits, word, p3_fixup);
-        let second = compress_single_index(bits, third, p2_fixup);
-        return compress_single_index(bits, second, 0);
-    }
-    compress_single_index(bits, word, 0)
 }
 
 // How many bits the stored indexes have together.
@@ -37,11 +39,9 @@ pub fn stored_bits(fixups: u8, bits: u32) -> u32
     requires { IndexWidth bits }
     ensures { result ≡ 16 * bits - anchor_count fixups }
 {
-    if fixups == 1 {
-        return 16 * bits - 2;
+    match fixups {
+        1 => 16 * bits - 2,
+        2 => 16 * bits - 3,
+        _ => 16 * bits - 1,
     }
-    if fixups == 2 {
-        return 16 * bits - 3;
-    }
-    16 * bits - 1
 }

@@ -8,7 +8,7 @@
 ghost use Rattle.std.specs.Prelude.{◌≡◌, ◌+◌, ◌*◌, ◌≤◌, length, IfOk};
 
 use bc7_places::places::PLACES;
-use bits::stream::{BitStream, Read};
+use bits::stream::{BitStream, Read, ShortRead};
 use listing::list_sheet;
 use rinchovek::{
     rinchovek_bc6h_decode_block, rinchovek_bc7_decode_block, rinchovek_bc7_exact_index,
@@ -448,9 +448,26 @@ fn moving_call<F: FnOnce(&[u8], &mut [u8]) -> u32>(
     })
 }
 
-// The answer of a read, written: the refusal, the value, the first bit, the bits that remain. The stream behind it is handed on.
-fn written(to: &mut impl io::Write, read: Read) -> io::Result<BitStream> {
-    write_small(to, read.refusal)?;
+// The answer of a read, written: the refusal, the value, the first bit, the bits that remain; where it was refused, none, and where the stream
+// stands. The stream behind it is handed on.
+fn written(
+    to: &mut impl io::Write,
+    stream: BitStream,
+    answer: Result<Read, ShortRead>,
+) -> io::Result<BitStream> {
+    let (refusal, read) = match answer {
+        Ok(read) => (0, read),
+        Err(short) => (
+            short.number(),
+            Read {
+                value: 0,
+                first: stream.at,
+                remaining: 128u32.saturating_sub(stream.at),
+                stream,
+            },
+        ),
+    };
+    write_small(to, refusal as u32)?;
     to.write_all(&read.value.to_le_bytes())?;
     write_small(to, read.first)?;
     write_small(to, read.remaining)?;
@@ -458,7 +475,7 @@ fn written(to: &mut impl io::Write, read: Read) -> io::Result<BitStream> {
 }
 
 // The read that a byte asks for: 0 is one bit, 1 to 8 are that many, 128 and c are c bits of 1 to 64.
-fn read_asked(stream: BitStream, kind: u8) -> Result<Read, Ended> {
+fn read_asked(stream: BitStream, kind: u8) -> Result<Result<Read, ShortRead>, Ended> {
     match kind {
         0 => Ok(stream.consume_bit()),
         1..=8 => Ok(stream.consume_bits(kind as u32)),
@@ -474,7 +491,7 @@ fn reads_call(from: &mut impl io::Read, to: &mut impl io::Write) -> Result<(), E
     let kinds = &mut room[..n];
     fill(from, kinds)?;
     for &kind in kinds.iter() {
-        stream = written(to, read_asked(stream, kind)?)?;
+        stream = written(to, stream, read_asked(stream, kind)?)?;
     }
     Ok(())
 }

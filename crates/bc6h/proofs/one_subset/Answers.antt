@@ -1,6 +1,6 @@
 -- A mode with one subset.
 -- Assumes nothing.
-use Rattle.std.proofs.Common.{◌≡◌, ℕ, ◌+◌, ◌*◌, ◌^◌, List, [], ◌∷◌, refl, ap, ◌∙◌, ap₂, arith}
+use Rattle.std.proofs.Common.{rules, ◌≡◌, ℕ, ◌+◌, ◌*◌, ◌^◌, List, [], ◌∷◌, refl, ap, ◌∙◌, ap₂, arith}
 use Rattle.bcn_format.specs.Block.{field}
 use Rattle.bcn_format.specs.Indexes.{expanded}
 use Rattle.indexes.specs.declared.NewIndexes.{NewIndexes}
@@ -21,9 +21,9 @@ colours_1-q-requires c =
       lanes_doubled (row_of c.args.mode) _,
     )
 
-pub new_p1-x-requires : goal.new_p1-x-requires
-new_p1-x-requires c =
-    record { anchors = record { least = omega arith; most = omega arith }; inside = rw c.skip.ensures (omega arith) }
+pub new-x-requires : goal.new-x-requires
+new-x-requires c =
+    (omega arith, record { anchors = search rules; inside = rw c.skip.ensures (omega arith) })
 
 pub returns : goal.returns
 unfolding held
@@ -32,9 +32,9 @@ returns c =
     let n = c.args.high * 2 ^ 64 + c.args.low in
     let stream : BitStream = record { low = c.args.low; high = c.args.high; at = 0 } in
     let at_65 : On n 65 c.skip.result = record { of = held_skipped stream 65 c.skip.ensures; stands = rw c.skip.ensures refl } in
-    let x_is : c.new_p1-x.result.indexes.uncompressed ≡ expanded 4 (0 ∷ []) (field n 65 63) =
-    ap (λ (r : NewIndexes). r.indexes.uncompressed) c.new_p1-x.ensures ∙ ap (expanded 4 (0 ∷ [])) (got at_65 63 refl) in
-    one_picture c.args.signed m n (one_row m c.requires) c.new_p1-x.result.indexes.uncompressed x_is
+    let x_is : c.new-x.result.indexes.uncompressed ≡ expanded 4 (0 ∷ []) (field n 65 63) =
+    ap (λ (r : NewIndexes). r.indexes.uncompressed) c.new-x.ensures ∙ ap (expanded 4 (0 ∷ [])) (got at_65 63 refl) in
+    one_picture c.args.signed m n (one_row m c.requires) c.new-x.result.indexes.uncompressed x_is
     (c.colours_1-q.ensures ∙ ap₂ (λ (w : ℕ) (v : List ℕ). finished_lanes c.args.signed (colours 4 4 (widened_lanes c.args.signed w v)))
     c.width_1.ensures c.fields_1-v.ensures)
     c.words_of.ensures c.paint_1.ensures

@@ -1,6 +1,6 @@
 -- A mode with two subsets.
 -- Assumes nothing.
-use Rattle.std.proofs.Common.{◌≡◌, ℕ, ◌+◌, ◌*◌, ◌^◌, ◌<◌, Bool, true, false, List, [], ◌∷◌, refl, ap, ◌∙◌, ap₂, arith}
+use Rattle.std.proofs.Common.{rules, ◌≡◌, ℕ, ◌+◌, ◌*◌, ◌^◌, ◌<◌, Bool, true, false, List, [], ◌∷◌, refl, ap, ◌∙◌, ap₂, arith}
 use Rattle.bcn_format.specs.Block.{field}
 use Rattle.bcn_format.specs.Indexes.{expanded}
 use Rattle.indexes.specs.declared.NewIndexes.{NewIndexes}
@@ -39,14 +39,16 @@ unsigned_2-q-requires c =
 pub take-id-requires : goal.take-id-requires
 take-id-requires c = record { narrow = omega arith; inside = rw c.skip.ensures (omega arith) }
 
-pub new_p2-x-requires : goal.new_p2-x-requires
-new_p2-x-requires c =
+pub new-x-requires : goal.new-x-requires
+new-x-requires c =
     let id : c.take-id.result.value < 64 = omega (arith, c.take-id.ensures.small) in
-    let f = fixes_2 id (omega arith) (omega arith) c.partition_word_2_3-set.ensures in
-    record {
-      anchors = record { width = record { least = omega arith; most = omega arith }; fixup = f.fixup };
-      inside = rw (c.take-id.ensures.stands, c.skip.ensures) (omega arith);
-    }
+    let f = fixes_2 id (omega arith) (omega arith) c.partition_word_2_3-set.ensures in (
+      omega arith,
+      record {
+        anchors = record { width = search rules; rising = (f.fixup.above, f.fixup.pixel, tt) };
+        inside = rw (c.take-id.ensures.stands, c.skip.ensures) (omega arith);
+      },
+    )
 
 pub returns : goal.returns
 unfolding held
@@ -58,14 +60,14 @@ returns c =
     let at_82 : On n 82 c.take-id.result.stream = on_read at_77 5 c.take-id.ensures.same in
     let set = c.partition_word_2_3-set.result in
     let anchors : List ℕ = 0 ∷ anchor_in2 set ∷ [] in
-    let x_is : c.new_p2-x.result.indexes.uncompressed ≡ expanded 3 anchors (field n 82 46) =
-    ap (λ (r : NewIndexes). r.indexes.uncompressed) c.new_p2-x.ensures ∙ ap (expanded 3 anchors) (got at_82 46 refl) in
+    let x_is : c.new-x.result.indexes.uncompressed ≡ expanded 3 anchors (field n 82 46) =
+    ap (λ (r : NewIndexes). r.indexes.uncompressed) c.new-x.ensures ∙ ap (expanded 3 anchors) (got at_82 46 refl) in
     -- where the ways of both signs meet
     let all_colours : c.if-signed.q ≡ coloured c.args.signed m n =
     elim c.if-signed.branch [
       | then-signed w ↦ rw w.if-signed.true (w.q-is ∙ (w.signed_2-q.ensures ∙ by_parts true c.width_2-width.ensures c.fields_2-v.ensures))
       | else-signed w ↦ rw w.if-signed.false (w.q-is ∙ (w.unsigned_2-q.ensures ∙ by_parts false c.width_2-width.ensures c.fields_2-v.ensures))
     ] in
-    two_picture c.args.signed m n (two_row m c.requires) c.take-id.result.value set c.new_p2-x.result.indexes.uncompressed
+    two_picture c.args.signed m n (two_row m c.requires) c.take-id.result.value set c.new-x.result.indexes.uncompressed
     (got at_77 5 c.take-id.ensures.same) c.take-id.ensures.small c.partition_word_2_3-set.ensures x_is
     all_colours c.words_of.ensures c.keys_3.ensures c.paint_2.ensures

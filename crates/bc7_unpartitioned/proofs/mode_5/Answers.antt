@@ -25,6 +25,24 @@ use Rattle.bc7_fields.proofs.Ends.{translucent_shown}
 use Rattle.bc7_unpartitioned.proofs.Laws.{by_set, paired, vector_either}
 use Rattle.bc7_unpartitioned.proofs.mode_5.Goals as goal
 
+<<<<<<< HEAD
+=======
+pub new-y-requires : goal.new-y-requires
+new-y-requires c = (omega arith, record { anchors = search rules; inside = rw c.new-x.ensures (omega arith) })
+
+pub overflow_cast-rotation : goal.overflow_cast-rotation
+overflow_cast-rotation c =
+    let rotation =
+    c.take-rotation.ensures in
+    record { fits = omega (arith, rotation.small) }
+
+pub swap_channels-requires : goal.swap_channels-requires
+swap_channels-requires c =
+    let rotation =
+    c.take-rotation.ensures in
+    omega (arith, rotation.small)
+
+>>>>>>> fc5f29c5895802492ac58abaabcde7d1d1e1a3ed
 pub returns : goal.returns
 unfolding split_at kind_of_mode mode_row endpoint_count field value_start lead_end
 returns c =
@@ -68,14 +86,14 @@ returns c =
     let end : (k : ℕ) → k < 2 → endpoint e 0 k ≡ four (end_byte 5 n (2 * 0 + k)) =
     λ k hk. endpoint_one (with_alpha 7 8 stored) ends.alone-e.ensures.each ends.alone-e.ensures.same k hk
     ∙ four_ext _ _ (λ c hc. shown k c hk hc) in
-    let first = got_indexes on-x 2 (0 ∷ []) 31 x.new_p1-x.ensures in
-    let on-y = on_indexes on-x 2 (0 ∷ []) 31 x.new_p1-x.ensures in
-    let second = got_indexes on-y 2 (0 ∷ []) 31 y.new_p1-y.ensures in
+    let first = got_indexes on-x 2 (0 ∷ []) 31 x.new-x.ensures in
+    let on-y = on_indexes on-x 2 (0 ∷ []) 31 x.new-x.ensures in
+    let second = got_indexes on-y 2 (0 ∷ []) 31 y.new-y.ensures in
     c.swap_channels.ensures
     ∙ ap₂ swapped (got on_rotation 2 rotation.take-rotation.ensures.same)
     (c.paint.ensures ∙ ap₂ (λ (k : Keys) (p : List (List ℕ)). painted (key_at 2 2 k) p) keys.keys_2.ensures
     palette.palette_2_and_2.ensures
-    ∙ paired x.new_p1-x.result.indexes.uncompressed y.new_p1-y.result.indexes.uncompressed (between 2 (endpoint e 0 0) (endpoint e 0 1)))
+    ∙ paired x.new-x.result.indexes.uncompressed y.new-y.result.indexes.uncompressed (between 2 (endpoint e 0 0) (endpoint e 0 1)))
     ∙ vector_either 5 n (field n 6 2) 0 small (split_5 n) (omega arith) _ _
     (by_set 5 n _ 0 small (split_5 n) (end 0 (omega arith)) (end 1 (omega arith)) 0 2 66 (omega arith) refl (omega arith)
     (index_start_is 5 _ (omega arith)) first)

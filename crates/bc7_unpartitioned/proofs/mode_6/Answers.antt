@@ -54,5 +54,5 @@ returns c =
     ∙ drawn_each 4 _ _ _
     ∙ ap (λ (y : ℕ). painted (part y 4)
     (table 16 (between 4 (endpoint c.alone_p.result 0 0) (endpoint c.alone_p.result 0 1))))
-    (got_indexes on-x 4 (0 ∷ []) 63 x.new_p1-x.ensures)
+    (got_indexes on-x 4 (0 ∷ []) 63 x.new-x.ensures)
     ∙ whole_keys 6 n 4 (omega arith) refl (omega arith) refl (one_palette 6 n 4 (end 0 (omega arith)) (end 1 (omega arith)))

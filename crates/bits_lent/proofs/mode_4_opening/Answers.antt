@@ -3,4 +3,4 @@ use Rattle.bits_lent.proofs.Openings.{opens_block}
 use Rattle.bits_lent.proofs.mode_4_opening.Goals as goal
 
 pub returns : goal.returns
-returns c = rw c.read_opening_lent.ensures (opens_block c.new.ensures)
+returns c = opens_block c.new.ensures _ c.read_opening_lent.ensures

@@ -4,4 +4,4 @@ use mathlib.Core.Path.{refl}
 use Rattle.bc7_subsets.proofs.two.indexes_2.Goals as goal
 
 pub returns : goal.returns
-returns c = rw c.new_p2-read.ensures refl
+returns c = rw c.new-read.ensures refl

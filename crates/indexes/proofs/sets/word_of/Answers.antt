@@ -16,20 +16,8 @@ step c =
 pub loop-i-init : goal.loop-i-init
 loop-i-init c = (omega arith, upper_none _ _ c.requires.fits)
 
-pub overflow_sub-i : goal.overflow_sub-i
-overflow_sub-i c = omega arith
-
-pub overflow_shl-word : goal.overflow_shl-word
-overflow_shl-word c = omega arith
-
-pub bounds-indexes-i : goal.bounds-indexes-i
-bounds-indexes-i c = omega arith
-
 pub overflow_add-word : goal.overflow_add-word
 overflow_add-word c = record { fits = (step c).0 }
-
-pub loop-i-smaller : goal.loop-i-smaller
-loop-i-smaller c = omega arith
 
 pub loop-i-preserved : goal.loop-i-preserved
 loop-i-preserved c = (omega arith, (step c).1)
