@@ -10,7 +10,9 @@ use lib.ListN.{length, get_or}
 use Rattle.bc7_format.specs.declared.Place.{Place}
 use Rattle.bc7_format.proofs.FullAlpha.{full_alpha}
 use Rattle.line_rules.specs.declared.Replacement.{Replacement}
-use Rattle.line_rules.specs.declared.Replaced.{Replaced}
+use Rattle.std.specs.Prelude.{Result}
+use Rattle.refusals.specs.declared.Refusal.{Refusal}
+use Rattle.refusals.proofs.Answers.{answer_fixes}
 use Rattle.line_rules.specs.declared.LineRead.{LineRead}
 use Rattle.laws.specs.Digits.{Fit}
 use Rattle.laws.specs.Refusals.{Given}
@@ -225,8 +227,8 @@ unfolding line_read
 refused_with_3_when = refused_with_3
 
 -- DEMAND 1: any two answers that the promises of `replace_line` and `read_line` admit coincide
-pub determined_replace_line : (bs : List ℕ) (l : ℕ) (g : Replacement) (a b : Replaced) → Replaces bs l g a → Replaces bs l g b → a ≡ b
-determined_replace_line bs l g a b ea eb = ea ∙ sym eb
+pub determined_replace_line : (bs : List ℕ) (l : ℕ) (g : Replacement) (a b : Result (List ℕ) Refusal) → Replaces bs l g a → Replaces bs l g b → a ≡ b
+determined_replace_line bs l g a b ea eb = answer_fixes bs a b (ea ∙ sym eb)
 
 pub determined_read_line : (bs : List ℕ) (l : ℕ) (a b : LineRead) → ReadsLine bs l a → ReadsLine bs l b → a ≡ b
 determined_read_line bs l a b ea eb = ea ∙ sym eb

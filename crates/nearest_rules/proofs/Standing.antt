@@ -10,7 +10,7 @@ use borrow.Author.Tests.{le-ltb, lt-ltb}
 use lib.Dec.{eqb}
 use lib.ListN.{get_or}
 use Rattle.line_rules.specs.declared.LineRead.{LineRead}
-use Rattle.line_rules.specs.declared.Replaced.{Replaced}
+use Rattle.refusals.specs.Answers.{Answer}
 use Rattle.line_rules.specs.declared.Replacement.{Replacement}
 use Rattle.bc7_format.specs.declared.Split.{Split}
 use Rattle.laws.specs.Digits.{Fit}
@@ -71,7 +71,7 @@ module _ (bs : List ℕ) (sixteen : Fit eights bs) (l : ℕ) (readable : read_re
   pub stands_fits : Acceptable m s l (line_given (given_as stored))
   unfolding replaced
   stands_fits =
-      let e = ap (λ (r : Replaced). r.refusal) (replaced_by_read bs sixteen l readable) in
+      let e = ap (λ (r : Answer (List ℕ)). r.refusal) (replaced_by_read bs sixteen l readable) in
       rw stands_as at ((accepted_when bs sixteen (call_of l (line_read bs l).line)).0 e).1
 
   -- its widths are those of the format

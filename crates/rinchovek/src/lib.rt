@@ -110,13 +110,13 @@ pub fn rinchovek_bc7_read_line(
 pub fn rinchovek_bc7_replace_line(block: &mut [u8; 16], line: u32, replacement: &[u8; 26]) -> u32
     ensures { Replaces block.old line replacement.now result block.new }
 {
-    let answer = replace_line(*block, line, replacement_of(*replacement));
-    if answer.refusal != 0 {
-        return answer.refusal as u32;
+    match replace_line(*block, line, replacement_of(*replacement)) {
+        Ok(after) => {
+            *block = after;
+            0
+        }
+        Err(refusal) => refusal.number() as u32,
     }
-    let bytes = answer.block;
-    *block = bytes;
-    0
 }
 
 // The index of a line whose colour at a pixel is nearest to the wanted one.
