@@ -8,7 +8,6 @@ ghost use Rattle.std.specs.Prelude.{◌≡◌, not, eqb, get_or};
 ghost use Rattle.laws.specs.Tables.{both};
 ghost use Rattle.bcn_format.specs.Block.{bytes_of};
 ghost use Rattle.bits.specs.Stream.{held};
-ghost use Rattle.line_rules.specs.Read.{given_as, no_line, read_as};
 ghost use Rattle.line.specs.Opened.{IsOpened, LineOfBlock};
 ghost use Rattle.line_rules.specs.Promises.{ReadsLine, Replaces};
 
@@ -22,7 +21,7 @@ use bits::stream::BitStream;
 use bits::writer::BitWriter;
 use indexes::sets::word_of;
 use line_rules::{LineRead, Replacement};
-use refusals::{NO_SUCH_LINE, RESERVED_BLOCK, Refusal};
+use refusals::Refusal;
 
 pub mod fields;
 pub mod parts;
@@ -105,48 +104,22 @@ pub fn replace_line(block: [u8; 16], line: u32, new: Replacement) -> Result<[u8;
     Ok(bytes_of(after))
 }
 
-// Nothing, where a reading is refused.
-fn no_line() -> Replacement
-    ensures { result ≡ given_as no_line }
-{
-    Replacement {
-        endpoints: [0; 8],
-        p: [0; 2],
-        indexes: [0; 16],
-    }
-}
-
-fn unread(refusal: u8) -> LineRead
-    ensures { result ≡ read_as refusal no_line no_line }
-{
-    let line = no_line();
-    let widths = no_line();
-    LineRead {
-        refusal: refusal,
-        line: line,
-        widths: widths,
-    }
-}
-
 // The line as it stands and the widths of its parts, or the first refusal that applies: 1, 2.
-pub fn read_line(block: [u8; 16], line: u32) -> LineRead
+pub fn read_line(block: [u8; 16], line: u32) -> Result<LineRead, Refusal>
     ensures { ReadsLine block line result }
 {
     let mode = mode_of(block);
     if mode == 8 {
-        return unread(RESERVED_BLOCK);
+        return Err(Refusal::ReservedBlock);
     }
     let row = mode_row(mode);
     if line >= row.lines {
-        return unread(NO_SUCH_LINE);
+        return Err(Refusal::NoSuchLine);
     }
     let opened = open_line(block, mode, row, line);
     let part = opened.part;
-    let stands = line_held(opened.stream, mode, row, line, part);
-    let widths = widths_of(part);
-    LineRead {
-        refusal: 0,
-        line: stands,
-        widths: widths,
-    }
+    Ok(LineRead {
+        line: line_held(opened.stream, mode, row, line, part),
+        widths: widths_of(part),
+    })
 }

@@ -114,8 +114,11 @@ claims =
     []
 
 -- what reading a line answers: its number, the line, and how many bits each of its parts has
-abbrev reads : ℕ → Replacement → Replacement → LineRead
-reads n line widths = record { refusal = n; line = line; widths = widths }
+abbrev lines : Replacement → Replacement → LineRead
+lines line widths = record { line = line; widths = widths }
+
+abbrev reads : ℕ → Replacement → Replacement → Answer LineRead
+reads n line widths = record { refusal = n; value = lines line widths }
 
 abbrev parts : List ℕ → List ℕ → List ℕ → Replacement
 parts ends p indexes = record { endpoints = ends; p = p; indexes = indexes }
@@ -174,9 +177,9 @@ pub record Promised : Type 0 where
   pub replaces : Replaces block7 1 (given7 1) (Ok after7)
   pub replaces_not : Replaces block7 2 (given7 1) (Err NoSuchLine)
   pub not_as_it_was : Replaces block7 1 (given7 1) (Ok block7) → ⊥
-  pub reads_line : ReadsLine block7 1 (reads 0 (line7_of 9) widths7)
-  pub reads_line_not : ReadsLine block7 2 (reads 2 nothing nothing)
-  pub not_the_other_line : ReadsLine block7 1 (reads 0 (line7_of 1) widths7) → ⊥
+  pub reads_line : ReadsLine block7 1 (Ok (lines (line7_of 9) widths7))
+  pub reads_line_not : ReadsLine block7 2 (Err NoSuchLine)
+  pub not_the_other_line : ReadsLine block7 1 (Ok (lines (line7_of 1) widths7)) → ⊥
   pub reads_replacement : ReadsReplacement bytes_given (given7 1)
   pub no_other_replacement : ReadsReplacement bytes_given (given7 2) → ⊥
   pub writes_replacement : WritesReplacement (given7 1) bytes_given
@@ -193,7 +196,7 @@ promises_hold = record {
   not_as_it_was = λ e. eqb_of _ _ (ap (λ (r : Answer (List ℕ)). get_or r.value 3 0) e);
   reads_line = refl;
   reads_line_not = refl;
-  not_the_other_line = λ e. eqb_of _ _ (ap (λ (r : LineRead). get_or r.line.endpoints 0 0) e);
+  not_the_other_line = λ e. eqb_of _ _ (ap (λ (r : Answer LineRead). get_or r.value.line.endpoints 0 0) e);
   reads_replacement = refl;
   no_other_replacement = λ e. eqb_of _ _ (ap (λ (g : Replacement). get_or g.indexes 15 0) e);
   writes_replacement = refl;

@@ -64,7 +64,7 @@ abbrev pub line_and_widths : LineRead → List ℕ × List ℕ
 line_and_widths read = (replacement_bytes read.line, replacement_bytes read.widths)
 
 abbrev pub ReadsLine : List ℕ → ℕ → List ℕ × List ℕ → ℕ → List ℕ × List ℕ → Type 0
-ReadsLine block line before = Writes (line_read block line).refusal (line_and_widths (line_read block line)) before
+ReadsLine block line before = Writes (line_read block line).refusal (line_and_widths (line_read block line).value) before
 
 abbrev pub Replaces : List ℕ → ℕ → List ℕ → ℕ → List ℕ → Type 0
 Replaces block line bytes = Gives (replaced block line (replacement_of bytes)).refusal (replaced block line (replacement_of bytes)).value
@@ -72,11 +72,11 @@ Replaces block line bytes = Gives (replaced block line (replacement_of bytes)).r
 -- the nearest index, and the one that hits
 abbrev pub FindsNearest : List ℕ → ℕ → ℕ → List ℕ → ℕ → ℕ → ℕ → Type 0
 FindsNearest block line pixel wanted before =
-    Writes (nearest_index block line pixel wanted).refusal (nearest_index block line pixel wanted).index before
+    Writes (nearest_index block line pixel wanted).refusal (nearest_index block line pixel wanted).value before
 
 abbrev pub FindsExact : List ℕ → ℕ → ℕ → List ℕ → ℕ → ℕ → ℕ → Type 0
 FindsExact block line pixel wanted before =
-    Writes (exact_index block line pixel wanted).refusal (exact_index block line pixel wanted).index before
+    Writes (exact_index block line pixel wanted).refusal (exact_index block line pixel wanted).value before
 
 -- 1 for an opaque block, 0 for any other: a call that refuses nothing and writes nothing
 abbrev pub TellsOpaque : List ℕ → ℕ → ℕ → ℕ → Type 0
