@@ -21,7 +21,7 @@ fn chart_with<R: Read, W: Write>(
     let chart = chart::chart(&buffer[..count]);
     to.write_all(&chart.text[..chart.length])
         .map_err(Failure::of_writing)?;
-    if chart.refusal != 0 {
+    if chart.refusal.is_some() {
         return Ok(Verdict::Refused);
     }
     Ok(Verdict::Accepted)

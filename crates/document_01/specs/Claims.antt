@@ -3,7 +3,6 @@
 use Rattle.std.specs.Prelude.{ℕ, List, [], ◌∷◌, ◌++◌, replicate}
 use Rattle.head_rules.specs.Answers.{Number}
 use Rattle.line_rules.specs.declared.Replacement.{Replacement}
-use Rattle.line_rules.specs.declared.Replaced.{Replaced}
 use Rattle.record_rules.specs.declared.Record.{Record}
 use Rattle.refusals.specs.Answers as answers
 use Rattle.bc7_format.specs.Lines.{pixels}
@@ -22,7 +21,7 @@ pub data Question : Type 0 where
 pub data Answer : Type 0 where
   sixteen : List (List ℕ) → Answer
   unpacked : answers.Answer Record → Answer
-  block : Replaced → Answer
+  block : answers.Answer (List ℕ) → Answer
   bytes : List ℕ → Answer
   number : Number → Answer
 
