@@ -32,18 +32,15 @@ fn chart_with<R: Read, W: Write>(from: &mut R, to: &mut W, buffer: &mut [u8]) ->
     if got.failed {
         return Outcome::CannotRead;
     }
-    let start: usize = 0;
-    let end = got.count;
-    let chart = chart::chart(&buffer[start..end]);
-    let text = chart.text;
-    if let Err(e) = write_whole(to, chart.length, &text) {
+    let chart = chart::chart(&buffer[..got.count]);
+    if let Err(e) = write_whole(to, chart.length, &chart.text) {
         return if e.kind() == ErrorKind::BrokenPipe {
             Outcome::NobodyReads
         } else {
             Outcome::CannotWrite
         };
     }
-    if chart.refusal != 0 {
+    if chart.refusal.is_some() {
         return Outcome::Refused;
     }
     Outcome::Charted

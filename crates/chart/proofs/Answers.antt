@@ -7,6 +7,8 @@ use Prim.Native.Nat.{ℕ}
 use native.Mathlib.Omega.{arith}
 use borrow.Author.Tests.{eq-eqb, ne_eqb}
 use lib.ListN.{length, replicate}
+use Rattle.std.specs.Prelude.{Option}
+use Rattle.refusals.specs.declared.Refusal.{Refusal}
 use Rattle.bc7_format.specs.declared.Split.{Split}
 use Rattle.laws.specs.Digits.{Fit}
 use Rattle.laws.specs.Padding.{padded}
@@ -20,20 +22,20 @@ use Rattle.bc7_format.specs.Splits.{split_of}
 use Rattle.bc7_format.proofs.Opening.{good_kind, good_partition, opened_good}
 use Rattle.laws.specs.Text.{refused_text}
 use Rattle.text.specs.Puts.{Puts}
-use Rattle.chart_rules.specs.Charts.{Answers, Charts, chart_refusal, charted, places_text, text_room}
+use Rattle.chart_rules.specs.Charts.{Answers, chart, chart_refusal, charted, places_text, refusal_number, text_room}
 use Rattle.chart_rules.proofs.Theorems.{accepted_prints, not_sixteen, refused_prints_only}
 use Rattle.chart.specs.Asked.{BlockMode, SplitOfMode}
 
-pub answered : (r : ℕ) {t out : List ℕ} {n : ℕ} → Puts text_room (replicate text_room 0) 0 t out n
-    → Answers (charted r t) (record { refusal = r; length = n; text = out })
+pub answered : (r : Option Refusal) {t out : List ℕ} {n : ℕ} → Puts text_room (replicate text_room 0) 0 t out n
+    → Answers (charted (refusal_number r) t) (record { refusal = r; length = n; text = out })
 answered r {t} {out} {n} p =
     let w = p.text in
     let told : ◌≡◌ {A = List ℕ × ℕ} (out, n) (padded text_room t, length t) =
     ap₂ (λ (o : List ℕ) (k : ℕ). (o, k)) w.bytes w.ends ∙ stored_zeros text_room t (omega (arith, w.ends, p.within)) in
-    record { is = ap (λ (p : List ℕ × ℕ). record { refusal = r; length = p.1; text = p.0 }) told; within = p.within }
+    record { is = ap (λ (p : List ℕ × ℕ). record { refusal = refusal_number r; length = p.1; text = p.0 }) told; within = p.within }
 
 -- where there are not sixteen bytes
-pub says_10 : (bs : List ℕ) → length bs ≢ 16 → Charts bs (charted 10 (refused_text 10))
+pub says_10 : (bs : List ℕ) → length bs ≢ 16 → charted 10 (refused_text 10) ≡ charted (chart_refusal bs) (chart bs)
 says_10 bs n = let e = not_sixteen bs n in sym (ap₂ charted e (refused_prints_only bs 9 e))
 
 -- where there are, and make a block with its mode
@@ -48,14 +50,14 @@ module _ (bs : List ℕ) (l : length bs ≡ 16) {block : List ℕ} {mode : ℕ} 
   unfolding chart_refusal first
   reserved e = rw (eq-eqb (length bs) 16 l, eq-eqb (mode_of bs) 8 (sym mode_is ∙ e))
 
-  pub says_1 : mode ≡ 8 → Charts bs (charted 1 (refused_text 1))
+  pub says_1 : mode ≡ 8 → charted 1 (refused_text 1) ≡ charted (chart_refusal bs) (chart bs)
   says_1 m = let e = reserved m in sym (ap₂ charted e (refused_prints_only bs 0 e))
 
   fine : mode ≢ 8 → chart_refusal bs ≡ 0
   unfolding chart_refusal first
   fine n = rw (eq-eqb (length bs) 16 l, ne_eqb (mode_of bs) 8 (λ e. n (mode_is ∙ e)))
 
-  pub says_fields : mode ≢ 8 → Charts bs (charted 0 (places_text mode (split_of block) place_count))
+  pub says_fields : mode ≢ 8 → charted 0 (places_text mode (split_of block) place_count) ≡ charted (chart_refusal bs) (chart bs)
   says_fields n =
       let e = fine n in
       ap₂ (λ (m : ℕ) (b : List ℕ). charted 0 (places_text m (split_of b) place_count)) mode_is eb ∙ sym (ap₂ charted e (accepted_prints bs e))

@@ -8,6 +8,7 @@ ghost use Rattle.laws.specs.Padding.{Written};
 ghost use Rattle.bc7_format.specs.Places.{place_count};
 ghost use Rattle.bc7_format.specs.Splits.{split_of};
 ghost use Rattle.laws.specs.Text.{refused_text};
+ghost use Rattle.refusals.specs.Answers.{number};
 ghost use Rattle.text.specs.Puts.{Puts};
 ghost use Rattle.chart_rules.specs.Names.{channel_name, lead_name, name_of, set_name};
 ghost use Rattle.chart_rules.specs.Charts.{Answers, ChartsWithin, charted, field_text, places_text, text_room, wanted_bytes};
@@ -19,7 +20,7 @@ use bc7_places::places::{PLACES, place_at, width_of};
 use bc7_places::splits::{anchors_of, read_lead};
 use block_bytes::load;
 use chart_rules::Chart;
-use refusals::{RESERVED_BLOCK, WRONG_BLOCK_BYTES};
+use refusals::Refusal;
 use text::{put, put_few, put_spaced, put_word, refused_text};
 
 // Room for the longest chart, and for a field's text behind it.
@@ -120,15 +121,15 @@ fn put_places(mode: u8, row: ModeRow, split: Split, out: &mut [u8]) -> usize
     at
 }
 
-fn refused(refusal: u8) -> Chart
-    ensures { Answers (charted refusal (refused_text refusal)) result }
+fn refused(refusal: Refusal) -> Chart
+    ensures { Answers (charted (number refusal) (refused_text (number refusal))) result }
 {
     let mut text = [0u8; ROOM];
-    let length = refused_text(refusal, 0, &mut text);
+    let length = refused_text(refusal.number(), 0, &mut text);
     Chart {
-        refusal: refusal,
-        length: length,
-        text: text,
+        refusal: Some(refusal),
+        length,
+        text,
     }
 }
 
@@ -139,13 +140,12 @@ fn accepted(block: [u8; 16], mode: u8) -> Chart
 {
     let row = mode_row(mode);
     let lead = read_lead(block, mode, row);
-    let split = lead.split;
     let mut text = [0u8; ROOM];
-    let length = put_places(mode, row, split, &mut text);
+    let length = put_places(mode, row, lead.split, &mut text);
     Chart {
-        refusal: 0,
-        length: length,
-        text: text,
+        refusal: None,
+        length,
+        text,
     }
 }
 
@@ -161,12 +161,12 @@ pub fn chart(input: &[u8]) -> Chart
     ensures { ChartsWithin input.now result }
 {
     if input.len() != 16 {
-        return refused(WRONG_BLOCK_BYTES);
+        return refused(Refusal::WrongBlockBytes);
     }
     let block = load(input, 0);
     let mode = mode_of(block);
     if mode == 8 {
-        return refused(RESERVED_BLOCK);
+        return refused(Refusal::ReservedBlock);
     }
     accepted(block, mode)
 }

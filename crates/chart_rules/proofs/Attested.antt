@@ -18,8 +18,12 @@ use Rattle.bc7_format.specs.Splits.{split_at, split_of}
 use Rattle.bc7_format.proofs.Examples.{block0, block4}
 use Rattle.laws.specs.Text.{ascii, decimal, digits_in, refused_text}
 use Rattle.laws.proofs.Attested.{text}
+use Rattle.std.specs.Prelude.{Option, Some, None}
+use Rattle.refusals.specs.declared.Refusal.{Refusal}
+use Rattle.refusals.specs.declared.Refusal.TheVariants.{ReservedBlock, WrongBlockBytes}
+use Rattle.laws.specs.Padding.{padded}
 use Rattle.chart_rules.specs.declared.Chart.{Chart}
-use Rattle.chart_rules.specs.Charts.{ChartsWithin, chart, chart_refusal, charted, field_text, place_text, places_text, text_most}
+use Rattle.chart_rules.specs.Charts.{Charted, ChartsWithin, chart, chart_refusal, field_text, place_text, places_text, text_most, text_room}
 use Rattle.chart_rules.specs.Names.{name_of}
 
 -- places of mode 6: the marker, no partition, red of the endpoints 0 to 2, of which there are two, the first index, which is the
@@ -95,10 +99,13 @@ unfolding text chart chart_refusal ascii decimal digits_in refused_text first tr
 charts_refused = refl
 
 -- THE PROMISE: a chart, a refusal, and an answer that it does not admit: the length's number for a reserved block
+abbrev printed : Option Refusal → List ℕ → Chart
+printed r t = record { refusal = r; length = length t; text = padded text_room t }
+
 pub record Promised : Type 0 where
-  pub charts : ChartsWithin block_c (charted 0 (text chart6))
-  pub charts_not : ChartsWithin (replicate 16 0) (charted 1 (text ("refused 1" ∷ [])))
-  pub no_10_for_1 : ChartsWithin (replicate 16 0) (charted 10 (text ("refused 10" ∷ []))) → ⊥
+  pub charts : ChartsWithin block_c (printed None (text chart6))
+  pub charts_not : ChartsWithin (replicate 16 0) (printed (Some ReservedBlock) (text ("refused 1" ∷ [])))
+  pub no_10_for_1 : ChartsWithin (replicate 16 0) (printed (Some WrongBlockBytes) (text ("refused 10" ∷ []))) → ⊥
 
 pub promises_hold : Promised
 unfolding text chart chart_refusal places_text field_text name_of ascii decimal digits_in refused_text first table table_from trailing number mode_of mode_row
@@ -106,5 +113,5 @@ unfolding text chart chart_refusal places_text field_text name_of ascii decimal 
 promises_hold = record {
   charts = record { is = refl; within = leb→le _ _ tt };
   charts_not = record { is = refl; within = leb→le _ _ tt };
-  no_10_for_1 = λ e. eqb_of _ _ (ap (λ (c : Chart). c.refusal) e.is);
+  no_10_for_1 = λ e. eqb_of _ _ (ap (λ (c : Charted). c.refusal) e.is);
 }

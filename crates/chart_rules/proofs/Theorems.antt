@@ -12,6 +12,9 @@ use borrow.Author.Tests.{eq-eqb, ne_eqb}
 use lib.Dec.{T, eqb, eqb→eq, leb, leb→le, ltb}
 use lib.ListN.{length, get_or, take}
 use lib.Seq.{length-take-le, take_all}
+use Rattle.std.specs.Prelude.{Option, Some, None}
+use Rattle.refusals.specs.declared.Refusal.{Refusal}
+use Rattle.refusals.proofs.Answers.{number_injective, number_not_0}
 use Rattle.chart_rules.specs.declared.Chart.{Chart}
 use Rattle.bc7_format.specs.declared.Split.{Split}
 use Rattle.laws.specs.Digits.{Fit, total}
@@ -31,7 +34,7 @@ use Rattle.bc7_format.proofs.Places.{inside_place_at, pos_place_at}
 use Rattle.bc7_format.proofs.Starts.{at_field, start_next}
 use Rattle.bc7_format.proofs.Subsets.{sixteen_bytes}
 use Rattle.laws.specs.Text.{ascii, decimal, digits_in, refused_text}
-use Rattle.chart_rules.specs.Charts.{ChartsWithin, chart, chart_refusal, chart_rules, field_text, place_text, places_text, text_most, wanted_bytes}
+use Rattle.chart_rules.specs.Charts.{Charted, ChartsWithin, chart, chart_refusal, chart_rules, field_text, place_text, places_text, refusal_number, text_most, wanted_bytes}
 use Rattle.chart_rules.specs.Names.{name_of}
 use Rattle.chart_rules.proofs.Lengths.{all_texts}
 use Rattle.chart_rules.proofs.Standing.{all_passed, nothing_between, start_zero, wide}
@@ -157,6 +160,15 @@ chart_at_most bs bytes = go (ℕ_discrete (length bs) 16) (ℕ_discrete (mode_of
         rw (accepted_prints bs ((accepted_when (chart_answers bs)).1 (l, (n, tt))))
         (all_texts (mode_of bs) (split_of bs) low (good_kind g) (good_partition g))
 
--- any two answers that the promise admits coincide
+-- any two answers that the promise admits coincide: a refusal has a number of its own, which isn't 0
+refusal_fixed : (a b : Option Refusal) → refusal_number a ≡ refusal_number b → a ≡ b
+refusal_fixed None None e = refl
+refusal_fixed None (Some q) e = absurd (number_not_0 q (sym e))
+refusal_fixed (Some r) None e = absurd (number_not_0 r e)
+refusal_fixed (Some r) (Some q) e = ap Some (number_injective e)
+
 pub determined_chart : (bs : List ℕ) (a b : Chart) → ChartsWithin bs a → ChartsWithin bs b → a ≡ b
-determined_chart bs a b p q = p.is ∙ sym q.is
+determined_chart bs a b p q =
+    let e = p.is ∙ sym q.is in
+    let refusal = refusal_fixed a.refusal b.refusal (ap (λ (c : Charted). c.refusal) e) in
+    λ j. record { refusal = refusal j; length = (e j).length; text = (e j).text }

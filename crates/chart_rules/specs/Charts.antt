@@ -1,6 +1,6 @@
 -- What is printed of an input: the fields of a block in stored order, each with its first bit and its width; or a refusal.
 -- Assumes nothing.
-use Rattle.std.specs.Prelude.{ℕ, zero, suc, ◌≤◌, ◌≡◌, not, List, [], ◌∷◌, ◌++◌, ◌≢◌, eqb, length}
+use Rattle.std.specs.Prelude.{ℕ, zero, suc, ◌≤◌, ◌≡◌, not, List, [], ◌∷◌, ◌++◌, ◌≢◌, Option, Some, None, eqb, length}
 use Rattle.bc7_format.specs.declared.Place.{Place}
 use Rattle.laws.specs.Padding.{padded}
 use Rattle.laws.specs.Refusals.{Rule, first, refuse, unless}
@@ -10,6 +10,8 @@ use Rattle.bc7_format.specs.Modes.{mode_of}
 use Rattle.bc7_format.specs.Places.{place_at, place_count, start, width}
 use Rattle.bc7_format.specs.Splits.{anchors, split_of}
 use Rattle.laws.specs.Text.{newline, refused_text, spaced}
+use Rattle.refusals.specs.Answers.{number}
+use Rattle.refusals.specs.declared.Refusal.{Refusal}
 use Rattle.chart_rules.specs.declared.Chart.{Chart}
 use Rattle.chart_rules.specs.Names.{name_of}
 
@@ -47,17 +49,30 @@ text_most = 587
 abbrev pub text_room : ℕ
 text_room = 609
 
--- an answer with its text
-abbrev pub charted : ℕ → List ℕ → Chart
+-- an answer with its text: the number of its refusal, 0 for none
+pub record Charted : Type 0 where
+  pub refusal : ℕ
+  pub length : ℕ
+  pub text : List ℕ
+
+abbrev pub charted : ℕ → List ℕ → Charted
 charted r t = record { refusal = r; length = length t; text = padded text_room t }
+
+-- what the code's answer says
+abbrev pub refusal_number : Option Refusal → ℕ
+refusal_number None = 0
+refusal_number (Some r) = number r
+
+abbrev pub said : Chart → Charted
+said c = record { refusal = refusal_number c.refusal; length = c.length; text = c.text }
 
 -- the promise
 abbrev pub Charts : List ℕ → Chart → Type 0
-Charts bs r = r ≡ charted (chart_refusal bs) (chart bs)
+Charts bs r = said r ≡ charted (chart_refusal bs) (chart bs)
 
--- an answer is c, and its length is within the room of the text, as whoever writes it has to know; so is that of a chart
-pub record Answers (c r : Chart) : Type 0 where
-  pub is : r ≡ c
+-- an answer says c, and its length is within the room of the text, as whoever writes it has to know; so is that of a chart
+pub record Answers (c : Charted) (r : Chart) : Type 0 where
+  pub is : said r ≡ c
   pub within : r.length ≤ text_room
 
 abbrev pub ChartsWithin : List ℕ → Chart → Type 0

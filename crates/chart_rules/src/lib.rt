@@ -2,10 +2,12 @@
 
 #![tactic(auto)]
 
-// The answer to an input: why it is refused (0: it is not), and the text that is printed of it, zeros behind.
+use refusals::Refusal;
+
+// The answer to an input: why it is refused, where it is, and the text that is printed of it, zeros behind. A refused one has a text too.
 #[derive(Clone, Copy)]
 pub struct Chart {
-    pub refusal: u8,
+    pub refusal: Option<Refusal>,
     pub length: usize,
     pub text: [u8; 609],
 }

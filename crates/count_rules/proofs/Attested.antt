@@ -24,7 +24,7 @@ use Rattle.head_rules.specs.Heads.{colour_in, form_in, form_of, head_refusal_up_
 use Rattle.head_rules.specs.Whole.{whole_refusal}
 use Rattle.head_rules.specs.Numbers.{raised, read_groups, read_number}
 use Rattle.line_rules.specs.declared.Replacement.{Replacement}
-use Rattle.line_rules.specs.declared.Replaced.{Replaced}
+use Rattle.refusals.specs.Answers.{Answer}
 use Rattle.line_rules.specs.Replace.{after, index_fits, line_fits, line_given, oriented, own_width, p_fits, put, refusal, refusal_in, replaced, value_fits}
 use Rattle.opacity_rules.specs.Opacity.{is_visible, opaque, opaque_in, passes}
 use Rattle.sheet_rules.specs.Sheets.{block_by, find_refusal, replaced_in}
@@ -217,13 +217,13 @@ line_claims =
     []
 
 -- what a call is answered, and the sheet that it leaves; `made` is the block's own answer
-abbrev answered : Kept → Replaced → Counted
+abbrev answered : Kept → Answer (List ℕ) → Counted
 answered k made = kept_answer (read_head k.before) k.before k.came k.block made
 
-abbrev leaves : Kept → Replaced → List ℕ
+abbrev leaves : Kept → Answer (List ℕ) → List ℕ
 leaves k made = kept_sheet (read_head k.before) k.before k.came k.block made
 
-abbrev line_made : Line → Replaced
+abbrev line_made : Line → Answer (List ℕ)
 line_made c = let k = c.call in replaced_in (read_head k.before) k.before k.block c.of_block c.given
 
 pub record Claims : Type 0 where

@@ -18,7 +18,7 @@ use Rattle.laws.proofs.Refusals.{Answers, answers, by_answer, exactly, handed_la
 use Rattle.bcn_format.specs.Block.{eights, put_block}
 use Rattle.head_rules.specs.Geometry.{blocks_of, place_of}
 use Rattle.head_rules.specs.Heads.{read_head}
-use Rattle.line_rules.specs.declared.Replaced.{Replaced}
+use Rattle.refusals.specs.Answers.{Answer}
 use Rattle.line_rules.specs.Replace.{call_of, replaced}
 use Rattle.line_rules.proofs.Blocks.{after_sixteen}
 use Rattle.line_rules.proofs.Theorems.{refused_same}
@@ -37,7 +37,7 @@ abbrev pub tell : List ℕ → Edit → ℕ
 tell bs e = (made bs e).refusal
 
 abbrev pub act : List ℕ → Edit → List ℕ
-act bs e = (made bs e).block
+act bs e = (made bs e).value
 
 abbrev pub named : KeptCall → ℕ
 named c = c.block
@@ -79,8 +79,8 @@ pub acting : Acting plain_refusal plain_with named done tell act
 acting = record { answers = plain_answers; accepted = plain_accepted; refused = plain_refused; stays = act_stays; fits = act_fits }
 
 -- what an accepted call and a refused one hand back
-module _ (s : List ℕ) (n : Counts) (b : ℕ) (m : Replaced) where
-  pub sheet_taken : kept_refusal (read_head s) s n b m ≡ 0 → kept_sheet (read_head s) s n b m ≡ put_block s (place_of (read_head s) b) m.block
+module _ (s : List ℕ) (n : Counts) (b : ℕ) (m : Answer (List ℕ)) where
+  pub sheet_taken : kept_refusal (read_head s) s n b m ≡ 0 → kept_sheet (read_head s) s n b m ≡ put_block s (place_of (read_head s) b) m.value
   unfolding kept_sheet
   sheet_taken e = rw (eq-eqb (kept_refusal (read_head s) s n b m) 0 e)
 
@@ -88,7 +88,7 @@ module _ (s : List ℕ) (n : Counts) (b : ℕ) (m : Replaced) where
   unfolding kept_sheet
   sheet_left ne = rw (ne_eqb (kept_refusal (read_head s) s n b m) 0 ne)
 
-  pub counts_taken : kept_refusal (read_head s) s n b m ≡ 0 → kept_counts (read_head s) s n b m ≡ recounted (read_head s) s b m.block n
+  pub counts_taken : kept_refusal (read_head s) s n b m ≡ 0 → kept_counts (read_head s) s n b m ≡ recounted (read_head s) s b m.value n
   unfolding kept_counts
   counts_taken e = rw (eq-eqb (kept_refusal (read_head s) s n b m) 0 e)
 
@@ -101,7 +101,7 @@ abbrev own_counts : List ℕ → Counts
 own_counts s = counts_of (read_head s) s
 
 module _ (s : List ℕ) (z : WholeSheet s) (c : KeptCall) where
-  abbrev own : Replaced
+  abbrev own : Answer (List ℕ)
   own = made (block_in s c.block) c.edit
 
   pub answered : answer_on (s, counts_of (read_head s) s) c ≡ plain_refusal s c
@@ -120,7 +120,7 @@ module _ (s : List ℕ) (z : WholeSheet s) (c : KeptCall) where
 
   sheet_is : (kept_with (s, counts_of (read_head s) s) c).0 ≡ plain_with s c
   unfolding kept_sheet plain_with
-  sheet_is = ap (λ (r : ℕ). pick (eqb r 0) (put_block s (place_of (read_head s) c.block) own.block) s) answered
+  sheet_is = ap (λ (r : ℕ). pick (eqb r 0) (put_block s (place_of (read_head s) c.block) own.value) s) answered
 
   counts_are : (kept_with (s, counts_of (read_head s) s) c).1 ≡ counts_of (read_head (plain_with s c)) (plain_with s c)
   counts_are = ⊎_elim taken (λ p. left (λ q. omega arith)) (eq-zero-or-pos (plain_refusal s c))
@@ -130,7 +130,7 @@ module _ (s : List ℕ) (z : WholeSheet s) (c : KeptCall) where
           let (told, (long, (l, u))) = (plain_answers s c).met e in
           let fits = act_fits (block_in s c.block) (sixteen s z c.block l) c.edit in
           counts_taken s (counts_of (read_head s) s) c.block own (answered ∙ e)
-          ∙ sym (ap own_counts (plain_accepted s c e) ∙ stored_recounted s z c.block l own.block fits)
+          ∙ sym (ap own_counts (plain_accepted s c e) ∙ stored_recounted s z c.block l own.value fits)
 
       left : plain_refusal s c ≢ 0 → (kept_with (s, counts_of (read_head s) s) c).1 ≡ counts_of (read_head (plain_with s c)) (plain_with s c)
       left ne =

@@ -19,7 +19,7 @@ use Rattle.head_rules.specs.Numbers.{Bytes}
 use Rattle.head_rules.proofs.Theorems.{head_answers}
 use Rattle.head_rules.proofs.Whole.{whole_rules_is}
 use Rattle.line_rules.specs.declared.Replacement.{Replacement}
-use Rattle.line_rules.specs.declared.Replaced.{Replaced}
+use Rattle.refusals.specs.Answers.{Answer}
 use Rattle.line_rules.specs.Replace.{call_of, replaced}
 use Rattle.line_rules.proofs.Accepting.{on_block_is}
 use Rattle.sheet_rules.specs.Sheets.{block_by, block_in, find_rules, replaced_in}
@@ -59,7 +59,7 @@ falsehood h s b n = falsehood_of (blocks_of h) (mode_of (block_by h s b)) (is_op
 
 module _ (s : List ℕ) (n : Counts) (b : ℕ) where
   -- the head's refusal, 10, 12, 19, then the block's own
-  pub keeping : (made : Replaced)
+  pub keeping : (made : Answer (List ℕ))
       → Answers (kept_refusal (read_head s) s n b made) (find_rules (read_head s) s b ++ false_rules (read_head s) s b n ++ (handed made.refusal ∷ []))
   unfolding kept_refusal
   keeping made = answers (rules (finding s b) λ m. rules (falsehood (read_head s) s b n) λ k. rule by_answer λ z. none)

@@ -336,13 +336,13 @@ reserved_counted s z =
 -- and whatever counts come, an accepted call takes the block that stood there out of them and puts the new one in: none falls below 0, the nine
 -- sum to the number of blocks again, and the opaque are at most as many as before or as there are blocks
 pub accepted_accounts : (s : List ℕ) (n : Counts) (c : KeptCall) → answer_on (s, n) c ≡ 0
-    → Accounted (read_head s) c.block (block_in s c.block) (made (block_in s c.block) c.edit).block n (kept_with (s, n) c).1
+    → Accounted (read_head s) c.block (block_in s c.block) (made (block_in s c.block) c.edit).value n (kept_with (s, n) c).1
 unfolding kept_refusal
 accepted_accounts s n c e =
     let m = made (block_in s c.block) c.edit in
     let fine = (first_zero_is (false_refusal (read_head s) s c.block n) _ (first_zero_is (find_refusal (read_head s) s c.block) _ e).1).0 in
-    subst (Accounted (read_head s) c.block (block_in s c.block) m.block n) (sym (counts_taken s n c.block m e))
-    (accounted (read_head s) s c.block n fine m.block)
+    subst (Accounted (read_head s) c.block (block_in s c.block) m.value n) (sym (counts_taken s n c.block m e))
+    (accounted (read_head s) s c.block n fine m.value)
 
 -- DEMAND 1: any two results that a call's promise admits coincide
 pub determined_count : (sheet : List ℕ) (a b : Counted) → CountsSheet sheet a → CountsSheet sheet b → a ≡ b

@@ -7,7 +7,7 @@ use Rattle.laws.specs.Tables.{pick}
 use Rattle.bcn_format.specs.Block.{eights}
 use Rattle.head_rules.specs.Heads.{read_head}
 use Rattle.line_rules.specs.declared.Replacement.{Replacement}
-use Rattle.line_rules.specs.declared.Replaced.{Replaced}
+use Rattle.refusals.specs.Answers.{Answer}
 use Rattle.line_rules.specs.Replace.{Call, call_of, replaced, replaced_as}
 use Rattle.sheet_rules.specs.Sheets.{block_in}
 use Rattle.sheet_rules.specs.Calls.{SheetCall}
@@ -21,7 +21,7 @@ pub data Edit : Type 0 where
   whole : (new : List ℕ) → Fit eights new → Edit
 
 -- what it is answered of the block alone, and the block that it makes
-abbrev pub made : List ℕ → Edit → Replaced
+abbrev pub made : List ℕ → Edit → Answer (List ℕ)
 made block (line l new) = replaced block l new
 made block (whole new sixteen) = replaced_as 0 new
 

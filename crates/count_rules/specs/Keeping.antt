@@ -9,7 +9,7 @@ use Rattle.head_rules.specs.Answers.{Head}
 use Rattle.head_rules.specs.Geometry.{blocks_of, place_of}
 use Rattle.head_rules.specs.Heads.{head_rules, read_head}
 use Rattle.line_rules.specs.declared.Replacement.{Replacement}
-use Rattle.line_rules.specs.declared.Replaced.{Replaced}
+use Rattle.refusals.specs.Answers.{Answer}
 use Rattle.line_rules.specs.Acceptable.{call_rules}
 use Rattle.line_rules.specs.Replace.{call_of, replaced_as}
 use Rattle.opacity_rules.specs.Opacity.{opaque_in}
@@ -78,20 +78,20 @@ recounted h s b new n = recounted_as (mode_of (block_by h s b)) (is_opaque h s b
 
 -- A CALL ON BLOCK b: `made` is what it is answered of the block alone, and the block that it makes. The head's refusal, 10, 12, 19, then the
 -- block's own; the sheet and the counts afterwards, as they came where the call is refused
-unfoldable pub kept_refusal : Head → List ℕ → Counts → ℕ → Replaced → ℕ
+unfoldable pub kept_refusal : Head → List ℕ → Counts → ℕ → Answer (List ℕ) → ℕ
 kept_refusal h s n b made = first (find_refusal h s b ∷ false_refusal h s b n ∷ made.refusal ∷ [])
 
-unfoldable pub kept_sheet : Head → List ℕ → Counts → ℕ → Replaced → List ℕ
-kept_sheet h s n b made = pick (eqb (kept_refusal h s n b made) 0) (put_block s (place_of h b) made.block) s
+unfoldable pub kept_sheet : Head → List ℕ → Counts → ℕ → Answer (List ℕ) → List ℕ
+kept_sheet h s n b made = pick (eqb (kept_refusal h s n b made) 0) (put_block s (place_of h b) made.value) s
 
-unfoldable pub kept_counts : Head → List ℕ → Counts → ℕ → Replaced → Counts
-kept_counts h s n b made = pick (eqb (kept_refusal h s n b made) 0) (recounted h s b made.block n) n
+unfoldable pub kept_counts : Head → List ℕ → Counts → ℕ → Answer (List ℕ) → Counts
+kept_counts h s n b made = pick (eqb (kept_refusal h s n b made) 0) (recounted h s b made.value n) n
 
-unfoldable pub kept_answer : Head → List ℕ → Counts → ℕ → Replaced → Counted
+unfoldable pub kept_answer : Head → List ℕ → Counts → ℕ → Answer (List ℕ) → Counted
 kept_answer h s n b made = counted (kept_refusal h s n b made) (kept_counts h s n b made)
 
 -- a whole block is replaced by any sixteen bytes, and has no refusal of its own; a line has 1, 2, 3, 4 (`replaced_in` of sheet_rules)
-abbrev pub block_made : List ℕ → Replaced
+abbrev pub block_made : List ℕ → Answer (List ℕ)
 block_made new = replaced_as 0 new
 
 -- the refusals in words
@@ -102,7 +102,7 @@ abbrev pub line_rules : List ℕ → Counts → ℕ → ℕ → Replacement → 
 line_rules s n b l new = kept_rules s n b ++ call_rules (block_in s b) (call_of l new)
 
 -- what the two calls promise: refusal and counts, and every byte of the sheet
-abbrev pub Keeps : List ℕ → Counts → ℕ → Replaced → Counted → List ℕ → Type 0
+abbrev pub Keeps : List ℕ → Counts → ℕ → Answer (List ℕ) → Counted → List ℕ → Type 0
 Keeps sheet n b made answer after =
     (answer ≡ kept_answer (read_head sheet) sheet n b made) × (after ≡ kept_sheet (read_head sheet) sheet n b made)
 

@@ -17,7 +17,7 @@ use Rattle.head_rules.specs.Geometry.{blocks_of, place_of, whole_length}
 use Rattle.head_rules.specs.Heads.{read_head}
 use Rattle.head_rules.proofs.Orders.{blocks_within}
 use Rattle.line_rules.specs.declared.Replacement.{Replacement}
-use Rattle.line_rules.specs.declared.Replaced.{Replaced}
+use Rattle.refusals.specs.Answers.{Answer}
 use Rattle.line_rules.specs.Replace.{replaced}
 use Rattle.opacity_rules.specs.Opacity.{opaque_in}
 use Rattle.sheet_head.specs.Asked.{BlockAsked}
@@ -122,7 +122,7 @@ module _ (s : List ℕ) (n : Counts) (b : ℕ) {h : Head} (w : ReadsWhole s h) w
         }
 
 -- what the two calls answer: `made` is the block's own answer
-module _ (s : List ℕ) (n : Counts) (b : ℕ) (made : Replaced) where
+module _ (s : List ℕ) (n : Counts) (b : ℕ) (made : Answer (List ℕ)) where
   refused_as : {r : ℕ} → kept_refusal (read_head s) s n b made ≡ r → r ≢ 0 → {a : Counted} → a ≡ counted r n → Keeps s n b made a s
   unfolding kept_answer
   refused_as {r} e ne ea =
@@ -146,7 +146,7 @@ module _ (s : List ℕ) (n : Counts) (b : ℕ) (made : Replaced) where
     pub block_refused : made.refusal ≢ 0 → {a : Counted} → a ≡ counted made.refusal n → Keeps s n b made a s
     block_refused ne ea = refused_as own_answer ne ea
 
-    pub block_put : made.refusal ≡ 0 → {c : Counts} {t : List ℕ} → PutThere s n b made.block c t → {a : Counted} → a ≡ counted 0 c
+    pub block_put : made.refusal ≡ 0 → {c : Counts} {t : List ℕ} → PutThere s n b made.value c t → {a : Counted} → a ≡ counted 0 c
         → Keeps s n b made a t
     unfolding kept_answer
     block_put z {c} p ea =
@@ -156,7 +156,7 @@ module _ (s : List ℕ) (n : Counts) (b : ℕ) (made : Replaced) where
         )
 
 -- a line: what replacing in the block answers
-module _ (s : List ℕ) (n : Counts) (b l : ℕ) (new : Replacement) {r : NamedBlock} (k : Here s n b r) {a : Replaced}
+module _ (s : List ℕ) (n : Counts) (b l : ℕ) (new : Replacement) {r : NamedBlock} (k : Here s n b r) {a : Answer (List ℕ)}
     (ea : a ≡ replaced r.block l new) where
   own_is : a ≡ replaced_in (read_head s) s b l new
   unfolding replaced_in
@@ -164,12 +164,12 @@ module _ (s : List ℕ) (n : Counts) (b l : ℕ) (new : Replacement) {r : NamedB
 
   pub line_refused : a.refusal ≢ 0 → {c : Counted} → c ≡ counted a.refusal n → ReplacesLineCounted s n b l new c s
   line_refused ne ec =
-      let e = ap (λ (x : Replaced). x.refusal) own_is in
+      let e = ap (λ (x : Answer (List ℕ)). x.refusal) own_is in
       block_refused s n b (replaced_in (read_head s) s b l new) k (λ z. ne (e ∙ z)) (ec ∙ ap (λ (x : ℕ). counted x n) e)
 
-  pub line_put_is : a.refusal ≡ 0 → {c : Counts} {t : List ℕ} → PutThere s n b a.block c t → {w : Counted} → w ≡ counted 0 c
+  pub line_put_is : a.refusal ≡ 0 → {c : Counts} {t : List ℕ} → PutThere s n b a.value c t → {w : Counted} → w ≡ counted 0 c
       → ReplacesLineCounted s n b l new w t
   line_put_is z {c} {t} p ew =
-      let e = ap (λ (x : Replaced). x.refusal) own_is in
+      let e = ap (λ (x : Answer (List ℕ)). x.refusal) own_is in
       block_put s n b (replaced_in (read_head s) s b l new) k (sym e ∙ z)
-      (subst (λ (x : Replaced). PutThere s n b x.block c t) own_is p) ew
+      (subst (λ (x : Answer (List ℕ)). PutThere s n b x.value c t) own_is p) ew

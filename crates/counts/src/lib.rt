@@ -201,13 +201,10 @@ pub fn replace_line_counted(
     if named.refusal != 0 {
         return answer(named.refusal, counts);
     }
-    let present = named.block;
-    let replaced = line::replace_line(present, line, new);
-    if replaced.refusal != 0 {
-        return answer(replaced.refusal, counts);
+    match line::replace_line(named.block, line, new) {
+        Ok(made) => answer(0, put(sheet, counts, block, named, made)),
+        Err(refusal) => answer(refusal.number(), counts),
     }
-    let made = replaced.block;
-    answer(0, put(sheet, counts, block, named, made))
 }
 
 // A whole block of a sheet, replaced by any sixteen bytes, in the same way.

@@ -3,7 +3,7 @@
 use Rattle.std.specs.Prelude.{ℕ, List, [], ◌∷◌, ◌++◌, replicate}
 use Rattle.head_rules.specs.Answers.{Number}
 use Rattle.line_rules.specs.declared.Replacement.{Replacement}
-use Rattle.line_rules.specs.declared.Replaced.{Replaced}
+use Rattle.refusals.specs.Answers as refusals
 use Rattle.record_rules.specs.declared.Unpacked.{Unpacked}
 use Rattle.bc7_format.specs.Lines.{pixels}
 use Rattle.record_rules.specs.Records.{taken_apart, unpacked_as, zero_record}
@@ -21,7 +21,7 @@ pub data Question : Type 0 where
 pub data Answer : Type 0 where
   sixteen : List (List ℕ) → Answer
   unpacked : Unpacked → Answer
-  block : Replaced → Answer
+  block : refusals.Answer (List ℕ) → Answer
   bytes : List ℕ → Answer
   number : Number → Answer
 

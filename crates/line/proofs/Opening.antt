@@ -83,7 +83,7 @@ module _ (bs : List ℕ) (sixteen : Fit eights bs) (low : mode_of bs < 8) (l : �
     ready_read = read_ready (good bs sixteen low) l hl is (number bs) (λ y h. refl) o.stream i.holds i.stands er
 
     pub read_0 : {r v : Replacement} → r ≡ line_held o.stream (mode_of bs) row l o.part → v ≡ widths_in o.part
-        → record { refusal = 0; line = r; widths = v } ≡ line_read bs l
+        → record { refusal = 0; value = record { line = r; widths = v } } ≡ line_read bs l
     unfolding opened
     read_0 e f =
         rw (

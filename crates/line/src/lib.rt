@@ -8,8 +8,6 @@ ghost use Rattle.std.specs.Prelude.{◌≡◌, not, eqb, get_or};
 ghost use Rattle.laws.specs.Tables.{both};
 ghost use Rattle.bcn_format.specs.Block.{bytes_of};
 ghost use Rattle.bits.specs.Stream.{held};
-ghost use Rattle.line_rules.specs.Read.{given_as, no_line, read_as};
-ghost use Rattle.line_rules.specs.Replace.{replaced_as};
 ghost use Rattle.line.specs.Opened.{IsOpened, LineOfBlock};
 ghost use Rattle.line_rules.specs.Promises.{ReadsLine, Replaces};
 
@@ -22,8 +20,8 @@ use bc7_places::splits::read_lead;
 use bits::stream::BitStream;
 use bits::writer::BitWriter;
 use indexes::sets::word_of;
-use line_rules::{LineRead, Replaced, Replacement};
-use refusals::{NO_SUCH_LINE, P_BITS_DIFFER, RESERVED_BLOCK, VALUE_TOO_WIDE};
+use line_rules::{LineRead, Replacement};
+use refusals::Refusal;
 
 pub mod fields;
 pub mod parts;
@@ -64,15 +62,6 @@ fn p_bits_differ(mode: u8, new: Replacement) -> bool
     true
 }
 
-fn refused(refusal: u8, block: [u8; 16]) -> Replaced
-    ensures { result ≡ replaced_as refusal block }
-{
-    Replaced {
-        refusal: refusal,
-        block: block,
-    }
-}
-
 // The bytes of the number that a stream holds.
 fn bytes_of(s: BitStream) -> [u8; 16]
     ensures { result ≡ bytes_of (held s) }
@@ -86,83 +75,51 @@ fn bytes_of(s: BitStream) -> [u8; 16]
 }
 
 // The block with the line replaced, or the first refusal that applies: 1, 2, 3, 4.
-pub fn replace_line(block: [u8; 16], line: u32, new: Replacement) -> Replaced
+pub fn replace_line(block: [u8; 16], line: u32, new: Replacement) -> Result<[u8; 16], Refusal>
     ensures { Replaces block line new result }
 {
     let mode = mode_of(block);
     if mode == 8 {
-        return refused(RESERVED_BLOCK, block);
+        return Err(Refusal::ReservedBlock);
     }
     let row = mode_row(mode);
     if line >= row.lines {
-        return refused(NO_SUCH_LINE, block);
+        return Err(Refusal::NoSuchLine);
     }
     let opened = open_line(block, mode, row, line);
     let part = opened.part;
     if !parts_fit(part, new) {
-        return refused(VALUE_TOO_WIDE, block);
+        return Err(Refusal::ValueTooWide);
     }
-    let given = new.indexes;
-    let indexes = word_of(given, part.index);
-    let pixels = part.pixels;
-    let mask = mask_of(pixels, part.index);
+    let indexes = word_of(new.indexes, part.index);
+    let mask = mask_of(part.pixels, part.index);
     if !only_own(indexes, mask) {
-        return refused(VALUE_TOO_WIDE, block);
+        return Err(Refusal::ValueTooWide);
     }
     if p_bits_differ(mode, new) {
-        return refused(P_BITS_DIFFER, block);
+        return Err(Refusal::PBitsDiffer);
     }
     let stored = oriented(part, new, indexes, mask);
     let after = put_line(opened.stream, mode, row, line, part, mask, stored);
-    let bytes = bytes_of(after);
-    Replaced {
-        refusal: 0,
-        block: bytes,
-    }
-}
-
-// Nothing, where a reading is refused.
-fn no_line() -> Replacement
-    ensures { result ≡ given_as no_line }
-{
-    Replacement {
-        endpoints: [0; 8],
-        p: [0; 2],
-        indexes: [0; 16],
-    }
-}
-
-fn unread(refusal: u8) -> LineRead
-    ensures { result ≡ read_as refusal no_line no_line }
-{
-    let line = no_line();
-    let widths = no_line();
-    LineRead {
-        refusal: refusal,
-        line: line,
-        widths: widths,
-    }
+    Ok(bytes_of(after))
 }
 
 // The line as it stands and the widths of its parts, or the first refusal that applies: 1, 2.
-pub fn read_line(block: [u8; 16], line: u32) -> LineRead
+pub fn read_line(block: [u8; 16], line: u32) -> Result<LineRead, Refusal>
     ensures { ReadsLine block line result }
 {
     let mode = mode_of(block);
     if mode == 8 {
-        return unread(RESERVED_BLOCK);
+        return Err(Refusal::ReservedBlock);
     }
     let row = mode_row(mode);
     if line >= row.lines {
-        return unread(NO_SUCH_LINE);
+        return Err(Refusal::NoSuchLine);
     }
     let opened = open_line(block, mode, row, line);
     let part = opened.part;
-    let stands = line_held(opened.stream, mode, row, line, part);
-    let widths = widths_of(part);
-    LineRead {
-        refusal: 0,
-        line: stands,
-        widths: widths,
-    }
+    Ok(LineRead {
+        line: line_held(opened.stream, mode, row, line, part),
+        widths: widths_of(part),
+    })
 }

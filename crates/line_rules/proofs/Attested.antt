@@ -7,7 +7,9 @@ use Prim.Native.Nat.{ℕ, ◌+◌}
 use lib.ListN.{get_or, replicate}
 use Rattle.line_rules.specs.declared.Replacement.{Replacement}
 use Rattle.line_rules.specs.declared.LineRead.{LineRead}
-use Rattle.line_rules.specs.declared.Replaced.{Replaced}
+use Rattle.std.specs.Prelude.{Ok, Err}
+use Rattle.refusals.specs.Answers.{Answer}
+use Rattle.refusals.specs.declared.Refusal.TheVariants.{NoSuchLine}
 use Rattle.laws.specs.Refusals.{first}
 use Rattle.laws.specs.Tables.{table, table_from}
 use Rattle.laws.specs.Calls.{run}
@@ -112,8 +114,11 @@ claims =
     []
 
 -- what reading a line answers: its number, the line, and how many bits each of its parts has
-abbrev reads : ℕ → Replacement → Replacement → LineRead
-reads n line widths = record { refusal = n; line = line; widths = widths }
+abbrev lines : Replacement → Replacement → LineRead
+lines line widths = record { line = line; widths = widths }
+
+abbrev reads : ℕ → Replacement → Replacement → Answer LineRead
+reads n line widths = record { refusal = n; value = lines line widths }
 
 abbrev parts : List ℕ → List ℕ → List ℕ → Replacement
 parts ends p indexes = record { endpoints = ends; p = p; indexes = indexes }
@@ -122,7 +127,7 @@ abbrev nothing : Replacement
 nothing = parts (replicate 8 0) (0 ∷ 0 ∷ []) (replicate 16 0)
 
 -- each is answered so; and of two calls on a line the later decides
-pub lines_replaced : (map (λ c. replaced c.block c.line c.given) claims ≡ map (λ c. record { refusal = c.number; block = c.left }) claims)
+pub lines_replaced : (map (λ c. replaced c.block c.line c.given) claims ≡ map (λ c. record { refusal = c.number; value = c.left }) claims)
     × (after_all block7 (call_of 1 (given7 1) ∷ call_of 1 (given7 2) ∷ []) ≡ turned7)
 unfolding run table table_from digits marks strings2 strings3 subset2 subset3 anchors2 anchors3 mode_row kind_of_mode endpoint_count place_at pos width
     widths trailing number mode_of split_at split_of at_place opened has value_place p_place index_set_of index_place line_bits line_of replaced after refusal
@@ -162,9 +167,6 @@ bytes_hold = record { of_replacement = refl; to_replacement = refl; to_replaceme
 
 -- THE PROMISES: of each call an accepted answer, a refused one where it refuses, and one that it does not admit: the block as it was, the
 -- other line's first red, another index at the last pixel
-abbrev leaves : ℕ → List ℕ → Replaced
-leaves n b = record { refusal = n; block = b }
-
 abbrev line7_of : ℕ → Replacement
 line7_of red = parts (red ∷ 10 ∷ 11 ∷ 12 ∷ 13 ∷ 14 ∷ 15 ∷ 16 ∷ []) (1 ∷ 1 ∷ []) (replicate 8 0 ++ (0 ∷ 3 ∷ 2 ∷ 1 ∷ 0 ∷ 3 ∷ 2 ∷ 1 ∷ []))
 
@@ -172,12 +174,12 @@ abbrev widths7 : Replacement
 widths7 = parts (replicate 8 5) (1 ∷ 1 ∷ []) (replicate 8 0 ++ replicate 8 2)
 
 pub record Promised : Type 0 where
-  pub replaces : Replaces block7 1 (given7 1) (leaves 0 after7)
-  pub replaces_not : Replaces block7 2 (given7 1) (leaves 2 block7)
-  pub not_as_it_was : Replaces block7 1 (given7 1) (leaves 0 block7) → ⊥
-  pub reads_line : ReadsLine block7 1 (reads 0 (line7_of 9) widths7)
-  pub reads_line_not : ReadsLine block7 2 (reads 2 nothing nothing)
-  pub not_the_other_line : ReadsLine block7 1 (reads 0 (line7_of 1) widths7) → ⊥
+  pub replaces : Replaces block7 1 (given7 1) (Ok after7)
+  pub replaces_not : Replaces block7 2 (given7 1) (Err NoSuchLine)
+  pub not_as_it_was : Replaces block7 1 (given7 1) (Ok block7) → ⊥
+  pub reads_line : ReadsLine block7 1 (Ok (lines (line7_of 9) widths7))
+  pub reads_line_not : ReadsLine block7 2 (Err NoSuchLine)
+  pub not_the_other_line : ReadsLine block7 1 (Ok (lines (line7_of 1) widths7)) → ⊥
   pub reads_replacement : ReadsReplacement bytes_given (given7 1)
   pub no_other_replacement : ReadsReplacement bytes_given (given7 2) → ⊥
   pub writes_replacement : WritesReplacement (given7 1) bytes_given
@@ -191,10 +193,10 @@ unfolding first table table_from digits marks strings2 strings3 subset2 subset3 
 promises_hold = record {
   replaces = refl;
   replaces_not = refl;
-  not_as_it_was = λ e. eqb_of _ _ (ap (λ (r : Replaced). get_or r.block 3 0) e);
+  not_as_it_was = λ e. eqb_of _ _ (ap (λ (r : Answer (List ℕ)). get_or r.value 3 0) e);
   reads_line = refl;
   reads_line_not = refl;
-  not_the_other_line = λ e. eqb_of _ _ (ap (λ (r : LineRead). get_or r.line.endpoints 0 0) e);
+  not_the_other_line = λ e. eqb_of _ _ (ap (λ (r : Answer LineRead). get_or r.value.line.endpoints 0 0) e);
   reads_replacement = refl;
   no_other_replacement = λ e. eqb_of _ _ (ap (λ (g : Replacement). get_or g.indexes 15 0) e);
   writes_replacement = refl;

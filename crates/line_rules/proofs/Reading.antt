@@ -15,6 +15,7 @@ use Rattle.bc7_format.specs.declared.Place.{Place}
 use Rattle.bc7_format.specs.declared.Place.TheVariants.{Lead, Value, PBit, Index}
 use Rattle.line_rules.specs.declared.Replacement.{Replacement}
 use Rattle.line_rules.specs.declared.LineRead.{LineRead}
+use Rattle.refusals.specs.Answers.{Answer}
 use Rattle.bc7_format.specs.declared.Split.{Split}
 use Rattle.laws.specs.Digits.{Fit}
 use Rattle.laws.specs.Tables.{pick, table}
@@ -185,14 +186,14 @@ module _ (bs : List ℕ) (sixteen : Fit eights bs) where
     line_there : l < lines (mode_of bs)
     line_there = ((accepted_when (read_answers bs sixteen l)).0 ok).1.0
 
-    line_is : line_given (line_read bs l).line ≡ line_given (given_as (line_of (mode_of bs) (split_of bs) l (opened bs)))
-    line_is = ap (λ (r : LineRead). line_given r.line) (read_is bs l ok)
+    line_is : line_given (line_read bs l).value.line ≡ line_given (given_as (line_of (mode_of bs) (split_of bs) l (opened bs)))
+    line_is = ap (λ (r : Answer LineRead). line_given r.value.line) (read_is bs l ok)
 
     -- what is read may be put in again: it is not turned, and the block is as it was
-    pub replaced_by_read : replaced bs l (line_read bs l).line ≡ replaced_as 0 bs
+    pub replaced_by_read : replaced bs l (line_read bs l).value.line ≡ replaced_as 0 bs
     unfolding replaced after
     replaced_by_read =
-        let c : Call = call_of l (line_read bs l).line in
+        let c : Call = call_of l (line_read bs l).value.line in
         let a = read_acceptable good l line_there in
         let e : refusal bs c ≡ 0 =
         rw line_is
@@ -201,12 +202,12 @@ module _ (bs : List ℕ) (sixteen : Fit eights bs) where
         rw (e, line_is)
         (ap (replaced_as 0) (block_ext (mode_of bs) (split_of bs) _ (opened bs) (put_read good l line_there) ∙ block_opened bs sixteen open_mode_is))
 
-    pub read_not_turned : top_set (mode_of bs) (split_of bs) l (line_given (line_read bs l).line) ≡ false
+    pub read_not_turned : top_set (mode_of bs) (split_of bs) l (line_given (line_read bs l).value.line) ≡ false
     read_not_turned = rw line_is (read_unturned good l line_there)
 
     -- it draws what the block shows
     pub read_drawn : (q ch : ℕ) → q < 16 → ch < 4 → draws (mode_of bs) (split_of bs) l q ch ≡ true
-        → means_shown (mode_of bs) (split_of bs) l (line_given (line_read bs l).line) q ch ≡ pixel bs q ch
+        → means_shown (mode_of bs) (split_of bs) l (line_given (line_read bs l).value.line) q ch ≡ pixel bs q ch
     unfolding pixel shown means_shown
     read_drawn q ch hq hc dr =
         let p = drawn_by (mode_of bs) (split_of bs) l q ch dr in
@@ -298,13 +299,13 @@ module _ (bs : List ℕ) (sixteen : Fit eights bs) where
           (rw (after_mode bs sixteen c) a.line, tt),
         )
 
-    pub put_is_read : (line_read (after bs c) l).line ≡ given_as (pick (top_set m s l c.given) (turned_in m s l c.given) c.given)
+    pub put_is_read : (line_read (after bs c) l).value.line ≡ given_as (pick (top_set m s l c.given) (turned_in m s l c.given) c.given)
     put_is_read =
-        ap (λ (r : LineRead). r.line) (read_is (after bs c) l read_after)
+        ap (λ (r : Answer LineRead). r.value.line) (read_is (after bs c) l read_after)
         ∙ rw (after_mode bs sixteen c, after_split bs sixteen c) (given_ext _ _ read_back)
 
     pub put_draws : (q ch : ℕ) → q < 16 → ch < 4 → draws m s l q ch ≡ true
-        → means_shown m s l (line_given (line_read (after bs c) l).line) q ch ≡ means_shown m s l c.given q ch
+        → means_shown m s l (line_given (line_read (after bs c) l).value.line) q ch ≡ means_shown m s l c.given q ch
     put_draws q ch hq hc dr =
         let d : draws (mode_of (after bs c)) (split_of (after bs c)) l q ch ≡ true = rw (after_mode bs sixteen c, after_split bs sixteen c) dr in
         (rw (after_mode bs sixteen c, after_split bs sixteen c) at (read_drawn (after bs c) (after_sixteen bs sixteen c) l read_after q ch hq hc d))

@@ -10,7 +10,9 @@ use lib.ListN.{length, get_or}
 use Rattle.bc7_format.specs.declared.Place.{Place}
 use Rattle.bc7_format.proofs.FullAlpha.{full_alpha}
 use Rattle.line_rules.specs.declared.Replacement.{Replacement}
-use Rattle.line_rules.specs.declared.Replaced.{Replaced}
+use Rattle.std.specs.Prelude.{Result}
+use Rattle.refusals.specs.declared.Refusal.{Refusal}
+use Rattle.refusals.proofs.Answers.{answer_fixes}
 use Rattle.line_rules.specs.declared.LineRead.{LineRead}
 use Rattle.laws.specs.Digits.{Fit}
 use Rattle.laws.specs.Refusals.{Given}
@@ -26,7 +28,7 @@ use Rattle.bc7_format.proofs.Opening.{opened_good}
 use Rattle.bc7_format.proofs.Reserved.{open_mode, reserved_mode, zero_byte}
 use Rattle.line_rules.specs.Acceptable.{Acceptable, OwnWidths, call_rules}
 use Rattle.line_rules.specs.Calls.{after_all, last, last_of_each, seen}
-use Rattle.line_rules.specs.Read.{TooWide, given_as, line_read, read_rules, turned_in}
+use Rattle.line_rules.specs.Read.{TooWide, given_as, line_read, lines_as, no_line, read_rules, turned_in}
 use Rattle.line_rules.specs.Replace.{Call, after, call_of, line_given, oriented, refusal, replaced, replaced_as, top_set}
 use Rattle.line_rules.proofs.Accepting.{on_block_is}
 use Rattle.line_rules.proofs.Blocks.{after_mode, after_sixteen, after_split, given_drawn, others_kept, places_kept, places_stored}
@@ -180,13 +182,13 @@ read_refused_when bs h l = exactly (read_answers bs h l)
 -- it draws what the block shows
 pub read_draws : (bs : List ℕ) → Fit eights bs → (l : ℕ) → (line_read bs l).refusal ≡ 0 → (q ch : ℕ) → q < 16 → ch < 4
     → draws (mode_of bs) (split_of bs) l q ch ≡ true
-    → means_shown (mode_of bs) (split_of bs) l (line_given (line_read bs l).line) q ch ≡ pixel bs q ch
+    → means_shown (mode_of bs) (split_of bs) l (line_given (line_read bs l).value.line) q ch ≡ pixel bs q ch
 unfolding line_read
 read_draws = read_drawn
 
 -- replacing a line by what was read gives the block back, byte for byte: it is accepted, and not turned
 pub read_and_replaced : (bs : List ℕ) → Fit eights bs → (l : ℕ) → (line_read bs l).refusal ≡ 0
-    → (replaced bs l (line_read bs l).line ≡ replaced_as 0 bs) × (top_set (mode_of bs) (split_of bs) l (line_given (line_read bs l).line) ≡ false)
+    → (replaced bs l (line_read bs l).value.line ≡ replaced_as 0 bs) × (top_set (mode_of bs) (split_of bs) l (line_given (line_read bs l).value.line) ≡ false)
 unfolding line_read
 read_and_replaced bs h l e = (replaced_by_read bs h l e, read_not_turned bs h l e)
 
@@ -194,11 +196,11 @@ read_and_replaced bs h l e = (replaced_by_read bs h l e, read_not_turned bs h l 
 -- bit set, and in both cases a line that draws the same
 pub record PutAndRead (bs : List ℕ) (l : ℕ) (g : Replacement) : Type 0 where
   pub refusal : (line_read (after bs (call_of l g)) l).refusal ≡ 0
-  pub given : top_set (mode_of bs) (split_of bs) l (line_given g) ≡ false → (line_read (after bs (call_of l g)) l).line ≡ g
+  pub given : top_set (mode_of bs) (split_of bs) l (line_given g) ≡ false → (line_read (after bs (call_of l g)) l).value.line ≡ g
   pub turned : top_set (mode_of bs) (split_of bs) l (line_given g) ≡ true
-      → (line_read (after bs (call_of l g)) l).line ≡ given_as (turned_in (mode_of bs) (split_of bs) l (line_given g))
+      → (line_read (after bs (call_of l g)) l).value.line ≡ given_as (turned_in (mode_of bs) (split_of bs) l (line_given g))
   pub draws_the_same : (q ch : ℕ) → q < 16 → ch < 4 → draws (mode_of bs) (split_of bs) l q ch ≡ true
-      → means_shown (mode_of bs) (split_of bs) l (line_given (line_read (after bs (call_of l g)) l).line) q ch
+      → means_shown (mode_of bs) (split_of bs) l (line_given (line_read (after bs (call_of l g)) l).value.line) q ch
       ≡ means_shown (mode_of bs) (split_of bs) l (line_given g) q ch
 
 -- (g is a replacement of 8 values, 2 p bits and 16 indexes)
@@ -220,16 +222,16 @@ others_read_as_before = other_read
 -- the widths are what 3 looks at: a replacement is refused with 3 exactly when the line can be read and one of its 26 values needs
 -- more than its width
 pub refused_with_3_when : (bs : List ℕ) (l : ℕ) (g : Replacement)
-    → (refusal bs (call_of l g) ≡ 3) ↔ (((line_read bs l).refusal ≡ 0) × TooWide g (line_read bs l).widths)
+    → (refusal bs (call_of l g) ≡ 3) ↔ (((line_read bs l).refusal ≡ 0) × TooWide g (line_read bs l).value.widths)
 unfolding line_read
 refused_with_3_when = refused_with_3
 
 -- DEMAND 1: any two answers that the promises of `replace_line` and `read_line` admit coincide
-pub determined_replace_line : (bs : List ℕ) (l : ℕ) (g : Replacement) (a b : Replaced) → Replaces bs l g a → Replaces bs l g b → a ≡ b
-determined_replace_line bs l g a b ea eb = ea ∙ sym eb
+pub determined_replace_line : (bs : List ℕ) (l : ℕ) (g : Replacement) (a b : Result (List ℕ) Refusal) → Replaces bs l g a → Replaces bs l g b → a ≡ b
+determined_replace_line bs l g a b ea eb = answer_fixes bs a b (ea ∙ sym eb)
 
-pub determined_read_line : (bs : List ℕ) (l : ℕ) (a b : LineRead) → ReadsLine bs l a → ReadsLine bs l b → a ≡ b
-determined_read_line bs l a b ea eb = ea ∙ sym eb
+pub determined_read_line : (bs : List ℕ) (l : ℕ) (a b : Result LineRead Refusal) → ReadsLine bs l a → ReadsLine bs l b → a ≡ b
+determined_read_line bs l a b ea eb = answer_fixes (lines_as no_line no_line) a b (ea ∙ sym eb)
 
 pub determined_replacement_of : (bs : List ℕ) (a b : Replacement) → ReadsReplacement bs a → ReadsReplacement bs b → a ≡ b
 determined_replacement_of bs a b p q = p ∙ sym q

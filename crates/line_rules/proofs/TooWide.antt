@@ -12,6 +12,7 @@ use lib.Dec.{eqb, ltb, ltb→lt, lit<}
 use lib.ListN.{get_or}
 use Rattle.line_rules.specs.declared.Replacement.{Replacement}
 use Rattle.line_rules.specs.declared.LineRead.{LineRead}
+use Rattle.refusals.specs.Answers.{Answer}
 use Rattle.bc7_format.specs.declared.Split.{Split}
 use Rattle.laws.specs.Refusals.{first, refuse}
 use Rattle.laws.specs.Tables.{below, both}
@@ -118,7 +119,7 @@ so_third false true c d e t = absurd (let y : ⊥ = omega arith in y)
 so_third false false c d e t = rw t
 
 pub refused_with_3 : (bs : List ℕ) (l : ℕ) (g : Replacement)
-    → (refusal bs (call_of l g) ≡ 3) ↔ ((read_refusal bs l ≡ 0) × TooWide g (line_read bs l).widths)
+    → (refusal bs (call_of l g) ≡ 3) ↔ ((read_refusal bs l ≡ 0) × TooWide g (line_read bs l).value.widths)
 unfolding refusal refusal_in read_refusal
 refused_with_3 bs l g = (
   λ e. let t =
@@ -139,5 +140,5 @@ refused_with_3 bs l g = (
     differ : Bool
     differ = both (eqb m 1) (not (eqb (ln.p 0) (ln.p 1)))
 
-    widths : read_refusal bs l ≡ 0 → (line_read bs l).widths ≡ given_as (widths_of m s l)
-    widths e = ap (λ (r : LineRead). r.widths) (read_is bs l e)
+    widths : read_refusal bs l ≡ 0 → (line_read bs l).value.widths ≡ given_as (widths_of m s l)
+    widths e = ap (λ (r : Answer LineRead). r.value.widths) (read_is bs l e)

@@ -3,6 +3,7 @@
 use Rattle.std.specs.Prelude.{◌≢◌, Bool, not, List, [], ◌∷◌, ℕ, ◌+◌, ◌-◌, ◌/◌, ◌%◌, ◌^◌, ◌<◌, ◌≤◌, eqb, ltb, get_or}
 use Rattle.line_rules.specs.declared.Replacement.{Replacement}
 use Rattle.line_rules.specs.declared.LineRead.{LineRead}
+use Rattle.refusals.specs.Answers.{Answer}
 use Rattle.bc7_format.specs.declared.Split.{Split}
 use Rattle.laws.specs.Refusals.{Rule, first, refuse, unless}
 use Rattle.laws.specs.Tables.{pick, table}
@@ -51,14 +52,17 @@ read_refusal bs l = first (refuse 1 (eqb (mode_of bs) 8) ∷ refuse 2 (not (ltb 
 abbrev pub read_rules : List ℕ → ℕ → List Rule
 read_rules bs l = unless 1 (get_or bs 0 0 ≢ 0) ∷ unless 2 (l < lines (mode_of bs)) ∷ []
 
--- what `read_line` answers: a stored index is the full one, for the top bit that an anchor's lacks is zero
+-- what `read_line` answers: a stored index is the full one, for the top bit that an anchor's lacks is zero. A refusal has zeros in both lines
 abbrev pub no_line : Line
 no_line = record { value = λ k c. 0; p = λ k. 0; index = λ q. 0 }
 
-abbrev pub read_as : ℕ → Line → Line → LineRead
-read_as n ln ws = record { refusal = n; line = given_as ln; widths = given_as ws }
+abbrev pub lines_as : Line → Line → LineRead
+lines_as ln ws = record { line = given_as ln; widths = given_as ws }
 
-unfoldable pub line_read : List ℕ → ℕ → LineRead
+abbrev pub read_as : ℕ → Line → Line → Answer LineRead
+read_as n ln ws = record { refusal = n; value = lines_as ln ws }
+
+unfoldable pub line_read : List ℕ → ℕ → Answer LineRead
 line_read bs l =
     let read : Bool = eqb (read_refusal bs l) 0 in
     read_as (read_refusal bs l) (pick read (line_of (mode_of bs) (split_of bs) l (opened bs)) no_line)

@@ -3,7 +3,7 @@
 use Rattle.std.specs.Prelude.{ℕ, ◌+◌, ◌-◌, ◌*◌, ◌^◌, Bool, not, List, [], ◌∷◌, eqb, ltb, leb, get_or}
 use Rattle.bc7_format.specs.declared.Place.{Place}
 use Rattle.line_rules.specs.declared.Replacement.{Replacement}
-use Rattle.line_rules.specs.declared.Replaced.{Replaced}
+use Rattle.refusals.specs.Answers.{Answer}
 use Rattle.bc7_format.specs.declared.Split.{Split}
 use Rattle.laws.specs.Refusals.{first, refuse}
 use Rattle.laws.specs.Tables.{below, both, pick}
@@ -77,12 +77,12 @@ after bs c =
     (block_of (mode_of bs) (split_of bs) (put (mode_of bs) (split_of bs) c.line c.given (opened bs)))
     bs
 
--- what `replace_line` answers
+-- what `replace_line` answers: a refusal hands back the block that was given
 abbrev pub call_of : ℕ → Replacement → Call
 call_of l g = record { line = l; given = line_given g }
 
-abbrev pub replaced_as : ℕ → List ℕ → Replaced
-replaced_as n bs = record { refusal = n; block = bs }
+abbrev pub replaced_as : ℕ → List ℕ → Answer (List ℕ)
+replaced_as n bs = record { refusal = n; value = bs }
 
-unfoldable pub replaced : List ℕ → ℕ → Replacement → Replaced
+unfoldable pub replaced : List ℕ → ℕ → Replacement → Answer (List ℕ)
 replaced bs l g = replaced_as (refusal bs (call_of l g)) (after bs (call_of l g))

@@ -12,18 +12,9 @@ pub struct Replacement {
     pub indexes: [u8; 16],
 }
 
-// A refusal hands back the block that was given.
-#[derive(Clone, Copy)]
-pub struct Replaced {
-    pub refusal: u8,
-    pub block: [u8; 16],
-}
-
-// A line as it stands, and how many bits each of its parts has, in the same order: none where the line hasn't got the part. A
-// refusal has zeros in both.
+// A line as it stands, and how many bits each of its parts has, in the same order: none where the line hasn't got the part.
 #[derive(Clone, Copy)]
 pub struct LineRead {
-    pub refusal: u8,
     pub line: Replacement,
     pub widths: Replacement,
 }

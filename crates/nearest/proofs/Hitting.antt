@@ -9,19 +9,18 @@ use native.Mathlib.Nat.{le_refl}
 use borrow.Author.Tests.{eq-eqb, le-ltb, lt-ltb, ne_eqb}
 use lib.Dec.{ltb}
 use lib.Pow.{pow_pos}
-use Rattle.nearest_rules.specs.declared.Found.{Found}
-use Rattle.nearest.specs.declared.Tried.{Tried}
+use Rattle.refusals.specs.Answers.{Answer}
 use Rattle.laws.specs.Refusals.{refuse}
 use Rattle.laws.proofs.First.{first_here, first_last, first_skip}
 use Rattle.bc7_format.specs.Modes.{mode_of}
 use Rattle.bc7_format.specs.Splits.{split_of}
 use Rattle.bc7_format.specs.Lines.{line_bits}
 use Rattle.nearest_rules.specs.Nearest.{distance, exact_index, exact_refusal, index_count, least_at, nearest_index, nearest_refusal, zero_at}
-use Rattle.nearest.specs.Trying.{Tries}
+use Rattle.nearest.specs.Trying.{Tried, Tries}
 use Rattle.nearest_rules.proofs.Least.{Least, least_at_is, no_zero, zero_is_least}
 
-abbrev answer : ℕ → ℕ → Found
-answer r i = record { refusal = r; index = i }
+abbrev answer : ℕ → ℕ → Answer ℕ
+answer r i = record { refusal = r; value = i }
 
 module _ (bs : List ℕ) (l q : ℕ) (wanted : List ℕ) {x : Tried} (t : Tries bs l q wanted x) where
   abbrev n : ℕ
@@ -33,9 +32,6 @@ module _ (bs : List ℕ) (l q : ℕ) (wanted : List ℕ) {x : Tried} (t : Tries 
   refusal_is : x.refusal ≡ nearest_refusal bs l q
   unfolding nearest_index
   refusal_is = t.refusal
-
-  pub nearest_found : answer x.refusal x.index ≡ nearest_index bs l q wanted
-  nearest_found = rw (t.refusal, t.index)
 
   -- what is refused of the nearest index is refused of the one that hits
   pub exact_refused : x.refusal ≢ 0 → answer x.refusal x.index ≡ exact_index bs l q wanted

@@ -76,10 +76,10 @@ module _ (bs : List ℕ) (sixteen : Fit eights bs) (l q : ℕ) (ok : nearest_ref
   stored = line_of m s l (opened bs)
 
   abbrev ln : Replacement
-  ln = (line_read bs l).line
+  ln = (line_read bs l).value.line
 
   abbrev ws : Replacement
-  ws = (line_read bs l).widths
+  ws = (line_read bs l).value.widths
 
   can : read_refusal bs l ≡ 0
   can = readable bs sixteen l q ok

@@ -9,6 +9,7 @@ use borrow.Author.Tests.{ne_eqb}
 use lib.ListN.{get_or}
 use Rattle.nearest.specs.declared.Nearest.{Nearest}
 use Rattle.line_rules.specs.declared.LineRead.{LineRead}
+use Rattle.refusals.specs.Answers.{Answer}
 use Rattle.laws.specs.Digits.{Fit}
 use Rattle.bcn_format.specs.Block.{eights}
 use Rattle.bc7_format.specs.Modes.{mode_of}
@@ -29,9 +30,9 @@ refused_answers bs l q wanted e ne = record { refusal = sym e; index = rw (e, ne
 thirteen : ◌≢◌ {A = ℕ} 13 0
 thirteen e = omega arith
 
-module _ (bs : List ℕ) (sixteen : Fit eights bs) (l q : ℕ) (wanted : List ℕ) {r : LineRead} (e : r ≡ line_read bs l) where
+module _ (bs : List ℕ) (sixteen : Fit eights bs) (l q : ℕ) (wanted : List ℕ) {r : Answer LineRead} (e : r ≡ line_read bs l) where
   refusal_read : r.refusal ≡ read_refusal bs l
-  refusal_read = ap (λ (r : LineRead). r.refusal) e ∙ refusal_is bs l
+  refusal_read = ap (λ (r : Answer LineRead). r.refusal) e ∙ refusal_is bs l
 
   pub not_read : r.refusal ≢ 0 → Tries bs l q wanted (tried_as r.refusal 0 0)
   not_read ne = refused_answers bs l q wanted (refused_as_read bs l q (rw refusal_read at ne) ∙ sym refusal_read) ne
@@ -48,7 +49,7 @@ module _ (bs : List ℕ) (sixteen : Fit eights bs) (l q : ℕ) (wanted : List �
 
     module _ (hq : q < 16) where
       abbrev width : ℕ
-      width = get_or r.widths.indexes q 0
+      width = get_or r.value.widths.indexes q 0
 
       says : ByWidth width (nearest_refusal bs l q) (line_bits (mode_of bs) (split_of bs) l)
       says = rw e (by_width bs sixteen l readable q hq)
@@ -57,8 +58,8 @@ module _ (bs : List ℕ) (sixteen : Fit eights bs) (l q : ℕ) (wanted : List �
       other_line z = refused_answers bs l q wanted (says.none z) thirteen
 
       module _ (ne : width ≢ 0) {t : ℕ} (turn : t ≡ rotation (split_of bs)) where
-        pub can_try : Tryable r.line r.widths t width
+        pub can_try : Tryable r.value.line r.value.widths t width
         can_try = rw ((says.some ne).1, turn, e) (tryable bs sixteen l q (says.some ne).0)
 
-        pub answers : {x : Nearest} → SearchedIn r.line r.widths t wanted width x → Tries bs l q wanted (tried_as 0 x.index x.distance)
+        pub answers : {x : Nearest} → SearchedIn r.value.line r.value.widths t wanted width x → Tries bs l q wanted (tried_as 0 x.index x.distance)
         answers h = search_answers bs sixteen l q (says.some ne).0 wanted (rw ((says.some ne).1, turn, e) at h)

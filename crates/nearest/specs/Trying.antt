@@ -1,9 +1,10 @@
 -- What the search goes by: four channels of a pixel, and how far they are at an index.
 -- Assumes nothing.
-use Rattle.std.specs.Prelude.{◌≡◌, ◌≢◌, true, false, List, ℕ, ◌+◌, ◌*◌, ◌^◌, ◌≤◌, ◌<◌, eqb, get_or}
+use Rattle.std.specs.Prelude.{◌≡◌, ◌≢◌, true, false, List, ℕ, Result, Ok, Err, ◌+◌, ◌*◌, ◌^◌, ◌≤◌, ◌<◌, eqb, get_or}
 use Rattle.nearest.specs.declared.Channel.{Channel}
 use Rattle.nearest.specs.declared.Nearest.{Nearest}
-use Rattle.nearest.specs.declared.Tried.{Tried}
+use Rattle.refusals.specs.Answers.{number}
+use Rattle.refusals.specs.declared.Refusal.{Refusal}
 use Rattle.line_rules.specs.declared.Replacement.{Replacement}
 use Rattle.laws.specs.Tables.{pick}
 use Rattle.bcn_format.specs.Drawing.{drawn, promoted, weight_of}
@@ -62,7 +63,6 @@ distance_at r g b a bits i =
 -- the lowest of the nearest indexes, and its distance
 pub record Searched (r g b a : Channel) (bits : ℕ) (x : Nearest) : Type 0 where
   pub index : x.index ≡ least_at (2 ^ bits) (distance_at r g b a bits)
-  pub small : x.index < 16
   pub distance : x.distance ≡ distance_at r g b a bits x.index
 
 -- endpoint k as eight bits
@@ -102,11 +102,21 @@ pub record Tryable (ln ws : Replacement) (r bits : ℕ) : Type 0 where
   pub least : 2 ≤ bits
   pub most : bits ≤ 4
 
+-- what a trial comes to: a refusal, or the nearest index and how far it is; where it is refused, both are 0
+pub record Tried : Type 0 where
+  pub refusal : ℕ
+  pub index : ℕ
+  pub distance : ℕ
+
 abbrev pub tried_as : ℕ → ℕ → ℕ → Tried
 tried_as r i d = record { refusal = r; index = i; distance = d }
+
+abbrev pub tried_of : Result Nearest Refusal → Tried
+tried_of (Ok x) = tried_as 0 x.index x.distance
+tried_of (Err r) = tried_as (number r) 0 0
 
 -- the answer of the nearest index, and its distance where it is none of a refusal
 pub record Tries (bs : List ℕ) (l q : ℕ) (wanted : List ℕ) (x : Tried) : Type 0 where
   pub refusal : x.refusal ≡ (nearest_index bs l q wanted).refusal
-  pub index : x.index ≡ (nearest_index bs l q wanted).index
+  pub index : x.index ≡ (nearest_index bs l q wanted).value
   pub distance : x.refusal ≡ 0 → x.distance ≡ distance bs l q wanted x.index

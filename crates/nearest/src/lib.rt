@@ -11,14 +11,13 @@ ghost use Rattle.bc7_format.specs.Splits.{rotation as rotation_in, split_of};
 ghost use Rattle.nearest_rules.specs.Nearest.{squared as squaredDifference};
 ghost use Rattle.nearest_rules.specs.Promises.{FindsExact, FindsNearest};
 ghost use Rattle.nearest.specs.Trying.{AtEndpoint, Between, ChannelOfBytes, IsBelow, IsChannel, Measurable, ToPromote, Readable, Searchable};
-ghost use Rattle.nearest.specs.Trying.{Searched, SearchedIn, Tries, Tryable, channel_far, distance_at, tried_as};
+ghost use Rattle.nearest.specs.Trying.{Searched, SearchedIn, Tries, Tryable, channel_far, distance_at, tried_of};
 
 use bc7_modes::{mode_of, mode_row};
 use bc7_places::splits::{read_lead, rotation_of};
 use line::read_line;
 use line_rules::Replacement;
-use nearest_rules::Found;
-use refusals::{NO_EXACT_INDEX, PIXEL_NOT_IN_LINE};
+use refusals::Refusal;
 use weights::weight_64;
 
 // A shown channel of a pixel: what the line's endpoints have there as eight bits, and what is wanted. A channel that the line doesn't
@@ -34,14 +33,6 @@ pub struct Channel {
 // The nearest index, and how far it is.
 #[derive(Clone, Copy)]
 pub struct Nearest {
-    pub index: u32,
-    pub distance: u32,
-}
-
-// The same, or a refusal.
-#[derive(Clone, Copy)]
-pub struct Tried {
-    pub refusal: u8,
     pub index: u8,
     pub distance: u32,
 }
@@ -125,22 +116,20 @@ fn search(red: Channel, green: Channel, blue: Channel, alpha: Channel, bits: u32
     requires { Searchable red green blue alpha bits }
     ensures { Searched red green blue alpha bits result }
 {
-    let count = 1u32 << bits;
-    let mut index: u32 = 0;
-    let mut least = distance(red, green, blue, alpha, bits, 0);
-    let mut i: u32 = 1;
-    while i < count {
+    let mut nearest = Nearest {
+        index: 0,
+        distance: distance(red, green, blue, alpha, bits, 0),
+    };
+    for i in 1..1u32 << bits {
         let next = distance(red, green, blue, alpha, bits, i);
-        if next < least {
-            least = next;
-            index = i;
+        if next < nearest.distance {
+            nearest = Nearest {
+                index: i as u8,
+                distance: next,
+            };
         }
-        i += 1;
     }
-    Nearest {
-        index: index,
-        distance: least,
-    }
+    nearest
 }
 
 // The value of an endpoint as eight bits, its p bit, where it has one, as the low bit.
@@ -186,18 +175,7 @@ fn rotation_in(block: [u8; 16]) -> u8
 {
     let mode = mode_of(block);
     let lead = read_lead(block, mode, mode_row(mode));
-    let split = lead.split;
-    rotation_of(split)
-}
-
-fn untried(refusal: u8) -> Tried
-    ensures { result ≡ tried_as refusal 0 0 }
-{
-    Tried {
-        refusal: refusal,
-        index: 0,
-        distance: 0,
-    }
+    rotation_of(lead.split)
 }
 
 // The wanted channels are in the order of a shown pixel; the line's are before rotation.
@@ -219,57 +197,51 @@ fn nearest_of(
 }
 
 // The line's widths say whether it has the pixel, and which channels it draws.
-fn try_indexes(block: [u8; 16], line: u32, pixel: u32, wanted: [u8; 4]) -> Tried
-    ensures { Tries block line pixel wanted result }
+fn try_indexes(
+    block: [u8; 16],
+    line: u32,
+    pixel: u32,
+    wanted: [u8; 4],
+) -> Result<Nearest, Refusal>
+    ensures { Tries block line pixel wanted (tried_of result) }
 {
-    let read = read_line(block, line);
-    if read.refusal != 0 {
-        return untried(read.refusal);
-    }
+    let read = read_line(block, line)?;
     if pixel >= 16 {
-        return untried(PIXEL_NOT_IN_LINE);
+        return Err(Refusal::PixelNotInLine);
     }
-    let stands = read.line;
-    let widths = read.widths;
-    let bits = widths.indexes[pixel as usize];
+    let bits = read.widths.indexes[pixel as usize];
     if bits == 0 {
-        return untried(PIXEL_NOT_IN_LINE);
+        return Err(Refusal::PixelNotInLine);
     }
-    let found = nearest_of(stands, widths, rotation_in(block), bits, wanted);
-    Tried {
-        refusal: 0,
-        index: found.index as u8,
-        distance: found.distance,
-    }
+    Ok(nearest_of(read.line, read.widths, rotation_in(block), bits, wanted))
 }
 
 // Of every index of the line's full width, the one that draws nearest to the wanted colour at the pixel, the lowest of several; or the
 // first refusal that applies: 1, 2, 13.
-pub fn nearest_index(block: [u8; 16], line: u32, pixel: u32, wanted: [u8; 4]) -> Found
+pub fn nearest_index(
+    block: [u8; 16],
+    line: u32,
+    pixel: u32,
+    wanted: [u8; 4],
+) -> Result<u8, Refusal>
     ensures { FindsNearest block line pixel wanted result }
 {
-    let tried = try_indexes(block, line, pixel, wanted);
-    Found {
-        refusal: tried.refusal,
-        index: tried.index,
-    }
+    let nearest = try_indexes(block, line, pixel, wanted)?;
+    Ok(nearest.index)
 }
 
 // The index that draws the wanted colour, the lowest of several; or the first refusal that applies: 1, 2, 13, 14.
-pub fn exact_index(block: [u8; 16], line: u32, pixel: u32, wanted: [u8; 4]) -> Found
+pub fn exact_index(
+    block: [u8; 16],
+    line: u32,
+    pixel: u32,
+    wanted: [u8; 4],
+) -> Result<u8, Refusal>
     ensures { FindsExact block line pixel wanted result }
 {
-    let tried = try_indexes(block, line, pixel, wanted);
-    if tried.refusal == 0 {
-        if tried.distance != 0 {
-            return Found {
-                refusal: NO_EXACT_INDEX,
-                index: 0,
-            };
-        }
+    let nearest = try_indexes(block, line, pixel, wanted)?;
+    if nearest.distance != 0 {
+        return Err(Refusal::NoExactIndex);
     }
-    Found {
-        refusal: tried.refusal,
-        index: tried.index,
-    }
+    Ok(nearest.index)
 }

@@ -4,7 +4,9 @@ use mathlib.Core.Path.{◌≡◌, refl, ap}
 use mathlib.Core.List.{List, [], ◌∷◌, ◌++◌, map}
 use Prim.Native.Nat.{ℕ}
 use lib.ListN.{replicate}
-use Rattle.nearest_rules.specs.declared.Found.{Found}
+use Rattle.std.specs.Prelude.{Ok, Err}
+use Rattle.refusals.specs.Answers.{Answer}
+use Rattle.refusals.specs.declared.Refusal.TheVariants.{NoExactIndex, PixelNotInLine}
 use Rattle.laws.specs.Refusals.{first}
 use Rattle.laws.specs.Tables.{table, table_from}
 use Rattle.laws.proofs.Tests.{eqb_of}
@@ -28,14 +30,14 @@ pub record Claim : Type 0 where
   pub line : ℕ
   pub pixel : ℕ
   pub wanted : List ℕ
-  pub nearest : Found
-  pub exact : Found
+  pub nearest : Answer ℕ
+  pub exact : Answer ℕ
 
-abbrev refused : ℕ → Found
-refused n = record { refusal = n; index = 0 }
+abbrev refused : ℕ → Answer ℕ
+refused n = record { refusal = n; value = 0 }
 
-abbrev index : ℕ → Found
-index i = record { refusal = 0; index = i }
+abbrev index : ℕ → Answer ℕ
+index i = record { refusal = 0; value = i }
 
 abbrev rgba : ℕ → ℕ → ℕ → ℕ → List ℕ
 rgba r g b a = r ∷ g ∷ b ∷ a ∷ []
@@ -138,12 +140,12 @@ exact_as_claimed = refl
 -- THE PROMISES: of each call an accepted answer, a refused one, and one that it does not admit. The colour 77 85 93 130 has a nearest index,
 -- and none that hits: what the one call answers, the other may not
 pub record Promised : Type 0 where
-  pub finds_nearest : FindsNearest block7 1 8 (rgba 77 85 93 130) (index 1)
-  pub finds_nearest_not : FindsNearest block7 1 7 (rgba 77 85 93 130) (refused 13)
-  pub no_exact_for_nearest : FindsNearest block7 1 8 (rgba 77 85 93 130) (refused 14) → ⊥
-  pub finds_exact : FindsExact block7 1 8 (rgba 88 96 104 112) (index 1)
-  pub finds_exact_not : FindsExact block7 1 8 (rgba 77 85 93 130) (refused 14)
-  pub no_nearest_for_exact : FindsExact block7 1 8 (rgba 77 85 93 130) (index 1) → ⊥
+  pub finds_nearest : FindsNearest block7 1 8 (rgba 77 85 93 130) (Ok 1)
+  pub finds_nearest_not : FindsNearest block7 1 7 (rgba 77 85 93 130) (Err PixelNotInLine)
+  pub no_exact_for_nearest : FindsNearest block7 1 8 (rgba 77 85 93 130) (Err NoExactIndex) → ⊥
+  pub finds_exact : FindsExact block7 1 8 (rgba 88 96 104 112) (Ok 1)
+  pub finds_exact_not : FindsExact block7 1 8 (rgba 77 85 93 130) (Err NoExactIndex)
+  pub no_nearest_for_exact : FindsExact block7 1 8 (rgba 77 85 93 130) (Ok 1) → ⊥
 
 pub promises_hold : Promised
 unfolding first table table_from digits marks strings2 strings3 subset2 subset3 anchors2 anchors3 mode_row kind_of_mode endpoint_count
@@ -153,8 +155,8 @@ unfolding first table table_from digits marks strings2 strings3 subset2 subset3 
 promises_hold = record {
   finds_nearest = refl;
   finds_nearest_not = refl;
-  no_exact_for_nearest = λ e. eqb_of _ _ (ap (λ (f : Found). f.refusal) e);
+  no_exact_for_nearest = λ e. eqb_of _ _ (ap (λ (f : Answer ℕ). f.refusal) e);
   finds_exact = refl;
   finds_exact_not = refl;
-  no_nearest_for_exact = λ e. eqb_of _ _ (ap (λ (f : Found). f.refusal) e);
+  no_nearest_for_exact = λ e. eqb_of _ _ (ap (λ (f : Answer ℕ). f.refusal) e);
 }

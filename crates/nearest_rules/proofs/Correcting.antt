@@ -50,7 +50,7 @@ module _ (bs : List ℕ) (sixteen : Fit eights bs) (l q : ℕ) (ok : nearest_ref
   pub in_line_holds : InLine s l q
   in_line_holds = ((met_when (nearest_answers bs sixteen l q)).0 ok).1.1.0
 
-  read_line_is : (line_read bs l).line ≡ given_as stored
+  read_line_is : (line_read bs l).value.line ≡ given_as stored
   read_line_is = stands_as bs sixteen l readable
 
   read_fits : Acceptable m s l (line_given (given_as stored))
@@ -82,18 +82,18 @@ module _ (bs : List ℕ) (sixteen : Fit eights bs) (l q : ℕ) (ok : nearest_ref
     unfolding correction line_given
     given_p = p_is bs sixteen l readable
 
-    read_long : length (line_read bs l).line.indexes ≡ 16
+    read_long : length (line_read bs l).value.line.indexes ≡ 16
     unfolding given_as
     read_long = ap (λ (r : Replacement). length r.indexes) read_line_is ∙ length_table 16 stored.index
 
     given_there : given.index q ≡ i
     unfolding correction line_given
-    given_there = get_or-set_same (line_read bs l).line.indexes q i 0 (rw read_long in_line_holds.pixel)
+    given_there = get_or-set_same (line_read bs l).value.line.indexes q i 0 (rw read_long in_line_holds.pixel)
 
     given_elsewhere : (k : ℕ) → k ≢ q → given.index k ≡ (line_given (given_as stored)).index k
     unfolding correction line_given
     given_elsewhere k ne =
-        get_or-set_other (line_read bs l).line.indexes q k i 0 ne ∙ ap (λ (r : Replacement). get_or r.indexes k 0) read_line_is
+        get_or-set_other (line_read bs l).value.line.indexes q k i 0 ne ∙ ap (λ (r : Replacement). get_or r.indexes k 0) read_line_is
 
     given_acceptable : Acceptable m s l given
     unfolding index_count
@@ -139,7 +139,7 @@ module _ (bs : List ℕ) (sixteen : Fit eights bs) (l q : ℕ) (ok : nearest_ref
   pub stored_draws : (c : ℕ) → c < 4 → draws m s l q c ≡ true → drawn_with bs l q stored_index c ≡ pixel bs q c
   unfolding drawn_with with_index means_shown line_given
   stored_draws c hc d =
-      means_ext m s l (with_index (stored.index q) stored) (line_given (line_read bs l).line) q (rotated (rotation s) c)
+      means_ext m s l (with_index (stored.index q) stored) (line_given (line_read bs l).value.line) q (rotated (rotation s) c)
       (λ k hk. sym (value_is bs sixteen l readable k _ hk (rotated_lt (rotation s) c (good_rotation good) hc)))
       (λ n k hk. sym (p_is bs sixteen l readable k hk))
       (sym (ap (λ (r : Replacement). (line_given r).index q) read_line_is ∙ (given_line stored).index q in_line_holds.pixel))

@@ -10,7 +10,7 @@ use borrow.Author.Tests.{le-ltb, lt-ltb}
 use lib.Dec.{eqb}
 use lib.ListN.{get_or}
 use Rattle.line_rules.specs.declared.LineRead.{LineRead}
-use Rattle.line_rules.specs.declared.Replaced.{Replaced}
+use Rattle.refusals.specs.Answers.{Answer}
 use Rattle.line_rules.specs.declared.Replacement.{Replacement}
 use Rattle.bc7_format.specs.declared.Split.{Split}
 use Rattle.laws.specs.Digits.{Fit}
@@ -65,53 +65,53 @@ module _ (bs : List ℕ) (sixteen : Fit eights bs) (l : ℕ) (readable : read_re
   well_formed = opened_good bs sixteen (open_mode bs sixteen first_byte)
 
   -- the line stands as it is stored, and could be put in again
-  pub stands_as : (line_read bs l).line ≡ given_as stored
-  stands_as = ap (λ (r : LineRead). r.line) (read_is bs l readable)
+  pub stands_as : (line_read bs l).value.line ≡ given_as stored
+  stands_as = ap (λ (r : Answer LineRead). r.value.line) (read_is bs l readable)
 
   pub stands_fits : Acceptable m s l (line_given (given_as stored))
   unfolding replaced
   stands_fits =
-      let e = ap (λ (r : Replaced). r.refusal) (replaced_by_read bs sixteen l readable) in
-      rw stands_as at ((accepted_when bs sixteen (call_of l (line_read bs l).line)).0 e).1
+      let e = ap (λ (r : Answer (List ℕ)). r.refusal) (replaced_by_read bs sixteen l readable) in
+      rw stands_as at ((accepted_when bs sixteen (call_of l (line_read bs l).value.line)).0 e).1
 
   -- its widths are those of the format
   own : OwnWidths m s l
   own = the_widths bs sixteen first_byte l line_there
 
-  widths_as : (line_read bs l).widths ≡ given_as (widths_of m s l)
-  widths_as = ap (λ (r : LineRead). r.widths) (read_is bs l readable)
+  widths_as : (line_read bs l).value.widths ≡ given_as (widths_of m s l)
+  widths_as = ap (λ (r : Answer LineRead). r.value.widths) (read_is bs l readable)
 
   pub width_is : (d : ℕ) → d < 4
-      → channel_width (line_read bs l).widths d ≡ pick (is_vector s) (pick (eqb (pick (eqb d 3) 1 0) l) (channel_bits m d) 0) (channel_bits m d)
+      → channel_width (line_read bs l).value.widths d ≡ pick (is_vector s) (pick (eqb (pick (eqb d 3) 1 0) l) (channel_bits m d) 0) (channel_bits m d)
   unfolding widths_of line_given
   width_is d hd =
       ap (λ (r : Replacement). get_or r.endpoints d 0) widths_as
       ∙ ap (λ (i : ℕ). get_or (given_as (widths_of m s l)).endpoints i 0) (let z : d ≡ 4 * 0 + d = omega arith in z)
       ∙ (given_line (widths_of m s l)).value 0 d (omega arith) hd ∙ own.value 0 d (omega arith) hd
 
-  pub p_width_is : p_in (line_read bs l).widths 0 ≡ pick (eqb (p_count m) 0) 0 1
+  pub p_width_is : p_in (line_read bs l).value.widths 0 ≡ pick (eqb (p_count m) 0) 0 1
   unfolding widths_of line_given
   p_width_is = ap (λ (r : Replacement). get_or r.p 0 0) widths_as ∙ (given_line (widths_of m s l)).p 0 (omega arith) ∙ own.p 0 (omega arith)
 
   -- each value is within its width
-  pub value_is : (k d : ℕ) → k < 2 → d < 4 → value_in (line_read bs l).line k d ≡ stored.value k d
+  pub value_is : (k d : ℕ) → k < 2 → d < 4 → value_in (line_read bs l).value.line k d ≡ stored.value k d
   unfolding line_given
   value_is k d hk hd = ap (λ (r : Replacement). get_or r.endpoints (4 * k + d) 0) stands_as ∙ (given_line stored).value k d hk hd
 
-  pub p_is : (k : ℕ) → k < 2 → p_in (line_read bs l).line k ≡ stored.p k
+  pub p_is : (k : ℕ) → k < 2 → p_in (line_read bs l).value.line k ≡ stored.p k
   unfolding line_given
   p_is k hk = ap (λ (r : Replacement). get_or r.p k 0) stands_as ∙ (given_line stored).p k hk
 
-  pub value_fits_is : (k d : ℕ) → k < 2 → d < 4 → value_in (line_read bs l).line k d < 2 ^ channel_width (line_read bs l).widths d
+  pub value_fits_is : (k d : ℕ) → k < 2 → d < 4 → value_in (line_read bs l).value.line k d < 2 ^ channel_width (line_read bs l).value.widths d
   value_fits_is k d hk hd =
       rw (value_is k d hk hd, width_is d hd, ← (own.value k d hk hd), ← ((given_line stored).value k d hk hd)) (stands_fits.within.value k d hk hd)
 
-  pub p_fits_is : (k : ℕ) → k < 2 → p_in (line_read bs l).line k < 2 ^ p_in (line_read bs l).widths 0
+  pub p_fits_is : (k : ℕ) → k < 2 → p_in (line_read bs l).value.line k < 2 ^ p_in (line_read bs l).value.widths 0
   p_fits_is k hk = rw (p_is k hk, p_width_is, ← (own.p k hk), ← ((given_line stored).p k hk)) (stands_fits.within.p k hk)
 
   module _ (q : ℕ) where
     abbrev width : ℕ
-    width = get_or (line_read bs l).widths.indexes q 0
+    width = get_or (line_read bs l).value.widths.indexes q 0
 
     index_width_is : q < 16 → width ≡ pick (is_vector s) (line_bits m s l) (pick (eqb (subset s q) l) (line_bits m s l) 0)
     unfolding widths_of line_given

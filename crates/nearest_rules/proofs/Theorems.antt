@@ -11,7 +11,9 @@ use borrow.Author.Tests.{eq-eqb}
 use lib.Dec.{lit<}
 use lib.ListN.{get_or}
 use lib.Pow.{pow_pos}
-use Rattle.nearest_rules.specs.declared.Found.{Found}
+use Rattle.std.specs.Prelude.{Result}
+use Rattle.refusals.specs.declared.Refusal.{Refusal}
+use Rattle.refusals.proofs.Answers.{answer_fixes}
 use Rattle.laws.specs.Digits.{Fit}
 use Rattle.laws.specs.Refusals.{Given}
 use Rattle.laws.specs.Tables.{pick}
@@ -62,10 +64,10 @@ module _ (bs : List ℕ) (l q : ℕ) (wanted : List ℕ) where
   d = distance bs l q wanted
 
   abbrev near : ℕ
-  near = (nearest_index bs l q wanted).index
+  near = (nearest_index bs l q wanted).value
 
   abbrev exact : ℕ
-  exact = (exact_index bs l q wanted).index
+  exact = (exact_index bs l q wanted).value
 
   module _ (ok : (nearest_index bs l q wanted).refusal ≡ 0) where
     near_is : near ≡ least_at (index_count bs l) d
@@ -152,11 +154,11 @@ channel bs l q wanted i e (suc (suc (suc (suc c)))) hc = absurd (let z : ⊥ = o
 -- so after the correction by the index that hits, the pixel shows what was wanted
 pub hit_is_shown : (bs : List ℕ) → Fit eights bs → (l q : ℕ) (wanted : List ℕ) → (exact_index bs l q wanted).refusal ≡ 0
     → (c : ℕ) → c < 4 → draws (mode_of bs) (split_of bs) l q c ≡ true
-    → pixel (after bs (call_of l (correction bs l q (exact_index bs l q wanted).index))) q c ≡ get_or wanted c 0
+    → pixel (after bs (call_of l (correction bs l q (exact_index bs l q wanted).value))) q c ≡ get_or wanted c 0
 unfolding channel_distance nearest_index
 hit_is_shown bs h l q wanted ok c hc dr =
     let (below, zero_there, before) = exact_hits bs l q wanted ok h in
-    let i = (exact_index bs l q wanted).index in
+    let i = (exact_index bs l q wanted).value in
     let e : channel_distance bs l q wanted i c ≡ 0 = channel bs l q wanted i zero_there c hc in
     (measured_is_drawn bs h l q (exact_is_nearest bs l q wanted ok h).0 i below).shown c hc dr
     ∙ squared_0 _ _ (sym (ap (λ (b : Bool). pick b (squared (drawn_with bs l q i c) (get_or wanted c 0)) 0) dr) ∙ e)
@@ -186,10 +188,10 @@ shown_is_hit bs h l q wanted ok same = (exact_when bs h l q wanted).1 (ok, hit)
     }
 
 -- DEMAND 1: any two answers that the promises of the calls admit coincide
-pub determined_nearest : (bs : List ℕ) (l q : ℕ) (wanted : List ℕ) (a b : Found)
+pub determined_nearest : (bs : List ℕ) (l q : ℕ) (wanted : List ℕ) (a b : Result ℕ Refusal)
     → FindsNearest bs l q wanted a → FindsNearest bs l q wanted b → a ≡ b
-determined_nearest bs l q wanted a b ea eb = ea ∙ sym eb
+determined_nearest bs l q wanted a b ea eb = answer_fixes 0 a b (ea ∙ sym eb)
 
-pub determined_exact : (bs : List ℕ) (l q : ℕ) (wanted : List ℕ) (a b : Found)
+pub determined_exact : (bs : List ℕ) (l q : ℕ) (wanted : List ℕ) (a b : Result ℕ Refusal)
     → FindsExact bs l q wanted a → FindsExact bs l q wanted b → a ≡ b
-determined_exact bs l q wanted a b ea eb = ea ∙ sym eb
+determined_exact bs l q wanted a b ea eb = answer_fixes 0 a b (ea ∙ sym eb)

@@ -1,7 +1,7 @@
 -- Which index of a line is nearest to a wanted colour at a pixel, and which hits it.
 -- Assumes nothing.
 use Rattle.std.specs.Prelude.{◌≡◌, Bool, true, false, not, List, [], ◌∷◌, ◌++◌, ℕ, zero, suc, ◌+◌, ◌-◌, ◌*◌, ◌^◌, ◌<◌, eqb, ltb, get_or, set}
-use Rattle.nearest_rules.specs.declared.Found.{Found}
+use Rattle.refusals.specs.Answers.{Answer}
 use Rattle.line_rules.specs.declared.Replacement.{Replacement}
 use Rattle.bc7_format.specs.declared.Split.{Split}
 use Rattle.laws.specs.Refusals.{Rule, first, refuse, unless}
@@ -63,14 +63,14 @@ unfoldable pub exact_refusal : List ℕ → ℕ → ℕ → List ℕ → ℕ
 exact_refusal bs l q wanted =
     first (nearest_refusal bs l q ∷ refuse 14 (not (ltb (zero_at (index_count bs l) (distance bs l q wanted)) (index_count bs l))) ∷ [])
 
--- what the calls answer
-abbrev pub found_as : ℕ → ℕ → Found
-found_as r i = record { refusal = r; index = pick (eqb r 0) i 0 }
+-- what the calls answer: a refusal has 0 for its index
+abbrev pub found_as : ℕ → ℕ → Answer ℕ
+found_as r i = record { refusal = r; value = pick (eqb r 0) i 0 }
 
-unfoldable pub nearest_index : List ℕ → ℕ → ℕ → List ℕ → Found
+unfoldable pub nearest_index : List ℕ → ℕ → ℕ → List ℕ → Answer ℕ
 nearest_index bs l q wanted = found_as (nearest_refusal bs l q) (least_at (index_count bs l) (distance bs l q wanted))
 
-unfoldable pub exact_index : List ℕ → ℕ → ℕ → List ℕ → Found
+unfoldable pub exact_index : List ℕ → ℕ → ℕ → List ℕ → Answer ℕ
 exact_index bs l q wanted = found_as (exact_refusal bs l q wanted) (zero_at (index_count bs l) (distance bs l q wanted))
 
 -- THE RULES IN WORDS
@@ -92,5 +92,5 @@ exact_rules bs l q wanted = nearest_rules bs l q ++ (unless 14 (Hit bs l q wante
 -- THE CORRECTION THAT FOLLOWS: the line as it stands in the block, with index i at pixel q
 unfoldable pub correction : List ℕ → ℕ → ℕ → ℕ → Replacement
 correction bs l q i =
-    let ln = (line_read bs l).line in
+    let ln = (line_read bs l).value.line in
     record { endpoints = ln.endpoints; p = ln.p; indexes = set ln.indexes q i }

@@ -95,28 +95,27 @@ pub fn rinchovek_bc7_read_line(
     ensures { ReadsLine block.now line (replacement.old, widths.old) result
         (replacement.new, widths.new) }
 {
-    let read = read_line(*block, line);
-    if read.refusal != 0 {
-        return read.refusal as u32;
+    match read_line(*block, line) {
+        Ok(read) => {
+            *replacement = replacement_bytes(read.line);
+            *widths = replacement_bytes(read.widths);
+            0
+        }
+        Err(refusal) => refusal.number() as u32,
     }
-    let held = read.line;
-    let bits = read.widths;
-    *replacement = replacement_bytes(held);
-    *widths = replacement_bytes(bits);
-    0
 }
 
 // A line of a block replaced in its place, by a replacement of 26 bytes.
 pub fn rinchovek_bc7_replace_line(block: &mut [u8; 16], line: u32, replacement: &[u8; 26]) -> u32
     ensures { Replaces block.old line replacement.now result block.new }
 {
-    let answer = replace_line(*block, line, replacement_of(*replacement));
-    if answer.refusal != 0 {
-        return answer.refusal as u32;
+    match replace_line(*block, line, replacement_of(*replacement)) {
+        Ok(after) => {
+            *block = after;
+            0
+        }
+        Err(refusal) => refusal.number() as u32,
     }
-    let bytes = answer.block;
-    *block = bytes;
-    0
 }
 
 // The index of a line whose colour at a pixel is nearest to the wanted one.
@@ -129,12 +128,13 @@ pub fn rinchovek_bc7_nearest_index(
 ) -> u32
     ensures { FindsNearest block.now line pixel wanted.now index.old result index.new }
 {
-    let found = nearest_index(*block, line, pixel, *wanted);
-    if found.refusal != 0 {
-        return found.refusal as u32;
+    match nearest_index(*block, line, pixel, *wanted) {
+        Ok(nearest) => {
+            *index = nearest as u32;
+            0
+        }
+        Err(refusal) => refusal.number() as u32,
     }
-    *index = found.index as u32;
-    0
 }
 
 // The index of a line that gives a pixel the wanted colour exactly.
@@ -147,12 +147,13 @@ pub fn rinchovek_bc7_exact_index(
 ) -> u32
     ensures { FindsExact block.now line pixel wanted.now index.old result index.new }
 {
-    let hit = exact_index(*block, line, pixel, *wanted);
-    if hit.refusal != 0 {
-        return hit.refusal as u32;
+    match exact_index(*block, line, pixel, *wanted) {
+        Ok(hit) => {
+            *index = hit as u32;
+            0
+        }
+        Err(refusal) => refusal.number() as u32,
     }
-    *index = hit.index as u32;
-    0
 }
 
 // Whether a block is opaque of which the first so many columns and rows are shown.

@@ -7,7 +7,7 @@ use Prim.Native.Nat.{ℕ}
 use borrow.Author.Tests.{eq-eqb, ne_eqb}
 use Rattle.head_rules.specs.Heads.{read_head}
 use Rattle.line_rules.specs.declared.Replacement.{Replacement}
-use Rattle.line_rules.specs.declared.Replaced.{Replaced}
+use Rattle.refusals.specs.Answers.{Answer}
 use Rattle.line_rules.specs.Read.{replacement_of}
 use Rattle.sheet_rules.specs.Sheets.{replaced_in}
 use Rattle.count_rules.specs.declared.Counts.{Counts}
@@ -17,7 +17,7 @@ use Rattle.count_rules.specs.Keeping.{kept_answer, kept_counts, kept_refusal, ke
 use Rattle.count_rules.proofs.Plain.{sheet_left}
 use Rattle.rinchovek_rules.specs.Promises.{Keeps, counts_of_ten, ten_of}
 
-module _ (s c : List ℕ) (b : ℕ) (made : Replaced) {n : Counts} (en : n ≡ counts_of_ten c) {a : Counted} {t : List ℕ} (k : keeping.Keeps s n b made a t)
+module _ (s c : List ℕ) (b : ℕ) (made : Answer (List ℕ)) {n : Counts} (en : n ≡ counts_of_ten c) {a : Counted} {t : List ℕ} (k : keeping.Keeps s n b made a t)
   where
     told : a.refusal ≡ kept_refusal (read_head s) s (counts_of_ten c) b made
     unfolding kept_answer

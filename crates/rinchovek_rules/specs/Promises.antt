@@ -12,7 +12,7 @@ use Rattle.head_rules.specs.Colours.{colour_number}
 use Rattle.head_rules.specs.Geometry.{across, blocks_of}
 use Rattle.head_rules.specs.Heads.{form_number, read_head, read_of_form, write_head}
 use Rattle.line_rules.specs.declared.LineRead.{LineRead}
-use Rattle.line_rules.specs.declared.Replaced.{Replaced}
+use Rattle.refusals.specs.Answers.{Answer}
 use Rattle.line_rules.specs.Read.{line_read, replacement_bytes, replacement_of}
 use Rattle.line_rules.specs.Replace.{replaced}
 use Rattle.record_rules.specs.Records.{taken_apart}
@@ -64,19 +64,19 @@ abbrev pub line_and_widths : LineRead → List ℕ × List ℕ
 line_and_widths read = (replacement_bytes read.line, replacement_bytes read.widths)
 
 abbrev pub ReadsLine : List ℕ → ℕ → List ℕ × List ℕ → ℕ → List ℕ × List ℕ → Type 0
-ReadsLine block line before = Writes (line_read block line).refusal (line_and_widths (line_read block line)) before
+ReadsLine block line before = Writes (line_read block line).refusal (line_and_widths (line_read block line).value) before
 
 abbrev pub Replaces : List ℕ → ℕ → List ℕ → ℕ → List ℕ → Type 0
-Replaces block line bytes = Gives (replaced block line (replacement_of bytes)).refusal (replaced block line (replacement_of bytes)).block
+Replaces block line bytes = Gives (replaced block line (replacement_of bytes)).refusal (replaced block line (replacement_of bytes)).value
 
 -- the nearest index, and the one that hits
 abbrev pub FindsNearest : List ℕ → ℕ → ℕ → List ℕ → ℕ → ℕ → ℕ → Type 0
 FindsNearest block line pixel wanted before =
-    Writes (nearest_index block line pixel wanted).refusal (nearest_index block line pixel wanted).index before
+    Writes (nearest_index block line pixel wanted).refusal (nearest_index block line pixel wanted).value before
 
 abbrev pub FindsExact : List ℕ → ℕ → ℕ → List ℕ → ℕ → ℕ → ℕ → Type 0
 FindsExact block line pixel wanted before =
-    Writes (exact_index block line pixel wanted).refusal (exact_index block line pixel wanted).index before
+    Writes (exact_index block line pixel wanted).refusal (exact_index block line pixel wanted).value before
 
 -- 1 for an opaque block, 0 for any other: a call that refuses nothing and writes nothing
 abbrev pub TellsOpaque : List ℕ → ℕ → ℕ → ℕ → Type 0
@@ -159,7 +159,7 @@ abbrev pub CountsSheet : List ℕ → List ℕ → ℕ → List ℕ → Type 0
 CountsSheet sheet before = Writes (counted_of (read_head sheet) sheet).refusal (ten_of (counted_of (read_head sheet) sheet).counts) before
 
 -- a block of a sheet changed with the counts beside it, both lent: `made` is the block's own answer, and the block that it makes
-abbrev pub Keeps : List ℕ × List ℕ → ℕ → Replaced → ℕ → List ℕ × List ℕ → Type 0
+abbrev pub Keeps : List ℕ × List ℕ → ℕ → Answer (List ℕ) → ℕ → List ℕ × List ℕ → Type 0
 Keeps lent block made =
     let h = read_head lent.0 in
     let n = counts_of_ten lent.1 in

@@ -7,7 +7,7 @@ use Rattle.bcn_format.specs.Block.{block_at, put_block}
 use Rattle.head_rules.specs.Heads.{read_head}
 use Rattle.sheet.specs.declared.blocks.Found.{Found}
 use Rattle.line_rules.specs.declared.Replacement.{Replacement}
-use Rattle.line_rules.specs.declared.Replaced.{Replaced}
+use Rattle.refusals.specs.Answers.{Answer}
 use Rattle.laws.specs.Refusals.{here, then}
 use Rattle.laws.proofs.Refusals.{exactly, handed_last}
 use Rattle.line_rules.specs.Replace.{replaced}
@@ -26,19 +26,19 @@ module _ (s : List ℕ) (b l : ℕ) (new : Replacement) where
     not_found ne = refused ((exactly (handing s b l new) _).1 (rw (refusal_is s b ef) (here (rw (refusal_is s b ef) at ne)))) ne
 
     module _ (a : f.refusal ≡ 0) where
-      module _ {block : List ℕ} (eb : block ≡ block_at s f.at) {r : Replaced} (er : r ≡ replaced block l new) where
+      module _ {block : List ℕ} (eb : block ≡ block_at s f.at) {r : Answer (List ℕ)} (er : r ≡ replaced block l new) where
         answer_is : r ≡ replaced_in (read_head s) s b l new
         unfolding replaced_in block_by
         answer_is = er ∙ ap (λ (k : List ℕ). replaced k l new) eb ∙ ap (λ (at : ℕ). replaced (block_at s at) l new) (at_is s b ef a)
 
         refusal_then : sheet_refusal (read_head s) s b l new ≡ r.refusal
-        refusal_then = (exactly (handing s b l new) _).1 (then (told s b ef a) (handed_last _)) ∙ ap (λ (x : Replaced). x.refusal) (sym answer_is)
+        refusal_then = (exactly (handing s b l new) _).1 (then (told s b ef a) (handed_last _)) ∙ ap (λ (x : Answer (List ℕ)). x.refusal) (sym answer_is)
 
         pub not_replaced : (r.refusal ≡ 0 → ⊥) → (r.refusal ≡ sheet_refusal (read_head s) s b l new) × (s ≡ sheet_after (read_head s) s b l new)
         not_replaced ne = refused refusal_then ne
 
-        pub replaced_stored : r.refusal ≡ 0 → {after : List ℕ} → after ≡ put_block s f.at r.block → (0 ≡ sheet_refusal (read_head s) s b l new)
+        pub replaced_stored : r.refusal ≡ 0 → {after : List ℕ} → after ≡ put_block s f.at r.value → (0 ≡ sheet_refusal (read_head s) s b l new)
             × (after ≡ sheet_after (read_head s) s b l new)
         replaced_stored z e =
             let q = refusal_then ∙ z in
-            (sym q, e ∙ ap₂ (λ (at : ℕ) (x : Replaced). put_block s at x.block) (at_is s b ef a) answer_is ∙ sym (accepted_is s b l new q))
+            (sym q, e ∙ ap₂ (λ (at : ℕ) (x : Answer (List ℕ)). put_block s at x.value) (at_is s b ef a) answer_is ∙ sym (accepted_is s b l new q))

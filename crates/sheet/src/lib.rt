@@ -82,11 +82,11 @@ pub fn replace_in_sheet(sheet: &mut [u8], block: u32, line: u32, new: line_rules
         return found.refusal;
     }
     let at = found.at;
-    let replaced = line::replace_line(load(sheet, at), line, new);
-    if replaced.refusal != 0 {
-        return replaced.refusal;
+    match line::replace_line(load(sheet, at), line, new) {
+        Ok(after) => {
+            store(sheet, at, after);
+            0
+        }
+        Err(refusal) => refusal.number(),
     }
-    let after = replaced.block;
-    store(sheet, at, after);
-    0
 }

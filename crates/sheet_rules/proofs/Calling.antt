@@ -24,7 +24,7 @@ use Rattle.sheet_rules.proofs.Replacing.{accepted_is, refused_is, replacing}
 pub unchanged : (s : List ℕ) (c : SheetCall) → refusal_on s c ≢ 0 → sheet_with s c ≡ s
 unchanged s c = refused_is s c.block c.line c.given
 
-block_is : (s : List ℕ) (c : SheetCall) → (replaced_in (read_head s) s c.block c.line c.given).block ≡ after (block_in s c.block) (on_block c)
+block_is : (s : List ℕ) (c : SheetCall) → (replaced_in (read_head s) s c.block c.line c.given).value ≡ after (block_in s c.block) (on_block c)
 unfolding replaced_in replaced
 block_is s c = refl
 

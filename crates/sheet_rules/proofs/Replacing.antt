@@ -22,7 +22,7 @@ module _ (s : List ℕ) (b l : ℕ) (new : Replacement) where
   unfolding sheet_after
   refused_is ne = rw (ne_eqb (sheet_refusal h s b l new) 0 ne)
 
-  pub accepted_is : sheet_refusal h s b l new ≡ 0 → sheet_after h s b l new ≡ put_block s (place_of h b) (replaced_in h s b l new).block
+  pub accepted_is : sheet_refusal h s b l new ≡ 0 → sheet_after h s b l new ≡ put_block s (place_of h b) (replaced_in h s b l new).value
   unfolding sheet_after
   accepted_is e = rw (eq-eqb (sheet_refusal h s b l new) 0 e)
 

@@ -2,7 +2,7 @@
 -- Assumes nothing.
 use Rattle.std.specs.Prelude.{ℕ, ◌<◌, ◌≡◌, List, [], ◌∷◌, ◌++◌, eqb, leb}
 use Rattle.line_rules.specs.declared.Replacement.{Replacement}
-use Rattle.line_rules.specs.declared.Replaced.{Replaced}
+use Rattle.refusals.specs.Answers.{Answer}
 use Rattle.head_rules.specs.Geometry.{blocks_of, place_of}
 use Rattle.head_rules.specs.Answers.{Head}
 use Rattle.laws.specs.Refusals.{Rule, first, handed, refuse, unless}
@@ -34,7 +34,7 @@ abbrev pub find_rules : Head → List ℕ → ℕ → List Rule
 find_rules h s b = handed h.refusal ∷ behind_head h s b
 
 -- what replacing in the block answers
-unfoldable pub replaced_in : Head → List ℕ → ℕ → ℕ → Replacement → Replaced
+unfoldable pub replaced_in : Head → List ℕ → ℕ → ℕ → Replacement → Answer (List ℕ)
 replaced_in h s b l new = replaced (block_by h s b) l new
 
 -- the head's refusal, 10, 12, then as for a block
@@ -47,7 +47,7 @@ sheet_rules s b l new = head_rules s ++ behind_head (read_head s) s b ++ call_ru
 
 -- the sheet afterwards
 unfoldable pub sheet_after : Head → List ℕ → ℕ → ℕ → Replacement → List ℕ
-sheet_after h s b l new = pick (eqb (sheet_refusal h s b l new) 0) (put_block s (place_of h b) (replaced_in h s b l new).block) s
+sheet_after h s b l new = pick (eqb (sheet_refusal h s b l new) 0) (put_block s (place_of h b) (replaced_in h s b l new).value) s
 
 -- what `replace_in_sheet` promises: its answer, and every byte of the sheet
 abbrev pub ReplacesInSheet : List ℕ → ℕ → ℕ → Replacement → ℕ → List ℕ → Type 0

@@ -7,6 +7,7 @@ use mir.Syntax.{w8}
 use mir.Val.{Fits}
 use lib.ListN.{length, get_or}
 use Rattle.bc7_format.proofs.Subsets.{sixteen_bytes}
+use Rattle.std.specs.Prelude.{None}
 use Rattle.chart.proofs.Answers.{answered, of_mode_is}
 use Rattle.chart.proofs.accepted.Goals as goal
 
@@ -26,4 +27,4 @@ put_places-length-requires c =
 
 pub returns : goal.returns
 returns c =
-    answered 0 (rw c.read_lead-lead.ensures.split at c.put_places-length.ensures)
+    answered None (rw c.read_lead-lead.ensures.split at c.put_places-length.ensures)

@@ -47,7 +47,7 @@ counted : (c : Else-line-row) → (call (unreserved c)).args.line < lines (mode_
 counted c = rw (mode_row_is c) at c.if-line-row.false
 
 pub returns-then-mode-eq8 : goal.returns-then-mode-eq8
-returns-then-mode-eq8 c = let s = c in c.unread.ensures ∙ read_1 _ _ (sym c.mode_of-mode.ensures ∙ c.if-mode-eq8.true)
+returns-then-mode-eq8 c = read_1 _ _ (sym c.mode_of-mode.ensures ∙ c.if-mode-eq8.true)
 
 pub mode_row-row-requires : goal.mode_row-row-requires
 mode_row-row-requires c = rw (mode_is c) (low c)
@@ -55,8 +55,8 @@ mode_row-row-requires c = rw (mode_is c) (low c)
 pub returns-then-line-row : goal.returns-then-line-row
 returns-then-line-row c =
     let d = c in
-    let k = rw (c.mode_row-row.ensures ∙ ap mode_row_of (mode_is c.before.before.before.before)) at c.if-line-row.true in
-    c.unread-then-line-row.ensures ∙ read_2 _ _ (low c.before.before.before.before) k
+    let k = rw (c.mode_row-row.ensures ∙ ap mode_row_of (mode_is c.before.before.before)) at c.if-line-row.true in
+    read_2 _ _ (low c.before.before.before) k
 
 pub open_line-opened-requires : goal.open_line-opened-requires
 open_line-opened-requires c =
@@ -66,14 +66,14 @@ open_line-opened-requires c =
       there = rw e (counted c);
     }
 
-pub line_held-stands-requires : goal.line_held-stands-requires
-line_held-stands-requires c =
+pub line_held-requires : goal.line_held-requires
+line_held-requires c =
     let o = c in
     let d = unreserved c.before.before.before in
     ready_read _ (sixteen (call d)) (low d) _ (counted c.before.before.before) o.open_line-opened.ensures (mode_row_is c.before.before.before)
 
-pub widths_of-widths-requires : goal.widths_of-widths-requires
-widths_of-widths-requires c =
+pub widths_of-requires : goal.widths_of-requires
+widths_of-requires c =
     let o = c in
     let d = unreserved c.before.before.before.before in
     ready_part _ (sixteen (call d)) (low d) _ (counted c.before.before.before.before) o.open_line-opened.ensures
@@ -83,4 +83,4 @@ returns c =
     let o = c in
     let d = unreserved c.before.before.before.before.before in
     read_0 _ (sixteen (call d)) (low d) _ (counted c.before.before.before.before.before) o.open_line-opened.ensures (mode_row_is c.before.before.before.before.before)
-    (rw (mode_is d) at c.line_held-stands.ensures) c.widths_of-widths.ensures
+    (rw (mode_is d) at c.line_held.ensures) c.widths_of.ensures

@@ -94,8 +94,8 @@ halves c = search rules
 
 pub returns-then-mode-eq8 : goal.returns-then-mode-eq8
 returns-then-mode-eq8 c =
-    let s = c.before.before.before in c.refused.ensures
-    ∙ way_1 _ (sixteen s) _ _ (long s) (sym c.mode_of-mode.ensures ∙ c.if-mode-eq8.true)
+    let s = c.before.before in
+    way_1 _ (sixteen s) _ _ (long s) (sym c.mode_of-mode.ensures ∙ c.if-mode-eq8.true)
 
 pub mode_row-row-requires : goal.mode_row-row-requires
 mode_row-row-requires c = rw (mode_is c) (low c)
@@ -103,8 +103,8 @@ mode_row-row-requires c = rw (mode_is c) (low c)
 pub returns-then-line-row : goal.returns-then-line-row
 returns-then-line-row c =
     let d = c in
-    let k = rw (c.mode_row-row.ensures ∙ ap mode_row_of (mode_is c.before.before.before.before)) at c.if-line-row.true in
-    c.refused-then-line-row.ensures ∙ way_2 _ (sixteen (call c.before.before.before.before)) _ _ (long (call c.before.before.before.before)) (low c.before.before.before.before) k
+    let k = rw (c.mode_row-row.ensures ∙ ap mode_row_of (mode_is c.before.before.before)) at c.if-line-row.true in
+    way_2 _ (sixteen (call c.before.before.before)) _ _ (long (call c.before.before.before)) (low c.before.before.before) k
 
 pub open_line-opened-requires : goal.open_line-opened-requires
 open_line-opened-requires c =
@@ -121,9 +121,8 @@ parts_fit-requires c = let i = line_is c.before in
 pub returns-then-not-parts_fit : goal.returns-then-not-parts_fit
 returns-then-not-parts_fit c =
     let o = c in
-    let d = unreserved c.before.before.before.before.before in
-    c.refused-then-not-parts_fit.ensures
-    ∙ way_3 _ (sixteen (call d)) _ _ (long (call d)) (low d) (counted c.before.before.before.before.before) o.open_line-opened.ensures
+    let d = unreserved c.before.before.before.before in
+    way_3 _ (sixteen (call d)) _ _ (long (call d)) (low d) (counted c.before.before.before.before) o.open_line-opened.ensures
     (sym c.parts_fit.ensures ∙ c.if-not-parts_fit.true)
 
 pub word_of-indexes-requires : goal.word_of-indexes-requires
@@ -142,21 +141,19 @@ pub returns-then-not-only_own : goal.returns-then-not-only_own
 returns-then-not-only_own c =
     let k = c in
     let f = k in
-    let o = opening c.before.before.before.before.before.before.before in
+    let o = opening c.before.before.before.before.before.before in
     let d = unreserved o.before in
-    c.refused-then-not-only_own.ensures
-    ∙ way_3_others _ (sixteen (call d)) _ _ (long (call d)) (low d) (counted o.before) o.open_line-opened.ensures (fitting c.before.before.before.before.before.before.before)
+    way_3_others _ (sixteen (call d)) _ _ (long (call d)) (low d) (counted o.before) o.open_line-opened.ensures (fitting c.before.before.before.before.before.before)
     k.word_of-indexes.ensures k.mask_of-mask.ensures
     (sym c.only_own.ensures ∙ c.if-not-only_own.true)
 
 pub returns-then-p_bits_differ : goal.returns-then-p_bits_differ
 returns-then-p_bits_differ c =
     let k = c in
-    let o = opening (fit c.before.before.before) in
+    let o = opening (fit c.before.before) in
     let d = unreserved o.before in
-    c.refused-then-p_bits_differ.ensures
-    ∙ way_4 _ (sixteen (call d)) _ _ (long (call d)) (low d) (counted o.before) o.open_line-opened.ensures (fitting (fit c.before.before.before))
-    (masking c.before.before.before).before.before.word_of-indexes.ensures (masking c.before.before.before).mask_of-mask.ensures (alone c.before.before.before)
+    way_4 _ (sixteen (call d)) _ _ (long (call d)) (low d) (counted o.before) o.open_line-opened.ensures (fitting (fit c.before.before))
+    (masking c.before.before).before.before.word_of-indexes.ensures (masking c.before.before).mask_of-mask.ensures (alone c.before.before)
     (rw (mode_is d) at (sym c.p_bits_differ.ensures ∙ c.if-p_bits_differ.true))
 
 pub oriented-stored-requires : goal.oriented-stored-requires
@@ -189,7 +186,7 @@ returns c =
     let o = opening (fit c.before.before.before.before.before.before) in
     let d = unreserved o.before in
     let r = c.put_line-after.result in
-    ap (replaced_as 0) c.bytes_of-bytes.ensures
+    ap (replaced_as 0) c.bytes_of.ensures
     ∙ way_0 _ (sixteen (call d)) _ _ (long (call d)) (low d) (counted o.before) o.open_line-opened.ensures (fitting (fit c.before.before.before.before.before.before))
     (masking c.before.before.before.before.before.before).before.before.word_of-indexes.ensures (masking c.before.before.before.before.before.before).mask_of-mask.ensures (alone c.before.before.before.before.before.before)
     (same c.before.before.before.before) c.oriented-stored.ensures (mode_row_is o.before) r (halves c.before).0

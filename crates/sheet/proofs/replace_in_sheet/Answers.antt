@@ -1,5 +1,7 @@
 -- `replace_in_sheet` meets its contract.
 -- Assumes nothing.
+use mathlib.Core.Path.{refl}
+use Rattle.refusals.proofs.Answers.{number_not_0}
 use Rattle.sheet.proofs.blocks.Finding.{has_room}
 use Rattle.sheet.proofs.Replacing.{not_found, not_replaced, replaced_stored}
 use Rattle.sheet.proofs.replace_in_sheet.Goals as goal
@@ -8,28 +10,16 @@ pub returns-then-found-ne0 : goal.returns-then-found-ne0
 returns-then-found-ne0 c = not_found _ _ _ _ c.find_block-found.ensures c.if-found-ne0.true
 
 pub load-requires : goal.load-requires
-load-requires c =
-    let e = c in
-    has_room _ _ e.find_block-found.ensures e.if-found-ne0.false
+load-requires c = has_room _ _ c.find_block-found.ensures c.if-found-ne0.false
 
-pub returns-then-replaced-ne0 : goal.returns-then-replaced-ne0
-returns-then-replaced-ne0 c =
-    let r = c in
-    let l = r in
-    let e = l in
-    not_replaced _ _ _ _ e.find_block-found.ensures e.if-found-ne0.false l.load.ensures r.replace_line-replaced.ensures c.if-replaced-ne0.true
+pub returns-in-Err : goal.returns-in-Err
+returns-in-Err c =
+    rw c.number.ensures
+    (not_replaced _ _ _ _ c.find_block-found.ensures c.if-found-ne0.false c.load.ensures c.in-Err.ensures (number_not_0 c.in-Err.refusal))
 
 pub store-requires : goal.store-requires
-store-requires c =
-    let e = c in
-    has_room _ _ e.find_block-found.ensures e.if-found-ne0.false
+store-requires c = has_room _ _ c.find_block-found.ensures c.if-found-ne0.false
 
-pub returns : goal.returns
-returns c =
-    let t = c in
-    let n = t in
-    let r = n in
-    let l = r in
-    let e = l in
-    replaced_stored _ _ _ _ e.find_block-found.ensures e.if-found-ne0.false l.load.ensures r.replace_line-replaced.ensures n.if-replaced-ne0.false
-    t.store.ensures
+pub returns-in-Ok : goal.returns-in-Ok
+returns-in-Ok c =
+    replaced_stored _ _ _ _ c.find_block-found.ensures c.if-found-ne0.false c.load.ensures c.in-Ok.ensures refl c.store.ensures
