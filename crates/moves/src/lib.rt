@@ -3,9 +3,10 @@
 
 #![tactic(auto)]
 
-ghost use Rattle.head_rules.specs.Answers.{known};
 ghost use Rattle.std.specs.Prelude.{◌≡◌, length};
 ghost use Rattle.head_rules.specs.declared.Form.TheVariants.{Rows, Tiles};
+ghost use Rattle.refusals.specs.Answers.{number_of};
+ghost use Rattle.head_rules.specs.Answers.{known};
 ghost use Rattle.head_rules.specs.Geometry.{whole_length};
 ghost use Rattle.head_rules.specs.Heads.{Sized};
 ghost use Rattle.tiles.specs.Parts.{Numbered};
@@ -16,10 +17,10 @@ ghost use Rattle.moves.specs.Rooms.{Lays, MovesBlocks, Stores};
 
 use block_bytes::{load, store};
 use head_rules::{Form, Head};
-use refusals::{COLOUR_SPACE_STATED, WRONG_OUTPUT_LENGTH};
-use sheet_head::colours::{colour_of, number_of};
+use refusals::Refusal;
+use sheet_head::colours::colour_of;
 use sheet_head::geometry::{blocks_across, blocks_of};
-use sheet_head::{read_whole_of_form, write_form};
+use sheet_head::{colours, read_whole_of_form, write_form};
 
 // Which of the stored blocks of a form a block is. The columns and rows are found once for all blocks: `place_of` would find them
 // again for each, and a move would take a hundred instructions a block.
@@ -81,51 +82,40 @@ fn lay(form: Form, head: Head, sheet: &[u8], out: &mut [u8])
 }
 
 // A sheet of the other form in this one. A refused call leaves the output as it was.
-fn move_to(form: Form, sheet: &[u8], out: &mut [u8]) -> u8
-    ensures { MovesTo form sheet.now out.old result out.new }
+fn move_to(form: Form, sheet: &[u8], out: &mut [u8]) -> Result<(), Refusal>
+    ensures { MovesTo form sheet.now out.old (number_of result) out.new }
 {
-    let head = match read_whole_of_form(other(form), sheet) {
-        Ok(head) => head,
-        Err(refusal) => return refusal.number(),
-    };
+    let head = read_whole_of_form(other(form), sheet)?;
     if out.len() != length_as(form, head) {
-        return WRONG_OUTPUT_LENGTH;
+        return Err(Refusal::WrongOutputLength);
     }
-    let colour_space = head.colour_space;
-    if number_of(colour_space) != 0 {
-        return COLOUR_SPACE_STATED;
+    if colours::number_of(head.colour_space) != 0 {
+        return Err(Refusal::ColourSpaceStated);
     }
     lay(form, head, sheet, out);
-    0
+    Ok(())
 }
 
-pub fn to_tiles(sheet: &[u8], out: &mut [u8]) -> u8
-    ensures { MovesTo Tiles sheet.now out.old result out.new }
+pub fn to_tiles(sheet: &[u8], out: &mut [u8]) -> Result<(), Refusal>
+    ensures { MovesTo Tiles sheet.now out.old (number_of result) out.new }
 {
     move_to(Form::Tiles, sheet, out)
 }
 
-pub fn to_rows(sheet: &[u8], out: &mut [u8]) -> u8
-    ensures { MovesTo Rows sheet.now out.old result out.new }
+pub fn to_rows(sheet: &[u8], out: &mut [u8]) -> Result<(), Refusal>
+    ensures { MovesTo Rows sheet.now out.old (number_of result) out.new }
 {
     move_to(Form::Rows, sheet, out)
 }
 
 // The colour space of a sheet of form 2, by its number: the byte before the first block, and no other. A refused call leaves the sheet as it
 // was.
-pub fn state_colour(sheet: &mut [u8], number: u32) -> u8
-    ensures { StatesColour sheet.old number result sheet.new }
+pub fn state_colour(sheet: &mut [u8], number: u32) -> Result<(), Refusal>
+    ensures { StatesColour sheet.old number (number_of result) sheet.new }
 {
-    let head = match read_whole_of_form(Form::Tiles, sheet) {
-        Ok(head) => head,
-        Err(refusal) => return refusal.number(),
-    };
-    match colour_of(number) {
-        Ok(_) => {
-            let at = head.start as usize - 1;
-            sheet[at] = number as u8;
-            0
-        }
-        Err(refusal) => refusal.number(),
-    }
+    let head = read_whole_of_form(Form::Tiles, sheet)?;
+    colour_of(number)?;
+    let at = head.start as usize - 1;
+    sheet[at] = number as u8;
+    Ok(())
 }

@@ -3,9 +3,8 @@
 use mathlib.Core.Path.{◌≡◌, ◌∙◌, sym, subst}
 use Prim.Native.Nat.{ℕ, ◌*◌, ◌<◌}
 use native.Mathlib.Omega.{arith}
-use Rattle.head_rules.specs.Answers.{known}
 use Rattle.head_rules.specs.Geometry.{across}
-use Rattle.head_rules.specs.Answers.{Head}
+use Rattle.head_rules.specs.Answers.{Head, known}
 use Rattle.moves.specs.Rooms.{MovesBlocks}
 use Rattle.moves.proofs.Steps.{Counted, Moved, all_moved, all_of, block_there, count_fits, moved_on, none_moved, numbered, stored_within}
 use Rattle.moves.proofs.move_blocks.Goals as goal
