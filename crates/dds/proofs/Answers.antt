@@ -27,7 +27,7 @@ use Rattle.laws.proofs.Refusals.{decided_is, exactly}
 use Rattle.dds_rules.specs.Files.{export_after, export_length, export_refusal, file_length, file_made, file_refusal, file_rules}
 use Rattle.dds_rules.specs.Files.{head_made, import_after_up_to, import_answer, import_head, import_length, import_refusal, import_refusal_up_to}
 use Rattle.dds_rules.specs.Files.{length_as, numbered_after, numbered_head, numbered_refusal, sheet_head, sheet_made}
-use Rattle.dds_rules.specs.Promises.{Exports, ExportsNumbered, Imports}
+use Rattle.dds_rules.specs.Promises.{Imported}
 use Rattle.dds_rules.proofs.Refusing.{Taken, file_rules_is, room_rules, taken, taken_so}
 use Rattle.dds_rules.proofs.Making.{head_short}
 use Rattle.dds_rules.proofs.Numbered.{numbered_as}
@@ -73,7 +73,7 @@ module _ (dds out : List ℕ) {x : Head} (e : x ≡ import_head dds) where
   unfolding import_head import_answer
   answered q = e ∙ ap (λ (r : ℕ). head_as r (head_made dds)) (sym q)
 
-  pub import_refused : x.refusal ≢ 0 → Imports dds out x out
+  pub import_refused : x.refusal ≢ 0 → Imported dds out x out
   unfolding import_refusal_up_to import_after_up_to
   import_refused ne =
       let told = (file_told dds e).0 in
@@ -87,20 +87,27 @@ module _ (dds out : List ℕ) {x : Head} (e : x ≡ import_head dds) where
   unfolding import_answer
   answered_11 q = rw q
 
-  pub import_11 : x.refusal ≡ 0 → length out ≢ whole_length x → {y : Head} → y ≡ head_of 11 0 0 0 → Imports dds out y out
+  pub import_11 : x.refusal ≡ 0 → length out ≢ whole_length x → {y : Head} → y ≡ head_of 11 0 0 0 → Imported dds out y out
   unfolding import_refusal_up_to import_after_up_to
   import_11 z ne k =
       let p = eleven (file_refusal dds) (whole_length (head_made dds)) (sheet_made dds) out (sym (file_told dds e).0 ∙ z)
       (λ l. ne (l ∙ ap (λ (h : Head). h.start + 16 * blocks_of h) (sym (import_taken z).1))) in
       (k ∙ answered_11 (sym p.0), p.1)
 
-  pub import_done : x.refusal ≡ 0 → length out ≡ whole_length x → {after : List ℕ} → after ≡ sheet_made dds → Imports dds out x after
+  pub import_done : x.refusal ≡ 0 → length out ≡ whole_length x → {after : List ℕ} → after ≡ sheet_made dds → Imported dds out x after
   unfolding import_refusal_up_to import_after_up_to
   import_done z l f =
       let told = sym (file_told dds e).0 ∙ z in
       let p = done (file_refusal dds) (whole_length (head_made dds)) (sheet_made dds) out told
       (l ∙ ap (λ (h : Head). h.start + 16 * blocks_of h) (import_taken z).1) f in
       (answered (sym p.0 ∙ sym told), p.1)
+
+-- an export that answers this number, and leaves this
+abbrev pub Exported : List ℕ → ColourSpace → List ℕ → ℕ → List ℕ → Type 0
+Exported s c out n after = let h = sheet_head s in (n ≡ export_refusal h s (length out)) × (after ≡ export_after h c s out)
+
+abbrev pub Numbered : List ℕ → ℕ → List ℕ → ℕ → List ℕ → Type 0
+Numbered s n out r after = (r ≡ numbered_refusal s n (length out)) × (after ≡ numbered_after s n out)
 
 -- x is the head of the sheet, if it is whole
 module _ (s : List ℕ) {x : Head} (e : x ≡ whole_head (sheet_head s) s) where
@@ -111,25 +118,25 @@ module _ (s : List ℕ) (c : ColourSpace) (out : List ℕ) {x : Head} (e : x ≡
   abbrev k : Head
   k = sheet_head s
 
-  pub export_refused : x.refusal ≢ 0 → Exports s c out x.refusal out
+  pub export_refused : x.refusal ≢ 0 → Exported s c out x.refusal out
   unfolding export_refusal export_after
   export_refused ne = before_11 (whole_refusal k s) (file_length k) (file_made k c s) out (whole_number k s e) ne
 
-  pub export_11 : x.refusal ≡ 0 → length out ≢ file_length x → Exports s c out 11 out
+  pub export_11 : x.refusal ≡ 0 → length out ≢ file_length x → Exported s c out 11 out
   unfolding export_refusal export_after
   export_11 z ne =
       eleven (whole_refusal k s) (file_length k) (file_made k c s) out (sym (whole_number k s e) ∙ z)
       (λ l. ne (l ∙ ap file_length (sym (whole_told k s e z).1)))
 
-  pub export_done : x.refusal ≡ 0 → length out ≡ file_length x → {after : List ℕ} → after ≡ file_made k c s → Exports s c out 0 after
+  pub export_done : x.refusal ≡ 0 → length out ≡ file_length x → {after : List ℕ} → after ≡ file_made k c s → Exported s c out 0 after
   unfolding export_refusal export_after
   export_done z l =
       done (whole_refusal k s) (file_length k) (file_made k c s) out (sym (whole_number k s e) ∙ z) (l ∙ ap file_length (whole_told k s e z).1)
 
 -- under a number: as export where it is a colour space's, else the head's refusals before 9, or 18
 module _ (s : List ℕ) (n : ℕ) (out : List ℕ) {r : ℕ} (er : r ≡ colour_refusal n) where
-  pub numbered_exported : r ≡ 0 → {c : ColourSpace} → c ≡ colour_of n → {answer : ℕ} {after : List ℕ} → Exports s c out answer after
-      → ExportsNumbered s n out answer after
+  pub numbered_exported : r ≡ 0 → {c : ColourSpace} → c ≡ colour_of n → {answer : ℕ} {after : List ℕ} → Exported s c out answer after
+      → Numbered s n out answer after
   unfolding numbered_refusal numbered_after
   numbered_exported z ec p =
       let e = sym (numbered_as s n (decided_is (colour_test n) (sym er ∙ z))) in (
@@ -137,7 +144,7 @@ module _ (s : List ℕ) (n : ℕ) (out : List ℕ) {r : ℕ} (er : r ≡ colour_
         p.1 ∙ ap₂ (λ (h : Head) (c : ColourSpace). export_after h c s out) e ec,
       )
 
-  pub numbered_refused : r ≢ 0 → {h : Head} → h ≡ read_of_form_with r Rows s → ExportsNumbered s n out h.refusal out
+  pub numbered_refused : r ≢ 0 → {h : Head} → h ≡ read_of_form_with r Rows s → Numbered s n out h.refusal out
   unfolding numbered_refusal numbered_after export_refusal export_after
   numbered_refused ne {h} eh =
       let g = numbered_head n s in

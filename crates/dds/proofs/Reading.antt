@@ -25,12 +25,12 @@ use Rattle.laws.proofs.Tests.{no_both}
 use Rattle.dds_rules.specs.Header.{Texture, bytes_in, canonical_header, field_in, format, format_says, header_length, header_number, height, is_texture}
 use Rattle.dds_rules.specs.Header.{width}
 use Rattle.dds_rules.specs.Files.{file_length, file_made, head_made, import_head, sheet_head, sheet_made}
-use Rattle.dds_rules.specs.Promises.{Exports, Imports}
+use Rattle.dds_rules.specs.Promises.{Imported}
 use Rattle.dds_rules.proofs.Refusing.{Taken}
 use Rattle.dds_rules.proofs.Numbers.{header_long}
 use Rattle.dds_rules.proofs.Textures.{a_texture}
 use Rattle.dds.specs.Filling.{Fills}
-use Rattle.dds.proofs.Answers.{a_file, export_done, import_done, import_taken, no_file}
+use Rattle.dds.proofs.Answers.{Exported, a_file, export_done, import_done, import_taken, no_file}
 
 -- 15
 pub another : (dds : List ℕ) → is_texture dds ≡ false → head_of 15 0 0 0 ≡ import_head dds
@@ -126,7 +126,7 @@ module _ (dds out : List ℕ) {x : Head} (e : x ≡ import_head dds) (z : x.refu
         whole = omega (arith, l, take_dds.long, ap file_length made);
       }
 
-  pub import_filled : {after : List ℕ} → after ≡ take x.start b.bytes ++ drop header_length dds → Imports dds out x after
+  pub import_filled : {after : List ℕ} → after ≡ take x.start b.bytes ++ drop header_length dds → Imported dds out x after
   import_filled f = import_done dds out e z l (f ∙ sheet_laid dds take_dds made eb)
 
 -- the file: the header, and the blocks; x is the head of the sheet, if it is whole
@@ -149,7 +149,7 @@ module _ (s : List ℕ) (c : ColourSpace) (out : List ℕ) {x : Head} (e : x ≡
         whole = omega (arith, w, l);
       }
 
-  pub export_filled : {after : List ℕ} → after ≡ take header_length header ++ drop x.start s → Exports s c out 0 after
+  pub export_filled : {after : List ℕ} → after ≡ take header_length header ++ drop x.start s → Exported s c out 0 after
   unfolding file_made
   export_filled f =
       export_done s c out e z l

@@ -230,7 +230,7 @@ fn fill(head: &[u8], count: usize, from: &[u8], start: usize, out: &mut [u8])
 // A file as a sheet of form 1: its head, then the blocks as they stand. The head is answered too, with the colour space that form 1 has
 // no room for. A refused call leaves the output as it was.
 pub fn import_dds(dds: &[u8], out: &mut [u8]) -> Result<Head, Refusal>
-    ensures { Imports dds.now out.old (head_answered result) out.new }
+    ensures { Imports dds.now out.old result out.new }
 {
     let head = read_file(dds)?;
     if out.len() != whole_length(head) {
@@ -244,7 +244,7 @@ pub fn import_dds(dds: &[u8], out: &mut [u8]) -> Result<Head, Refusal>
 
 // A sheet of form 1 as a file under a colour space: the header, then the blocks as they stand. A refused call leaves the output as it was.
 pub fn export_dds(sheet: &[u8], colour_space: ColourSpace, out: &mut [u8]) -> Result<(), Refusal>
-    ensures { Exports sheet.now colour_space out.old (number_of result) out.new }
+    ensures { Exports sheet.now colour_space out.old result out.new }
 {
     let head = read_whole_of_form(Form::Rows, sheet)?;
     if out.len() != file_length(head) {
@@ -257,7 +257,7 @@ pub fn export_dds(sheet: &[u8], colour_space: ColourSpace, out: &mut [u8]) -> Re
 
 // The same, for who has the colour space as a number. One that there is not is refused behind 7 and 8 of the sheet's head, and before 9.
 pub fn export_numbered(sheet: &[u8], number: u32, out: &mut [u8]) -> Result<(), Refusal>
-    ensures { ExportsNumbered sheet.now number out.old (number_of result) out.new }
+    ensures { ExportsNumbered sheet.now number out.old result out.new }
 {
     match colour_of(number) {
         Ok(colour_space) => export_dds(sheet, colour_space, out),

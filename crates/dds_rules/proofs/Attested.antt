@@ -22,7 +22,7 @@ use Rattle.head_rules.specs.Whole.{whole_head, whole_refusal}
 use Rattle.laws.specs.Tables.{table, table_from}
 use Rattle.laws.proofs.Tests.{eqb_of}
 use Rattle.std.specs.Prelude.{Ok, Err}
-use Rattle.refusals.specs.declared.Refusal.TheVariants.{BadNumber, WrongBlockBytes}
+use Rattle.refusals.specs.declared.Refusal.TheVariants.{BadNumber, WrongBlockBytes, WrongOutputLength, BadColourSpace}
 use Rattle.dds_rules.specs.Lengths.{Length}
 use Rattle.dds_rules.specs.Header.{alpha_mask, array_size, bit_count, blue_mask, canonical_header, caps, caps2, caps3, caps4, depth}
 use Rattle.dds_rules.specs.Header.{dimension, entries, format, format_code, format_flags, format_of, format_says, format_size, green_mask}
@@ -32,7 +32,7 @@ use Rattle.dds_rules.specs.Files.{export_after, export_length, export_refusal, f
 use Rattle.dds_rules.specs.Files.{file_refusal_up_to, head_made, import_after, import_after_up_to}
 use Rattle.dds_rules.specs.Files.{import_answer, import_head, import_length, import_refusal, import_refusal_up_to, numbered_after, numbered_refusal}
 use Rattle.dds_rules.specs.Files.{said, sheet_made}
-use Rattle.dds_rules.specs.Promises.{ExportNeeds, Exports, ExportsNumbered, ImportNeeds, Imports}
+use Rattle.dds_rules.specs.Promises.{ExportNeeds, Exports, ExportsNumbered, ImportNeeds, Imported}
 
 abbrev zeros : ℕ → List ℕ
 zeros n = replicate n 0
@@ -310,24 +310,24 @@ abbrev needs : ℕ → ℕ → Length
 needs r n = record { refusal = r; length = n }
 
 pub record Promised : Type 0 where
-  pub imports_file : Imports file53 (nines 35) (head Linear 5 3 3) sheet53
-  pub imports_file_not : Imports file53 (nines 34) (no_head 11) (nines 34)
-  pub no_other_side : Imports file53 (nines 35) (head Linear 3 5 3) sheet53 → ⊥
-  pub no_other_colours : Imports file53 (nines 35) (head Srgb 5 3 3) sheet53 → ⊥
-  pub no_other_block : Imports file53 (nines 35) (head Linear 5 3 3) (set sheet53 34 9) → ⊥
-  pub no_head_refused : Imports file53 (nines 34) (head Linear 5 3 3) (nines 34) → ⊥
-  pub no_sides_refused : Imports file53 (nines 34) (refused_beside 11 3) (nines 34) → ⊥
-  pub no_sheet_refused : Imports file53 (nines 34) (no_head 11) (set (nines 34) 33 32) → ⊥
-  pub exports_sheet : Exports sheet53 Srgb (nines 180) 0 (but 128 99)
-  pub exports_sheet_not : Exports sheet53 Srgb (nines 181) 11 (nines 181)
-  pub no_other_format : Exports sheet53 Srgb (nines 180) 0 file53 → ⊥
-  pub no_other_number : Exports sheet53 Srgb (nines 180) 11 (but 128 99) → ⊥
-  pub no_file_refused : Exports sheet53 Srgb (nines 181) 11 (set (nines 181) 180 32) → ⊥
-  pub exports_numbered : ExportsNumbered sheet53 2 (nines 180) 0 (but 128 99)
-  pub exports_numbered_not : ExportsNumbered sheet53 3 (nines 180) 18 (nines 180)
-  pub no_format_of_another : ExportsNumbered sheet53 2 (nines 180) 0 file53 → ⊥
-  pub no_number_let_through : ExportsNumbered sheet53 3 (nines 180) 0 (nines 180) → ⊥
-  pub no_file_numbered : ExportsNumbered sheet53 3 (nines 180) 18 (set (nines 180) 179 32) → ⊥
+  pub imports_file : Imported file53 (nines 35) (head Linear 5 3 3) sheet53
+  pub imports_file_not : Imported file53 (nines 34) (no_head 11) (nines 34)
+  pub no_other_side : Imported file53 (nines 35) (head Linear 3 5 3) sheet53 → ⊥
+  pub no_other_colours : Imported file53 (nines 35) (head Srgb 5 3 3) sheet53 → ⊥
+  pub no_other_block : Imported file53 (nines 35) (head Linear 5 3 3) (set sheet53 34 9) → ⊥
+  pub no_head_refused : Imported file53 (nines 34) (head Linear 5 3 3) (nines 34) → ⊥
+  pub no_sides_refused : Imported file53 (nines 34) (refused_beside 11 3) (nines 34) → ⊥
+  pub no_sheet_refused : Imported file53 (nines 34) (no_head 11) (set (nines 34) 33 32) → ⊥
+  pub exports_sheet : Exports sheet53 Srgb (nines 180) (Ok tt) (but 128 99)
+  pub exports_sheet_not : Exports sheet53 Srgb (nines 181) (Err WrongOutputLength) (nines 181)
+  pub no_other_format : Exports sheet53 Srgb (nines 180) (Ok tt) file53 → ⊥
+  pub no_other_number : Exports sheet53 Srgb (nines 180) (Err WrongOutputLength) (but 128 99) → ⊥
+  pub no_file_refused : Exports sheet53 Srgb (nines 181) (Err WrongOutputLength) (set (nines 181) 180 32) → ⊥
+  pub exports_numbered : ExportsNumbered sheet53 2 (nines 180) (Ok tt) (but 128 99)
+  pub exports_numbered_not : ExportsNumbered sheet53 3 (nines 180) (Err BadColourSpace) (nines 180)
+  pub no_format_of_another : ExportsNumbered sheet53 2 (nines 180) (Ok tt) file53 → ⊥
+  pub no_number_let_through : ExportsNumbered sheet53 3 (nines 180) (Ok tt) (nines 180) → ⊥
+  pub no_file_numbered : ExportsNumbered sheet53 3 (nines 180) (Err BadColourSpace) (set (nines 180) 179 32) → ⊥
   pub import_needs : ImportNeeds file53 (Ok 35)
   pub import_needs_not : ImportNeeds header53 (Err WrongBlockBytes)
   pub no_length_of_the_file : ImportNeeds file53 (Ok 180) → ⊥

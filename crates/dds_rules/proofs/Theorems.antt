@@ -8,7 +8,11 @@ use Prim.Native.Nat.{ℕ, ◌+◌, ◌*◌}
 use borrow.Author.Tests.{ne_eqb}
 use lib.ListN.{length, drop, take, take-append-drop}
 use lib.Seq.{drop-drop}
-use Rattle.std.specs.Prelude.{Result}
+use Rattle.refusals.specs.Answers.{number_of}
+use Rattle.refusals.proofs.Answers.{number_fixes}
+use Rattle.head_rules.specs.declared.Head as heads
+use Rattle.head_rules.proofs.Answers.{head_fixes}
+use Rattle.std.specs.Prelude.{Result, ⊤}
 use Rattle.refusals.specs.declared.Refusal.{Refusal}
 use Rattle.dds_rules.proofs.Lengths.{length_fixes}
 use Rattle.head_rules.specs.declared.ColourSpace.{ColourSpace}
@@ -26,7 +30,7 @@ use Rattle.dds_rules.specs.Files.{export_after, export_length, export_refusal, e
 use Rattle.dds_rules.specs.Files.{head_made}
 use Rattle.dds_rules.specs.Files.{import_after, import_after_up_to, import_answer, import_length, import_refusal, import_rules, numbered_after}
 use Rattle.dds_rules.specs.Files.{numbered_head, numbered_refusal, numbered_rules, said, sheet_head, sheet_made, whole_rules}
-use Rattle.dds_rules.specs.Promises.{ExportNeeds, Exports, ExportsNumbered, ImportNeeds, Imports}
+use Rattle.dds_rules.specs.Promises.{ExportNeeds, Exports, ExportsNumbered, ImportNeeds, Imported, Imports}
 use Rattle.dds_rules.proofs.Numbered.{numbered_rules_is}
 use Rattle.dds_rules.proofs.Refusing.{export_rules_is, exported_when, fifteen, file_rules_is, import_rules_is, imported_when, sheet_rules_is}
 use Rattle.dds_rules.proofs.Refusing.{taken, taken_so}
@@ -171,35 +175,35 @@ export_length_serves s room =
     )
 
 -- a refused call leaves the output as it was
-pub refused_import_leaves : (dds before : List ℕ) (answer : Head) (after : List ℕ) → Imports dds before answer after → answer.refusal ≢ 0
+pub refused_import_leaves : (dds before : List ℕ) (answer : Head) (after : List ℕ) → Imported dds before answer after → answer.refusal ≢ 0
     → after ≡ before
 unfolding import_after_up_to
 refused_import_leaves dds before answer after p ne =
     p.1 ∙ rw (ne_eqb (import_refusal dds (length before)) 0
     (λ e. ne (ap (λ (h : Head). h.refusal) p.0 ∙ import_answers dds (length before) ∙ e)))
 
-pub refused_export_leaves : (s : List ℕ) (c : ColourSpace) (before : List ℕ) (answer : ℕ) (after : List ℕ) → Exports s c before answer after
-    → answer ≢ 0 → after ≡ before
+pub refused_export_leaves : (s : List ℕ) (c : ColourSpace) (before : List ℕ) (answer : Result ⊤ Refusal) (after : List ℕ) → Exports s c before answer after
+    → number_of answer ≢ 0 → after ≡ before
 unfolding export_after
 refused_export_leaves s c before answer after p ne = p.1 ∙ rw (ne_eqb (export_refusal (sheet_head s) s (length before)) 0 (λ e. ne (p.0 ∙ e)))
 
-pub refused_numbered_leaves : (s : List ℕ) (n : ℕ) (before : List ℕ) (answer : ℕ) (after : List ℕ) → ExportsNumbered s n before answer after
-    → answer ≢ 0 → after ≡ before
+pub refused_numbered_leaves : (s : List ℕ) (n : ℕ) (before : List ℕ) (answer : Result ⊤ Refusal) (after : List ℕ) → ExportsNumbered s n before answer after
+    → number_of answer ≢ 0 → after ≡ before
 unfolding numbered_refusal numbered_after export_after
 refused_numbered_leaves s n before answer after p ne =
     p.1 ∙ rw (ne_eqb (export_refusal (numbered_head n s) s (length before)) 0 (λ e. ne (p.0 ∙ e)))
 
 -- any two results that a promise admits coincide
-pub determined_import : (dds before : List ℕ) (a b : Head) (x y : List ℕ) → Imports dds before a x → Imports dds before b y → (a ≡ b) × (x ≡ y)
-determined_import dds before a b x y p q = (p.0 ∙ sym q.0, p.1 ∙ sym q.1)
+pub determined_import : (dds before : List ℕ) (a b : Result heads.Head Refusal) (x y : List ℕ) → Imports dds before a x → Imports dds before b y → (a ≡ b) × (x ≡ y)
+determined_import dds before a b x y p q = (head_fixes a b (p.0 ∙ sym q.0), p.1 ∙ sym q.1)
 
-pub determined_export : (s : List ℕ) (c : ColourSpace) (before : List ℕ) (a b : ℕ) (x y : List ℕ) → Exports s c before a x → Exports s c before b y
+pub determined_export : (s : List ℕ) (c : ColourSpace) (before : List ℕ) (a b : Result ⊤ Refusal) (x y : List ℕ) → Exports s c before a x → Exports s c before b y
     → (a ≡ b) × (x ≡ y)
-determined_export s c before a b x y p q = (p.0 ∙ sym q.0, p.1 ∙ sym q.1)
+determined_export s c before a b x y p q = (number_fixes a b (p.0 ∙ sym q.0), p.1 ∙ sym q.1)
 
-pub determined_export_numbered : (s : List ℕ) (n : ℕ) (before : List ℕ) (a b : ℕ) (x y : List ℕ) → ExportsNumbered s n before a x
+pub determined_export_numbered : (s : List ℕ) (n : ℕ) (before : List ℕ) (a b : Result ⊤ Refusal) (x y : List ℕ) → ExportsNumbered s n before a x
     → ExportsNumbered s n before b y → (a ≡ b) × (x ≡ y)
-determined_export_numbered s n before a b x y p q = (p.0 ∙ sym q.0, p.1 ∙ sym q.1)
+determined_export_numbered s n before a b x y p q = (number_fixes a b (p.0 ∙ sym q.0), p.1 ∙ sym q.1)
 
 pub determined_import_length : (dds : List ℕ) (a b : Result ℕ Refusal) → ImportNeeds dds a → ImportNeeds dds b → a ≡ b
 determined_import_length dds a b p q = length_fixes a b (p ∙ sym q)

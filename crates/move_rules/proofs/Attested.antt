@@ -4,6 +4,8 @@ use mathlib.Core.Path.{◌≡◌, refl, ap}
 use mathlib.Core.List.{List, [], ◌∷◌, ◌++◌, map}
 use Prim.Native.Nat.{ℕ, ◌*◌}
 use lib.ListN.{get_or, replicate, set}
+use Rattle.std.specs.Prelude.{Ok, Err}
+use Rattle.refusals.specs.declared.Refusal.TheVariants.{WrongBlockBytes, WrongOutputLength, ColourSpaceStated}
 use Rattle.laws.specs.Refusals.{first}
 use Rattle.laws.specs.Tables.{table, table_from}
 use Rattle.laws.specs.Counting.{count, kept}
@@ -79,16 +81,16 @@ abbrev nines : ℕ → List ℕ
 nines n = replicate n 9
 
 pub record Promised : Type 0 where
-  pub moves_to_tiles : MovesTo Tiles in_rows (nines 100) 0 (in_tiles 0)
-  pub moves_to_rows : MovesTo Rows (in_tiles 0) (nines 99) 0 in_rows
-  pub moves_not : MovesTo Rows (in_tiles 2) (nines 99) 16 (nines 99)
-  pub moves_largest : MovesTo Tiles (0x01 ∷ largest) [] 10 [] × MovesTo Rows (0x02 ∷ largest ++ (0 ∷ [])) [] 10 []
-  pub no_order_kept : MovesTo Tiles in_rows (nines 100) 0 unmoved → ⊥
-  pub no_colours_stated : MovesTo Tiles in_rows (nines 100) 0 (in_tiles 1) → ⊥
-  pub no_other_answer : MovesTo Tiles in_rows (nines 100) 11 (in_tiles 0) → ⊥
-  pub no_form_exchanged : MovesTo Rows in_rows (nines 100) 0 (nines 100) → ⊥
-  pub no_colours_lost : MovesTo Rows (in_tiles 2) (nines 99) 0 (nines 99) → ⊥
-  pub no_output_touched : MovesTo Rows (in_tiles 2) (nines 99) 16 (set (nines 99) 98 0) → ⊥
+  pub moves_to_tiles : MovesTo Tiles in_rows (nines 100) (Ok tt) (in_tiles 0)
+  pub moves_to_rows : MovesTo Rows (in_tiles 0) (nines 99) (Ok tt) in_rows
+  pub moves_not : MovesTo Rows (in_tiles 2) (nines 99) (Err ColourSpaceStated) (nines 99)
+  pub moves_largest : MovesTo Tiles (0x01 ∷ largest) [] (Err WrongBlockBytes) [] × MovesTo Rows (0x02 ∷ largest ++ (0 ∷ [])) [] (Err WrongBlockBytes) []
+  pub no_order_kept : MovesTo Tiles in_rows (nines 100) (Ok tt) unmoved → ⊥
+  pub no_colours_stated : MovesTo Tiles in_rows (nines 100) (Ok tt) (in_tiles 1) → ⊥
+  pub no_other_answer : MovesTo Tiles in_rows (nines 100) (Err WrongOutputLength) (in_tiles 0) → ⊥
+  pub no_form_exchanged : MovesTo Rows in_rows (nines 100) (Ok tt) (nines 100) → ⊥
+  pub no_colours_lost : MovesTo Rows (in_tiles 2) (nines 99) (Ok tt) (nines 99) → ⊥
+  pub no_output_touched : MovesTo Rows (in_tiles 2) (nines 99) (Err ColourSpaceStated) (set (nines 99) 98 0) → ⊥
 
 pub promise_holds : Promised
 unfolding whole_refusal move_after move_refusal moved_to read_of_form_up_to of_form_refusal_up_to first groups read_groups read_number raised

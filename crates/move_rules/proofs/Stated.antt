@@ -4,6 +4,8 @@ use mathlib.Core.Path.{◌≡◌, refl, ap}
 use mathlib.Core.List.{List, [], ◌∷◌, ◌++◌, map}
 use Prim.Native.Nat.{ℕ}
 use lib.ListN.{get_or, replicate, set}
+use Rattle.std.specs.Prelude.{Ok, Err}
+use Rattle.refusals.specs.declared.Refusal.TheVariants.{WrongBlockBytes, BadColourSpace}
 use Rattle.laws.specs.Refusals.{first}
 use Rattle.laws.proofs.Tests.{eqb_of}
 use Rattle.head_rules.specs.Colours.{colour_of, colour_refusal}
@@ -42,14 +44,14 @@ abbrev largest : List ℕ
 largest = 0x02 ∷ 0x80 ∷ 0x80 ∷ 0x01 ∷ 0x80 ∷ 0x80 ∷ 0x01 ∷ 0 ∷ []
 
 pub record Promised : Type 0 where
-  pub states_colour : StatesColour (sheet 0) 2 0 (sheet 2)
-  pub states_colour_not : StatesColour (sheet 1) 258 18 (sheet 1)
-  pub states_largest : StatesColour largest 3 10 largest
-  pub no_colour_kept : StatesColour (sheet 0) 2 0 (sheet 0) → ⊥
-  pub no_other_answer : StatesColour (sheet 0) 2 18 (sheet 2) → ⊥
-  pub no_block_changed : StatesColour (sheet 0) 2 0 (set (sheet 2) 516 9) → ⊥
-  pub no_number_let_through : StatesColour (sheet 1) 258 0 (sheet 1) → ⊥
-  pub no_sheet_touched : StatesColour (sheet 1) 258 18 (sheet 2) → ⊥
+  pub states_colour : StatesColour (sheet 0) 2 (Ok tt) (sheet 2)
+  pub states_colour_not : StatesColour (sheet 1) 258 (Err BadColourSpace) (sheet 1)
+  pub states_largest : StatesColour largest 3 (Err WrongBlockBytes) largest
+  pub no_colour_kept : StatesColour (sheet 0) 2 (Ok tt) (sheet 0) → ⊥
+  pub no_other_answer : StatesColour (sheet 0) 2 (Err BadColourSpace) (sheet 2) → ⊥
+  pub no_block_changed : StatesColour (sheet 0) 2 (Ok tt) (set (sheet 2) 516 9) → ⊥
+  pub no_number_let_through : StatesColour (sheet 1) 258 (Ok tt) (sheet 1) → ⊥
+  pub no_sheet_touched : StatesColour (sheet 1) 258 (Err BadColourSpace) (sheet 2) → ⊥
 
 pub promise_holds : Promised
 unfolding whole_refusal state_after state_refusal stated_as read_of_form_up_to of_form_refusal_up_to first groups read_groups read_number raised

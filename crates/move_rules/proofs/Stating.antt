@@ -9,6 +9,10 @@ use native.Mathlib.Omega.{arith}
 use borrow.Author.Tests.{ne_eqb}
 use lib.ListN.{length, set, take, drop, length-append}
 use lib.Seq.{drop-append_seam, drop-drop, set_at}
+use Rattle.std.specs.Prelude.{Result, ⊤}
+use Rattle.refusals.specs.Answers.{number_of}
+use Rattle.refusals.specs.declared.Refusal.{Refusal}
+use Rattle.refusals.proofs.Answers.{number_fixes}
 use Rattle.laws.specs.Refusals.{Given, handed, unless}
 use Rattle.laws.proofs.Refusals.{Answers, answers, by_answer, exactly, none, rule, rules}
 use Rattle.head_rules.specs.declared.ColourSpace.{ColourSpace}
@@ -167,8 +171,8 @@ module _ (s : List ℕ) (y : Bytes s) (n : ℕ) (e : state_refusal s n ≡ 0) wh
   same_picture w k = ap (picture w k) same_blocks
 
 -- DEMAND 1: any two answers that the promise admits coincide; and where the answer is not 0, the sheet is as it was
-pub determined_state : (sheet : List ℕ) (n a b : ℕ) (x y : List ℕ) → StatesColour sheet n a x → StatesColour sheet n b y → (a ≡ b) × (x ≡ y)
-determined_state sheet n a b x y p q = (p.0 ∙ sym q.0, p.1 ∙ sym q.1)
+pub determined_state : (sheet : List ℕ) (n : ℕ) (a b : Result ⊤ Refusal) (x y : List ℕ) → StatesColour sheet n a x → StatesColour sheet n b y → (a ≡ b) × (x ≡ y)
+determined_state sheet n a b x y p q = (number_fixes a b (p.0 ∙ sym q.0), p.1 ∙ sym q.1)
 
-pub refused_state_leaves : (sheet : List ℕ) (n r : ℕ) (x : List ℕ) → StatesColour sheet n r x → r ≢ 0 → x ≡ sheet
+pub refused_state_leaves : (sheet : List ℕ) (n : ℕ) (r : Result ⊤ Refusal) (x : List ℕ) → StatesColour sheet n r x → number_of r ≢ 0 → x ≡ sheet
 refused_state_leaves sheet n r x p ne = p.1 ∙ refused_state_stays sheet n (λ z. ne (p.0 ∙ z))

@@ -8,6 +8,10 @@ use mathlib.Core.List.{List, [], ◌∷◌}
 use Prim.Native.Nat.{ℕ, zero, suc, ◌+◌, ◌<◌, ◌≤◌}
 use native.Mathlib.Omega.{arith}
 use lib.ListN.{length}
+use Rattle.std.specs.Prelude.{Result, ⊤}
+use Rattle.refusals.specs.Answers.{number_of}
+use Rattle.refusals.specs.declared.Refusal.{Refusal}
+use Rattle.refusals.proofs.Answers.{number_fixes}
 use Rattle.line_rules.specs.declared.Replacement.{Replacement}
 use Rattle.laws.specs.Calls as calls
 use Rattle.laws.specs.Refusals.{Given, here, then}
@@ -44,11 +48,11 @@ pub move_refused_when : (f : Form) (s : List ℕ) (room n : ℕ) → (move_refus
 move_refused_when f s room = exactly (moving_in_words f s room)
 
 -- any two answers that a move's promise admits coincide; and where the answer is not 0, the output is as it was
-pub determined_move : (f : Form) (sheet before : List ℕ) (a b : ℕ) (x y : List ℕ) → MovesTo f sheet before a x → MovesTo f sheet before b y
+pub determined_move : (f : Form) (sheet before : List ℕ) (a b : Result ⊤ Refusal) (x y : List ℕ) → MovesTo f sheet before a x → MovesTo f sheet before b y
     → (a ≡ b) × (x ≡ y)
-determined_move f sheet before a b x y p q = (p.0 ∙ sym q.0, p.1 ∙ sym q.1)
+determined_move f sheet before a b x y p q = (number_fixes a b (p.0 ∙ sym q.0), p.1 ∙ sym q.1)
 
-pub refused_move_leaves : (f : Form) (sheet before : List ℕ) (a : ℕ) (x : List ℕ) → MovesTo f sheet before a x → a ≢ 0 → x ≡ before
+pub refused_move_leaves : (f : Form) (sheet before : List ℕ) (a : Result ⊤ Refusal) (x : List ℕ) → MovesTo f sheet before a x → number_of a ≢ 0 → x ≡ before
 refused_move_leaves f sheet before a x p ne = p.1 ∙ unmoved f sheet before (λ e. ne (p.0 ∙ e))
 
 -- a sheet is one byte longer in form 2 than in form 1

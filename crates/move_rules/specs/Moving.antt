@@ -1,6 +1,8 @@
 -- MOVES BETWEEN THE FORMS: a sheet of form 1 as form 2 with number 0, and back where nothing is lost.
 -- Assumes nothing.
-use Rattle.std.specs.Prelude.{ℕ, ◌≤◌, ◌≡◌, not, List, [], ◌∷◌, ◌++◌, eqb, length}
+use Rattle.refusals.specs.Answers.{number_of}
+use Rattle.refusals.specs.declared.Refusal.{Refusal}
+use Rattle.std.specs.Prelude.{ℕ, ◌≤◌, ◌≡◌, not, List, [], ◌∷◌, ◌++◌, eqb, length, Result, ⊤}
 use Rattle.laws.specs.Refusals.{Rule, first, handed, refuse, unless}
 use Rattle.laws.specs.Tables.{pick}
 use Rattle.head_rules.specs.declared.ColourSpace.TheVariants.{Unspecified}
@@ -64,5 +66,5 @@ unfoldable pub move_after : Form → List ℕ → List ℕ → List ℕ
 move_after f s out = pick (eqb (move_refusal f s (length out)) 0) (moved_to f (read_of_form (other f) s) s) out
 
 -- what a move promises: its answer, and every byte of the output
-abbrev pub MovesTo : Form → List ℕ → List ℕ → ℕ → List ℕ → Type 0
-MovesTo f sheet before answer after = (answer ≡ move_refusal f sheet (length before)) × (after ≡ move_after f sheet before)
+abbrev pub MovesTo : Form → List ℕ → List ℕ → Result ⊤ Refusal → List ℕ → Type 0
+MovesTo f sheet before answer after = (number_of answer ≡ move_refusal f sheet (length before)) × (after ≡ move_after f sheet before)

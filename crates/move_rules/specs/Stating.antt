@@ -1,6 +1,8 @@
 -- STATING A COLOUR SPACE, in a sheet of form 2: its head has a number for it, and form 1 has none.
 -- Assumes nothing.
-use Rattle.std.specs.Prelude.{ℕ, ◌≤◌, ◌≡◌, List, [], ◌∷◌, ◌++◌, eqb, drop}
+use Rattle.refusals.specs.Answers.{number_of}
+use Rattle.refusals.specs.declared.Refusal.{Refusal}
+use Rattle.std.specs.Prelude.{ℕ, ◌≤◌, ◌≡◌, List, [], ◌∷◌, ◌++◌, eqb, drop, Result, ⊤}
 use Rattle.laws.specs.Refusals.{Rule, first, unless}
 use Rattle.laws.specs.Tables.{pick}
 use Rattle.head_rules.specs.declared.Form.TheVariants.{Tiles}
@@ -31,5 +33,5 @@ unfoldable pub state_after : List ℕ → ℕ → List ℕ
 state_after s n = pick (eqb (state_refusal s n) 0) (stated_as (read_of_form Tiles s) s n) s
 
 -- what `state_colour` promises: its answer, and every byte of the sheet
-abbrev pub StatesColour : List ℕ → ℕ → ℕ → List ℕ → Type 0
-StatesColour sheet n answer after = (answer ≡ state_refusal sheet n) × (after ≡ state_after sheet n)
+abbrev pub StatesColour : List ℕ → ℕ → Result ⊤ Refusal → List ℕ → Type 0
+StatesColour sheet n answer after = (number_of answer ≡ state_refusal sheet n) × (after ≡ state_after sheet n)

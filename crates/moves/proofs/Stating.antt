@@ -16,32 +16,36 @@ use Rattle.head_rules.specs.Numbers.{Bytes}
 use Rattle.head_rules.specs.Whole.{whole_head, whole_refusal}
 use Rattle.head_rules.proofs.Colours.{colour_test}
 use Rattle.head_rules.proofs.Whole.{whole_number, whole_told}
-use Rattle.move_rules.specs.Stating.{StatesColour, state_refusal}
+use Rattle.move_rules.specs.Stating.{state_after, state_refusal}
 use Rattle.move_rules.proofs.Stating.{handing, only_that_byte, refused_state_stays, some_head, statable}
+
+-- a call that answers this number, and leaves this
+abbrev Leaves : List ℕ → ℕ → ℕ → List ℕ → Type 0
+Leaves s n r after = (r ≡ state_refusal s n) × (after ≡ state_after s n)
 
 -- what holds where the byte is written
 pub record Ready (s : List ℕ) (n start : ℕ) : Type 0 where
   pub one_before : 1 ≤ start
   pub inside : start - 1 < length s
   pub byte : n < 256
-  pub stated : StatesColour s n 0 (set s (start - 1) n)
+  pub stated : Leaves s n 0 (set s (start - 1) n)
 
 -- x is the head of the sheet, if it is whole
 module _ (s : List ℕ) (n : ℕ) {x : Head} (ex : x ≡ whole_head (read_of_form Tiles s) s) where
   abbrev h : Head
   h = read_of_form Tiles s
 
-  left : {r : ℕ} → state_refusal s n ≡ r → r ≢ 0 → StatesColour s n r s
+  left : {r : ℕ} → state_refusal s n ≡ r → r ≢ 0 → Leaves s n r s
   left e ne = (sym e, sym (refused_state_stays s n (λ z. ne (sym e ∙ z))))
 
-  pub not_whole : x.refusal ≢ 0 → StatesColour s n x.refusal s
+  pub not_whole : x.refusal ≢ 0 → Leaves s n x.refusal s
   not_whole ne = let e = whole_number h s ex in left ((exactly (handing s n) _).1 (here (λ z. ne (e ∙ z))) ∙ sym e) ne
 
   module _ (z : x.refusal ≡ 0) {r : ℕ} (er : r ≡ colour_refusal n) where
     fits : whole_refusal h s ≡ 0
     fits = sym (whole_number h s ex) ∙ z
 
-    pub no_colour : r ≢ 0 → StatesColour s n r s
+    pub no_colour : r ≢ 0 → Leaves s n r s
     no_colour ne =
         let above : n ≤ 2 → ⊥ = λ k. ne (er ∙ decided_so (colour_test n) k) in
         left ((exactly (handing s n) 18).1 (then fits (here above)) ∙ sym (er ∙ decided_not (colour_test n) above)) ne

@@ -83,7 +83,7 @@ fn lay(form: Form, head: Head, sheet: &[u8], out: &mut [u8])
 
 // A sheet of the other form in this one. A refused call leaves the output as it was.
 fn move_to(form: Form, sheet: &[u8], out: &mut [u8]) -> Result<(), Refusal>
-    ensures { MovesTo form sheet.now out.old (number_of result) out.new }
+    ensures { MovesTo form sheet.now out.old result out.new }
 {
     let head = read_whole_of_form(other(form), sheet)?;
     if out.len() != length_as(form, head) {
@@ -97,13 +97,13 @@ fn move_to(form: Form, sheet: &[u8], out: &mut [u8]) -> Result<(), Refusal>
 }
 
 pub fn to_tiles(sheet: &[u8], out: &mut [u8]) -> Result<(), Refusal>
-    ensures { MovesTo Tiles sheet.now out.old (number_of result) out.new }
+    ensures { MovesTo Tiles sheet.now out.old result out.new }
 {
     move_to(Form::Tiles, sheet, out)
 }
 
 pub fn to_rows(sheet: &[u8], out: &mut [u8]) -> Result<(), Refusal>
-    ensures { MovesTo Rows sheet.now out.old (number_of result) out.new }
+    ensures { MovesTo Rows sheet.now out.old result out.new }
 {
     move_to(Form::Rows, sheet, out)
 }
@@ -111,7 +111,7 @@ pub fn to_rows(sheet: &[u8], out: &mut [u8]) -> Result<(), Refusal>
 // The colour space of a sheet of form 2, by its number: the byte before the first block, and no other. A refused call leaves the sheet as it
 // was.
 pub fn state_colour(sheet: &mut [u8], number: u32) -> Result<(), Refusal>
-    ensures { StatesColour sheet.old number (number_of result) sheet.new }
+    ensures { StatesColour sheet.old number result sheet.new }
 {
     let head = read_whole_of_form(Form::Tiles, sheet)?;
     colour_of(number)?;

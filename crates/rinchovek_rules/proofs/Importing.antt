@@ -10,11 +10,11 @@ use Rattle.laws.proofs.Refusals.{answer_0}
 use Rattle.head_rules.specs.Answers.{Head}
 use Rattle.head_rules.specs.Colours.{colour_number}
 use Rattle.dds_rules.specs.Files.{head_made, import_after_up_to, import_refusal, sheet_made}
-use Rattle.dds_rules.specs.Promises.{Imports}
+use Rattle.dds_rules.specs.Promises.{Imported}
 use Rattle.dds_rules.proofs.Theorems.{import_answers, import_answers_head, refused_import_leaves}
 use Rattle.rinchovek_rules.specs.Promises.{ImportsColour, ImportsDds, colour_head_numbers}
 
-module _ (dds out : List ℕ) {x : Head} {after : List ℕ} (p : Imports dds out x after) where
+module _ (dds out : List ℕ) {x : Head} {after : List ℕ} (p : Imported dds out x after) where
   refusal_is : x.refusal ≡ import_refusal dds (length out)
   refusal_is = ap (λ (h : Head). h.refusal) p.0 ∙ import_answers dds (length out)
 
