@@ -188,17 +188,10 @@ pub fn mode_4(stream: BitStream) -> [[u8; 4]; 16]
         p: 0,
     };
     let e = alone(stored, 5, 6);
-<<<<<<< HEAD
-    let x = Indexes::new_p1(2, a.stream);
-    let y = Indexes::new_p1(3, x.stream);
-    let first = words::<2, 4>(e, index_mode.value == 0);
-    let second = words::<3, 8>(e, index_mode.value != 0);
-=======
     let x = Indexes::new(2, a.stream, []);
     let y = Indexes::new(3, x.stream, []);
-    let first = words_2(e, index_mode.value == 0);
-    let second = words_3(e, index_mode.value != 0);
->>>>>>> fc5f29c5895802492ac58abaabcde7d1d1e1a3ed
+    let first = words::<2, 4>(e, index_mode.value == 0);
+    let second = words::<3, 8>(e, index_mode.value != 0);
     swap_channels(
         paint_2_and_3(first, second, x.indexes, y.indexes),
         rotation.value as u8,

@@ -27,35 +27,6 @@ use Rattle.bc7_unpartitioned.specs.Crossing.{crossed}
 use Rattle.bc7_unpartitioned.proofs.Laws.{by_set, vector_either, words_apart, words_summed}
 use Rattle.bc7_unpartitioned.proofs.mode_4.Goals as goal
 
-<<<<<<< HEAD
-=======
-pub new-y-requires : goal.new-y-requires
-new-y-requires c =
-    let a = c in
-    let b = a in
-    let g = b in
-    let r = g in
-    let mode = r in
-    let rotation = mode in (
-      omega arith,
-      record {
-        anchors = search rules;
-        inside =
-            rw c.new-x.ensures
-            (omega (
-              arith,
-              a.take-a.ensures.stands,
-              b.take-b.ensures.stands,
-              g.take-g.ensures.stands,
-              r.take-r.ensures.stands,
-              mode.take-index_mode.ensures.stands,
-              rotation.take-rotation.ensures.stands,
-              rotation.requires,
-            ));
-      },
-    )
-
->>>>>>> fc5f29c5895802492ac58abaabcde7d1d1e1a3ed
 pub paint_2_and_3-requires : goal.paint_2_and_3-requires
 paint_2_and_3-requires c =
     let first = c in
@@ -63,15 +34,9 @@ paint_2_and_3-requires c =
     let x = y in
     let ends = x in
     record {
-<<<<<<< HEAD
       apart = words_apart _ ends.alone-e.result ends.alone-e.ensures.one first.words-first.ensures c.words-second.ensures;
-      two = rw x.new_p1-x.ensures refl;
-      three = rw y.new_p1-y.ensures refl;
-=======
-      apart = words_apart _ ends.alone-e.result ends.alone-e.ensures.one first.words_2-first.ensures c.words_3-second.ensures;
       two = rw x.new-x.ensures refl;
       three = rw y.new-y.ensures refl;
->>>>>>> fc5f29c5895802492ac58abaabcde7d1d1e1a3ed
     }
 
 pub returns : goal.returns
@@ -126,13 +91,8 @@ returns c =
     let h : ℕ → List ℕ = λ q. between 3 (endpoint e 0 0) (endpoint e 0 1) (part y.new-y.result.indexes.uncompressed 3 q) in
     c.swap_channels.ensures
     ∙ ap₂ swapped (got on_rotation 2 rotation.take-rotation.ensures.same)
-<<<<<<< HEAD
     (c.paint_2_and_3.ensures ∙ words_summed _ e ends.alone-e.ensures.one first.words-first.ensures third.words-second.ensures
-    x.new_p1-x.result.indexes.uncompressed y.new_p1-y.result.indexes.uncompressed
-=======
-    (c.paint_2_and_3.ensures ∙ words_summed _ e ends.alone-e.ensures.one first.words_2-first.ensures third.words_3-second.ensures
     x.new-x.result.indexes.uncompressed y.new-y.result.indexes.uncompressed
->>>>>>> fc5f29c5895802492ac58abaabcde7d1d1e1a3ed
     ∙ ap (λ (i : ℕ). table 16 (λ q. pick (eqb i 0) (crossed (f q) (h q)) (crossed (h q) (f q))))
     (got on-mode 1 index_mode_is.take-index_mode.ensures.same))
     ∙ vector_either 4 n (field n 5 2) (field n 7 1) small (split_4 n) (field_lt n 7 1) f h

@@ -25,24 +25,6 @@ use Rattle.bc7_fields.proofs.Ends.{translucent_shown}
 use Rattle.bc7_unpartitioned.proofs.Laws.{by_set, paired, vector_either}
 use Rattle.bc7_unpartitioned.proofs.mode_5.Goals as goal
 
-<<<<<<< HEAD
-=======
-pub new-y-requires : goal.new-y-requires
-new-y-requires c = (omega arith, record { anchors = search rules; inside = rw c.new-x.ensures (omega arith) })
-
-pub overflow_cast-rotation : goal.overflow_cast-rotation
-overflow_cast-rotation c =
-    let rotation =
-    c.take-rotation.ensures in
-    record { fits = omega (arith, rotation.small) }
-
-pub swap_channels-requires : goal.swap_channels-requires
-swap_channels-requires c =
-    let rotation =
-    c.take-rotation.ensures in
-    omega (arith, rotation.small)
-
->>>>>>> fc5f29c5895802492ac58abaabcde7d1d1e1a3ed
 pub returns : goal.returns
 unfolding split_at kind_of_mode mode_row endpoint_count field value_start lead_end
 returns c =
