@@ -40,17 +40,17 @@ fn columns(
     ensures { result ≡ mode_row_as lines kind endpoints «partition» rotation index_mode colour alpha p first second }
 {
     ModeRow {
-        lines: lines,
-        kind: kind,
-        endpoints: endpoints,
-        partition: partition,
-        rotation: rotation,
-        index_mode: index_mode,
-        colour: colour,
-        alpha: alpha,
-        p: p,
-        first: first,
-        second: second,
+        lines,
+        kind,
+        endpoints,
+        partition,
+        rotation,
+        index_mode,
+        colour,
+        alpha,
+        p,
+        first,
+        second,
     }
 }
 
@@ -76,5 +76,5 @@ pub fn mode_row(mode: u8) -> ModeRow
 pub fn mode_of(block: [u8; 16]) -> u8
     ensures { result ≡ mode_of block }
 {
-    u8::trailing_zeros(block[0]) as u8
+    block[0].trailing_zeros() as u8
 }

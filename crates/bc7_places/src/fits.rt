@@ -31,8 +31,5 @@ pub fn indexes_fit(indexes: [u8; 16], width: u32) -> bool
     ensures { result ≡ below 16 (λ q. ltb (get_or indexes q 0) (2 ^ width)) }
 {
     let bytes = BitStream::new(indexes);
-    if !pair_fits(bytes.low, width, width) {
-        return false;
-    }
-    pair_fits(bytes.high, width, width)
+    pair_fits(bytes.low, width, width) && pair_fits(bytes.high, width, width)
 }

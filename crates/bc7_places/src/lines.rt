@@ -36,10 +36,7 @@ pub fn pixels_of(split: Split, line: u32) -> Pixels
 {
     let subsets = subsets_of(split);
     let subset = if kind_of(split) == 3 { 0 } else { line };
-    Pixels {
-        subsets: subsets,
-        subset: subset,
-    }
+    Pixels { subsets, subset }
 }
 
 // Is a pixel the line's?
@@ -55,16 +52,13 @@ pub fn anchor(kind: u8, line: u32, pixels: Pixels, anchors: Anchors) -> usize
     requires { PixelIn pixels.subsets anchors.b }
     ensures { result ≡ anchor_in kind line pixels anchors }
 {
-    if line == 0 {
-        return 0;
+    if line == 0 || kind == 3 {
+        0
+    } else if own(pixels, anchors.b) {
+        anchors.b
+    } else {
+        anchors.c
     }
-    if kind == 3 {
-        return 0;
-    }
-    if own(pixels, anchors.b) {
-        return anchors.b;
-    }
-    anchors.c
 }
 
 // The index set of a line: the index mode is the number of the vector's.
@@ -72,13 +66,8 @@ pub fn index_set_in(split: Split, line: u32) -> usize
     ensures { result ≡ index_set_in split line }
 {
     match split {
-        Split::Whole => 0,
-        Split::Two(_) => 0,
-        Split::Three(_) => 0,
-        Split::Vector {
-            rotation: _,
-            index_mode,
-        } => if line == index_mode as u32 { 0 } else { 1 },
+        Split::Vector { index_mode, .. } if line != index_mode as u32 => 1,
+        _ => 0,
     }
 }
 
@@ -86,33 +75,25 @@ pub fn index_set_in(split: Split, line: u32) -> usize
 pub fn width_in(kind: u8, line: u32, without: u32, width: u32) -> u32
     ensures { result ≡ pick (eqb kind 3) (pick (eqb line without) 0 width) width }
 {
-    if kind != 3 {
-        return width;
+    if kind == 3 && line == without {
+        0
+    } else {
+        width
     }
-    if line == without {
-        return 0;
-    }
-    width
 }
 
 // A p bit has one bit, where the mode has p bits at all.
 pub fn p_width(count: usize) -> u32
     ensures { result ≡ pick (eqb count 0) 0 1 }
 {
-    if count == 0 {
-        return 0;
-    }
-    1
+    if count == 0 { 0 } else { 1 }
 }
 
 // The width of an index of the first (0) or the second set (1).
 pub fn index_width(row: ModeRow, set: usize) -> u32
     ensures { result ≡ pick (eqb set 0) row.first row.second }
 {
-    if set == 0 {
-        return row.first;
-    }
-    row.second
+    if set == 0 { row.first } else { row.second }
 }
 
 // The row is that of the split's mode.
@@ -128,9 +109,9 @@ pub fn line_part(row: ModeRow, split: Split, line: u32) -> LinePart
         alpha: width_in(row.kind, line, 0, row.alpha),
         p: p_width(row.p),
         index: index_width(row, set),
-        set: set,
+        set,
         anchor: anchor(row.kind, line, pixels, anchors),
-        pixels: pixels,
-        anchors: anchors,
+        pixels,
+        anchors,
     }
 }

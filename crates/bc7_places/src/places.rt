@@ -31,20 +31,19 @@ pub fn place_at(number: usize) -> Place
     ensures { result ≡ place_at number }
 {
     if number < VALUES {
-        return Place::Lead(number);
-    }
-    if number < P_BITS {
-        return Place::Value {
+        Place::Lead(number)
+    } else if number < P_BITS {
+        Place::Value {
             channel: (number - VALUES) / 6,
             endpoint: (number - VALUES) % 6,
-        };
-    }
-    if number < FIRST {
-        return Place::PBit(number - P_BITS);
-    }
-    Place::Index {
-        set: (number - FIRST) / 16,
-        pixel: (number - FIRST) % 16,
+        }
+    } else if number < FIRST {
+        Place::PBit(number - P_BITS)
+    } else {
+        Place::Index {
+            set: (number - FIRST) / 16,
+            pixel: (number - FIRST) % 16,
+        }
     }
 }
 
@@ -66,40 +65,29 @@ fn value_width(row: ModeRow, channel: usize, endpoint: usize) -> u32
     ensures { result ≡ pick (ltb endpoint row.endpoints) (pick (eqb channel 3) row.alpha row.colour) 0 }
 {
     if endpoint >= row.endpoints {
-        return 0;
+        0
+    } else if channel == 3 {
+        row.alpha
+    } else {
+        row.colour
     }
-    if channel == 3 {
-        return row.alpha;
-    }
-    row.colour
 }
 
 fn p_bit_width(row: ModeRow, p: usize) -> u32
     ensures { result ≡ pick (ltb p row.p) 1 0 }
 {
-    if p < row.p {
-        return 1;
-    }
-    0
+    if p < row.p { 1 } else { 0 }
 }
 
-// An anchor's index is stored with one bit less, where its set has bits at all.
+// An anchor's index is stored with one bit less, where its set has bits at all; where it has none, nothing is taken away.
 fn stored_width(full: u32, anchors: Anchors, pixel: usize) -> u32
     ensures { result ≡ pick (among pixel (three_of anchors)) (full - 1) full }
 {
-    if full == 0 {
-        return 0;
+    if pixel == anchors.a || pixel == anchors.b || pixel == anchors.c {
+        full.saturating_sub(1)
+    } else {
+        full
     }
-    if pixel == anchors.a {
-        return full - 1;
-    }
-    if pixel == anchors.b {
-        return full - 1;
-    }
-    if pixel == anchors.c {
-        return full - 1;
-    }
-    full
 }
 
 // How many bits a place has in a mode, by the mode's row and the anchors of the split.
@@ -131,10 +119,7 @@ fn pair_of(kind: u8, line: u32) -> u32
     requires { line < 3 }
     ensures { result ≡ pick (eqb kind 3) 0 (2 * line) }
 {
-    if kind == 3 {
-        return 0;
-    }
-    2 * line
+    if kind == 3 { 0 } else { 2 * line }
 }
 
 // The second set of indexes stands behind the first, which has one anchor where there are two sets.
@@ -143,9 +128,10 @@ fn set_start(row: ModeRow, first: u32, set: usize) -> u32
     ensures { result ≡ pick (eqb set 0) first (first + (16 * row.first - 1)) }
 {
     if set == 0 {
-        return first;
+        first
+    } else {
+        first + (16 * row.first - 1)
     }
-    first + (16 * row.first - 1)
 }
 
 // The values of a channel stand side by side, those of red first, then come the p bits and the first indexes. `at` is where the
@@ -165,7 +151,7 @@ pub fn fields_of(row: ModeRow, at: u32, line: u32, set: usize) -> Fields
         green: red + channel,
         blue: red + 2 * channel,
         alpha: at + 3 * channel + pair * row.alpha,
-        p: p,
+        p,
         indexes: set_start(row, first, set),
     }
 }

@@ -18,10 +18,7 @@ pub fn kind_of(split: Split) -> u8
         Split::Whole => 0,
         Split::Two(_) => 1,
         Split::Three(_) => 2,
-        Split::Vector {
-            rotation: _,
-            index_mode: _,
-        } => 3,
+        Split::Vector { .. } => 3,
     }
 }
 
@@ -29,13 +26,8 @@ pub fn partition_of(split: Split) -> u8
     ensures { result ≡ partition split }
 {
     match split {
-        Split::Whole => 0,
-        Split::Two(partition) => partition,
-        Split::Three(partition) => partition,
-        Split::Vector {
-            rotation: _,
-            index_mode: _,
-        } => 0,
+        Split::Two(partition) | Split::Three(partition) => partition,
+        Split::Whole | Split::Vector { .. } => 0,
     }
 }
 
@@ -43,13 +35,8 @@ pub fn rotation_of(split: Split) -> u8
     ensures { result ≡ rotation split }
 {
     match split {
-        Split::Whole => 0,
-        Split::Two(_) => 0,
-        Split::Three(_) => 0,
-        Split::Vector {
-            rotation,
-            index_mode: _,
-        } => rotation,
+        Split::Vector { rotation, .. } => rotation,
+        _ => 0,
     }
 }
 
@@ -57,13 +44,8 @@ pub fn index_mode_of(split: Split) -> u8
     ensures { result ≡ index_mode split }
 {
     match split {
-        Split::Whole => 0,
-        Split::Two(_) => 0,
-        Split::Three(_) => 0,
-        Split::Vector {
-            rotation: _,
-            index_mode,
-        } => index_mode,
+        Split::Vector { index_mode, .. } => index_mode,
+        _ => 0,
     }
 }
 
@@ -71,18 +53,14 @@ pub fn index_mode_of(split: Split) -> u8
 pub fn split_of_kind(kind: u8, partition: u8, rotation: u8, index_mode: u8) -> Split
     ensures { result ≡ of_kind kind partition rotation index_mode }
 {
-    if kind == 0 {
-        return Split::Whole;
-    }
-    if kind == 1 {
-        return Split::Two(partition);
-    }
-    if kind == 2 {
-        return Split::Three(partition);
-    }
-    Split::Vector {
-        rotation: rotation,
-        index_mode: index_mode,
+    match kind {
+        0 => Split::Whole,
+        1 => Split::Two(partition),
+        2 => Split::Three(partition),
+        _ => Split::Vector {
+            rotation,
+            index_mode,
+        },
     }
 }
 
@@ -100,15 +78,11 @@ pub fn anchors_of(split: Split) -> Anchors
     ensures { result ≡ anchors_of split }
 {
     match split {
-        Split::Whole => Anchors { a: 0, b: 0, c: 0 },
-        Split::Two(partition) => {
-            let fixup = fixup_index_2(partition);
-            Anchors {
-                a: 0,
-                b: fixup as usize,
-                c: 0,
-            }
-        }
+        Split::Two(partition) => Anchors {
+            a: 0,
+            b: fixup_index_2(partition) as usize,
+            c: 0,
+        },
         Split::Three(partition) => {
             let fixups = fixup_indexes_3(partition);
             Anchors {
@@ -117,10 +91,7 @@ pub fn anchors_of(split: Split) -> Anchors
                 c: fixups.fixup_index_3 as usize,
             }
         }
-        Split::Vector {
-            rotation: _,
-            index_mode: _,
-        } => Anchors { a: 0, b: 0, c: 0 },
+        Split::Whole | Split::Vector { .. } => Anchors { a: 0, b: 0, c: 0 },
     }
 }
 
@@ -137,22 +108,15 @@ pub fn subsets_of(split: Split) -> Subsets
     ensures { result ≡ subsets_of split }
 {
     match split {
-        Split::Whole => Subsets { map: 0, bits: 1 },
-        Split::Two(partition) => {
-            let map = subset_indexes_2(partition);
-            Subsets {
-                map: map as u32,
-                bits: 1,
-            }
-        }
-        Split::Three(partition) => {
-            let map = subset_indexes_3(partition);
-            Subsets { map: map, bits: 2 }
-        }
-        Split::Vector {
-            rotation: _,
-            index_mode: _,
-        } => Subsets { map: 0, bits: 1 },
+        Split::Two(partition) => Subsets {
+            map: subset_indexes_2(partition) as u32,
+            bits: 1,
+        },
+        Split::Three(partition) => Subsets {
+            map: subset_indexes_3(partition),
+            bits: 2,
+        },
+        Split::Whole | Split::Vector { .. } => Subsets { map: 0, bits: 1 },
     }
 }
 
@@ -178,12 +142,10 @@ fn read_split(row: ModeRow, stream: BitStream) -> ReadSplit
     ensures { result ≡ split_read row stream }
 {
     let bits = stream.take(row.partition + row.rotation + row.index_mode);
-    let rest = bits.stream;
     let value = bits.value as u8;
-    let split = split_of_kind(row.kind, value, value % 4, value >> 2);
     ReadSplit {
-        split: split,
-        stream: rest,
+        split: split_of_kind(row.kind, value, value % 4, value >> 2),
+        stream: bits.stream,
     }
 }
 

@@ -31,14 +31,14 @@ impl Subset2Map {
     pub fn count_zeros(self) -> u8
         ensures { result ≡ how_many 0 (subsets 1 self.subset_indexes) }
     {
-        16 - u16::count_ones(self.subset_indexes) as u8
+        16 - self.count_ones()
     }
 
     // The number of pixels in subset 1.
     pub fn count_ones(self) -> u8
         ensures { result ≡ how_many 1 (subsets 1 self.subset_indexes) }
     {
-        u16::count_ones(self.subset_indexes) as u8
+        self.subset_indexes.count_ones() as u8
     }
 }
 
@@ -69,7 +69,7 @@ impl Subset3Map {
         requires { how_many 3 (subsets 2 self.subset_indexes) ≡ 0 }
         ensures { result ≡ how_many 0 (subsets 2 self.subset_indexes) }
     {
-        16 - u32::count_ones(self.subset_indexes) as u8
+        16 - self.subset_indexes.count_ones() as u8
     }
 
     // The number of pixels in subset 1.
@@ -77,7 +77,7 @@ impl Subset3Map {
         requires { how_many 3 (subsets 2 self.subset_indexes) ≡ 0 }
         ensures { result ≡ how_many 1 (subsets 2 self.subset_indexes) }
     {
-        u32::count_ones(self.subset_indexes & ONE_MASK) as u8
+        (self.subset_indexes & ONE_MASK).count_ones() as u8
     }
 
     // The number of pixels in subset 2.
@@ -85,7 +85,7 @@ impl Subset3Map {
         requires { how_many 3 (subsets 2 self.subset_indexes) ≡ 0 }
         ensures { result ≡ how_many 2 (subsets 2 self.subset_indexes) }
     {
-        u32::count_ones(self.subset_indexes & TWO_MASK) as u8
+        (self.subset_indexes & TWO_MASK).count_ones() as u8
     }
 }
 

@@ -86,11 +86,9 @@ pub fn stored_in_tiles(columns: usize, rows: usize, block: usize) -> usize
     let x = (block as u32 % columns as u32) as usize;
     let y = (block as u32 / columns as u32) as usize;
     let w = cell_side(8, columns, x / 8);
-    if w == 8 {
-        if cell_side(8, rows, y / 8) == 8 {
-            let before = blocks_ahead(8, columns, rows, x / 8, y / 8);
-            return before + interleave((x % 8) as u8, (y % 8) as u8) as usize;
-        }
+    if w == 8 && cell_side(8, rows, y / 8) == 8 {
+        let before = blocks_ahead(8, columns, rows, x / 8, y / 8);
+        return before + interleave((x % 8) as u8, (y % 8) as u8) as usize;
     }
     let before = blocks_ahead(8, columns, rows, x / 8, y / 8);
     before + order_in_tile(w, cell_side(8, rows, y / 8), x % 8, y % 8)
@@ -108,8 +106,8 @@ fn cell_at(s: usize, w: usize, h: usize, m: usize) -> Cell
     let column = s * high;
     let x = (past as u32 / column as u32) as usize;
     Cell {
-        x: x,
-        y: y,
+        x,
+        y,
         w: cell_side(s, w, x),
         h: high,
         rest: (past as u32 % column as u32) as usize,
@@ -143,12 +141,10 @@ pub fn number_in_tiles(columns: usize, rows: usize, stored: usize) -> usize
     ensures { result ≡ number_in_tiles columns rows stored }
 {
     let a = cell_at(8, columns, rows, stored);
-    if a.w == 8 {
-        if a.h == 8 {
-            let slot = a.rest as u8;
-            return (8 * a.y + row_of_slot(slot) as usize) * columns
-                + (8 * a.x + column_of_slot(slot) as usize);
-        }
+    if a.w == 8 && a.h == 8 {
+        let slot = a.rest as u8;
+        return (8 * a.y + row_of_slot(slot) as usize) * columns
+            + (8 * a.x + column_of_slot(slot) as usize);
     }
     let t = spot_in_tile(a.w, a.h, a.rest);
     (8 * a.y + t.y) * columns + (8 * a.x + t.x)

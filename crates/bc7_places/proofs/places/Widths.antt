@@ -1,9 +1,8 @@
 -- The width of a place by three anchors.
 -- Assumes nothing.
-use mathlib.Core.Path.{◌≡◌, refl, ap, sym}
-use mathlib.Core.Bool.{Bool, true, false}
+use mathlib.Core.Path.{◌≡◌, refl, ap}
+use mathlib.Core.Bool.{Bool}
 use Prim.Native.Nat.{ℕ, ◌-◌, ◌<◌}
-use native.Mathlib.Omega.{arith}
 use Rattle.bc7_format.specs.declared.Place.{Place}
 use Rattle.bc7_format.specs.declared.Place.TheVariants.{Lead, Value, PBit, Index}
 use Rattle.bc7_format.specs.declared.Split.{Split}
@@ -13,11 +12,6 @@ use Rattle.bc7_format.specs.Places.{width}
 use Rattle.bc7_format.specs.Splits.{anchors, partition}
 use Rattle.bc7_places.specs.Splits.{anchors_of, three_of}
 use Rattle.bc7_places.proofs.splits.AnchorPixels.{three_are}
-
--- where an index has no bits an anchor can't have one less
-pub no_width : (t : Bool) {w : ℕ} → w ≡ 0 → 0 ≡ pick t (w - 1) w
-no_width true e = omega arith
-no_width false e = sym e
 
 -- three anchors are the split's
 pub three_wide : (m : ℕ) (s : Split) → partition s < 64 → (x : Place) → width m (three_of (anchors_of s)) x ≡ width m (anchors s) x

@@ -32,10 +32,11 @@ halves : (c : After-new-bytes) → below 16 (λ i. ltb (get_or c.args.indexes i 
     ≡ both (octet_test c.args.width c.new-bytes.result.low) (octet_test c.args.width c.new-bytes.result.high)
 halves c = halves_test _ (sixteen c.before) c.new-bytes.result c.new-bytes.ensures.of (word c)
 
-pub returns-then-not-pair_fits : goal.returns-then-not-pair_fits
-returns-then-not-pair_fits c = sym (first_fails _ _ (halves c.before.before) (sym c.pair_fits.ensures ∙ c.if-not-pair_fits.true))
+pub returns-then-pair_fits : goal.returns-then-pair_fits
+returns-then-pair_fits c =
+    c.pair_fits-then-pair_fits.ensures ∙ sym (first_holds _ _ (halves c.before.before.before)
+    (sym c.pair_fits.ensures ∙ c.if-pair_fits.true))
 
-pub returns : goal.returns
-returns c =
-    c.pair_fits-2.ensures ∙ sym (first_holds _ _ (halves c.before.before.before)
-    (sym c.pair_fits.ensures ∙ c.if-not-pair_fits.false))
+pub returns-else-pair_fits : goal.returns-else-pair_fits
+returns-else-pair_fits c =
+    c.if-pair_fits.false ∙ sym (first_fails _ _ (halves c.before.before) (sym c.pair_fits.ensures ∙ c.if-pair_fits.false))

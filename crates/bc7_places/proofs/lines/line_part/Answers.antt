@@ -6,21 +6,8 @@ use Rattle.bc7_places.proofs.lines.line_part.Goals as goal
 
 pub anchor-requires : goal.anchor-requires
 anchor-requires c =
-    let s = c.before.before.before.before.before.before.before in
+    let s = c in
     record {
       bits = rw c.pixels_of-pixels.ensures (map_bits s.args.split);
       pixel = rw c.anchors_of-anchors.ensures (anchors_low s.args.split s.requires.partition).second;
     }
-
-pub returns : goal.returns
-returns c =
-    rw (
-      c.anchor.ensures,
-      c.index_width.ensures,
-      c.p_width.ensures,
-      c.width_in-2.ensures,
-      c.width_in.ensures,
-      c.anchors_of-anchors.ensures,
-      c.pixels_of-pixels.ensures,
-      c.index_set_in-set.ensures,
-    )

@@ -16,6 +16,6 @@ pub returns-then-number-lt-FIRST : goal.returns-then-number-lt-FIRST
 unfolding place_at
 returns-then-number-lt-FIRST c = rw (le-ltb _ 4 c.if-number-lt-VALUES.false, le-ltb _ 28 c.if-number-lt-P_BITS.false, lt-ltb _ 34 c.if-number-lt-FIRST.true)
 
-pub returns : goal.returns
+pub returns-else-number-lt-FIRST : goal.returns-else-number-lt-FIRST
 unfolding place_at
-returns c = rw (le-ltb _ 4 c.if-number-lt-VALUES.false, le-ltb _ 28 c.if-number-lt-P_BITS.false, le-ltb _ 34 c.if-number-lt-FIRST.false)
+returns-else-number-lt-FIRST c = rw (le-ltb _ 4 c.if-number-lt-VALUES.false, le-ltb _ 28 c.if-number-lt-P_BITS.false, le-ltb _ 34 c.if-number-lt-FIRST.false)

@@ -23,4 +23,4 @@ overflow_cast-value c =
     record { fits = lt_of_lt_of_le c.take-bits.ensures.small (pow_mono {j = 8} (omega (arith, narrow))) }
 
 pub returns : goal.returns
-returns c = rw (c.split_of_kind-split.ensures, c.take-bits.ensures.same)
+returns c = rw (c.split_of_kind.ensures, c.take-bits.ensures.same)

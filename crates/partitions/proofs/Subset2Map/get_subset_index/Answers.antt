@@ -1,14 +1,9 @@
 -- `Subset2Map::get_subset_index` meets its contract.
 -- Assumes nothing.
-use native.Mathlib.Nat.{lt_of_lt_of_le}
 use Prim.Native.Nat.{◌/◌, ◌^◌}
-use lib.Bits.{and_mask, mask_lt}
-use lib.Dec.{lit≤}
+use lib.Bits.{and_mask}
 use Rattle.bcn_format.specs.Block.{field}
 use Rattle.partitions.proofs.Subset2Map.get_subset_index.Goals as goal
-
-pub overflow_cast-result-2 : goal.overflow_cast-result-2
-overflow_cast-result-2 c = record { fits = lt_of_lt_of_le (mask_lt (c.args.self.subset_indexes / 2 ^ c.args.pixel_index) 1) (lit≤ tt) }
 
 pub returns : goal.returns
 unfolding field

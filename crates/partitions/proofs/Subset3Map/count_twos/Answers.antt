@@ -1,12 +1,8 @@
 -- `Subset3Map::count_twos` meets its contract.
 -- Assumes nothing.
-use native.Mathlib.Omega.{arith}
 use borrow.Author.Rules.{rules}
 use Rattle.partitions.proofs.Counts.{word3}
 use Rattle.partitions.proofs.Subset3Map.count_twos.Goals as goal
-
-pub overflow_cast-result : goal.overflow_cast-result
-overflow_cast-result c = omega (arith, word3 c.args.self.subset_indexes (search rules) c.requires)
 
 pub returns : goal.returns
 returns c = (word3 c.args.self.subset_indexes (search rules) c.requires).high
