@@ -10,7 +10,6 @@ use lib.Dec.{T, lit<}
 use lib.ListN.{get_or, length, replicate}
 use Rattle.laws.specs.Digits.{Fit}
 use Rattle.laws.proofs.Digits.{split_join}
-use Rattle.laws.proofs.Tests.{at}
 use Rattle.bcn_format.specs.Block.{eights, field, number, trailing}
 use Rattle.bcn_format.specs.Partitions.{among}
 use Rattle.bc7_format.specs.Modes.{mode_of}

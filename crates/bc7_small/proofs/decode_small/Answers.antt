@@ -25,10 +25,6 @@ size s = search rules
 byte : (s : Start) (i : ℕ) → Fits w8 (get_or s.args.block i 0)
 byte s i = search rules
 
--- past its marker the stream stands where the mode's function wants it, and holds the same
-skipped_to : (at : After-mode_of-mode) (k : ℕ) {t : BitStream} → t ≡ skipped at.new-stream.result k → t.at ≡ k
-skipped_to at k e = rw e (omega (arith, at.new-stream.ensures.stands))
-
 shows_past : (at : After-mode_of-mode) (m : ℕ) → at.mode_of-mode.result ≡ m → m < 8 → Admitted at.args.block
     → {t : BitStream} → t ≡ skipped at.new-stream.result (m + 1) → {r : List (List ℕ)} → r ≡ direct_pixels m (held t)
     → DecodesSmall at.args.block 0 r
@@ -37,9 +33,6 @@ shows_past at m is low a et er =
     shows s.args.block at.mode_of-mode.ensures (size at.before.before) (λ i. (byte at.before.before i).fits) (sym at.mode_of-mode.ensures ∙ is) low a
     (held_skipped _ (m + 1) et ∙ at.new-stream.ensures.of) er
 
-pub mode_4-requires : goal.mode_4-requires
-mode_4-requires c = skipped_to c.before.before 5 c.skip.ensures
-
 pub returns-in-4 : goal.returns-in-4
 returns-in-4 c =
     let arm = c in
@@ -47,18 +40,12 @@ returns-in-4 c =
     shows_past c.before.before.before 4 arm.in-4.is (omega arith) (inl (sym at.mode_of-mode.ensures ∙ arm.in-4.is)) c.skip.ensures
     c.mode_4.ensures
 
-pub mode_5-requires : goal.mode_5-requires
-mode_5-requires c = skipped_to c.before.before 6 c.skip-in-5.ensures
-
 pub returns-in-5 : goal.returns-in-5
 returns-in-5 c =
     let arm = c in
     let at = arm in
     shows_past c.before.before.before 5 arm.in-5.is (omega arith) (inr (inl (sym at.mode_of-mode.ensures ∙ arm.in-5.is))) c.skip-in-5.ensures
     c.mode_5.ensures
-
-pub mode_6-requires : goal.mode_6-requires
-mode_6-requires c = skipped_to c.before.before 7 c.skip-in-6.ensures
 
 pub returns-in-6 : goal.returns-in-6
 returns-in-6 c =

@@ -21,58 +21,12 @@ use Rattle.bc7_subsets.proofs.three.mode_0.Goals.{After-extract_partition_set_id
 behind_6 : (c : After-take-g2) → c.take-g2.result.stream.at ≡ 53
 behind_6 c = omega arith
 
-pub take-b2-requires : goal.take-b2-requires
-take-b2-requires c = record { narrow = omega arith; inside = omega (arith, behind_6 c.before.before.before.before.before) }
-
-pub take-p0-requires : goal.take-p0-requires
-take-p0-requires c = record { narrow = omega arith; inside = omega (arith, behind_6 c.before.before.before.before.before.before.before) }
-
-pub take-p1-requires : goal.take-p1-requires
-take-p1-requires c = record { narrow = omega arith; inside = omega (arith, behind_6 c.before.before.before.before.before.before.before.before.before) }
-
-pub take-p2-requires : goal.take-p2-requires
-take-p2-requires c = record { narrow = omega arith; inside = omega (arith, behind_6 c.before.before.before.before.before.before.before.before.before.before.before) }
-
 behind : (c : After-take-p2) → c.take-p2.result.stream.at ≡ 83
 behind c = omega (arith, behind_6 c.before.before.before.before.before.before.before.before.before.before.before.before)
 
 -- the number of the partition
 abbrev number : After-take-p2 → After-extract_partition_set_id-id
 number c = c.before.before.before.before.before.before.before.before.before.before.before.before.before.before.before.before.before.before.before.before.before.before.before.before
-
-pub opaque_p-requires : goal.opaque_p-requires
-opaque_p-requires c =
-    omega (
-      arith,
-      c.take-r0.ensures.small,
-      c.take-r1.ensures.small,
-      c.take-g0.ensures.small,
-      c.take-g1.ensures.small,
-      c.take-b0.ensures.small,
-      c.take-b1.ensures.small,
-      c.take-p0.ensures.small,
-      c.take-p1.ensures.small,
-    )
-
-pub opaque_p-requires-2 : goal.opaque_p-requires-2
-opaque_p-requires-2 c =
-    omega (
-      arith,
-      c.take-r2.ensures.small,
-      c.take-g2.ensures.small,
-      c.take-b2.ensures.small,
-      c.take-p2.ensures.small,
-    )
-
-pub overflow_cast-id : goal.overflow_cast-id
-overflow_cast-id c =
-    let id = (number c.before.before.before.before).extract_partition_set_id-id.ensures in
-    record { fits = omega (arith, id.small) }
-
-pub partition_word_3_3-set-requires : goal.partition_word_3_3-set-requires
-partition_word_3_3-set-requires c =
-    let id = (number c.before.before.before.before).extract_partition_set_id-id.ensures in
-    omega (arith, id.small)
 
 pub indexes_3-x-requires : goal.indexes_3-x-requires
 indexes_3-x-requires c =

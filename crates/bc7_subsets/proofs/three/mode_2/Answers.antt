@@ -21,46 +21,12 @@ use Rattle.bc7_subsets.proofs.three.mode_2.Goals.{After-extract_partition_set_id
 behind_6 : (c : After-take-g2) → c.take-g2.result.stream.at ≡ 69
 behind_6 c = omega arith
 
-pub take-b2-requires : goal.take-b2-requires
-take-b2-requires c = record { narrow = omega arith; inside = omega (arith, behind_6 c.before.before.before.before.before) }
-
 behind : (c : After-take-b2) → c.take-b2.result.stream.at ≡ 99
 behind c = omega (arith, behind_6 c.before.before.before.before.before.before)
 
 -- the number of the partition
 abbrev number : After-take-b2 → After-extract_partition_set_id-id
 number c = c.before.before.before.before.before.before.before.before.before.before.before.before.before.before.before.before.before.before
-
-pub opaque-requires : goal.opaque-requires
-opaque-requires c =
-    omega (
-      arith,
-      c.take-r0.ensures.small,
-      c.take-r1.ensures.small,
-      c.take-g0.ensures.small,
-      c.take-g1.ensures.small,
-      c.take-b0.ensures.small,
-      c.take-b1.ensures.small,
-    )
-
-pub opaque-requires-2 : goal.opaque-requires-2
-opaque-requires-2 c =
-    omega (
-      arith,
-      c.take-r2.ensures.small,
-      c.take-g2.ensures.small,
-      c.take-b2.ensures.small,
-    )
-
-pub overflow_cast-id : goal.overflow_cast-id
-overflow_cast-id c =
-    let id = (number c.before.before.before.before).extract_partition_set_id-id.ensures in
-    record { fits = omega (arith, id.small) }
-
-pub partition_word_3_2-set-requires : goal.partition_word_3_2-set-requires
-partition_word_3_2-set-requires c =
-    let id = (number c.before.before.before.before).extract_partition_set_id-id.ensures in
-    omega (arith, id.small)
 
 pub indexes_3-x-requires : goal.indexes_3-x-requires
 indexes_3-x-requires c =

@@ -29,30 +29,6 @@ behind c = omega (arith, behind_6 c.before.before.before.before)
 abbrev number : After-take-p1 → After-extract_partition_set_id-id
 number c = c.before.before.before.before.before.before.before.before.before.before.before.before.before.before.before.before
 
-pub opaque_p-requires : goal.opaque_p-requires
-opaque_p-requires c =
-    omega (
-      arith,
-      c.take-r0.ensures.small,
-      c.take-r1.ensures.small,
-      c.take-g0.ensures.small,
-      c.take-g1.ensures.small,
-      c.take-b0.ensures.small,
-      c.take-b1.ensures.small,
-      c.take-p0.ensures.small,
-      c.take-p1.ensures.small,
-    )
-
-pub overflow_cast-id : goal.overflow_cast-id
-overflow_cast-id c =
-    let id = (number c.before.before.before.before.before).extract_partition_set_id-id.ensures in
-    record { fits = omega (arith, id.small) }
-
-pub partition_word_2_3-set-requires : goal.partition_word_2_3-set-requires
-partition_word_2_3-set-requires c =
-    let id = (number c.before.before.before.before.before).extract_partition_set_id-id.ensures in
-    omega (arith, id.small)
-
 pub indexes_2-x-requires : goal.indexes_2-x-requires
 indexes_2-x-requires c =
     let last = c in

@@ -20,44 +20,12 @@ use Rattle.bc7_subsets.proofs.two.mode_7.Goals.{After-extract_partition_set_id-i
 behind_6 : (c : After-take-b1) → c.take-b1.result.stream.at ≡ 74
 behind_6 c = omega arith
 
-pub take-p0-requires : goal.take-p0-requires
-take-p0-requires c = record { narrow = omega arith; inside = omega (arith, behind_6 c.before.before.before.before.before) }
-
-pub take-p1-requires : goal.take-p1-requires
-take-p1-requires c = record { narrow = omega arith; inside = omega (arith, behind_6 c.before.before.before.before.before.before.before) }
-
 behind : (c : After-take-p1) → c.take-p1.result.stream.at ≡ 98
 behind c = omega (arith, behind_6 c.before.before.before.before.before.before.before.before)
 
 -- the number of the partition
 abbrev number : After-take-p1 → After-extract_partition_set_id-id
 number c = c.before.before.before.before.before.before.before.before.before.before.before.before.before.before.before.before.before.before.before.before
-
-pub translucent_p-requires : goal.translucent_p-requires
-translucent_p-requires c =
-    omega (
-      arith,
-      c.take-r0.ensures.small,
-      c.take-r1.ensures.small,
-      c.take-g0.ensures.small,
-      c.take-g1.ensures.small,
-      c.take-b0.ensures.small,
-      c.take-b1.ensures.small,
-      c.take-a0.ensures.small,
-      c.take-a1.ensures.small,
-      c.take-p0.ensures.small,
-      c.take-p1.ensures.small,
-    )
-
-pub overflow_cast-id : goal.overflow_cast-id
-overflow_cast-id c =
-    let id = (number c.before.before.before).extract_partition_set_id-id.ensures in
-    record { fits = omega (arith, id.small) }
-
-pub partition_word_2_2-set-requires : goal.partition_word_2_2-set-requires
-partition_word_2_2-set-requires c =
-    let id = (number c.before.before.before).extract_partition_set_id-id.ensures in
-    omega (arith, id.small)
 
 pub indexes_2-x-requires : goal.indexes_2-x-requires
 indexes_2-x-requires c =

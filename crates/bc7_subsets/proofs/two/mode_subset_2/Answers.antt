@@ -1,7 +1,6 @@
 -- `mode_subset_2`: what the function of the mode shows.
 -- Assumes nothing.
 use mathlib.Core.Path.{◌≡◌, ap, ◌∙◌}
-use native.Mathlib.Omega.{arith}
 use Rattle.bc7_fields.specs.Fields.{direct_pixels}
 use Rattle.bits.proofs.On.{held_skipped}
 use Rattle.bc7_subsets.proofs.Laws.{last_of_3}
@@ -11,15 +10,6 @@ use Rattle.bc7_subsets.proofs.two.mode_subset_2.Goals.{In_default}
 -- behind the other arms
 the_last : (c : In_default) → c.args.mode ≡ 7
 the_last c = last_of_3 _ 1 3 7 c.requires.mode c.in_default.in_default-own.rest.0.1 c.in_default.in_default-own.rest.1
-
-pub mode_1-requires : goal.mode_1-requires
-mode_1-requires c = rw c.skip.ensures (omega (arith, c.requires.stands))
-
-pub mode_3-requires : goal.mode_3-requires
-mode_3-requires c = rw c.skip-in-3.ensures (omega (arith, c.requires.stands))
-
-pub mode_7-requires : goal.mode_7-requires
-mode_7-requires c = rw c.skip-in_default.ensures (omega (arith, c.requires.stands))
 
 pub returns-in-1 : goal.returns-in-1
 returns-in-1 c = rw c.in-1.is (c.mode_1.ensures ∙ ap (direct_pixels 1) (held_skipped _ 2 c.skip.ensures))
