@@ -3,13 +3,10 @@
 use mathlib.Core.Path.{◌≡◌, ap, ap₂, sym, subst, ◌∙◌}
 use mathlib.Core.List.{List}
 use Prim.Native.Nat.{ℕ, ◌<◌}
-use borrow.Author.Tests.{ne_eqb}
-use lib.ListN.{get_or}
 use Rattle.laws.specs.Digits.{Fit}
 use Rattle.laws.specs.Tables.{table}
 use Rattle.laws.proofs.Joining.{table_same}
 use Rattle.bcn_format.specs.Block.{eights, number}
-use Rattle.bcn_format.specs.Partitions.{strings2, strings3}
 use Rattle.bcn_format.proofs.Fields.{field_below}
 use Rattle.bc7_format.specs.Lines.{pixel, rotated}
 use Rattle.bc7_format.specs.Modes.{index_mode_bits, mode_of, partition_bits, rotation_bits}
@@ -17,25 +14,17 @@ use Rattle.refusals.specs.Answers.{Answer}
 use Rattle.pixel_rules.specs.Columns.{subset_count}
 use Rattle.pixel_rules.specs.Pixels.{pixel_read}
 use Rattle.pixel_rules.specs.Plain.{Spelt, channel_in, index_mode_in, letters_of, partition_in, plain_channel}
-use Rattle.pixel_rules.specs.Strings.{letters, string_for, undivided}
+use Rattle.pixel_rules.specs.Strings.{letters, string_for}
 use Rattle.pixel_rules.proofs.Reading.{block_spelt, channel_shown}
 use Rattle.pixel_rules.proofs.Theorems.{pixel_accepted}
 use Rattle.bc7_plain.specs.Asked.{PixelAsked, SplitRead}
 use Rattle.bc7_plain.proofs.Rows.{few}
 
 module _ (m n : ℕ) where
-  -- the letters, by the number of subsets
-  pub letters_1 : subset_count m ≡ 1 → letters undivided ≡ letters_of m n
-  unfolding letters_of string_for
-  letters_1 e = sym (ap (λ (k : ℕ). letters (string_for k (partition_in m n))) e)
-
-  pub letters_2 : subset_count m ≡ 2 → letters (get_or strings2 (partition_in m n) "") ≡ letters_of m n
-  unfolding letters_of string_for
-  letters_2 e = sym (ap (λ (k : ℕ). letters (string_for k (partition_in m n))) e)
-
-  pub letters_3 : (subset_count m ≡ 1 → ⊥) → (subset_count m ≡ 2 → ⊥) → letters (get_or strings3 (partition_in m n) "") ≡ letters_of m n
-  unfolding letters_of string_for
-  letters_3 a b = sym (ap letters (rw (ne_eqb (subset_count m) 1 a, ne_eqb (subset_count m) 2 b)))
+  -- the letters of the block's partition
+  pub letters_taken : {k p : ℕ} → k ≡ subset_count m → p ≡ partition_in m n → letters (string_for k p) ≡ letters_of m n
+  unfolding letters_of
+  letters_taken e f = ap₂ (λ (k p : ℕ). letters (string_for k p)) e f
 
   module _ (h : m < 8) {p r i : ℕ} (g : SplitRead m n p r i) where
     pub partition_64 : p < 64

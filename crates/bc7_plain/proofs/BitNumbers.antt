@@ -4,7 +4,6 @@ use mathlib.Core.Path.{◌≡◌, refl, sym, ap, ◌∙◌}
 use mathlib.Core.List.{List}
 use Prim.Native.Nat.{ℕ, suc, ◌+◌, ◌-◌, ◌*◌, ◌/◌, ◌%◌, ◌^◌, ◌≤◌, ◌<◌}
 use native.Mathlib.Nat.{mod-one}
-use native.Mathlib.Numerals.{add-one}
 use native.Mathlib.Omega.{arith}
 use lib.Dec.{eqb}
 use lib.ListN.{get_or}
@@ -61,12 +60,12 @@ field_more n s w =
     ap (λ (v : ℕ). x % 2 ^ v) e ∙ pow.mod-pow-add x w 1
     ∙ (let z : (x / 2 ^ 1 % 2 ^ w) * 2 ^ 1 + x % 2 ^ 1 ≡ 2 * (n / 2 ^ suc s % 2 ^ w) + x % 2 ^ 1 = omega arith in z)
 
-pub sum_next : (n s w t : ℕ) {sum b : ℕ} → t < w → sum ≡ field n (s + (w - t)) t → b ≡ field n (s + (w - 1 - t)) 1
-    → 2 * sum + b ≡ field n (s + (w - (t + 1))) (t + 1)
-sum_next n s w t {sum} {b} l e g =
-    let up : s + (w - t) ≡ suc (s + (w - 1 - t)) = omega arith in
-    let same : w - (t + 1) ≡ w - 1 - t = omega arith in
-    rw (same, add-one t, field_more n (s + (w - 1 - t)) t, e, g, up)
+pub sum_next : (n s w i : ℕ) {sum b : ℕ} → 0 < i → i ≤ w → sum ≡ field n (s + i) (w - i) → b ≡ field n (s + (i - 1)) 1
+    → 2 * sum + b ≡ field n (s + (i - 1)) (w - (i - 1))
+sum_next n s w i {sum} {b} some most e g =
+    let up : s + i ≡ suc (s + (i - 1)) = omega arith in
+    let same : w - (i - 1) ≡ suc (w - i) = omega arith in
+    rw (same, field_more n (s + (i - 1)) (w - i), e, g, up)
 
 -- the zero bits before the first one
 module _ (bs : List ℕ) (sixteen : Fit eights bs) (m : ℕ) (h : m < 8) where

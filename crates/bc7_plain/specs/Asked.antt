@@ -1,7 +1,7 @@
 -- What the reader's inner functions ask of what they are given, and answer.
 -- Assumes nothing.
-use Rattle.std.specs.Prelude.{◌≡◌, List, ℕ, ◌+◌, ◌^◌, ◌≤◌, ◌<◌}
-use Rattle.bc7_format.specs.Modes.{endpoint_count, index_bits}
+use Rattle.std.specs.Prelude.{◌≡◌, List, ℕ, Option, IfSome, unwrap_or, ◌+◌, ◌^◌, ◌≤◌, ◌<◌}
+use Rattle.bc7_format.specs.Modes.{endpoint_count, index_bits, mode_of}
 use Rattle.pixel_rules.specs.Columns.{column_of}
 use Rattle.pixel_rules.specs.Plain.{Spelt, index_mode_in, partition_in, rotation_in}
 use Rattle.pixel_rules.specs.Strings.{Sixteen}
@@ -20,6 +20,11 @@ pub record InTable (m k : ℕ) : Type 0 where
 pub record Column (m k r : ℕ) : Type 0 where
   pub is : r ≡ column_of m k
   pub few : r ≤ 8
+
+-- the mode that was found in a block, or none in a reserved one
+pub record ModeFound (bs : List ℕ) (r : Option ℕ) : Type 0 where
+  pub is : unwrap_or r 8 ≡ mode_of bs
+  pub low : IfSome r (λ m. m < 8)
 
 -- a number of bits, and of a block's at that
 pub record Bits (n r : ℕ) : Type 0 where

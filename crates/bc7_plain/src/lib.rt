@@ -11,15 +11,15 @@ ghost use Rattle.bcn_format.specs.Block.{field, number};
 ghost use Rattle.bcn_format.specs.Drawing.{Weighed, drawn, promoted, weight_of};
 ghost use Rattle.bc7_fields.specs.Fields.{end_byte, lead_end, p_start, value_start};
 ghost use Rattle.bc7_format.specs.Lines.{rotated};
-ghost use Rattle.bc7_format.specs.Modes.{alpha_bits, channel_bits, colour_bits, endpoint_count, index_bits, mode_of};
+ghost use Rattle.bc7_format.specs.Modes.{alpha_bits, channel_bits, colour_bits, endpoint_count, index_bits};
 ghost use Rattle.pixel_rules.specs.Plain.{channel_in, first_start, index_in, plain_channel, set_for, set_start};
 ghost use Rattle.pixel_rules.specs.Promises.{ReadsPixel};
 ghost use Rattle.bc7_plain.specs.Asked.{Bits, Byte, ChannelAsked, ChannelOf, Column, EndpointOf, Has, InTable, IndexAsked};
-ghost use Rattle.bc7_plain.specs.Asked.{IndexModeOf, TwoBytes, PixelAsked, PixelOf, Promoted, Rotatable, SetAsked, SetOf};
+ghost use Rattle.bc7_plain.specs.Asked.{IndexModeOf, ModeFound, TwoBytes, PixelAsked, PixelOf, Promoted, Rotatable, SetAsked, SetOf};
 ghost use Rattle.bc7_plain.specs.Asked.{ShortField, SplitRead};
 
 use refusals::Refusal;
-use strings::{anchors_before, is_anchor, one, subset, three, two};
+use strings::{anchors_before, is_anchor, string_of, subset};
 
 mod strings;
 
@@ -36,28 +36,23 @@ fn bits(block: [u8; 16], start: usize, width: usize) -> usize
     requires { ShortField start width }
     ensures { result ≡ field (number block) start width }
 {
-    let mut sum: usize = 0;
-    let mut taken: usize = 0;
-    while taken < width {
-        let next = width - 1 - taken;
+    let mut sum = 0;
+    for next in (0..width).rev() {
         sum = 2 * sum + bit(block, start + next);
-        taken += 1;
     }
     sum
 }
 
-// The mode: how many zero bits come before the first one. A block whose first eight are zero is reserved.
-fn mode_of(block: [u8; 16]) -> usize
-    ensures { result ≡ mode_of block }
+// The mode: how many zero bits come before the first one. A block whose first eight are zero is reserved, and has none.
+fn mode_of(block: [u8; 16]) -> Option<usize>
+    ensures { ModeFound block result }
 {
-    let mut mode: usize = 0;
-    while mode < 8 {
+    for mode in 0..8 {
         if bit(block, mode) == 1 {
-            return mode;
+            return Some(mode);
         }
-        mode += 1;
     }
-    8
+    None
 }
 
 // The table of modes as it is printed: a row for each mode, and the names of its columns.
@@ -374,38 +369,8 @@ fn read(block: [u8; 16], mode: usize, pixel: usize) -> [u8; 4]
     ensures { result ≡ table 4 (plain_channel mode (number block) pixel) }
 {
     let split = split_of(block, mode);
-    let subsets = column(mode, SUBSETS);
-    if subsets == 1 {
-        let string = one();
-        return shown(
-            block,
-            mode,
-            split.rotation,
-            split.index_mode,
-            &string,
-            pixel,
-        );
-    }
-    if subsets == 2 {
-        let string = two(split.partition);
-        return shown(
-            block,
-            mode,
-            split.rotation,
-            split.index_mode,
-            &string,
-            pixel,
-        );
-    }
-    let string = three(split.partition);
-    shown(
-        block,
-        mode,
-        split.rotation,
-        split.index_mode,
-        &string,
-        pixel,
-    )
+    let string = string_of(column(mode, SUBSETS), split.partition);
+    shown(block, mode, split.rotation, split.index_mode, string, pixel)
 }
 
 // One pixel of a block: red, green, blue, alpha. Any sixteen bytes are a block; a reserved one shows 0 0 0 0. Pixel 16 and up is refused.
@@ -415,9 +380,8 @@ pub fn pixel_of(block: [u8; 16], pixel: u32) -> Result<[u8; 4], Refusal>
     if 16 <= pixel {
         return Err(Refusal::NoSuchPixel);
     }
-    let mode = mode_of(block);
-    if mode == 8 {
-        return Ok([0; 4]);
+    match mode_of(block) {
+        Some(mode) => Ok(read(block, mode, pixel as usize)),
+        None => Ok([0; 4]),
     }
-    Ok(read(block, mode, pixel as usize))
 }

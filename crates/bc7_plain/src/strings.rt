@@ -1,9 +1,10 @@
 // The partitions as document 002 prints them: sixteen digits, a pixel's subset each, and a dash before a pixel that is an anchor. Pixel 0 is
 // always one and has no dash. Nothing is made of them beforehand: each question walks the string.
-ghost use Rattle.std.specs.Prelude.{◌≡◌, ◌<◌, get_or};
-ghost use Rattle.bcn_format.specs.Partitions.{strings2, strings3};
-ghost use Rattle.pixel_rules.specs.Strings.{anchors_before, is_anchor_in, letters, place_in, subset_spelt, undivided};
+ghost use Rattle.std.specs.Prelude.{◌≡◌, ◌<◌};
+ghost use Rattle.pixel_rules.specs.Strings.{anchors_before, is_anchor_in, letters, place_in, string_for, subset_spelt};
 ghost use Rattle.bc7_plain.specs.Asked.{PixelOfString, PixelsBefore};
+
+const ONE: [u8; 16] = *b"0000000000000000";
 
 const TWO: [[u8; 17]; 64] = [
     *b"001100110011001-1",
@@ -139,25 +140,18 @@ const THREE: [[u8; 18]; 64] = [
     *b"011-12011-22012220",
 ];
 
-// The string of one subset, and those of two and of three.
-pub fn one() -> [u8; 16]
-    ensures { result ≡ letters undivided }
-{
-    *b"0000000000000000"
-}
-
-pub fn two(partition: usize) -> [u8; 17]
+// The string of a partition: of one subset, of two or of three.
+pub fn string_of(subsets: usize, partition: usize) -> &'static [u8]
     requires { partition < 64 }
-    ensures { result ≡ letters (get_or strings2 partition "") }
+    ensures { result.now ≡ letters (string_for subsets partition) }
 {
-    TWO[partition]
-}
-
-pub fn three(partition: usize) -> [u8; 18]
-    requires { partition < 64 }
-    ensures { result ≡ letters (get_or strings3 partition "") }
-{
-    THREE[partition]
+    if subsets == 1 {
+        return &ONE;
+    }
+    if subsets == 2 {
+        return &TWO[partition];
+    }
+    &THREE[partition]
 }
 
 // Where the digit of a pixel stands: dashes are passed, and count for no pixel.
@@ -165,17 +159,15 @@ fn place(string: &[u8], pixel: usize) -> usize
     ensures { result ≡ place_in string.now pixel }
 {
     let mut left = pixel;
-    let mut k: usize = 0;
-    while k < string.len() {
-        if string[k] != b'-' {
+    for (k, &letter) in string.iter().enumerate() {
+        if letter != b'-' {
             if left == 0 {
                 return k;
             }
             left -= 1;
         }
-        k += 1;
     }
-    k
+    string.len()
 }
 
 // The subset of a pixel: its digit.
@@ -208,13 +200,8 @@ pub fn anchors_before(string: &[u8], pixel: usize) -> usize
         return 0;
     }
     let end = place(string, pixel - 1);
-    let mut found: usize = 1;
-    let mut k: usize = 0;
-    while k < end {
-        if string[k] == b'-' {
-            found += 1;
-        }
-        k += 1;
-    }
-    found
+    1 + string[..end]
+        .iter()
+        .filter(|&&letter| letter == b'-')
+        .count()
 }

@@ -8,7 +8,7 @@ use Rattle.bits.specs.declared.writer.BitWriter.{BitWriter}
 use Rattle.laws.specs.Digits.{join, total, Fit}
 use Rattle.laws.specs.Tables.{table}
 use Rattle.bc7_format.specs.Modes.{kind_of_mode, channel_bits}
-use Rattle.bc7_format.specs.Places.{inside, place_at, width, first_from, values_from}
+use Rattle.bc7_format.specs.Places.{inside, place_at, width, values_from}
 use Rattle.bc7_format.specs.Splits.{anchors, kind_of}
 use Rattle.bits.specs.Writer.{writer_of, written}
 use Rattle.record_rules.specs.Records.{says}
@@ -46,27 +46,18 @@ said_at r i = says r (place_at i)
 unfoldable pub upto : Record → ℕ → BitWriter
 upto r i = writer_of (join (table i (wide r)) (table i (said_at r))) (total (table i (wide r)))
 
--- what each group asks for: a record that packs, the anchors of its split, the writer that holds what stands before the group
+-- and the anchors of its split
 pub record PackableWith (r : Record) (row : ModeRow) (a : Anchors) : Type 0 where
   pub packs : Packable r row
   pub anchors_are : a ≡ anchors_of r.split
 
-pub record Next (r : Record) (row : ModeRow) (i : ℕ) (b : BitWriter) : Type 0 where
-  pub packs : Packable r row
-  pub before : b ≡ upto r i
-
-pub record ChannelNext (r : Record) (row : ModeRow) (c w : ℕ) (b : BitWriter) : Type 0 where
-  pub packs : Packable r row
+-- what a channel asks for: its width, and the writer that holds what stands before it
+pub record ChannelNext (r : Record) (c w : ℕ) (b : BitWriter) : Type 0 where
   pub channel : c < 4
   pub width_is : w ≡ channel_bits r.mode c
   pub before : b ≡ upto r (values_from + 6 * c)
 
-pub record IndexesNext (r : Record) (row : ModeRow) (a : Anchors) (b : BitWriter) : Type 0 where
-  pub packs : Packable r row
-  pub anchors_are : a ≡ anchors_of r.split
-  pub before : b ≡ upto r first_from
-
--- and a set of indexes: that they fit as they are stored, and that there is room
+-- what a set of indexes asks for: that they fit as they are stored, and that there is room
 pub record SetNext (b : BitWriter) (kind : ℕ) (a : Anchors) (w : ℕ) (vs : List ℕ) : Type 0 where
   pub width : IndexWidth w
   pub pixels : ArePixels a

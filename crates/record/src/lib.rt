@@ -6,7 +6,7 @@ ghost use Rattle.record_rules.specs.Promises.{Packs, Unpacks};
 
 use crate::fits::{anchors_fit, record_fits};
 use crate::reading::read_record;
-use crate::writing::write_record;
+use crate::writing::Packing;
 use bc7_modes::{mode_of, mode_row};
 use bc7_places::splits::{anchors_of, kind_of};
 use record_rules::Record;
@@ -47,5 +47,10 @@ pub fn pack(record: Record) -> Result<[u8; 16], Refusal>
     if !anchors_fit(record, row, anchors) {
         return Err(Refusal::AnchorBitSet);
     }
-    Ok(write_record(record, row, anchors))
+    let packing = Packing {
+        record: record,
+        row: row,
+        anchors: anchors,
+    };
+    Ok(packing.block())
 }

@@ -6,7 +6,7 @@ ghost use Rattle.bc7_format.specs.Places.{block_of, first_from, place_count, ps_
 ghost use Rattle.bcn_format.specs.Indexes.{anchor_count};
 ghost use Rattle.bits.specs.Writer.{pushed};
 ghost use Rattle.record_rules.specs.Records.{says};
-ghost use Rattle.record.specs.Writing.{ChannelNext, IndexesNext, Joinable, Next, Packable, PackableWith, SetNext};
+ghost use Rattle.record.specs.Writing.{ChannelNext, Joinable, PackableWith, SetNext};
 ghost use Rattle.record.specs.Writing.{stored_set, upto};
 
 use bc7_modes::ModeRow;
@@ -28,53 +28,6 @@ fn joined(values: &[u8], from: usize, step: usize, count: usize, width: u32) -> 
     word
 }
 
-// Marker and split.
-fn push_lead(record: Record, row: ModeRow) -> BitWriter
-    requires { Packable «record» row }
-    ensures { result ≡ upto «record» values_from }
-{
-    let mode = record.mode;
-    let split = record.split;
-    BitWriter::new()
-        .push(1u64 << mode, mode as u32 + 1)
-        .push(partition_of(split) as u64, row.partition)
-        .push(rotation_of(split) as u64, row.rotation)
-        .push(index_mode_of(split) as u64, row.index_mode)
-}
-
-fn push_channel(
-    writer: BitWriter,
-    record: Record,
-    row: ModeRow,
-    channel: usize,
-    width: u32,
-) -> BitWriter
-    requires { ChannelNext «record» row channel width writer }
-    ensures { result ≡ upto «record» (values_from + 6 * channel + 6) }
-{
-    let endpoints = record.endpoints;
-    let word = joined(&endpoints, channel, 4, row.endpoints, width);
-    writer.push(word, row.endpoints as u32 * width)
-}
-
-fn push_endpoints(writer: BitWriter, record: Record, row: ModeRow) -> BitWriter
-    requires { Next «record» row values_from writer }
-    ensures { result ≡ upto «record» ps_from }
-{
-    let red = push_channel(writer, record, row, 0, row.colour);
-    let green = push_channel(red, record, row, 1, row.colour);
-    let blue = push_channel(green, record, row, 2, row.colour);
-    push_channel(blue, record, row, 3, row.alpha)
-}
-
-fn push_p(writer: BitWriter, record: Record, row: ModeRow) -> BitWriter
-    requires { Next «record» row ps_from writer }
-    ensures { result ≡ upto «record» first_from }
-{
-    let p = record.p;
-    writer.push(joined(&p, 0, 1, row.p, 1), row.p as u32)
-}
-
 // The indexes of a set, each at its stored width.
 fn push_set(
     writer: BitWriter,
@@ -91,27 +44,78 @@ fn push_set(
     writer.push(stored, stored_bits(kind, width))
 }
 
-// Both sets, where the mode has two.
-fn push_indexes(writer: BitWriter, record: Record, row: ModeRow, anchors: Anchors) -> BitWriter
-    requires { IndexesNext «record» row anchors writer }
-    ensures { result ≡ upto «record» place_count }
-{
-    let first = record.first;
-    let one = push_set(writer, row.kind, anchors, row.first, first);
-    if row.kind != 3 {
-        return one;
-    }
-    let second = record.second;
-    push_set(one, row.kind, anchors, row.second, second)
+// A record that packs, with the row of its mode and the anchors of its split: everything fits as it is stored.
+#[derive(Clone, Copy)]
+pub struct Packing {
+    pub record: Record,
+    pub row: ModeRow,
+    pub anchors: Anchors,
+    pub ghost packs: { PackableWith «record» row anchors },
 }
 
-// The block of a record that packs.
-pub fn write_record(record: Record, row: ModeRow, anchors: Anchors) -> [u8; 16]
-    requires { PackableWith «record» row anchors }
-    ensures { result ≡ block_of «record».mode «record».split (says «record») }
-{
-    let lead = push_lead(record, row);
-    let values = push_endpoints(lead, record, row);
-    let p = push_p(values, record, row);
-    push_indexes(p, record, row, anchors).finish()
+impl Packing {
+    // Marker and split.
+    fn push_lead(self) -> BitWriter
+        ensures { result ≡ upto self.«record» values_from }
+    {
+        let mode = self.record.mode;
+        let split = self.record.split;
+        BitWriter::new()
+            .push(1u64 << mode, mode as u32 + 1)
+            .push(partition_of(split) as u64, self.row.partition)
+            .push(rotation_of(split) as u64, self.row.rotation)
+            .push(index_mode_of(split) as u64, self.row.index_mode)
+    }
+
+    fn push_channel(self, writer: BitWriter, channel: usize, width: u32) -> BitWriter
+        requires { ChannelNext self.«record» channel width writer }
+        ensures { result ≡ upto self.«record» (values_from + 6 * channel + 6) }
+    {
+        let endpoints = self.record.endpoints;
+        let word = joined(&endpoints, channel, 4, self.row.endpoints, width);
+        writer.push(word, self.row.endpoints as u32 * width)
+    }
+
+    fn push_endpoints(self, writer: BitWriter) -> BitWriter
+        requires { writer ≡ upto self.«record» values_from }
+        ensures { result ≡ upto self.«record» ps_from }
+    {
+        let red = self.push_channel(writer, 0, self.row.colour);
+        let green = self.push_channel(red, 1, self.row.colour);
+        let blue = self.push_channel(green, 2, self.row.colour);
+        self.push_channel(blue, 3, self.row.alpha)
+    }
+
+    fn push_p(self, writer: BitWriter) -> BitWriter
+        requires { writer ≡ upto self.«record» ps_from }
+        ensures { result ≡ upto self.«record» first_from }
+    {
+        let p = self.record.p;
+        writer.push(joined(&p, 0, 1, self.row.p, 1), self.row.p as u32)
+    }
+
+    // Both sets, where the mode has two.
+    fn push_indexes(self, writer: BitWriter) -> BitWriter
+        requires { writer ≡ upto self.«record» first_from }
+        ensures { result ≡ upto self.«record» place_count }
+    {
+        let row = self.row;
+        let first = self.record.first;
+        let one = push_set(writer, row.kind, self.anchors, row.first, first);
+        if row.kind != 3 {
+            return one;
+        }
+        let second = self.record.second;
+        push_set(one, row.kind, self.anchors, row.second, second)
+    }
+
+    // The block of the record.
+    pub fn block(self) -> [u8; 16]
+        ensures { result ≡ block_of self.«record».mode self.«record».split (says self.«record») }
+    {
+        let lead = self.push_lead();
+        let values = self.push_endpoints(lead);
+        let p = self.push_p(values);
+        self.push_indexes(p).finish()
+    }
 }

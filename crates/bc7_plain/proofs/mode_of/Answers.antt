@@ -2,14 +2,13 @@
 -- Assumes nothing.
 use borrow.Author.Rules.{rules}
 use mathlib.Core.Path.{◌≡◌, sym, ◌∙◌}
-use Prim.Native.Nat.{ℕ, ◌+◌, ◌-◌, ◌/◌, ◌^◌}
+use Prim.Native.Nat.{ℕ}
 use mir.Syntax.{w8}
 use mir.Val.{Fits}
 use lib.ListN.{get_or, length}
 use Rattle.laws.specs.Digits.{Fit}
 use Rattle.bcn_format.specs.Block.{eights, trailing}
 use Rattle.bc7_format.proofs.Subsets.{sixteen_bytes}
-use native.Mathlib.Nat.{div-one, zero-add}
 use native.Mathlib.Omega.{arith}
 use Rattle.bc7_format.specs.Modes.{mode_of}
 use Rattle.bc7_plain.proofs.BitNumbers.{mode_here, mode_next}
@@ -25,39 +24,22 @@ byte s i = search rules
 sixteen : (s : Start) → Fit eights s.args.block
 sixteen s = sixteen_bytes _ (size s) (λ i l. (byte s i).fits)
 
-begins : (b : ℕ) → trailing 8 b ≡ 0 + trailing (8 - 0) (b / 2 ^ 0)
-begins b = rw (div-one b, zero-add (trailing 8 b))
-
-pub loop-mode-init : goal.loop-mode-init
-loop-mode-init c = (omega arith, begins _)
-
-pub bit-requires : goal.bit-requires
-bit-requires c = omega arith
-
 pub returns-then-bit-eq1 : goal.returns-then-bit-eq1
 unfolding mode_of
 returns-then-bit-eq1 c =
-    let l = c.before.before.before in
-    mode_here _ (sixteen l.before) l.loop-mode.mode c.loop-mode-test.true l.loop-mode.invariant.1
-    (sym c.bit.ensures ∙ c.if-bit-eq1.true)
-
-pub overflow_add-mode : goal.overflow_add-mode
-overflow_add-mode c = omega arith
-
-pub loop-mode-smaller : goal.loop-mode-smaller
-loop-mode-smaller c = omega arith
+    record {
+      is = mode_here _ (sixteen (goal.at.returns-then-bit-eq1 c).Start) c.loop-mode.mode c.loop-mode-test.true c.loop-mode.invariant
+          (sym c.bit.ensures ∙ c.if-bit-eq1.true);
+      low = c.loop-mode-test.true;
+    }
 
 pub loop-mode-preserved : goal.loop-mode-preserved
 loop-mode-preserved c =
-    let l = c.before.before.before in (
-      omega arith,
-      mode_next _ (sixteen l.before) l.loop-mode.mode c.loop-mode-test.true l.loop-mode.invariant.1
-          (λ e. c.if-bit-eq1.false (c.bit.ensures ∙ e)),
-    )
+    mode_next _ (sixteen (goal.at.loop-mode-preserved c).Start) c.loop-mode.mode c.loop-mode-test.true c.loop-mode.invariant
+    (λ e. c.if-bit-eq1.false (c.bit.ensures ∙ e))
 
 pub returns : goal.returns
 unfolding mode_of trailing
 returns c =
-    let l = c.before in
-    let z : l.loop-mode.mode ≡ 8 = omega arith in
-    sym (rw z at l.loop-mode.invariant.1)
+    let z : c.loop-mode.mode ≡ 8 = omega (arith, c.loop-mode.auto.mode-end) in
+    record { is = sym (rw z at c.loop-mode.invariant); low = tt }

@@ -56,18 +56,19 @@ anchors_fit-requires c = record { full = full c.before; anchors_are = c.anchors_
 
 pub returns-then-not-anchors_fit : goal.returns-then-not-anchors_fit
 returns-then-not-anchors_fit c =
-    let f = full c.before.before.before in
+    let f = full (goal.at.returns-then-not-anchors_fit c).Else-not-record_fits in
     refused_as _ (then c.if-mode-gt7.false
     (then f.kind (then f.within (here (tops_set f (sym c.anchors_fit.ensures ∙ c.if-not-anchors_fit.true))))))
 
-pub write_record-requires : goal.write_record-requires
-write_record-requires c =
+pub invariant_of-packing : goal.invariant_of-packing
+invariant_of-packing c =
     record {
-      packs = packs (full c.before.before.before) (sym c.anchors_fit.ensures ∙ c.if-not-anchors_fit.false);
-      anchors_are = c.anchors_of-anchors.ensures;
+      packs = record {
+        packs = packs (full (goal.at.invariant_of-packing c).Else-not-record_fits) (sym c.anchors_fit.ensures ∙ c.if-not-anchors_fit.false);
+        anchors_are = c.anchors_of-anchors.ensures;
+      };
     }
 
 pub returns : goal.returns
 returns c =
-    written (full c.before.before.before.before) (sym c.anchors_fit.ensures ∙ c.if-not-anchors_fit.false)
-    c.write_record.ensures
+    written (full (goal.at.returns c).Else-not-record_fits) (sym c.anchors_fit.ensures ∙ c.if-not-anchors_fit.false) c.block.ensures

@@ -8,45 +8,31 @@ use lib.ListN.{drop, length}
 use Rattle.pixel_rules.specs.Strings.{place_in}
 use Rattle.bc7_plain.proofs.Walks.{at_dash, at_digit, at_end, past_digit}
 use Rattle.bc7_plain.proofs.strings.place.Goals as goal
-use Rattle.bc7_plain.proofs.strings.place.Goals.{then-string-k-ne45+else-left-eq0, else-string-k-ne45}
+use Rattle.bc7_plain.proofs.strings.place.Goals.{then-letter-ne45+else-left-eq0, else-letter-ne45}
 
 pub loop-k-init : goal.loop-k-init
-loop-k-init c = (omega arith, sym (zero-add _))
-
-pub bounds-string-k : goal.bounds-string-k
-bounds-string-k c = omega arith
+loop-k-init c = sym (zero-add _)
 
 pub returns-then-left-eq0 : goal.returns-then-left-eq0
 returns-then-left-eq0 c =
     let cs = c.args.string.now in
-    sym (c.loop-k.invariant.1 ∙ ap (λ (x : ℕ). c.loop-k.k + place_in (drop c.loop-k.k cs) x) c.if-left-eq0.true
-    ∙ ap (λ (x : ℕ). c.loop-k.k + x) (at_digit cs c.loop-k.k c.loop-k-test.true c.if-string-k-ne45.true) ∙ add-zero _)
-
-pub overflow_sub-left : goal.overflow_sub-left
-overflow_sub-left c = omega arith
-
-pub overflow_add-k : goal.overflow_add-k
-overflow_add-k c = omega arith
-
-pub loop-k-smaller : goal.loop-k-smaller
-loop-k-smaller c = omega arith
+    sym (c.loop-k.invariant ∙ ap (λ (x : ℕ). c.loop-k.k + place_in (drop c.loop-k.k cs) x) c.if-left-eq0.true
+    ∙ ap (λ (x : ℕ). c.loop-k.k + x) (at_digit cs c.loop-k.k c.loop-k-test.true c.if-letter-ne45.true) ∙ add-zero _)
 
 pub loop-k-preserved : goal.loop-k-preserved
 loop-k-preserved c =
-    let cs = c.args.string.now in (
-      omega arith,
-      c.loop-k.invariant.1 ∙ elim c.if-string-k-ne45.branch [
-        | then-string-k-ne45+else-left-eq0 w ↦
-            past_digit cs c.loop-k.k c.loop-k-test.true c.loop-k.left w.if-string-k-ne45.true w.if-left-eq0.false
-            ∙ ap (λ (x : ℕ). (c.loop-k.k + 1) + place_in (drop (c.loop-k.k + 1) cs) x) (sym w.left-is)
-        | else-string-k-ne45 w ↦
-            at_dash cs c.loop-k.k c.loop-k-test.true c.loop-k.left w.if-string-k-ne45.false
-            ∙ ap (λ (x : ℕ). (c.loop-k.k + 1) + place_in (drop (c.loop-k.k + 1) cs) x) (sym w.left-is)
-      ],
-    )
+    let cs = c.args.string.now in
+    c.loop-k.invariant ∙ elim c.if-letter-ne45.branch [
+      | then-letter-ne45+else-left-eq0 w ↦
+          past_digit cs c.loop-k.k c.loop-k-test.true c.loop-k.left w.if-letter-ne45.true w.if-left-eq0.false
+          ∙ ap (λ (x : ℕ). (c.loop-k.k + 1) + place_in (drop (c.loop-k.k + 1) cs) x) (sym w.left-is)
+      | else-letter-ne45 w ↦
+          at_dash cs c.loop-k.k c.loop-k-test.true c.loop-k.left w.if-letter-ne45.false
+          ∙ ap (λ (x : ℕ). (c.loop-k.k + 1) + place_in (drop (c.loop-k.k + 1) cs) x) (sym w.left-is)
+    ]
 
 pub returns : goal.returns
 returns c =
     let cs = c.args.string.now in
-    let end : c.loop-k.k ≡ length cs = omega arith in
-    sym (c.loop-k.invariant.1 ∙ ap (λ (x : ℕ). c.loop-k.k + x) (at_end cs c.loop-k.k c.loop-k.left end) ∙ add-zero _)
+    let end : c.loop-k.k ≡ length cs = omega (arith, c.loop-k.auto.k-end) in
+    sym (c.loop-k.invariant ∙ ap (λ (x : ℕ). c.loop-k.k + x) (at_end cs c.loop-k.k c.loop-k.left end) ∙ add-zero _ ∙ end)
