@@ -19,7 +19,7 @@ pub fn standing_at(s: BitStream, at: u32) -> BitStream
     BitStream {
         low: s.low,
         high: s.high,
-        at: at,
+        at,
     }
 }
 
@@ -36,8 +36,7 @@ pub fn put(s: BitStream, at: u32, count: u32, value: u64) -> BitStream
     requires { FieldReady at count value }
     ensures { held result ≡ replaced_at (held s) at count value }
 {
-    let bits = standing_at(s, at).take(count);
-    let old = bits.value;
+    let old = standing_at(s, at).take(count).value;
     if at < 64 {
         return BitStream {
             low: exchanged(s.low, old << at, value << at),
@@ -85,8 +84,7 @@ fn put_indexes(s: BitStream, kind: u8, at: u32, part: LinePart, mask: u64, new: 
     let width = part.index;
     let anchors = part.anchors;
     let set = read_indexes(kind, width, standing_at(s, at), anchors.b, anchors.c);
-    let indexes = set.indexes;
-    let before = indexes.uncompressed;
+    let before = set.indexes.uncompressed;
     let after = (before - (before & mask)) + new;
     let stored = compressed(kind, width, anchors.b as u32, anchors.c as u32, after);
     put(s, at, stored_bits(kind, width), stored)
@@ -107,11 +105,10 @@ pub fn put_line(
 {
     let fields = fields_of(row, s.at, line, part.set);
     let e = new.endpoints;
-    let p = new.p;
     let red = put_two(s, fields.red, part.colour, e[0], e[4]);
     let green = put_two(red, fields.green, part.colour, e[1], e[5]);
     let blue = put_two(green, fields.blue, part.colour, e[2], e[6]);
     let alpha = put_two(blue, fields.alpha, part.alpha, e[3], e[7]);
-    let bits = put_p(alpha, mode, fields.p, line, part.p, p);
+    let bits = put_p(alpha, mode, fields.p, line, part.p, new.p);
     put_indexes(bits, row.kind, fields.indexes, part, mask, new.indexes)
 }

@@ -40,12 +40,9 @@ fn open_line(block: [u8; 16], mode: u8, row: ModeRow, line: u32) -> Opened
     ensures { IsOpened block line result }
 {
     let lead = read_lead(block, mode, row);
-    let split = lead.split;
-    let stream = lead.stream;
-    let part = line_part(row, split, line);
     Opened {
-        stream: stream,
-        part: part,
+        stream: lead.stream,
+        part: line_part(row, lead.split, line),
     }
 }
 
@@ -53,13 +50,7 @@ fn open_line(block: [u8; 16], mode: u8, row: ModeRow, line: u32) -> Opened
 fn p_bits_differ(mode: u8, new: Replacement) -> bool
     ensures { result ≡ both (eqb mode 1) (not (eqb (get_or new.p 0 0) (get_or new.p 1 0))) }
 {
-    if mode != 1 {
-        return false;
-    }
-    if new.p[0] == new.p[1] {
-        return false;
-    }
-    true
+    mode == 1 && new.p[0] != new.p[1]
 }
 
 // The bytes of the number that a stream holds.

@@ -31,9 +31,7 @@ pub fn mask_of(pixels: Pixels, width: u32) -> u64
 {
     let ones = (1u64 << width) - 1;
     let mut mask: u64 = 0;
-    let mut i: usize = 16;
-    while i > 0 {
-        i -= 1;
+    for i in (0..16usize).rev() {
         mask = (mask << width) + at_own(pixels, i, ones);
     }
     mask
@@ -51,11 +49,7 @@ fn p_fits(p: [u8; 2], width: u32) -> bool
     requires { width ≤ 8 }
     ensures { result ≡ below 2 (λ k. ltb (get_or p k 0) (2 ^ width)) }
 {
-    let rest = above(p[0], width) + above(p[1], width);
-    if rest == 0 {
-        return true;
-    }
-    false
+    above(p[0], width) + above(p[1], width) == 0
 }
 
 // Does each value, p bit and index fit its width? That the indexes of other pixels are zero is seen on their word.
@@ -63,16 +57,9 @@ pub fn parts_fit(part: LinePart, new: Replacement) -> bool
     requires { PartWidths part }
     ensures { result ≡ parts_fit part new }
 {
-    let endpoints = new.endpoints;
-    let p = new.p;
-    let indexes = new.indexes;
-    if !indexes_fit(indexes, part.index) {
-        return false;
-    }
-    if !p_fits(p, part.p) {
-        return false;
-    }
-    endpoints_fit(endpoints, part.colour, part.alpha)
+    indexes_fit(new.indexes, part.index)
+        && p_fits(new.p, part.p)
+        && endpoints_fit(new.endpoints, part.colour, part.alpha)
 }
 
 // Has the word of a line's indexes zeros at the other pixels?
@@ -100,8 +87,8 @@ pub fn oriented(part: LinePart, new: Replacement, indexes: u64, mask: u64) -> St
     if top_of(indexes, part.index, part.anchor) == 0 {
         return StoredLine {
             endpoints: e,
-            p: p,
-            indexes: indexes,
+            p,
+            indexes,
         };
     }
     StoredLine {

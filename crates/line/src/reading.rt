@@ -27,8 +27,7 @@ fn two_at(s: BitStream, at: u32, width: u32) -> PerEndpoint
     requires { PairThere at width }
     ensures { result ≡ two_at (held s) at width }
 {
-    let both = standing_at(s, at).take(2 * width);
-    let values = both.value;
+    let values = standing_at(s, at).take(2 * width).value;
     PerEndpoint {
         first: (values % (1u64 << width)) as u8,
         second: (values >> width) as u8,
@@ -56,12 +55,15 @@ fn set_at(s: BitStream, kind: u8, at: u32, part: LinePart) -> [u8; 16]
     ensures { result ≡ set_at (held s) kind at part }
 {
     let width = part.index;
-    let anchors = part.anchors;
-    let pixels = part.pixels;
-    let mask = mask_of(pixels, width);
-    let set = read_indexes(kind, width, standing_at(s, at), anchors.b, anchors.c);
-    let indexes = set.indexes;
-    parts_of(indexes.uncompressed & mask, width)
+    let mask = mask_of(part.pixels, width);
+    let set = read_indexes(
+        kind,
+        width,
+        standing_at(s, at),
+        part.anchors.b,
+        part.anchors.c,
+    );
+    parts_of(set.indexes.uncompressed & mask, width)
 }
 
 // The stream stands where the values start.
@@ -75,7 +77,6 @@ pub fn line_held(s: BitStream, mode: u8, row: ModeRow, line: u32, part: LinePart
     let blue = two_at(s, fields.blue, part.colour);
     let alpha = two_at(s, fields.alpha, part.alpha);
     let p = p_at(s, mode, fields.p, line, part.p);
-    let indexes = set_at(s, row.kind, fields.indexes, part);
     Replacement {
         endpoints: [
             red.first,
@@ -88,7 +89,7 @@ pub fn line_held(s: BitStream, mode: u8, row: ModeRow, line: u32, part: LinePart
             alpha.second,
         ],
         p: [p.first, p.second],
-        indexes: indexes,
+        indexes: set_at(s, row.kind, fields.indexes, part),
     }
 }
 
@@ -98,8 +99,8 @@ fn index_widths(pixels: Pixels, width: u32) -> [u8; 16]
     ensures { result ≡ table 16 (λ q. pick (own_pixel pixels q) width 0) }
 {
     let mut widths = [0u8; 16];
-    for i in 0..16usize {
-        widths[i] = at_own(pixels, i, width as u64) as u8;
+    for (pixel, own) in widths.iter_mut().enumerate() {
+        *own = at_own(pixels, pixel, width as u64) as u8;
     }
     widths
 }
@@ -112,11 +113,9 @@ pub fn widths_of(part: LinePart) -> Replacement
     let colour = part.colour as u8;
     let alpha = part.alpha as u8;
     let p = part.p as u8;
-    let pixels = part.pixels;
-    let indexes = index_widths(pixels, part.index);
     Replacement {
         endpoints: [colour, colour, colour, alpha, colour, colour, colour, alpha],
         p: [p, p],
-        indexes: indexes,
+        indexes: index_widths(part.pixels, part.index),
     }
 }

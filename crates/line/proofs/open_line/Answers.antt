@@ -25,12 +25,12 @@ sixteen s = sixteen_bytes _ (size s) (λ i l. (byte s i).fits)
 pub read_lead-lead-requires : goal.read_lead-lead-requires
 read_lead-lead-requires c = c.requires.of_block
 
-pub line_part-part-requires : goal.line_part-part-requires
-line_part-part-requires c =
+pub line_part-requires : goal.line_part-requires
+line_part-requires c =
     let s = c.before.before in
     asks s.args.block s.requires c.read_lead-lead.ensures (sixteen s)
 
 pub returns : goal.returns
 returns c =
     let lead = c in
-    is_opened lead.args.block lead.requires lead.read_lead-lead.ensures c.line_part-part.ensures
+    is_opened lead.args.block lead.requires lead.read_lead-lead.ensures c.line_part.ensures

@@ -5,10 +5,12 @@ use mathlib.Core.Logic.{⊎_elim}
 use mathlib.Core.Bool.{Bool, true, false}
 use mathlib.Core.List.{List, [], ◌∷◌}
 use Prim.Native.Nat.{ℕ, ◌+◌, ◌-◌, ◌*◌, ◌/◌, ◌%◌, ◌^◌, ◌≤◌, ◌<◌}
+use native.Mathlib.Decide.{ℕ_discrete}
 use native.Mathlib.Omega.{arith}
+use borrow.Author.Tests.{eq-eqb, ne_eqb}
 use lib.Dec.{eqb, ltb}
 use lib.ListN.{get_or, replicate}
-use lib.Pow.{ones_lt, pow_pos, shr_le}
+use lib.Pow.{ones_lt, pow_pos}
 use Rattle.laws.specs.Digits.{Fit, join, more, none, split}
 use Rattle.laws.specs.Tables.{below, both, pick, table}
 use Rattle.laws.proofs.Cases.{lt_or}
@@ -38,10 +40,10 @@ mask_fits x w = fit_table 16 (index_width w []) _ (λ q l. go (own_pixel x q))
 
 -- two values fit where nothing is left above, and not where something is
 module _ (w a b : ℕ) {x y : ℕ} (ex : x ≡ a / 2 ^ w) (ey : y ≡ b / 2 ^ w) where
-  pub two_fit : x + y ≡ 0 → both (ltb b (2 ^ w)) (both (ltb a (2 ^ w)) true) ≡ true
+  two_fit : x + y ≡ 0 → both (ltb b (2 ^ w)) (both (ltb a (2 ^ w)) true) ≡ true
   two_fit e = rw (fit a w (sym ex ∙ omega arith), fit b w (sym ey ∙ omega arith))
 
-  pub two_unfit : (x + y ≡ 0 → ⊥) → both (ltb b (2 ^ w)) (both (ltb a (2 ^ w)) true) ≡ false
+  two_unfit : (x + y ≡ 0 → ⊥) → both (ltb b (2 ^ w)) (both (ltb a (2 ^ w)) true) ≡ false
   two_unfit n =
       ⊎_elim (λ h. rw (unfit a w (λ z. n (let ze : x ≡ 0 = ex ∙ z in omega arith))) (none (ltb b (2 ^ w))))
       (λ h. rw (unfit b w (λ z. omega (arith, ey ∙ z)))) (lt_or y 1)
@@ -50,8 +52,12 @@ module _ (w a b : ℕ) {x y : ℕ} (ex : x ≡ a / 2 ^ w) (ey : y ≡ b / 2 ^ w)
       none true = refl
       none false = refl
 
-pub sum_fits : (w a b : ℕ) {x y : ℕ} → a < 256 → b < 256 → x ≡ a / 2 ^ w → y ≡ b / 2 ^ w → x + y < 2 ^ 64
-sum_fits w a b ha hb ex ey = omega (arith, ex, ey, shr_le a w, shr_le b w)
+pub two_fits : (w a b : ℕ) {x y : ℕ} → x ≡ a / 2 ^ w → y ≡ b / 2 ^ w → eqb (x + y) 0 ≡ both (ltb b (2 ^ w)) (both (ltb a (2 ^ w)) true)
+two_fits w a b {x} {y} ex ey = go (ℕ_discrete (x + y) 0)
+  where
+    go : Dec (x + y ≡ 0) → eqb (x + y) 0 ≡ both (ltb b (2 ^ w)) (both (ltb a (2 ^ w)) true)
+    go (yes e) = eq-eqb _ 0 e ∙ sym (two_fit w a b ex ey e)
+    go (no n) = ne_eqb _ 0 n ∙ sym (two_unfit w a b ex ey n)
 
 -- eight bytes in a word, tested one by one
 pub eight_bytes : (es : List ℕ) (f : ℕ → ℕ) {w : ℕ} → ((i : ℕ) → get_or es i 0 < 256)

@@ -6,14 +6,14 @@ use Rattle.bits.specs.Stream.{held}
 use Rattle.line.proofs.fields.Halves.{in_high, in_low, read_at}
 use Rattle.line.proofs.fields.put.Goals as goal
 
-pub take-bits-requires : goal.take-bits-requires
-take-bits-requires c = record { narrow = c.requires.width; inside = rw c.standing_at.ensures c.requires.room }
+pub take-old-requires : goal.take-old-requires
+take-old-requires c = record { narrow = c.requires.width; inside = rw c.standing_at.ensures c.requires.room }
 
 pub exchanged-requires : goal.exchanged-requires
 exchanged-requires c =
     let s = c in
     let from = c in
-    rw (read_at s.args.s s.args.at s.args.count from.standing_at.ensures c.take-bits.ensures.same)
+    rw (read_at s.args.s s.args.at s.args.count from.standing_at.ensures c.take-old.ensures.same)
     (in_low s.args.s.low s.args.s.high s.args.at s.args.count s.args.value (search rules) (search rules) s.requires.fits
     (omega arith) s.requires.room).low
 
@@ -21,7 +21,7 @@ pub exchanged-requires-then-at-lt64 : goal.exchanged-requires-then-at-lt64
 exchanged-requires-then-at-lt64 c =
     let s = c in
     rw (read_at s.args.s s.args.at s.args.count c.standing_at.ensures
-    c.take-bits.ensures.same)
+    c.take-old.ensures.same)
     (in_low s.args.s.low s.args.s.high s.args.at s.args.count s.args.value (search rules) (search rules) s.requires.fits
     (omega arith) s.requires.room).high
 
@@ -31,7 +31,7 @@ returns-then-at-lt64 c =
     let s = c in
     let e =
     read_at s.args.s s.args.at s.args.count c.standing_at.ensures
-    c.take-bits.ensures.same in
+    c.take-old.ensures.same in
     rw (c.exchanged.ensures, c.exchanged-then-at-lt64.ensures, e)
     (in_low s.args.s.low s.args.s.high s.args.at s.args.count s.args.value (search rules) (search rules) s.requires.fits
     (omega arith) s.requires.room).whole
@@ -40,7 +40,7 @@ pub exchanged-requires-2 : goal.exchanged-requires-2
 exchanged-requires-2 c =
     let s = c in
     let from = c in
-    rw (read_at s.args.s s.args.at s.args.count from.standing_at.ensures c.take-bits.ensures.same)
+    rw (read_at s.args.s s.args.at s.args.count from.standing_at.ensures c.take-old.ensures.same)
     (in_high s.args.s.low s.args.s.high s.args.at s.args.count s.args.value (search rules) (search rules) s.requires.fits
     (omega arith) s.requires.room).high
 
@@ -49,7 +49,7 @@ unfolding held
 returns c =
     let s = c in
     let old = c in
-    let e = read_at s.args.s s.args.at s.args.count old.standing_at.ensures old.take-bits.ensures.same in
+    let e = read_at s.args.s s.args.at s.args.count old.standing_at.ensures old.take-old.ensures.same in
     rw (c.exchanged-2.ensures, e)
     (in_high s.args.s.low s.args.s.high s.args.at s.args.count s.args.value (search rules) (search rules) s.requires.fits
     (omega arith) s.requires.room).whole

@@ -37,14 +37,14 @@ pub overflow_add-after : goal.overflow_add-after
 overflow_add-after c =
     let s = c in
     record {
-      fits = after_fits s.args.s s.args.kind s.args.at s.args.part s.args.mask s.args.new (before c.before) s.requires;
+      fits = after_fits s.args.s s.args.kind s.args.at s.args.part s.args.mask s.args.new (before c) s.requires;
     }
 
 pub compressed-stored-requires : goal.compressed-stored-requires
 compressed-stored-requires c =
     let s = c in
     let e =
-    after_is s.args.s s.args.kind s.args.at s.args.part s.args.mask s.args.new (before c.before.before.before)
+    after_is s.args.s s.args.kind s.args.at s.args.part s.args.mask s.args.new (before c.before.before)
     s.requires in
     record { width = s.requires.width; rising = s.requires.rising; small = rw e s.requires.small; fits = rw e s.requires.fits }
 
@@ -66,7 +66,7 @@ stored c =
     ∙ ap
     (λ (y : ℕ). join (index_widths s.args.part.index (anchors_in s.args.kind s.args.part))
     (split (index_widths s.args.part.index []) y))
-    (after_is s.args.s s.args.kind s.args.at s.args.part s.args.mask s.args.new (before c.before.before.before.before)
+    (after_is s.args.s s.args.kind s.args.at s.args.part s.args.mask s.args.new (before c.before.before.before)
     s.requires)
 
 pub put-requires : goal.put-requires

@@ -7,26 +7,11 @@ use lib.ListN.{get_or}
 use Rattle.laws.specs.Tables.{pick}
 use Rattle.laws.proofs.Part.{get_d_table}
 use Rattle.bc7_places.specs.Lines.{own_pixel}
-use Rattle.indexes.proofs.sets.Words.{Next, upper_all, upper_next, upper_none}
-use Rattle.line.proofs.parts.Asks.{mask_fits, one_less}
+use Rattle.indexes.proofs.sets.Words.{Next, upper_all, upper_next}
+use Rattle.line.proofs.parts.Asks.{mask_fits}
 use Rattle.line.proofs.parts.mask_of.Goals as goal
 use Rattle.line.proofs.parts.mask_of.Invariants.{parts}
 use Rattle.line.proofs.parts.mask_of.Goals.{After-at_own}
-
-pub overflow_sub-ones : goal.overflow_sub-ones
-overflow_sub-ones c = (one_less _ c.requires.width).0
-
-pub loop-i-init : goal.loop-i-init
-loop-i-init c = (omega arith, (one_less _ c.requires.width).1, upper_none _ _ (mask_fits c.args.pixels c.args.width))
-
-pub overflow_sub-i : goal.overflow_sub-i
-overflow_sub-i c = omega arith
-
-pub overflow_shl-mask : goal.overflow_shl-mask
-overflow_shl-mask c = omega arith
-
-pub at_own-requires : goal.at_own-requires
-at_own-requires c = record { bits = c.requires.bits; pixel = omega arith }
 
 -- the part that comes next, and what it makes of the word
 part_is : (c : After-at_own)
@@ -34,7 +19,7 @@ part_is : (c : After-at_own)
     (c.loop-i.i - 1) 0
 part_is c =
     let l = c in
-    c.at_own.ensures ∙ ap (λ (v : ℕ). pick (own_pixel l.args.pixels (l.loop-i.i - 1)) v 0) l.loop-i.invariant.1
+    c.at_own.ensures ∙ ap (λ (v : ℕ). pick (own_pixel l.args.pixels (l.loop-i.i - 1)) v 0) l.loop-i.invariant.0
     ∙ sym
     (get_d_table 16 (λ q. pick (own_pixel c.args.pixels q) (2 ^ c.args.width - 1) 0) 0
     (c.loop-i.i - 1) (omega arith))
@@ -45,18 +30,15 @@ step : (c : After-at_own)
 step c =
     let s = c in
     upper_next _ _ (mask_fits s.args.pixels s.args.width) s.requires.width c.loop-i.i c.loop-i.mask
-    (omega arith) c.loop-i.invariant.0 c.loop-i.invariant.2
+    (omega arith) c.loop-i.auto.i c.loop-i.invariant.1
 
 pub overflow_add-mask : goal.overflow_add-mask
 overflow_add-mask c = record { fits = rw (part_is c) (step c).0 }
 
-pub loop-i-smaller : goal.loop-i-smaller
-loop-i-smaller c = omega arith
-
 pub loop-i-preserved : goal.loop-i-preserved
-loop-i-preserved c = (omega arith, c.loop-i.invariant.1, rw (part_is c) (step c).1)
+loop-i-preserved c = (c.loop-i.invariant.0, rw (part_is c) (step c).1)
 
 pub returns : goal.returns
 returns c =
     upper_all _ _ (mask_fits c.args.pixels c.args.width) _
-    (let z : c.loop-i.i ≡ 0 = omega arith in rw z at c.loop-i.invariant.2)
+    (let z : c.loop-i.i ≡ 0 = omega (arith, c.loop-i-test.false) in rw z at c.loop-i.invariant.1)

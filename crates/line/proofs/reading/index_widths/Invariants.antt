@@ -6,8 +6,8 @@ use Rattle.laws.proofs.Filled.{Filled}
 use Rattle.bc7_places.specs.Lines.{own_pixel}
 use Rattle.line.proofs.reading.index_widths.Given as goal
 
-abbrev pub invariant-loop-i : goal.invariant-loop-i
-invariant-loop-i l = (l.i ≤ 16) × Filled 16 0 (λ q. pick (own_pixel l.pixels q) l.width 0) l.i l.widths
+abbrev pub invariant-loop-pixel : goal.invariant-loop-pixel
+invariant-loop-pixel l = (l.pixel ≤ 16) × Filled 16 0 (λ q. pick (own_pixel l.pixels q) l.width 0) l.pixel l.own-items
 
-abbrev pub decreases-loop-i : goal.decreases-loop-i
-decreases-loop-i l = 16 - l.i
+abbrev pub decreases-loop-pixel : goal.decreases-loop-pixel
+decreases-loop-pixel l = 16 - l.pixel

@@ -20,15 +20,15 @@ pub p_at-p-requires : goal.p_at-p-requires
 p_at-p-requires c =
     let r = c.requires in rw c.fields_of-fields.ensures r.p
 
-pub set_at-indexes-requires : goal.set_at-indexes-requires
-set_at-indexes-requires c =
+pub set_at-requires : goal.set_at-requires
+set_at-requires c =
     rw c.fields_of-fields.ensures c.requires.set
 
 pub returns : goal.returns
 unfolding line_held
 returns c =
     rw (
-      c.set_at-indexes.ensures,
+      c.set_at.ensures,
       c.p_at-p.ensures,
       c.two_at-alpha.ensures,
       c.two_at-blue.ensures,

@@ -9,8 +9,8 @@ use Rattle.laws.proofs.Words.{one_shl}
 use Rattle.line.proofs.fields.Halves.{first_of, second_of}
 use Rattle.line.proofs.reading.two_at.Goals as goal
 
-pub take-both-requires : goal.take-both-requires
-take-both-requires c = record { narrow = omega arith; inside = rw c.standing_at.ensures (omega arith) }
+pub take-values-requires : goal.take-values-requires
+take-values-requires c = record { narrow = omega arith; inside = rw c.standing_at.ensures (omega arith) }
 
 pub nonzero_rem-result : goal.nonzero_rem-result
 nonzero_rem-result c = let w = c.args.width in rw (one_shl w (omega arith)) (pow_pos w)
@@ -26,12 +26,12 @@ overflow_cast-result-4 c =
     let s = c in
     let w = s.args.width in
     let e : 2 * w ≡ w + w = omega arith in
-    record { fits = lt_of_lt_of_le (shr_lt w w (rw e at c.take-both.ensures.small)) (pow_mono {j = 8} s.requires.width) }
+    record { fits = lt_of_lt_of_le (shr_lt w w (rw e at c.take-values.ensures.small)) (pow_mono {j = 8} s.requires.width) }
 
 pub returns : goal.returns
 returns c =
     let s = c in
     let w = s.args.width in
     let at = c.standing_at.ensures in
-    let r = c.take-both.ensures.same in
+    let r = c.take-values.ensures.same in
     rw (one_shl w (omega arith), first_of s.args.s s.args.at w at r, second_of s.args.s s.args.at w at r)

@@ -5,4 +5,4 @@ use Rattle.line.proofs.reading.widths_of.Goals as goal
 
 pub returns : goal.returns
 unfolding widths_in
-returns c = rw c.index_widths-indexes.ensures
+returns c = rw c.index_widths.ensures
