@@ -31,11 +31,8 @@ use Rattle.count_rules.proofs.Ways.{counted_next, opaque_next}
 use Rattle.counts.specs.Blocks.{CountedBelow, ReadsWhole, WholeBlocks}
 
 -- the head of a whole sheet
-pub reads_whole : (s : List ℕ) {h x : Head} → h ≡ read_head s → x ≡ whole_head h s → ReadsWhole s x
-reads_whole s {h} eh ex = record {
-  refusal = whole_number h s ex ∙ ap (λ (g : Head). whole_refusal g s) eh;
-  same = λ z. (whole_told h s ex z).1 ∙ eh;
-}
+pub reads_whole : (s : List ℕ) {x : Head} → x ≡ whole_head (read_head s) s → ReadsWhole s x
+reads_whole s ex = record { refusal = whole_number (read_head s) s ex; same = λ z. (whole_told (read_head s) s ex z).1 }
 
 -- what it says of the sheet
 module _ (s : List ℕ) {h : Head} (w : ReadsWhole s h) where

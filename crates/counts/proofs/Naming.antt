@@ -12,7 +12,10 @@ use Rattle.laws.specs.Refusals.{Given, accepted, first, handed, here, then, unle
 use Rattle.laws.proofs.First.{first_here, first_last, first_skip}
 use Rattle.laws.proofs.Refusals.{accepted_when, exactly}
 use Rattle.bc7_format.specs.Modes.{mode_of}
-use Rattle.head_rules.specs.Answers.{Head}
+use Rattle.std.specs.Prelude.{Result, Ok, Err}
+use Rattle.refusals.specs.declared.Refusal.{Refusal}
+use Rattle.refusals.specs.Answers.{number_of}
+use Rattle.head_rules.specs.Answers.{Head, known}
 use Rattle.head_rules.specs.Geometry.{blocks_of, place_of, whole_length}
 use Rattle.head_rules.specs.Heads.{read_head}
 use Rattle.head_rules.proofs.Orders.{blocks_within}
@@ -63,7 +66,23 @@ module _ (s : List ℕ) (b : ℕ) {h : Head} (w : ReadsWhole s h) (a : h.refusal
   pub room_of : {m : ℕ} → CountsBlocks h m → b < m → {at : ℕ} → at ≡ place_of h b → at + 16 ≤ length s
   room_of k l e = omega (arith, e, (whole_blocks s w a).whole, blocks_within h b (rw k.same at l))
 
+abbrev pub number_named : Result NamedBlock Refusal → ℕ
+number_named r = number_of r
+
+-- the named block, where there is one
+abbrev pub named_in : Result NamedBlock Refusal → NamedBlock → NamedBlock
+named_in (Ok v) other = v
+named_in (Err r) other = other
+
 module _ (s : List ℕ) (n : Counts) (b : ℕ) {h : Head} (w : ReadsWhole s h) where
+  -- what the named block says of the block that was found
+  pub record Shown (place : ℕ) (bytes : List ℕ) (kind : ℕ) (is : Bool) (k : NamedBlock) : Type 0 where
+    pub head : known k.head ≡ h
+    pub at : k.at ≡ place
+    pub block : k.block ≡ bytes
+    pub mode : k.mode ≡ kind
+    pub opaque : k.opaque ≡ is
+
   -- the head's refusal or 10: it is what finding the block is refused for
   found_as : {r : ℕ} → r ≢ 0 → Given (handed (read_head s).refusal ∷ unless 10 (length s ≡ whole_length (read_head s)) ∷ []) r
       → Given (find_rules (read_head s) s b) r
@@ -71,31 +90,32 @@ module _ (s : List ℕ) (n : Counts) (b : ℕ) {h : Head} (w : ReadsWhole s h) w
   found_as ne (then p (here x)) = then p (here x)
   found_as ne (then p (then q accepted)) = absurd (ne refl)
 
-  pub no_sheet : h.refusal ≢ 0 → {r : NamedBlock} → r.refusal ≡ h.refusal → Names s n b r
+  pub no_sheet : h.refusal ≢ 0 → {r : Result NamedBlock Refusal} → number_of r ≡ h.refusal → Names s n b r
   no_sheet ne {r} e =
       let is : h.refusal ≡ find_refusal (read_head s) s b
       = w.refusal ∙ sym ((exactly (finding s b) _).1 (found_as (λ z. ne (w.refusal ∙ z)) (whole_handed (read_head s) s).given)) in
       record {
         refusal = e ∙ is ∙ sym (first_here (find_refusal (read_head s) s b) _ (λ z. ne (is ∙ z)));
-        here = λ z. absurd (ne (sym e ∙ z));
+        here = λ k z. absurd (ne (sym e ∙ ap number_named z));
       }
 
   module _ (a : h.refusal ≡ 0) where
-    pub no_block : {m : ℕ} → CountsBlocks h m → m ≤ b → {r : NamedBlock} → r.refusal ≡ 12 → Names s n b r
+    pub no_block : {m : ℕ} → CountsBlocks h m → m ≤ b → {r : Result NamedBlock Refusal} → number_of r ≡ 12 → Names s n b r
     no_block {m} k l {r} e =
         let (told, (long, u)) = (whole_handed (read_head s) s).met (sym w.refusal ∙ a) in
         let l' : blocks_of (read_head s) ≤ b = rw (w.same a) at (rw k.same at l) in
         let is : find_refusal (read_head s) s b ≡ 12 = (exactly (finding s b) 12).1 (then told (then long (here (λ q. omega arith)))) in
         record {
           refusal = e ∙ sym is ∙ sym (first_here (find_refusal (read_head s) s b) _ (λ z. omega (arith, is, z)));
-          here = λ z. absurd (let q : ⊥ = omega (arith, e, z) in q);
+          here = λ g z. absurd (let q : ⊥ = omega (arith, sym e ∙ ap number_named z) in q);
         }
 
     pub block_named : {m : ℕ} → CountsBlocks h m → b < m → {at mode refusal : ℕ} {block : List ℕ} {opaque : Bool}
+        → (r : Result NamedBlock Refusal) → number_of r ≡ refusal → ((k : NamedBlock) → r ≡ Ok k → Shown at block mode opaque k)
         → at ≡ place_of h b → block ≡ block_at s at → mode ≡ mode_of block → opaque ≡ opaque_in h.width h.height b block
         → refusal ≡ false_of m mode opaque n
-        → Names s n b (record { refusal = refusal; head = h; at = at; block = block; mode = mode; opaque = opaque })
-    block_named k l {at} {mode} {refusal} {block} {opaque} ea eb em eo er =
+        → Names s n b r
+    block_named k l {at} {mode} {refusal} {block} {opaque} r is shown ea eb em eo er =
         let (told, (long, u)) = (whole_handed (read_head s) s).met (sym w.refusal ∙ a) in
         let head_is = w.same a in
         let l' : b < blocks_of (read_head s) = rw head_is at (rw k.same at l) in
@@ -109,15 +129,15 @@ module _ (s : List ℕ) (n : Counts) (b : ℕ) {h : Head} (w : ReadsWhole s h) w
         = er ∙ ap (λ (x : ℕ). false_of x mode opaque n) (k.same ∙ ap blocks_of head_is)
         ∙ ap₂ (λ (x : ℕ) (y : Bool). false_of (blocks_of (read_head s)) x y n) mode_is opaque_is in
         record {
-          refusal = told_is ∙ sym (first_skip (find_refusal (read_head s) s b) _ found ∙ first_last _);
-          here = λ z. record {
+          refusal = is ∙ told_is ∙ sym (first_skip (find_refusal (read_head s) s b) _ found ∙ first_last _);
+          here = λ g z. let w = shown g z in record {
             found = found;
-            true_of_it = sym told_is ∙ z;
-            head = head_is;
-            at = at_is;
-            block = block_is;
-            mode = mode_is;
-            opaque = opaque_is;
+            true_of_it = sym told_is ∙ sym is ∙ ap number_named z;
+            head = w.head ∙ head_is;
+            at = w.at ∙ at_is;
+            block = w.block ∙ block_is;
+            mode = w.mode ∙ mode_is;
+            opaque = w.opaque ∙ opaque_is;
           };
         }
 
@@ -131,7 +151,7 @@ module _ (s : List ℕ) (n : Counts) (b : ℕ) (made : Answer (List ℕ)) where
         sym (sheet_left s n b made ne'),
       )
 
-  pub not_named_as : {r : NamedBlock} → Names s n b r → r.refusal ≢ 0 → {a : Counted} → a ≡ counted r.refusal n → Keeps s n b made a s
+  pub not_named_as : {r : Result NamedBlock Refusal} → Names s n b r → number_of r ≢ 0 → {a : Counted} → a ≡ counted (number_of r) n → Keeps s n b made a s
   unfolding kept_refusal
   not_named_as k ne ea =
       refused_as (given_before (find_refusal (read_head s) s b) (false_refusal (read_head s) s b n) (made.refusal ∷ []) k.refusal ne) ne ea

@@ -14,7 +14,7 @@ use mir.Syntax.{w32}
 use mir.Val.{Fits, bool_byte}
 use Rattle.bc7_format.specs.Modes.{mode_of}
 use Rattle.bc7_format.proofs.Modes.{mode_le_8}
-use Rattle.head_rules.specs.Answers.{Head}
+use Rattle.head_rules.specs.Answers.{Head, known}
 use Rattle.head_rules.specs.Geometry.{blocks_of, most_blocks}
 use Rattle.head_rules.specs.Heads.{Sized, read_head}
 use Rattle.head_rules.proofs.Blocks.{few_blocks}
@@ -93,7 +93,7 @@ module _ (s : List ℕ) (n : Counts) (b : ℕ) {r : NamedBlock} (k : Here s n b 
   pub room_there : r.at + 16 ≤ length s
   room_there = rw k.at (room s b (inside s b k.found))
 
-  pub asked_there : BlockAsked r.head b
+  pub asked_there : BlockAsked (known r.head) b
   asked_there = rw k.head (record { size = sized_here; number = (inside s b k.found).number })
 
   pub recount_asked : (new : List ℕ) {has : ℕ} {is : Bool} → has ≡ mode_of new → RecountAsked n r.mode r.opaque has is

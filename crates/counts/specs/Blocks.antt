@@ -1,9 +1,11 @@
 -- What the functions on counts ask and promise.
 -- Assumes nothing.
-use Rattle.std.specs.Prelude.{ℕ, ◌<◌, ◌≤◌, ◌≡◌, ◌≢◌, Bool, true, false, List, [], ◌∷◌, length}
+use Rattle.std.specs.Prelude.{ℕ, Result, Ok, ◌<◌, ◌≤◌, ◌≡◌, ◌≢◌, Bool, true, false, List, [], ◌∷◌, length}
 use Rattle.laws.specs.Refusals.{first}
 use Rattle.bc7_format.specs.Modes.{mode_of}
-use Rattle.head_rules.specs.Answers.{Head}
+use Rattle.refusals.specs.Answers.{number_of}
+use Rattle.refusals.specs.declared.Refusal.{Refusal}
+use Rattle.head_rules.specs.Answers.{Head, known}
 use Rattle.head_rules.specs.Geometry.{blocks_of, most_blocks, place_of, whole_length}
 use Rattle.head_rules.specs.Heads.{Sized, read_head}
 use Rattle.bcn_format.specs.Block.{put_block}
@@ -34,15 +36,15 @@ pub record CountedBelow (h : Head) (s : List ℕ) (b : ℕ) (n : Counts) : Type 
 pub record Here (s : List ℕ) (n : Counts) (b : ℕ) (r : NamedBlock) : Type 0 where
   pub found : find_refusal (read_head s) s b ≡ 0
   pub true_of_it : false_refusal (read_head s) s b n ≡ 0
-  pub head : r.head ≡ read_head s
+  pub head : known r.head ≡ read_head s
   pub at : r.at ≡ place_of (read_head s) b
   pub block : r.block ≡ block_in s b
   pub mode : r.mode ≡ mode_of (block_in s b)
   pub opaque : r.opaque ≡ is_opaque (read_head s) s b
 
-pub record Names (s : List ℕ) (n : Counts) (b : ℕ) (r : NamedBlock) : Type 0 where
-  pub refusal : r.refusal ≡ first (find_refusal (read_head s) s b ∷ false_refusal (read_head s) s b n ∷ [])
-  pub here : r.refusal ≡ 0 → Here s n b r
+pub record Names (s : List ℕ) (n : Counts) (b : ℕ) (r : Result NamedBlock Refusal) : Type 0 where
+  pub refusal : number_of r ≡ first (find_refusal (read_head s) s b ∷ false_refusal (read_head s) s b n ∷ [])
+  pub here : (k : NamedBlock) → r ≡ Ok k → Here s n b k
 
 -- counts that are changed: no count falls below 0, and none outgrows its place
 pub record RecountAsked (n : Counts) (had : ℕ) (was : Bool) (has : ℕ) (is : Bool) : Type 0 where

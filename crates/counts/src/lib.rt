@@ -5,9 +5,10 @@
 
 ghost use Rattle.std.specs.Prelude.{◌≡◌, ◌+◌, ◌<◌};
 ghost use Rattle.refusals.specs.Answers.{number_of};
+ghost use Rattle.head_rules.specs.Answers.{known};
 ghost use Rattle.count_rules.specs.Counts.{CountsSheet, counted, counts_below, counts_of, no_counts};
 ghost use Rattle.count_rules.specs.Keeping.{ReplacesBlockCounted, ReplacesLineCounted, false_of, of_all_modes, recounted_as};
-ghost use Rattle.counts.specs.Blocks.{CountedBelow, Here, Names, PutThere, ReadsWhole, RecountAsked, WholeBlocks};
+ghost use Rattle.counts.specs.Blocks.{CountedBelow, Here, Names, PutThere, RecountAsked, WholeBlocks};
 
 use bc7_modes::mode_of;
 use block_bytes::{load, store};
@@ -15,10 +16,10 @@ use count_rules::{Counted, Counts};
 use head_rules::Head;
 use line_rules::Replacement;
 use opacity::is_opaque_at;
-use refusals::{Refusal, number_of};
+use refusals::Refusal;
 use sheet::blocks::block_of;
 use sheet_head::geometry::{blocks_of, place_of};
-use sheet_head::{read_head, whole};
+use sheet_head::read_whole;
 
 fn no_counts() -> Counts
     ensures { result ≡ no_counts }
@@ -38,17 +39,10 @@ fn answer(refusal: u8, counts: Counts) -> Counted
     }
 }
 
-// The head of a sheet that has all its blocks, or the first refusal that applies: the head's, 10.
-fn whole_head(sheet: &[u8]) -> Head
-    ensures { ReadsWhole sheet.now result }
-{
-    whole(read_head(sheet), sheet)
-}
-
 // One block more of those that are counted in the order of their numbers.
 fn count_block(head: Head, sheet: &[u8], number: u32, counts: Counts) -> Counts
-    requires { CountedBelow head sheet.now number counts }
-    ensures { result ≡ counts_below head sheet.now (number + 1) }
+    requires { CountedBelow (known head) sheet.now number counts }
+    ensures { result ≡ counts_below (known head) sheet.now (number + 1) }
 {
     let block = block_of(head, sheet, number);
     let mode = mode_of(block) as usize;
@@ -62,8 +56,8 @@ fn count_block(head: Head, sheet: &[u8], number: u32, counts: Counts) -> Counts
 
 // All blocks of a whole sheet.
 fn count_blocks(head: Head, sheet: &[u8]) -> Counts
-    requires { WholeBlocks head sheet.now }
-    ensures { result ≡ counts_of head sheet.now }
+    requires { WholeBlocks (known head) sheet.now }
+    ensures { result ≡ counts_of (known head) sheet.now }
 {
     let mut counts = no_counts();
     let blocks = blocks_of(head);
@@ -77,11 +71,10 @@ fn count_blocks(head: Head, sheet: &[u8]) -> Counts
 pub fn count_sheet(sheet: &[u8]) -> Counted
     ensures { CountsSheet sheet.now result }
 {
-    let head = whole_head(sheet);
-    if head.refusal != 0 {
-        return answer(head.refusal, no_counts());
+    match read_whole(sheet) {
+        Ok(head) => answer(0, count_blocks(head, sheet)),
+        Err(refusal) => answer(refusal.number(), no_counts()),
     }
-    answer(0, count_blocks(head, sheet))
 }
 
 // The nine mode counts together. Nine numbers of 32 bits don't come round in 64.
@@ -112,10 +105,9 @@ fn check_counts(counts: Counts, blocks: u32, mode: u8, opaque: bool) -> Result<(
     Ok(())
 }
 
-// The block that a call names, and what it is counted as, with the head of its sheet; or why there is none.
+// The block that a call names, and what it is counted as, with the head of its sheet.
 #[derive(Clone, Copy)]
 pub struct NamedBlock {
-    pub refusal: u8,
     pub head: Head,
     pub at: usize,
     pub block: [u8; 16],
@@ -123,43 +115,27 @@ pub struct NamedBlock {
     pub opaque: bool,
 }
 
-fn not_named(refusal: u8, head: Head) -> NamedBlock
-    ensures { result.refusal ≡ refusal }
-{
-    NamedBlock {
-        refusal: refusal,
-        head: head,
-        at: 0,
-        block: [0u8; 16],
-        mode: 0,
-        opaque: false,
-    }
-}
-
 // The head's refusals, 10, 12, 19. The block is looked at once for 19 and for the counts that are handed back.
-fn named_block(sheet: &[u8], counts: Counts, number: u32) -> NamedBlock
+fn named_block(sheet: &[u8], counts: Counts, number: u32) -> Result<NamedBlock, Refusal>
     ensures { Names sheet.now counts number result }
 {
-    let head = whole_head(sheet);
-    if head.refusal != 0 {
-        return not_named(head.refusal, head);
-    }
+    let head = read_whole(sheet)?;
     let blocks = blocks_of(head);
     if number >= blocks {
-        return not_named(12, head);
+        return Err(Refusal::BeyondSheet);
     }
     let at = place_of(head, number);
     let block = load(sheet, at);
     let mode = mode_of(block);
     let opaque = is_opaque_at(head, number, block);
-    NamedBlock {
-        refusal: number_of(check_counts(counts, blocks, mode, opaque)),
-        head: head,
-        at: at,
-        block: block,
-        mode: mode,
-        opaque: opaque,
-    }
+    check_counts(counts, blocks, mode, opaque)?;
+    Ok(NamedBlock {
+        head,
+        at,
+        block,
+        mode,
+        opaque,
+    })
 }
 
 // A block had a mode and was opaque or not; now it has another and is or isn't.
@@ -197,10 +173,10 @@ pub fn replace_line_counted(
 ) -> Counted
     ensures { ReplacesLineCounted sheet.old counts block line new result sheet.new }
 {
-    let named = named_block(sheet, counts, block);
-    if named.refusal != 0 {
-        return answer(named.refusal, counts);
-    }
+    let named = match named_block(sheet, counts, block) {
+        Ok(named) => named,
+        Err(refusal) => return answer(refusal.number(), counts),
+    };
     match line::replace_line(named.block, line, new) {
         Ok(made) => answer(0, put(sheet, counts, block, named, made)),
         Err(refusal) => answer(refusal.number(), counts),
@@ -216,9 +192,9 @@ pub fn replace_block_counted(
 ) -> Counted
     ensures { ReplacesBlockCounted sheet.old counts block bytes result sheet.new }
 {
-    let named = named_block(sheet, counts, block);
-    if named.refusal != 0 {
-        return answer(named.refusal, counts);
-    }
+    let named = match named_block(sheet, counts, block) {
+        Ok(named) => named,
+        Err(refusal) => return answer(refusal.number(), counts),
+    };
     answer(0, put(sheet, counts, block, named, bytes))
 }

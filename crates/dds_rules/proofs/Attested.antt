@@ -1,7 +1,7 @@
 -- WHAT HOLDS THE DEFINITIONS OF IMPORT AND EXPORT: a sheet of 5 by 3 pixels and its file, byte by byte from Microsoft's guide and document
 -- 02; each field changed; each refusal together with those that come after it.
 -- Assumes nothing.
-use mathlib.Core.Path.{◌≡◌, refl, ap}
+use mathlib.Core.Path.{◌≡◌, refl, ap, sym}
 use mathlib.Core.List.{List, [], ◌∷◌, ◌++◌, map}
 use Prim.Native.Nat.{ℕ, ◌*◌}
 use lib.ListN.{drop, get_or, replicate, set, take}
@@ -366,11 +366,11 @@ promises_hold = record {
   import_needs = refl;
   import_needs_not = refl;
   no_length_of_the_file = λ e. eqb_of _ _ (ap (λ (n : Length). n.length) e);
-  no_length_refused = λ e. eqb_of _ _ (ap (λ (n : Length). n.length) e);
+  no_length_refused = λ e. eqb_of _ _ (sym (ap (λ (n : Length). n.length) e));
   no_length_let_through = λ e. eqb_of _ _ (ap (λ (n : Length). n.refusal) e);
   export_needs = refl;
   export_needs_not = refl;
   no_length_of_the_sheet = λ e. eqb_of _ _ (ap (λ (n : Length). n.length) e);
-  no_length_of_nothing = λ e. eqb_of _ _ (ap (λ (n : Length). n.length) e);
+  no_length_of_nothing = λ e. eqb_of _ _ (sym (ap (λ (n : Length). n.length) e));
   no_nothing_let_through = λ e. eqb_of _ _ (ap (λ (n : Length). n.refusal) e);
 }

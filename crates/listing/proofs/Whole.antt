@@ -7,7 +7,7 @@ use Prim.Native.Nat.{ℕ, ◌+◌, ◌-◌, ◌*◌, ◌/◌, ◌≤◌}
 use native.Mathlib.Omega.{arith}
 use lib.ListN.{length, take, drop, drop_of_length-le, length-drop}
 use lib.Seq.{drop-drop, length-take-le, take_all}
-use Rattle.listing_rules.specs.declared.Machine.{Machine}
+use Rattle.listing_rules.specs.Machine.{Machine}
 use Rattle.laws.specs.Padding.{Written}
 use Rattle.laws.proofs.Cases.{lt_or}
 use Rattle.laws.proofs.Padding.{written_long, written_none, written_then}

@@ -6,7 +6,7 @@ use Rattle.head_rules.specs.Answers.{HeadReader}
 use Rattle.head_rules.specs.Geometry.{blocks_of}
 use Rattle.head_rules.specs.Heads.{Sized}
 use Rattle.head_rules.specs.Reader.{Going}
-use Rattle.listing_rules.specs.declared.Machine.{Machine}
+use Rattle.listing_rules.specs.Machine.{Machine}
 use Rattle.listing_rules.specs.Machine.{InBlocks, Ready, spare_of, wanted_of}
 
 -- of a state before a block of the sheet, or behind its last

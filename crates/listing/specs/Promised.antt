@@ -1,19 +1,22 @@
 -- What the functions of the listing promise: an equation or a text, and beside it what the next call asks for.
 -- Assumes nothing.
-use Rattle.std.specs.Prelude.{◌≡◌, true, List, ℕ, ◌+◌, ◌-◌, ◌*◌, ◌≤◌, length}
+use Rattle.head_rules.specs.declared.HeadReader as readers
+use Rattle.refusals.specs.declared.Refusal.{Refusal}
+use Rattle.std.specs.Prelude.{◌≡◌, true, List, ℕ, Result, ◌+◌, ◌-◌, ◌*◌, ◌≤◌, length}
 use Rattle.head_rules.specs.Answers.{Head}
-use Rattle.head_rules.specs.Answers.{HeadReader}
+use Rattle.head_rules.specs.Answers.{HeadReader, reader_answered}
 use Rattle.head_rules.specs.Geometry.{blocks_of}
 use Rattle.head_rules.specs.Heads.{Sized}
 use Rattle.head_rules.specs.Reader.{has_ended}
-use Rattle.listing_rules.specs.declared.Machine.{Machine}
+use Rattle.listing_rules.specs.Machine.{Machine}
 use Rattle.listing_rules.specs.Machine.{Ready, at_start, most_in_run, rounds_of, run_of, taken_of}
 use Rattle.listing_rules.specs.Promises.{GoesOn, SaysListing, Wants}
 
 -- the reader after what came of the head; an accepted head has a size
-pub record TakesNext (reader : HeadReader) (came : List ℕ) (r : HeadReader) : Type 0 where
-  pub same : r ≡ taken_of reader came
-  pub sized : has_ended r ≡ true → r.head.refusal ≡ 0 → Sized r.head.width r.head.height
+pub record TakesNext (reader : HeadReader) (came : List ℕ) (r : Result readers.HeadReader Refusal) : Type 0 where
+  pub same : reader_answered r ≡ taken_of reader came
+  pub sized : has_ended (reader_answered r) ≡ true → (reader_answered r).head.refusal ≡ 0
+      → Sized (reader_answered r).head.width (reader_answered r).head.height
 
 -- the machine at its start
 pub record Starts (m : Machine) : Type 0 where

@@ -6,13 +6,13 @@
 
 ghost use Rattle.std.specs.Prelude.{◌≡◌, ◌+◌, ◌*◌, ◌/◌, ◌≤◌, eqb, length};
 ghost use Rattle.laws.specs.Tables.{pick};
+ghost use Rattle.head_rules.specs.Answers.{known, reader_known};
 ghost use Rattle.head_rules.specs.Geometry.{number_at};
-ghost use Rattle.head_rules.specs.Heads.{Sized};
 ghost use Rattle.head_rules.specs.Reader.{Going};
 ghost use Rattle.laws.specs.Padding.{Written};
 ghost use Rattle.listing_rules.specs.Listing.{block_listed, listed, unless_exact};
 ghost use Rattle.listing_rules.specs.Promises.{SaysNext};
-ghost use Rattle.listing_rules.specs.Machine.{InBlocks, NextEnd, Ready, at_head, begun, ended, head_text, in_blocks, next_at_head};
+ghost use Rattle.listing_rules.specs.Machine.{InBlocks, NextEnd, Ready, at_head, ended, in_blocks, machine_known, next_at_head};
 ghost use Rattle.listing_rules.specs.Machine.{next_in_blocks, next_of, run_of, spare_of, taken_of, text_at_head, text_in_blocks};
 ghost use Rattle.text.specs.Puts.{Puts};
 ghost use Rattle.listing.specs.Asked.{BlockAsked, BlocksAsked, HeadAsked, NextAsked, RunAsked, WithinBlocks};
@@ -25,9 +25,9 @@ use block_bytes::load;
 use head_rules::{Head, HeadReader};
 use listing_rules::{Machine, Phase};
 use opacity::is_opaque_in;
-use refusals::{BAD_NUMBER, WRONG_BLOCK_BYTES};
+use refusals::{Refusal, WRONG_BLOCK_BYTES};
 use sheet_head::geometry::{blocks_across, blocks_of, number_at};
-use sheet_head::reader::{has_ended, refused_with, take_byte};
+use sheet_head::reader::{has_ended, take_byte};
 use text::refused_text;
 
 pub mod texts;
@@ -36,20 +36,20 @@ pub mod texts;
 const MOST_IN_RUN: u32 = 1024;
 
 // The reader of the head after what came of its next byte; the head is cut off where none came. An accepted head has a size.
-fn take_next(reader: HeadReader, came: &[u8]) -> HeadReader
-    requires { Going reader }
-    ensures { TakesNext reader came.now result }
+fn take_next(reader: HeadReader, came: &[u8]) -> Result<HeadReader, Refusal>
+    requires { Going (reader_known reader) }
+    ensures { TakesNext (reader_known reader) came.now result }
 {
     if came.len() == 0 {
-        return refused_with(BAD_NUMBER);
+        return Err(Refusal::BadNumber);
     }
     take_byte(reader, came[0])
 }
 
 // The text of a block of a sheet, to a place of the output; the place behind it.
 fn list_block(head: Head, number: u32, block: [u8; 16], at: usize, out: &mut [u8]) -> usize
-    requires { BlockAsked head number at (length out.old) }
-    ensures { Puts 40 out.old at (block_listed head number block) out.new result }
+    requires { BlockAsked (known head) number at (length out.old) }
+    ensures { Puts 40 out.old at (block_listed (known head) number block) out.new result }
 {
     let pixels = decode_bc7_block(block);
     let opaque = is_opaque_in(head, number, block, pixels);
@@ -59,8 +59,8 @@ fn list_block(head: Head, number: u32, block: [u8; 16], at: usize, out: &mut [u8
 
 // The text of a stored block, with its number, which counts row by row.
 fn list_stored(head: Head, place: u32, block: [u8; 16], at: usize, out: &mut [u8]) -> usize
-    requires { BlockAsked head place at (length out.old) }
-    ensures { Puts 40 out.old at (block_listed head (number_at head place) block) out.new result }
+    requires { BlockAsked (known head) place at (length out.old) }
+    ensures { Puts 40 out.old at (block_listed (known head) (number_at (known head) place) block) out.new result }
 {
     list_block(head, number_at(head, place) as u32, block, at, out)
 }
@@ -68,8 +68,8 @@ fn list_stored(head: Head, place: u32, block: [u8; 16], at: usize, out: &mut [u8
 // The texts of the whole blocks among these bytes, the first stored at place `from`, to a place of the output; the place behind them.
 // No text has more than 40 bytes.
 fn list_blocks(head: Head, from: u32, blocks: &[u8], at: usize, out: &mut [u8]) -> usize
-    requires { BlocksAsked head from (length blocks.now) at (length out.old) }
-    ensures { Puts (40 * (length blocks.now / 16)) out.old at (listed head from blocks.now) out.new result }
+    requires { BlocksAsked (known head) from (length blocks.now) at (length out.old) }
+    ensures { Puts (40 * (length blocks.now / 16)) out.old at (listed (known head) from blocks.now) out.new result }
 {
     let count = blocks.len() / 16;
     let mut next = at;
@@ -80,7 +80,7 @@ fn list_blocks(head: Head, from: u32, blocks: &[u8], at: usize, out: &mut [u8]) 
 }
 
 fn at_head(reader: HeadReader) -> Machine
-    ensures { result ≡ at_head reader }
+    ensures { machine_known result ≡ at_head (reader_known reader) }
 {
     Machine {
         phase: Phase::Head,
@@ -91,15 +91,15 @@ fn at_head(reader: HeadReader) -> Machine
 
 // The machine before it has taken anything.
 pub fn start() -> Machine
-    ensures { Starts result }
+    ensures { Starts (machine_known result) }
 {
     at_head(sheet_head::reader::start())
 }
 
 // Before a block of the sheet, or behind its last.
 fn in_blocks(reader: HeadReader, from: u32) -> Machine
-    requires { WithinBlocks reader.head from }
-    ensures { result ≡ in_blocks reader from }
+    requires { WithinBlocks (known reader.head) from }
+    ensures { machine_known result ≡ in_blocks (reader_known reader) from }
 {
     let head = reader.head;
     if from == blocks_of(head) {
@@ -118,7 +118,7 @@ fn in_blocks(reader: HeadReader, from: u32) -> Machine
 
 // At its end: the sheet was listed, or refused.
 fn stopped(exact: bool) -> Machine
-    ensures { result ≡ ended exact }
+    ensures { machine_known result ≡ ended exact }
 {
     let reader = sheet_head::reader::start();
     if exact {
@@ -135,33 +135,25 @@ fn stopped(exact: bool) -> Machine
     }
 }
 
-// Behind a head.
-fn behind_head(reader: HeadReader) -> Machine
-    requires { reader.head.refusal ≡ 0 → Sized reader.head.width reader.head.height }
-    ensures { result ≡ begun reader }
-{
-    let head = reader.head;
-    if head.refusal != 0 {
-        return stopped(false);
-    }
-    in_blocks(reader, 0)
-}
-
 fn next_at_head(reader: HeadReader, came: &[u8]) -> Machine
-    requires { Going reader }
-    ensures { result ≡ next_at_head (taken_of reader came.now) }
+    requires { Going (reader_known reader) }
+    ensures { machine_known result ≡ next_at_head (taken_of (reader_known reader) came.now) }
 {
-    let taken = take_next(reader, came);
-    if has_ended(taken) {
-        return behind_head(taken);
+    match take_next(reader, came) {
+        Ok(taken) => {
+            if has_ended(taken) {
+                return in_blocks(taken, 0);
+            }
+            at_head(taken)
+        }
+        Err(_) => stopped(false),
     }
-    at_head(taken)
 }
 
 // How many blocks the next run has: the rest of its row, or as many as the buffer holds. So no row is too long for it.
 fn run_of(head: Head, from: u32) -> u32
-    requires { InBlocks head from }
-    ensures { TellsRun head from result }
+    requires { InBlocks (known head) from }
+    ensures { TellsRun (known head) from result }
 {
     let columns = blocks_across(head.width);
     let left = columns - from % columns;
@@ -173,8 +165,8 @@ fn run_of(head: Head, from: u32) -> u32
 }
 
 fn next_in_blocks(reader: HeadReader, from: u32, got: usize) -> Machine
-    requires { InBlocks reader.head from }
-    ensures { result ≡ next_in_blocks reader from got }
+    requires { InBlocks (known reader.head) from }
+    ensures { machine_known result ≡ next_in_blocks (reader_known reader) from got }
 {
     let head = reader.head;
     let run = run_of(head, from);
@@ -186,8 +178,8 @@ fn next_in_blocks(reader: HeadReader, from: u32, got: usize) -> Machine
 
 // The next state, after what came.
 pub fn next(machine: Machine, came: &[u8]) -> Machine
-    requires { Ready machine }
-    ensures { GoesOnReady machine came.now result }
+    requires { Ready (machine_known machine) }
+    ensures { GoesOnReady (machine_known machine) came.now (machine_known result) }
 {
     let phase = machine.phase;
     match phase {
@@ -201,8 +193,8 @@ pub fn next(machine: Machine, came: &[u8]) -> Machine
 
 // How many bytes the machine wants next: never more than those of a run, and none at its end.
 pub fn wanted(machine: Machine) -> usize
-    requires { Ready machine }
-    ensures { WantsFew machine result }
+    requires { Ready (machine_known machine) }
+    ensures { WantsFew (machine_known machine) result }
 {
     let phase = machine.phase;
     let head = machine.reader.head;
@@ -226,35 +218,28 @@ fn refuse_unless(exact: bool, at: usize, out: &mut [u8]) -> usize
     refused_text(WRONG_BLOCK_BYTES, at, out)
 }
 
-// What is said of a head.
-fn list_head(head: Head, at: usize, out: &mut [u8]) -> usize
-    requires { at + 40 ≤ length out.old }
-    ensures { Puts 40 out.old at (head_text head) out.new result }
-{
-    if head.refusal != 0 {
-        return refused_text(head.refusal, at, out);
-    }
-    sheet_text(head.width, head.height, at, out)
-}
-
+// What is said of a head, once it has ended.
 fn list_at_head(reader: HeadReader, came: &[u8], at: usize, out: &mut [u8]) -> usize
-    requires { HeadAsked reader at (length out.old) }
-    ensures { Spares (spare_of (next_at_head (taken_of reader came.now))) 80 at result
-        (Written out.old at (text_at_head (taken_of reader came.now)) out.new result) }
+    requires { HeadAsked (reader_known reader) at (length out.old) }
+    ensures { Spares (spare_of (next_at_head (taken_of (reader_known reader) came.now))) 80 at result
+        (Written out.old at (text_at_head (taken_of (reader_known reader) came.now)) out.new result) }
 {
-    let taken = take_next(reader, came);
-    if has_ended(taken) {
-        let head = taken.head;
-        return list_head(head, at, out);
+    match take_next(reader, came) {
+        Ok(taken) => {
+            if has_ended(taken) {
+                return sheet_text(taken.head.width, taken.head.height, at, out);
+            }
+            at
+        }
+        Err(refusal) => refused_text(refusal.number(), at, out),
     }
-    at
 }
 
 // What is said of the bytes of a run that came.
 fn list_run(head: Head, from: u32, came: &[u8], at: usize, out: &mut [u8]) -> usize
-    requires { RunAsked head from (length came.now) at (length out.old) }
-    ensures { Spares (pick (eqb (length came.now) (16 * run_of head from)) 40 0) (40 * (length came.now / 16) + 40) at result
-        (Written out.old at (text_in_blocks head from came.now) out.new result) }
+    requires { RunAsked (known head) from (length came.now) at (length out.old) }
+    ensures { Spares (pick (eqb (length came.now) (16 * run_of (known head) from)) 40 0) (40 * (length came.now / 16) + 40) at result
+        (Written out.old at (text_in_blocks (known head) from came.now) out.new result) }
 {
     let texts = list_blocks(head, from, came, at, out);
     refuse_unless(came.len() == 16 * run_of(head, from) as usize, texts, out)
@@ -262,9 +247,9 @@ fn list_run(head: Head, from: u32, came: &[u8], at: usize, out: &mut [u8]) -> us
 
 // What is said of what came, to a place of the output; the place behind it.
 pub fn list(machine: Machine, came: &[u8], at: usize, out: &mut [u8]) -> usize
-    requires { NextAsked machine (length came.now) at (length out.old) }
-    ensures { Spares (spare_of (next_of machine came.now)) (40 * (length came.now / 16) + spare_of machine) at result
-        (SaysNext machine came.now out.old at out.new result) }
+    requires { NextAsked (machine_known machine) (length came.now) at (length out.old) }
+    ensures { Spares (spare_of (next_of (machine_known machine) came.now)) (40 * (length came.now / 16) + spare_of (machine_known machine)) at result
+        (SaysNext (machine_known machine) came.now out.old at out.new result) }
 {
     let phase = machine.phase;
     let head = machine.reader.head;

@@ -11,10 +11,10 @@ use lib.Seq.{length-take-le, take_all}
 use borrow.Author.Tests.{eq-eqb, eqb-false, eqb-true, leb-false, leb-true, ne_eqb}
 use Rattle.head_rules.specs.Geometry.{blocks_of, most_blocks}
 use Rattle.head_rules.specs.Answers.{HeadReader}
-use Rattle.listing_rules.specs.declared.Machine.{Machine}
+use Rattle.listing_rules.specs.Machine.{Machine}
 use Rattle.listing_rules.specs.declared.Phase.{Phase}
 use Rattle.listing_rules.specs.declared.Phase.TheVariants.{Head, Blocks, End, Listed, Refused}
-use Rattle.head_rules.specs.declared.Head.{Head as SheetHead}
+use Rattle.head_rules.specs.Answers.{Head as SheetHead}
 use Rattle.laws.specs.Tables.{pick}
 use Rattle.laws.proofs.Cases.{pick_either}
 use Rattle.head_rules.specs.Heads.{Sized, head_of, read_head}

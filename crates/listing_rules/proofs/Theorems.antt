@@ -28,10 +28,10 @@ use Rattle.head_rules.specs.Numbers.{raised, read_groups, read_number}
 use Rattle.laws.specs.Text.{ascii, decimal, digits_in, newline, refused_text}
 use Rattle.listing_rules.specs.Text.{block_text, channels, opacity_mark, sheet_text}
 use Rattle.opacity_rules.specs.Opacity.{is_visible, opaque, opaque_in, passes}
-use Rattle.listing_rules.specs.declared.Machine.{Machine}
+use Rattle.listing_rules.specs.declared.Machine as machines
 use Rattle.listing_rules.specs.Listing.{block_listed, blocks_listing, blocks_text, listed, listing}
 use Rattle.listing_rules.specs.Promises.{GoesOn, Says, SaysListing, SaysNext, Wants}
-use Rattle.listing_rules.specs.Machine.{Run, at_start, over, text_of, round, rounds_of, wanted_of}
+use Rattle.listing_rules.specs.Machine.{Machine, Run, at_start, machine_known, over, text_of, round, rounds_of, wanted_of}
 use Rattle.listing_rules.proofs.Rounds.{ready_start, rest_start, runs}
 
 -- a run over each input, and what it says
@@ -71,8 +71,24 @@ pub determined_list_sheet : (sheet before : List ℕ) (at : ℕ) (a b : List ℕ
     → SaysListing sheet before at a m → SaysListing sheet before at b n → (a ≡ b) × (m ≡ n)
 determined_list_sheet sheet = one_text (listing (read_head sheet) sheet)
 
-pub determined_next : (m : Machine) (came : List ℕ) (a b : Machine) → GoesOn m came a → GoesOn m came b → a ≡ b
-determined_next m came a b p q = p ∙ sym q
+pub determined_next : (m : machines.Machine) (came : List ℕ) (a b : machines.Machine) → GoesOn (machine_known m) came (machine_known a)
+    → GoesOn (machine_known m) came (machine_known b) → a ≡ b
+determined_next m came a b p q = ap as_code (p ∙ sym q)
+  where
+    as_code : Machine → machines.Machine
+    as_code x =
+        let r = x.reader in
+        let h = r.head in
+        record {
+          phase = x.phase;
+          reader = record {
+            stage = r.stage;
+            low = r.low;
+            groups = r.groups;
+            head = record { form = h.form; width = h.width; height = h.height; start = h.start; colour_space = h.colour_space };
+          };
+          from = x.from;
+        }
 
 pub determined_wanted : (m : Machine) (a b : ℕ) → Wants m a → Wants m b → a ≡ b
 determined_wanted m a b p q = p ∙ sym q

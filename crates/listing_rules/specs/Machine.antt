@@ -1,18 +1,27 @@
 -- The listing as a machine: what it wants next, what it says of what came, its next state; and a run of it over an input.
 -- Assumes nothing.
 use Rattle.std.specs.Prelude.{ℕ, zero, suc, ◌+◌, ◌-◌, ◌*◌, ◌%◌, ◌<◌, ◌≤◌, min, ◌≡◌, Bool, true, false, List, [], ◌∷◌, ◌++◌, eqb, length, take, drop}
-use Rattle.listing_rules.specs.declared.Machine.{Machine}
+use Rattle.listing_rules.specs.declared.Machine as machines
 use Rattle.listing_rules.specs.declared.Phase.{Phase}
 use Rattle.listing_rules.specs.declared.Phase.TheVariants.{Head, Blocks, End, Listed, Refused}
 use Rattle.head_rules.specs.Geometry.{across, blocks_of, most_blocks}
 use Rattle.head_rules.specs.Heads.{Sized}
-use Rattle.head_rules.specs.declared.Head.{Head as SheetHead}
-use Rattle.head_rules.specs.Answers.{HeadReader}
+use Rattle.head_rules.specs.Answers.{Head as SheetHead}
+use Rattle.head_rules.specs.Answers.{HeadReader, reader_known}
 use Rattle.laws.specs.Tables.{pick}
 use Rattle.head_rules.specs.Reader.{Going, at_form, byte_taken, has_ended, refused_with}
 use Rattle.laws.specs.Text.{refused_text}
 use Rattle.listing_rules.specs.Text.{sheet_text}
 use Rattle.listing_rules.specs.Listing.{listed, unless_exact}
+
+-- the machine as the definitions have it: its reader may have refused a head
+pub record Machine : Type 0 where
+  pub phase : Phase
+  pub reader : HeadReader
+  pub from : ℕ
+
+abbrev pub machine_known : machines.Machine → Machine
+machine_known m = record { phase = m.phase; reader = reader_known m.reader; from = m.from }
 
 -- the reader after what came of the head's next byte; the head is cut off where none came
 abbrev pub taken_of : HeadReader → List ℕ → HeadReader

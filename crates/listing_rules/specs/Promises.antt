@@ -2,7 +2,7 @@
 -- place behind the text.
 -- Assumes nothing.
 use Rattle.std.specs.Prelude.{ℕ, ◌≡◌, List}
-use Rattle.listing_rules.specs.declared.Machine.{Machine}
+use Rattle.listing_rules.specs.Machine.{Machine}
 use Rattle.head_rules.specs.Heads.{read_head}
 use Rattle.laws.specs.Padding.{Written}
 use Rattle.listing_rules.specs.Listing.{listing}

@@ -5,7 +5,6 @@ use mathlib.Core.List.{List}
 use Prim.Native.Nat.{ℕ}
 use Rattle.bcn_format.specs.Block.{block_at, put_block}
 use Rattle.head_rules.specs.Heads.{read_head}
-use Rattle.sheet.specs.declared.blocks.Found.{Found}
 use Rattle.line_rules.specs.declared.Replacement.{Replacement}
 use Rattle.refusals.specs.Answers.{Answer}
 use Rattle.laws.specs.Refusals.{here, then}
@@ -21,12 +20,12 @@ module _ (s : List ℕ) (b l : ℕ) (new : Replacement) where
       → (r ≡ sheet_refusal (read_head s) s b l new) × (s ≡ sheet_after (read_head s) s b l new)
   refused e ne = (sym e, sym (refused_is s b l new (λ z. ne (sym e ∙ z))))
 
-  module _ {f : Found} (ef : f ≡ find_block s b) where
+  module _ {f : Answer ℕ} (ef : f ≡ find_block s b) where
     pub not_found : (f.refusal ≡ 0 → ⊥) → (f.refusal ≡ sheet_refusal (read_head s) s b l new) × (s ≡ sheet_after (read_head s) s b l new)
     not_found ne = refused ((exactly (handing s b l new) _).1 (rw (refusal_is s b ef) (here (rw (refusal_is s b ef) at ne)))) ne
 
     module _ (a : f.refusal ≡ 0) where
-      module _ {block : List ℕ} (eb : block ≡ block_at s f.at) {r : Answer (List ℕ)} (er : r ≡ replaced block l new) where
+      module _ {block : List ℕ} (eb : block ≡ block_at s f.value) {r : Answer (List ℕ)} (er : r ≡ replaced block l new) where
         answer_is : r ≡ replaced_in (read_head s) s b l new
         unfolding replaced_in block_by
         answer_is = er ∙ ap (λ (k : List ℕ). replaced k l new) eb ∙ ap (λ (at : ℕ). replaced (block_at s at) l new) (at_is s b ef a)
@@ -37,7 +36,7 @@ module _ (s : List ℕ) (b l : ℕ) (new : Replacement) where
         pub not_replaced : (r.refusal ≡ 0 → ⊥) → (r.refusal ≡ sheet_refusal (read_head s) s b l new) × (s ≡ sheet_after (read_head s) s b l new)
         not_replaced ne = refused refusal_then ne
 
-        pub replaced_stored : r.refusal ≡ 0 → {after : List ℕ} → after ≡ put_block s f.at r.value → (0 ≡ sheet_refusal (read_head s) s b l new)
+        pub replaced_stored : r.refusal ≡ 0 → {after : List ℕ} → after ≡ put_block s f.value r.value → (0 ≡ sheet_refusal (read_head s) s b l new)
             × (after ≡ sheet_after (read_head s) s b l new)
         replaced_stored z e =
             let q = refusal_then ∙ z in

@@ -1,6 +1,7 @@
 // A row of blocks: why it is refused, and its blocks decoded and laid into the output. Blocks go
 // straight from the decoder to their columns, so no buffer stands between.
 ghost use Rattle.head_rules.specs.Answers.{known};
+ghost use Rattle.refusals.specs.Answers.{number_of};
 ghost use Rattle.std.specs.Prelude.{◌≡◌, length};
 ghost use Rattle.sheet_rules.specs.Rows.{row_bytes, row_refusal};
 ghost use Rattle.sheet_rules.specs.SheetRows.{row_blocks};
@@ -9,28 +10,31 @@ ghost use Rattle.sheet.specs.Columns.{SheetRow, WholeRow};
 use crate::output::put_block;
 use block_bytes::load;
 use head_rules::Head;
-use refusals::{BEYOND_SHEET, WRONG_BLOCK_BYTES, WRONG_OUTPUT_LENGTH, number_of};
+use refusals::Refusal;
 use sheet_head::check_size;
 use sheet_head::geometry::{blocks_across, out_length, place_of, row_length, shown_in};
 
 // Of the block bytes and the output only the lengths matter.
-pub fn row_refusal(width: u32, height: u32, row: u32, given: usize, room: usize) -> u8
-    ensures { result ≡ row_refusal width height row given room }
+pub fn check_row(
+    width: u32,
+    height: u32,
+    row: u32,
+    given: usize,
+    room: usize,
+) -> Result<(), Refusal>
+    ensures { number_of result ≡ row_refusal width height row given room }
 {
-    let size = number_of(check_size(width, height));
-    if size != 0 {
-        return size;
-    }
+    check_size(width, height)?;
     if row >= blocks_across(height) {
-        return BEYOND_SHEET;
+        return Err(Refusal::BeyondSheet);
     }
     if given != row_length(width) {
-        return WRONG_BLOCK_BYTES;
+        return Err(Refusal::WrongBlockBytes);
     }
     if room != out_length(width as usize, shown_in(height as usize, row as usize)) {
-        return WRONG_OUTPUT_LENGTH;
+        return Err(Refusal::WrongOutputLength);
     }
-    0
+    Ok(())
 }
 
 // All blocks of a row.

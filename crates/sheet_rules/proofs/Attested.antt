@@ -1,11 +1,12 @@
 -- WHAT HOLDS THE DEFINITIONS OF SHEETS: a picture of 5 by 6 pixels, no two alike, written out; calls on its rows and its blocks.
 -- Assumes nothing.
-use mathlib.Core.Path.{◌≡◌, refl, ap}
+use mathlib.Core.Path.{◌≡◌, refl, ap, sym}
+use Rattle.std.specs.Prelude.{Ok, Err}
+use Rattle.refusals.specs.declared.Refusal.TheVariants.{BeyondSheet, WrongBlockBytes}
 use mathlib.Core.List.{List, [], ◌∷◌, ◌++◌, map}
 use Prim.Native.Nat.{ℕ}
 use lib.ListN.{drop, get_or, length, replicate, set, take}
 use Rattle.line_rules.specs.declared.Replacement.{Replacement}
-use Rattle.sheet_rules.specs.declared.BlockRead.{BlockRead}
 use Rattle.laws.specs.Refusals.{first}
 use Rattle.laws.specs.Tables.{over, table, table_from}
 use Rattle.bcn_format.specs.Block.{block_at, bytes_of, number, put_block, trailing}
@@ -25,7 +26,7 @@ use Rattle.head_rules.specs.Heads.{read_of_form_up_to, size_refusal_up_to, width
 use Rattle.head_rules.specs.Numbers.{raised, read_groups, read_number}
 use Rattle.head_rules.specs.Whole.{whole_refusal}
 use Rattle.line_rules.specs.Replace.{after, index_fits, line_fits, line_given, oriented, own_width, p_fits, put, refusal, refusal_in, replaced, value_fits}
-use Rattle.sheet_rules.specs.Blocks.{ReadsBlock, block_read}
+use Rattle.sheet_rules.specs.Blocks.{BlockRead, ReadsBlock, block_read}
 use Rattle.sheet_rules.specs.Pictures.{blocks_as, byte_as, picture, picture_byte, row_of}
 use Rattle.sheet_rules.specs.SheetRows as whole
 use Rattle.sheet_rules.specs.SheetRows.{DecodesSheetRow, sheet_row_out, sheet_row_refusal}
@@ -291,12 +292,12 @@ pub record Promised : Type 0 where
   pub no_sheet_row_let_through : DecodesSheetRow small 2 (nines 40) 0 (nines 40) → ⊥
   pub no_other_sheet_pixel : DecodesSheetRow small 1 (nines 40) 0 (set lower_scanlines 39 0) → ⊥
   pub no_sheet_output_touched : DecodesSheetRow small 2 (nines 40) 12 (set (nines 40) 39 0) → ⊥
-  pub reads_block : ReadsBlock (tiles3 shade30) 2 (answers 0 shade30)
-  pub reads_block_not : ReadsBlock small 4 (answers 12 (replicate 16 0))
-  pub reads_largest : ReadsBlock largest 0 (answers 10 (replicate 16 0))
-  pub no_other_block : ReadsBlock (tiles3 shade30) 2 (answers 0 shade40) → ⊥
-  pub no_other_block_answer : ReadsBlock small 4 (answers 10 (replicate 16 0)) → ⊥
-  pub no_block_refused : ReadsBlock small 4 (answers 12 shade40) → ⊥
+  pub reads_block : ReadsBlock (tiles3 shade30) 2 (Ok shade30)
+  pub reads_block_not : ReadsBlock small 4 (Err BeyondSheet)
+  pub reads_largest : ReadsBlock largest 0 (Err WrongBlockBytes)
+  pub no_other_block : ReadsBlock (tiles3 shade30) 2 (Ok shade40) → ⊥
+  pub no_other_block_answer : ReadsBlock small 4 (Err WrongBlockBytes) → ⊥
+  pub no_block_refused : block_read small 4 ≡ answers 12 shade40 → ⊥
   pub replaces_in_sheet : ReplacesInSheet small 2 0 given 0 small_replaced
   pub replaces_in_sheet_not : ReplacesInSheet small 4 0 given 12 small
   pub replaces_no_line_1 : ReplacesInSheet small 2 1 given 2 small
@@ -335,7 +336,7 @@ promises_hold = record {
   reads_largest = refl;
   no_other_block = λ e. eqb_of _ _ (ap (λ (b : BlockRead). get_or b.block 2 0) e);
   no_other_block_answer = λ e. eqb_of _ _ (ap (λ (b : BlockRead). b.refusal) e);
-  no_block_refused = λ e. eqb_of _ _ (ap (λ (b : BlockRead). get_or b.block 0 0) e);
+  no_block_refused = λ e. eqb_of _ _ (sym (ap (λ (b : BlockRead). get_or b.block 0 0) e));
   replaces_in_sheet = (refl, refl);
   replaces_in_sheet_not = (refl, refl);
   replaces_no_line_1 = (refl, refl);

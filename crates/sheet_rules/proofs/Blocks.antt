@@ -1,16 +1,18 @@
 -- WHAT IS PROVED OF A BLOCK BY ITS NUMBER: when it is refused, and what is answered.
 -- Assumes nothing.
 use Prim.Native.Nat.{ℕ}
-use mathlib.Core.Path.{◌≡◌, ◌∙◌, sym}
+use mathlib.Core.Path.{◌≡◌, ◌∙◌, ap, sym}
 use mathlib.Core.Logic.{◌≢◌, ◌↔◌}
 use mathlib.Core.List.{List}
 use borrow.Author.Tests.{ne_eqb}
 use lib.ListN.{replicate}
 use Rattle.head_rules.specs.Heads.{read_head}
-use Rattle.sheet_rules.specs.declared.BlockRead.{BlockRead}
+use Rattle.std.specs.Prelude.{Result, Ok, Err}
+use Rattle.refusals.specs.declared.Refusal.{Refusal}
+use Rattle.refusals.proofs.Answers.{number_injective, number_not_0}
 use Rattle.laws.specs.Refusals.{Given}
 use Rattle.laws.proofs.Refusals.{answer_0, exactly}
-use Rattle.sheet_rules.specs.Blocks.{ReadsBlock, block_read, block_rules}
+use Rattle.sheet_rules.specs.Blocks.{BlockRead, ReadsBlock, block_answered, block_read, block_rules}
 use Rattle.sheet_rules.specs.Sheets.{block_in, find_refusal}
 use Rattle.sheet_rules.proofs.Finding.{finding_in_words}
 
@@ -29,6 +31,13 @@ module _ (s : List ℕ) (b : ℕ) where
   unfolding block_read
   block_refused ne = rw (ne_eqb _ 0 ne)
 
+-- an answer is one result's
+block_fixes : (x y : Result (List ℕ) Refusal) → block_answered x ≡ block_answered y → x ≡ y
+block_fixes (Ok v) (Ok w) e = ap (λ (a : BlockRead). Ok a.block) e
+block_fixes (Ok v) (Err q) e = absurd (number_not_0 q (sym (ap (λ (a : BlockRead). a.refusal) e)))
+block_fixes (Err r) (Ok w) e = absurd (number_not_0 r (ap (λ (a : BlockRead). a.refusal) e))
+block_fixes (Err r) (Err q) e = ap Err (number_injective (ap (λ (a : BlockRead). a.refusal) e))
+
 -- DEMAND 1: any two answers that the promise admits coincide
-pub determined_block_in_sheet : (sheet : List ℕ) (b : ℕ) (x y : BlockRead) → ReadsBlock sheet b x → ReadsBlock sheet b y → x ≡ y
-determined_block_in_sheet sheet b x y p q = p ∙ sym q
+pub determined_block_in_sheet : (sheet : List ℕ) (b : ℕ) (x y : Result (List ℕ) Refusal) → ReadsBlock sheet b x → ReadsBlock sheet b y → x ≡ y
+determined_block_in_sheet sheet b x y p q = block_fixes x y (p ∙ sym q)

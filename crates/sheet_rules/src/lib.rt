@@ -2,10 +2,3 @@
 // rows together as the picture, where a block stands, and what any sequence of calls leaves of a sheet.
 
 #![tactic(auto)]
-
-// A block of a sheet, by its number; zeros where it is refused.
-#[derive(Clone, Copy)]
-pub struct BlockRead {
-    pub refusal: u8,
-    pub block: [u8; 16],
-}

@@ -3,6 +3,7 @@
 use mathlib.Core.Path.{◌∙◌}
 use Prim.Native.Nat.{◌-◌}
 use native.Mathlib.Omega.{arith}
+use Rattle.head_rules.specs.Answers.{known}
 use Rattle.head_rules.specs.Geometry.{blocks_of}
 use Rattle.listing_rules.specs.Machine.{in_blocks}
 use Rattle.listing_rules.proofs.Rounds.{no_blocks, some_blocks}
@@ -17,4 +18,4 @@ unfolding in_blocks
 returns c =
     let all = c.blocks_of.ensures.same in
     let s = c in
-    rw (some_blocks (blocks_of s.args.reader.head - s.args.from) (λ z. c.if-from-blocks_of.false (omega (arith, z, all, s.requires.within))))
+    rw (some_blocks (blocks_of (known s.args.reader.head) - s.args.from) (λ z. c.if-from-blocks_of.false (omega (arith, z, all, s.requires.within))))

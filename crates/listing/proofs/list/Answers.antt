@@ -5,9 +5,10 @@ use mathlib.Core.Bool.{true, false}
 use mathlib.Core.Path.{ap, subst}
 use lib.Dec.{eqb}
 use lib.ListN.{length}
+use Rattle.head_rules.specs.Answers.{reader_known}
 use Rattle.laws.proofs.Padding.{written_none}
 use Rattle.listing_rules.specs.declared.Phase.{Phase}
-use Rattle.listing_rules.specs.Machine.{ReadyIn, spare_in, wanted_in}
+use Rattle.listing_rules.specs.Machine.{machine_known, ReadyIn, spare_in, wanted_in}
 use Rattle.listing_rules.proofs.Room.{spare_ended, spare_next}
 use Rattle.listing_rules.proofs.Runs.{run_inside}
 use Rattle.listing.proofs.list.Goals as goal
@@ -16,14 +17,14 @@ pub list_at_head-requires : goal.list_at_head-requires
 list_at_head-requires c =
     let a = c in
     let at = c.in-Head.is in
-    record { going = subst (λ (p : Phase). ReadyIn p a.args.machine) at a.requires.ready; fits = omega (arith, ap spare_in at) }
+    record { going = subst (λ (p : Phase). ReadyIn p (machine_known a.args.machine)) at a.requires.ready; fits = omega (arith, ap spare_in at) }
 
 pub list_run-requires : goal.list_run-requires
 list_run-requires c =
     let a = c in
     let at = c.in-Blocks.is in
-    let inside = subst (λ (p : Phase). ReadyIn p a.args.machine) at a.requires.ready in
-    let few = ap (λ (p : Phase). wanted_in p a.args.machine) at in
+    let inside = subst (λ (p : Phase). ReadyIn p (machine_known a.args.machine)) at a.requires.ready in
+    let few = ap (λ (p : Phase). wanted_in p (machine_known a.args.machine)) at in
     let run = run_inside inside in
     record { inside = inside; blocks = record { sized = inside.sized; there = omega (arith, run, few); fits = omega (arith, ap spare_in at) } }
 
@@ -40,7 +41,7 @@ pub returns-in-Blocks : goal.returns-in-Blocks
 returns-in-Blocks c =
     let told = c in
     let a = told in
-    let spared = spare_next a.args.machine.reader a.args.machine.from (length a.args.came.now) in
+    let spared = spare_next (reader_known a.args.machine.reader) a.args.machine.from (length a.args.came.now) in
     rw told.in-Blocks.is
     (record { text = told.list_run.ensures.text; room = omega (arith, told.list_run.ensures, spared) })
 

@@ -1,20 +1,29 @@
 -- `list_at_head` meets its contract.
 -- Assumes nothing.
 use native.Mathlib.Omega.{arith}
+use borrow.Author.Tests.{ne_eqb}
+use Rattle.refusals.specs.Answers.{number}
+use Rattle.refusals.proofs.Answers.{number_not_0}
+use Rattle.head_rules.specs.Reader.{refused_with}
+use Rattle.head_rules.specs.Answers.{reader_known}
 use Rattle.laws.proofs.Padding.{written_none}
+use Rattle.listing_rules.specs.Machine.{head_text}
 use Rattle.listing_rules.proofs.Room.{spare_begun}
 use Rattle.listing.proofs.list_at_head.Goals as goal
 
 pub returns-then-has_ended : goal.returns-then-has_ended
+unfolding head_text
 returns-then-has_ended c =
-    let told = c in
-    let head = told in
-    let taken = head.take_next-taken in
-    rw (← taken.ensures.same, ← head.has_ended.ensures, head.if-has_ended.true)
-    (record { text = told.list_head.ensures.text; room = omega (arith, spare_begun taken.result) })
+    rw (← c.in-Ok.ensures.same, ← c.has_ended.ensures, c.if-has_ended.true)
+    (record { text = c.sheet_text.ensures.text; room = omega (arith, c.sheet_text.ensures, spare_begun (reader_known c.in-Ok.taken)) })
 
-pub returns : goal.returns
-returns c =
-    let taken = c.take_next-taken in
-    let ended = c.has_ended.ensures in
-    rw (← taken.ensures.same, ← ended, c.if-has_ended.false) (record { text = written_none; room = omega arith })
+pub returns-else-has_ended : goal.returns-else-has_ended
+returns-else-has_ended c =
+    rw (← c.in-Ok.ensures.same, ← c.has_ended.ensures, c.if-has_ended.false) (record { text = written_none; room = omega arith })
+
+pub returns-in-Err : goal.returns-in-Err
+unfolding head_text
+returns-in-Err c =
+    let told = rw c.number.ensures at c.refused_text.ensures in
+    rw (← c.in-Err.ensures.same, ne_eqb _ 0 (number_not_0 c.in-Err.refusal))
+    (record { text = told.text; room = omega (arith, told, spare_begun (refused_with (number c.in-Err.refusal))) })

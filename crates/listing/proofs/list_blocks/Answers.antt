@@ -4,6 +4,7 @@ use native.Mathlib.Omega.{arith}
 use mathlib.Core.Path.{◌≡◌}
 use Prim.Native.Nat.{◌/◌}
 use lib.ListN.{length}
+use Rattle.head_rules.specs.Answers.{known}
 use Rattle.laws.proofs.Padding.{written_long}
 use Rattle.listing_rules.specs.Listing.{listed}
 use Rattle.listing_rules.proofs.Rounds.{few_in_all}
@@ -14,10 +15,10 @@ pub loop-k-init : goal.loop-k-init
 loop-k-init c = (omega arith, omega arith, texts_none _ _ _ _ _)
 
 pub overflow_cast-k : goal.overflow_cast-k
-overflow_cast-k c = let s = c in omega (arith, few_in_all s.args.head s.requires.sized)
+overflow_cast-k c = let s = c in omega (arith, few_in_all (known s.args.head) s.requires.sized)
 
 pub overflow_add-from : goal.overflow_add-from
-overflow_add-from c = let s = c in omega (arith, few_in_all s.args.head s.requires.sized)
+overflow_add-from c = let s = c in omega (arith, few_in_all (known s.args.head) s.requires.sized)
 
 pub overflow_mul-k : goal.overflow_mul-k
 overflow_mul-k c = omega arith

@@ -4,6 +4,7 @@ use mathlib.Core.Path.{◌∙◌, ap, sym}
 use Prim.Native.Nat.{ℕ, ◌*◌}
 use native.Mathlib.Omega.{arith}
 use borrow.Author.Tests.{eq-eqb, ne_eqb}
+use Rattle.head_rules.specs.Answers.{known}
 use Rattle.listing_rules.proofs.Rounds.{few_in_all}
 use Rattle.listing.proofs.next_in_blocks.Goals as goal
 
@@ -15,7 +16,7 @@ returns-then-got-run c =
 pub overflow_add-from : goal.overflow_add-from
 overflow_add-from c =
     let s = c in
-    omega (arith, c.run_of-run.ensures.inside, few_in_all s.args.reader.head s.requires.sized)
+    omega (arith, c.run_of-run.ensures.inside, few_in_all (known s.args.reader.head) s.requires.sized)
 
 pub in_blocks-requires : goal.in_blocks-requires
 in_blocks-requires c = record { sized = c.requires.sized; within = c.run_of-run.ensures.inside }

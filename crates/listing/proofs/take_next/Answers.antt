@@ -1,17 +1,18 @@
 -- `take_next` meets its contract.
 -- Assumes nothing.
 use mathlib.Core.Path.{◌∙◌}
+use Rattle.head_rules.specs.Answers.{reader_known}
 use Rattle.listing_rules.proofs.Rounds.{head_sized, taken_none, taken_one}
 use Rattle.listing.proofs.take_next.Goals as goal
 
 pub returns-then-came-eq0 : goal.returns-then-came-eq0
 returns-then-came-eq0 c =
-    let a = c in
-    let taken = c.refused_with.ensures ∙ taken_none a.args.reader a.args.came.now c.if-came-eq0.true in
-    record { same = taken; sized = head_sized a.args.came.now a.requires taken }
+    let a = c.args in
+    let taken = taken_none (reader_known a.reader) a.came.now c.if-came-eq0.true in
+    record { same = taken; sized = head_sized a.came.now c.requires taken }
 
 pub returns : goal.returns
 returns c =
-    let a = c in
-    let taken = c.take_byte.ensures ∙ taken_one a.args.reader a.args.came.now c.if-came-eq0.false in
-    record { same = taken; sized = head_sized a.args.came.now a.requires taken }
+    let a = c.args in
+    let taken = c.take_byte.ensures ∙ taken_one (reader_known a.reader) a.came.now c.if-came-eq0.false in
+    record { same = taken; sized = head_sized a.came.now c.requires taken }

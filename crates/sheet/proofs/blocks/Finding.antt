@@ -8,7 +8,7 @@ use native.Mathlib.Nat.{eq-zero-or-pos}
 use native.Mathlib.Omega.{arith}
 use lib.ListN.{length}
 use borrow.Author.Tests.{eq-eqb, ne_eqb}
-use Rattle.sheet.specs.declared.blocks.Found.{Found}
+use Rattle.refusals.specs.Answers.{Answer}
 use Rattle.head_rules.specs.Geometry.{blocks_of, place_of}
 use Rattle.head_rules.specs.Answers.{Head}
 use Rattle.laws.specs.Refusals.{here, then}
@@ -56,20 +56,20 @@ module _ (s : List ℕ) (b : ℕ) where
           ∙ one ((accepted_when (finding_handed s b)).1 (fits, (subst (λ (h : Head). b < blocks_of h) head_is l, tt)))
 
 -- what `find_block` answered
-module _ (s : List ℕ) (b : ℕ) {f : Found} (ef : f ≡ find_block s b) where
+module _ (s : List ℕ) (b : ℕ) {f : Answer ℕ} (ef : f ≡ find_block s b) where
   pub refusal_is : f.refusal ≡ find_refusal (read_head s) s b
   refusal_is =
-      ap (λ (g : Found). g.refusal) ef
-      ∙ ⊎_elim (λ z. sym (ap (λ (g : Found). g.refusal) (one s b z)) ∙ sym z)
-      (λ p. sym (ap (λ (g : Found). g.refusal) (none s b refl (λ q. omega arith))))
+      ap (λ (g : Answer ℕ). g.refusal) ef
+      ∙ ⊎_elim (λ z. sym (ap (λ (g : Answer ℕ). g.refusal) (one s b z)) ∙ sym z)
+      (λ p. sym (ap (λ (g : Answer ℕ). g.refusal) (none s b refl (λ q. omega arith))))
       (eq-zero-or-pos (find_refusal (read_head s) s b))
 
   module _ (a : f.refusal ≡ 0) where
     pub told : find_refusal (read_head s) s b ≡ 0
     told = sym refusal_is ∙ a
 
-    pub at_is : f.at ≡ place_of (read_head s) b
-    at_is = ap (λ (g : Found). g.at) (ef ∙ sym (one s b told))
+    pub at_is : f.value ≡ place_of (read_head s) b
+    at_is = ap (λ (g : Answer ℕ). g.value) (ef ∙ sym (one s b told))
 
-    pub has_room : f.at + 16 ≤ length s
+    pub has_room : f.value + 16 ≤ length s
     has_room = rw at_is (room s b (inside s b told))

@@ -8,27 +8,28 @@ use native.Mathlib.Omega.{arith}
 use Rattle.laws.specs.Refusals.{here, then}
 use Rattle.refusals.proofs.Answers.{number_not_0}
 use Rattle.head_rules.specs.Geometry.{out_length}
+use Rattle.head_rules.proofs.Answers.{passed_up}
 use Rattle.sheet.proofs.SheetDecoding.{head_is, is_drawn_is, long_is, not_drawn, not_whole, size_is}
 use Rattle.sheet.proofs.decode_sheet_row.Goals as goal
 
-pub returns-in-Err : goal.returns-in-Err
-returns-in-Err c = rw c.number.ensures (not_whole _ _ _ c.in-Err.ensures (number_not_0 _))
+pub returns-in_err-head : goal.returns-in_err-head
+returns-in_err-head c = rw (passed_up _ c.from_residual.ensures.1) (not_whole _ _ _ c.in_err-head.ensures (number_not_0 _))
 
 pub blocks_across-requires : goal.blocks_across-requires
-blocks_across-requires c = (size_is _ 0 [] c.in-Ok.ensures refl).within_high
+blocks_across-requires c = (size_is _ 0 [] c.in_ok-head.ensures refl).within_high
 
 pub returns-then-row-blocks_across : goal.returns-then-row-blocks_across
 returns-then-row-blocks_across c =
     let across = c in
     let told = across in
-    not_drawn _ _ _ c.in-Ok.ensures refl
+    not_drawn _ _ _ c.in_ok-head.ensures refl
     (here (λ q. omega (arith, c.if-row-blocks_across.true, across.blocks_across.ensures, q))) (λ z. omega arith)
 
 pub out_length-requires : goal.out_length-requires
 out_length-requires c =
     let told = c in
     record {
-      wide = (size_is _ 0 [] c.in-Ok.ensures refl).within_wide;
+      wide = (size_is _ 0 [] c.in_ok-head.ensures refl).within_wide;
       few = omega (arith, c.shown_in-scanlines.ensures);
     }
 
@@ -39,8 +40,8 @@ returns-then-out-out_length c =
     let inside = shown in
     let across = inside in
     let told = across in
-    let head = c.in-Ok.head in
-    not_drawn _ _ _ c.in-Ok.ensures refl (then (omega (arith, inside.if-row-blocks_across.false, across.blocks_across.ensures))
+    let head = c.in_ok-head.head in
+    not_drawn _ _ _ c.in_ok-head.ensures refl (then (omega (arith, inside.if-row-blocks_across.false, across.blocks_across.ensures))
     (here (λ q. c.if-out-out_length.true (q ∙ sym (room.out_length.ensures ∙ ap (λ (n : ℕ). out_length head.width n) shown.shown_in-scanlines.ensures)))))
     (λ z. omega arith)
 
@@ -52,7 +53,7 @@ put_sheet_row-requires c =
     let inside = shown in
     let across = inside in
     let told = across.before in
-    let head = c.in-Ok.ensures in
+    let head = c.in_ok-head.ensures in
     record {
       head = head_is _ 0 [] head refl;
       told = refl;
@@ -71,8 +72,8 @@ returns c =
     let inside = shown in
     let across = inside in
     let told = across in
-    let head = c.in-Ok.head in
-    is_drawn_is _ _ _ c.in-Ok.ensures refl (
+    let head = c.in_ok-head.head in
+    is_drawn_is _ _ _ c.in_ok-head.ensures refl (
       omega (arith, inside.if-row-blocks_across.false, across.blocks_across.ensures),
       (
         fits.if-out-out_length.false ∙ room.out_length.ensures ∙ ap (λ (n : ℕ). out_length head.width n) shown.shown_in-scanlines.ensures,

@@ -2,24 +2,24 @@
 -- Assumes nothing.
 use mathlib.Core.Path.{refl}
 use Rattle.refusals.proofs.Answers.{number_not_0}
+use Rattle.head_rules.proofs.Answers.{passed_up}
 use Rattle.sheet.proofs.blocks.Finding.{has_room}
 use Rattle.sheet.proofs.Replacing.{not_found, not_replaced, replaced_stored}
 use Rattle.sheet.proofs.replace_in_sheet.Goals as goal
 
-pub returns-then-found-ne0 : goal.returns-then-found-ne0
-returns-then-found-ne0 c = not_found _ _ _ _ c.find_block-found.ensures c.if-found-ne0.true
+pub returns-in_err-at : goal.returns-in_err-at
+returns-in_err-at c = rw (passed_up _ c.from_residual.ensures.1) (not_found _ _ _ _ c.in_err-at.ensures (number_not_0 _))
 
 pub load-requires : goal.load-requires
-load-requires c = has_room _ _ c.find_block-found.ensures c.if-found-ne0.false
+load-requires c = has_room _ _ c.in_ok-at.ensures refl
 
-pub returns-in-Err : goal.returns-in-Err
-returns-in-Err c =
-    rw c.number.ensures
-    (not_replaced _ _ _ _ c.find_block-found.ensures c.if-found-ne0.false c.load.ensures c.in-Err.ensures (number_not_0 c.in-Err.refusal))
+pub returns-in_err-after : goal.returns-in_err-after
+returns-in_err-after c =
+    rw (passed_up _ c.from_residual-in_err-after.ensures.1)
+    (not_replaced _ _ _ _ c.in_ok-at.ensures refl c.load.ensures c.in_err-after.ensures (number_not_0 _))
 
 pub store-requires : goal.store-requires
-store-requires c = has_room _ _ c.find_block-found.ensures c.if-found-ne0.false
+store-requires c = has_room _ _ c.in_ok-at.ensures refl
 
-pub returns-in-Ok : goal.returns-in-Ok
-returns-in-Ok c =
-    replaced_stored _ _ _ _ c.find_block-found.ensures c.if-found-ne0.false c.load.ensures c.in-Ok.ensures refl c.store.ensures
+pub returns : goal.returns
+returns c = replaced_stored _ _ _ _ c.in_ok-at.ensures refl c.load.ensures c.in_ok-after.ensures refl c.store.ensures
