@@ -30,7 +30,7 @@ use Rattle.head_rules.proofs.Whole.{whole_handed}
 use Rattle.sheet_rules.specs.Sheets.{block_by, block_in, find_refusal, find_rules, replaced_in}
 use Rattle.sheet_rules.proofs.Finding.{finding}
 use Rattle.count_rules.specs.declared.Counts.{Counts}
-use Rattle.count_rules.specs.declared.Counted.{Counted}
+use Rattle.count_rules.specs.Counts.{Counted}
 use Rattle.count_rules.specs.Counts.{counted, is_opaque}
 use Rattle.count_rules.specs.Keeping.{Keeps, ReplacesLineCounted, false_of, false_refusal, kept_answer, kept_refusal}
 use Rattle.count_rules.proofs.Plain.{counts_left, counts_taken, sheet_left, sheet_taken}
@@ -66,22 +66,22 @@ module _ (s : List ℕ) (b : ℕ) {h : Head} (w : ReadsWhole s h) (a : h.refusal
   pub room_of : {m : ℕ} → CountsBlocks h m → b < m → {at : ℕ} → at ≡ place_of h b → at + 16 ≤ length s
   room_of k l e = omega (arith, e, (whole_blocks s w a).whole, blocks_within h b (rw k.same at l))
 
-pub number_named : Result NamedBlock Refusal → ℕ
+abbrev pub number_named : Result NamedBlock Refusal → ℕ
 number_named r = number_of r
 
 -- the named block, where there is one
-pub named_in : Result NamedBlock Refusal → NamedBlock → NamedBlock
+abbrev pub named_in : Result NamedBlock Refusal → NamedBlock → NamedBlock
 named_in (Ok v) other = v
 named_in (Err r) other = other
 
 module _ (s : List ℕ) (n : Counts) (b : ℕ) {h : Head} (w : ReadsWhole s h) where
   -- what the named block says of the block that was found
-  pub record Shown (at : ℕ) (block : List ℕ) (mode : ℕ) (opaque : Bool) (k : NamedBlock) : Type 0 where
+  pub record Shown (place : ℕ) (bytes : List ℕ) (kind : ℕ) (is : Bool) (k : NamedBlock) : Type 0 where
     pub head : known k.head ≡ h
-    pub at : k.at ≡ at
-    pub block : k.block ≡ block
-    pub mode : k.mode ≡ mode
-    pub opaque : k.opaque ≡ opaque
+    pub at : k.at ≡ place
+    pub block : k.block ≡ bytes
+    pub mode : k.mode ≡ kind
+    pub opaque : k.opaque ≡ is
 
   -- the head's refusal or 10: it is what finding the block is refused for
   found_as : {r : ℕ} → r ≢ 0 → Given (handed (read_head s).refusal ∷ unless 10 (length s ≡ whole_length (read_head s)) ∷ []) r
@@ -107,7 +107,7 @@ module _ (s : List ℕ) (n : Counts) (b : ℕ) {h : Head} (w : ReadsWhole s h) w
         let is : find_refusal (read_head s) s b ≡ 12 = (exactly (finding s b) 12).1 (then told (then long (here (λ q. omega arith)))) in
         record {
           refusal = e ∙ sym is ∙ sym (first_here (find_refusal (read_head s) s b) _ (λ z. omega (arith, is, z)));
-          here = λ g z. let none = ap number_named z in absurd (let q : ⊥ = omega (arith, e, none) in q);
+          here = λ g z. absurd (let q : ⊥ = omega (arith, sym e ∙ ap number_named z) in q);
         }
 
     pub block_named : {m : ℕ} → CountsBlocks h m → b < m → {at mode refusal : ℕ} {block : List ℕ} {opaque : Bool}

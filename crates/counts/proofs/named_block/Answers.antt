@@ -1,13 +1,11 @@
 -- `named_block` meets its contract.
 -- Assumes nothing.
-use mathlib.Core.Path.{◌∙◌, ap, refl, subst, sym}
-use Rattle.std.specs.Prelude.{Result, Ok, Err}
+use mathlib.Core.Path.{◌∙◌, ap, refl, sym}
+use Rattle.std.specs.Prelude.{Result}
 use Rattle.refusals.specs.declared.Refusal.{Refusal}
-use Rattle.refusals.specs.Answers.{number_of}
 use Rattle.refusals.proofs.Answers.{number_not_0}
 use Rattle.head_rules.specs.Answers.{known}
 use Rattle.head_rules.proofs.Answers.{passed_up}
-use Rattle.counts.specs.Blocks.{Names}
 use Rattle.counts.specs.declared.NamedBlock.{NamedBlock}
 use Rattle.counts.proofs.Counting.{mode_in_is, reads_whole, whole_blocks}
 use Rattle.counts.proofs.Naming.{asked_of, block_named, named_in, no_block, no_sheet, number_named, room_of}
@@ -40,7 +38,7 @@ check_counts-requires c = mode_in_is _ c.mode_of-mode.ensures
 pub returns-in_err-check_counts : goal.returns-in_err-check_counts
 returns-in_err-check_counts c =
     let q = c.in_err-check_counts.field-0.0 in
-    let e = passed_up _ ?.ensures.1 in
+    let e = passed_up _ c.from_residual-in_err-check_counts.ensures.1 in
     block_named _ _ _ (reads_whole _ c.in_ok-head.ensures) refl c.blocks_of-blocks.ensures c.if-number-blocks.false _ (ap number_named e)
     (λ k z. absurd (number_not_0 q (sym (ap number_named e) ∙ ap number_named z))) c.place_of-at.ensures
     c.load-block.ensures c.mode_of-mode.ensures c.is_opaque_at-opaque.ensures c.in_err-check_counts.ensures

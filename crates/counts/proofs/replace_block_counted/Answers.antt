@@ -1,17 +1,17 @@
 -- `replace_block_counted` meets its contract.
 -- Assumes nothing.
 use mathlib.Core.Path.{refl}
+use Rattle.refusals.proofs.Answers.{number_not_0}
+use Rattle.head_rules.proofs.Answers.{passed_up}
 use Rattle.counts.proofs.Naming.{block_put, not_named_as}
 use Rattle.counts.proofs.replace_block_counted.Goals as goal
 
-pub returns-then-named-ne0 : goal.returns-then-named-ne0
-returns-then-named-ne0 c = not_named_as _ _ _ _ c.named_block-named.ensures c.if-named-ne0.true c.answer.ensures
+pub returns-in_err-named : goal.returns-in_err-named
+returns-in_err-named c =
+    rw (passed_up _ c.from_residual.ensures.1) (not_named_as _ _ _ _ c.in_err-named.ensures (number_not_0 _) refl)
 
 pub put-requires : goal.put-requires
-put-requires c = c.named_block-named.ensures.here c.if-named-ne0.false
+put-requires c = c.in_ok-named.ensures.here _ refl
 
 pub returns : goal.returns
-returns c =
-    let p = c in
-    let i = p in
-    block_put _ _ _ _ (i.named_block-named.ensures.here i.if-named-ne0.false) refl p.put.ensures c.answer-2.ensures
+returns c = block_put _ _ _ _ (c.in_ok-named.ensures.here _ refl) refl c.put.ensures refl
