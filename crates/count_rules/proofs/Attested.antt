@@ -29,7 +29,7 @@ use Rattle.line_rules.specs.Replace.{after, index_fits, line_fits, line_given, o
 use Rattle.opacity_rules.specs.Opacity.{is_visible, opaque, opaque_in, passes}
 use Rattle.sheet_rules.specs.Sheets.{block_by, find_refusal, replaced_in}
 use Rattle.count_rules.specs.declared.Counts.{Counts}
-use Rattle.count_rules.specs.declared.Counted.{Counted}
+use Rattle.count_rules.specs.Counts.{Counted}
 use Rattle.count_rules.specs.Counts.{CountsSheet, counted_of, counts_below, has_mode, is_opaque}
 use Rattle.count_rules.specs.Keeping.{ReplacesBlockCounted, ReplacesLineCounted}
 use Rattle.count_rules.specs.Keeping.{block_made, false_of, kept_answer, kept_counts, kept_refusal, kept_sheet, of_all_modes, recounted_as}

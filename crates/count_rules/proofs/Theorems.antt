@@ -42,7 +42,10 @@ use Rattle.sheet_rules.proofs.Finding.{inside}
 use Rattle.sheet_rules.proofs.Pictures.{picture_shows_block}
 use Rattle.bcn_format.proofs.Storing.{put_long, put_outside}
 use Rattle.count_rules.specs.declared.Counts.{Counts}
-use Rattle.count_rules.specs.declared.Counted.{Counted}
+use Rattle.std.specs.Prelude.{Result, Ok, Err}
+use Rattle.refusals.specs.declared.Refusal.{Refusal}
+use Rattle.refusals.proofs.Answers.{number_injective, number_not_0}
+use Rattle.count_rules.specs.Counts.{Counted, counts_answered, no_counts}
 use Rattle.count_rules.specs.Calls.{Edit, Kept, KeptCall, NotWhole, TrueCounts, answer_on, answers_on, kept_with, kept_with_all, line}
 use Rattle.count_rules.specs.Calls.{lines_on, made, whole, with_counts}
 use Rattle.count_rules.specs.Counts.{CountsSheet, count_rules, counted, counted_of, counts_of, has_mode, is_opaque}
@@ -344,14 +347,22 @@ accepted_accounts s n c e =
     subst (Accounted (read_head s) c.block (block_in s c.block) m.value n) (sym (counts_taken s n c.block m e))
     (accounted (read_head s) s c.block n fine m.value)
 
+-- an answer is one result's
+counts_fix : (left : Counts) (a b : Result Counts Refusal) → counts_answered left a ≡ counts_answered left b → a ≡ b
+counts_fix left (Ok v) (Ok w) e = ap (λ (x : Counted). Ok x.counts) e
+counts_fix left (Ok v) (Err q) e = absurd (number_not_0 q (sym (ap (λ (x : Counted). x.refusal) e)))
+counts_fix left (Err r) (Ok w) e = absurd (number_not_0 r (ap (λ (x : Counted). x.refusal) e))
+counts_fix left (Err r) (Err q) e = ap Err (number_injective (ap (λ (x : Counted). x.refusal) e))
+
 -- DEMAND 1: any two results that a call's promise admits coincide
-pub determined_count : (sheet : List ℕ) (a b : Counted) → CountsSheet sheet a → CountsSheet sheet b → a ≡ b
-determined_count sheet a b p q = p ∙ sym q
+pub determined_count : (sheet : List ℕ) (a b : Result Counts Refusal)
+    → CountsSheet sheet (counts_answered no_counts a) → CountsSheet sheet (counts_answered no_counts b) → a ≡ b
+determined_count sheet a b p q = counts_fix no_counts a b (p ∙ sym q)
 
-pub determined_line_counted : (sheet : List ℕ) (n : Counts) (b l : ℕ) (new : Replacement) (x y : Counted) (t u : List ℕ)
-    → ReplacesLineCounted sheet n b l new x t → ReplacesLineCounted sheet n b l new y u → (x ≡ y) × (t ≡ u)
-determined_line_counted sheet n b l new x y t u p q = (p.0 ∙ sym q.0, p.1 ∙ sym q.1)
+pub determined_line_counted : (sheet : List ℕ) (n : Counts) (b l : ℕ) (new : Replacement) (x y : Result Counts Refusal) (t u : List ℕ)
+    → ReplacesLineCounted sheet n b l new (counts_answered n x) t → ReplacesLineCounted sheet n b l new (counts_answered n y) u → (x ≡ y) × (t ≡ u)
+determined_line_counted sheet n b l new x y t u p q = (counts_fix n x y (p.0 ∙ sym q.0), p.1 ∙ sym q.1)
 
-pub determined_block_counted : (sheet : List ℕ) (n : Counts) (b : ℕ) (new : List ℕ) (x y : Counted) (t u : List ℕ)
-    → ReplacesBlockCounted sheet n b new x t → ReplacesBlockCounted sheet n b new y u → (x ≡ y) × (t ≡ u)
-determined_block_counted sheet n b new x y t u p q = (p.0 ∙ sym q.0, p.1 ∙ sym q.1)
+pub determined_block_counted : (sheet : List ℕ) (n : Counts) (b : ℕ) (new : List ℕ) (x y : Result Counts Refusal) (t u : List ℕ)
+    → ReplacesBlockCounted sheet n b new (counts_answered n x) t → ReplacesBlockCounted sheet n b new (counts_answered n y) u → (x ≡ y) × (t ≡ u)
+determined_block_counted sheet n b new x y t u p q = (counts_fix n x y (p.0 ∙ sym q.0), p.1 ∙ sym q.1)

@@ -1,6 +1,6 @@
 -- THE COUNTS OF A SHEET, of either form: how many of its blocks have each mode, and how many are opaque.
 -- Assumes nothing.
-use Rattle.std.specs.Prelude.{ℕ, ◌≡◌, Bool, List, [], ◌∷◌, ◌++◌, eqb, replicate}
+use Rattle.std.specs.Prelude.{ℕ, ◌≡◌, Bool, List, [], ◌∷◌, ◌++◌, Result, Ok, Err, eqb, replicate}
 use Rattle.laws.specs.Counting.{count}
 use Rattle.laws.specs.Refusals.{Rule}
 use Rattle.laws.specs.Tables.{pick, table}
@@ -12,7 +12,8 @@ use Rattle.head_rules.specs.Whole.{whole_refusal, whole_rule}
 use Rattle.opacity_rules.specs.Opacity.{opaque_in}
 use Rattle.sheet_rules.specs.Sheets.{block_by}
 use Rattle.count_rules.specs.declared.Counts.{Counts}
-use Rattle.count_rules.specs.declared.Counted.{Counted}
+use Rattle.refusals.specs.declared.Refusal.{Refusal}
+use Rattle.refusals.specs.Answers.{number}
 
 -- Each of these goes by a head: h is what was read of the sheet's own. b is the number of a block, row by row in both forms.
 
@@ -38,9 +39,18 @@ no_counts = record { modes = replicate 9 0; opaque = 0 }
 abbrev pub count_rules : List ℕ → List Rule
 count_rules s = head_rules s ++ (whole_rule (read_head s) s ∷ [])
 
--- a refusal and counts
+-- WHAT COUNTING ANSWERS, and what a replacement that comes with counts hands back, as document 01 has it: a refusal and counts. A refused counting
+-- has zeros, a refused replacement the counts that came: this is what a result answers, where a refusal has these counts
+pub record Counted : Type 0 where
+  pub refusal : ℕ
+  pub counts : Counts
+
 abbrev pub counted : ℕ → Counts → Counted
 counted r n = record { refusal = r; counts = n }
+
+abbrev pub counts_answered : Counts → Result Counts Refusal → Counted
+counts_answered left (Ok n) = counted 0 n
+counts_answered left (Err r) = counted (number r) left
 
 -- what counting answers: the counts, or zeros where it is refused
 unfoldable pub counted_of : Head → List ℕ → Counted

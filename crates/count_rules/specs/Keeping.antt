@@ -16,7 +16,7 @@ use Rattle.opacity_rules.specs.Opacity.{opaque_in}
 use Rattle.bcn_format.specs.Block.{put_block}
 use Rattle.sheet_rules.specs.Sheets.{behind_head, block_by, block_in, find_refusal, replaced_in}
 use Rattle.count_rules.specs.declared.Counts.{Counts}
-use Rattle.count_rules.specs.declared.Counted.{Counted}
+use Rattle.count_rules.specs.Counts.{Counted}
 use Rattle.count_rules.specs.Counts.{counted, is_opaque}
 
 -- the count of mode m; and the nine summed, as numbers: however large, the sum doesn't come round

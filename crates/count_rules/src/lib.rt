@@ -9,11 +9,3 @@ pub struct Counts {
     pub modes: [u32; 9],
     pub opaque: u32,
 }
-
-// What counting answers, and what a replacement that comes with counts hands back. A refused counting has zeros; a refused replacement the
-// counts that came.
-#[derive(Clone, Copy)]
-pub struct Counted {
-    pub refusal: u8,
-    pub counts: Counts,
-}

@@ -30,7 +30,7 @@ use Rattle.head_rules.proofs.Whole.{whole_handed}
 use Rattle.sheet_rules.specs.Sheets.{block_by, block_in, find_refusal, find_rules, replaced_in}
 use Rattle.sheet_rules.proofs.Finding.{finding}
 use Rattle.count_rules.specs.declared.Counts.{Counts}
-use Rattle.count_rules.specs.declared.Counted.{Counted}
+use Rattle.count_rules.specs.Counts.{Counted}
 use Rattle.count_rules.specs.Counts.{counted, is_opaque}
 use Rattle.count_rules.specs.Keeping.{Keeps, ReplacesLineCounted, false_of, false_refusal, kept_answer, kept_refusal}
 use Rattle.count_rules.proofs.Plain.{counts_left, counts_taken, sheet_left, sheet_taken}

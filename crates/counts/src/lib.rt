@@ -6,13 +6,13 @@
 ghost use Rattle.std.specs.Prelude.{◌≡◌, ◌+◌, ◌<◌};
 ghost use Rattle.refusals.specs.Answers.{number_of};
 ghost use Rattle.head_rules.specs.Answers.{known};
-ghost use Rattle.count_rules.specs.Counts.{CountsSheet, counted, counts_below, counts_of, no_counts};
+ghost use Rattle.count_rules.specs.Counts.{CountsSheet, counts_answered, counts_below, counts_of, no_counts};
 ghost use Rattle.count_rules.specs.Keeping.{ReplacesBlockCounted, ReplacesLineCounted, false_of, of_all_modes, recounted_as};
 ghost use Rattle.counts.specs.Blocks.{CountedBelow, Here, Names, PutThere, RecountAsked, WholeBlocks};
 
 use bc7_modes::mode_of;
 use block_bytes::{load, store};
-use count_rules::{Counted, Counts};
+use count_rules::Counts;
 use head_rules::Head;
 use line_rules::Replacement;
 use opacity::is_opaque_at;
@@ -27,15 +27,6 @@ fn no_counts() -> Counts
     Counts {
         modes: [0u32; 9],
         opaque: 0,
-    }
-}
-
-fn answer(refusal: u8, counts: Counts) -> Counted
-    ensures { result ≡ counted refusal counts }
-{
-    Counted {
-        refusal: refusal,
-        counts: counts,
     }
 }
 
@@ -67,14 +58,12 @@ fn count_blocks(head: Head, sheet: &[u8]) -> Counts
     counts
 }
 
-// The counts of a sheet of either form; zeros where it is refused.
-pub fn count_sheet(sheet: &[u8]) -> Counted
-    ensures { CountsSheet sheet.now result }
+// The counts of a sheet of either form.
+pub fn count_sheet(sheet: &[u8]) -> Result<Counts, Refusal>
+    ensures { CountsSheet sheet.now (counts_answered no_counts result) }
 {
-    match read_whole(sheet) {
-        Ok(head) => answer(0, count_blocks(head, sheet)),
-        Err(refusal) => answer(refusal.number(), no_counts()),
-    }
+    let head = read_whole(sheet)?;
+    Ok(count_blocks(head, sheet))
 }
 
 // The nine mode counts together. Nine numbers of 32 bits don't come round in 64.
@@ -162,25 +151,20 @@ fn put(sheet: &mut [u8], counts: Counts, number: u32, named: NamedBlock, new: [u
     recount(counts, named.mode, named.opaque, mode_of(new), is)
 }
 
-// A line of a block of a sheet, replaced, with the counts beside the sheet. A refused call leaves the sheet as it was and hands back the counts
-// that came.
+// A line of a block of a sheet, replaced, with the counts beside the sheet. A refused call leaves the sheet as it was, and the counts that came
+// are still those of it.
 pub fn replace_line_counted(
     sheet: &mut [u8],
     counts: Counts,
     block: u32,
     line: u32,
     new: Replacement,
-) -> Counted
-    ensures { ReplacesLineCounted sheet.old counts block line new result sheet.new }
+) -> Result<Counts, Refusal>
+    ensures { ReplacesLineCounted sheet.old counts block line new (counts_answered counts result) sheet.new }
 {
-    let named = match named_block(sheet, counts, block) {
-        Ok(named) => named,
-        Err(refusal) => return answer(refusal.number(), counts),
-    };
-    match line::replace_line(named.block, line, new) {
-        Ok(made) => answer(0, put(sheet, counts, block, named, made)),
-        Err(refusal) => answer(refusal.number(), counts),
-    }
+    let named = named_block(sheet, counts, block)?;
+    let made = line::replace_line(named.block, line, new)?;
+    Ok(put(sheet, counts, block, named, made))
 }
 
 // A whole block of a sheet, replaced by any sixteen bytes, in the same way.
@@ -189,12 +173,9 @@ pub fn replace_block_counted(
     counts: Counts,
     block: u32,
     bytes: [u8; 16],
-) -> Counted
-    ensures { ReplacesBlockCounted sheet.old counts block bytes result sheet.new }
+) -> Result<Counts, Refusal>
+    ensures { ReplacesBlockCounted sheet.old counts block bytes (counts_answered counts result) sheet.new }
 {
-    let named = match named_block(sheet, counts, block) {
-        Ok(named) => named,
-        Err(refusal) => return answer(refusal.number(), counts),
-    };
-    answer(0, put(sheet, counts, block, named, bytes))
+    let named = named_block(sheet, counts, block)?;
+    Ok(put(sheet, counts, block, named, bytes))
 }

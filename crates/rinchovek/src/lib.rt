@@ -258,47 +258,47 @@ pub fn rinchovek_sheet_decode_row(
 ) -> u32
     ensures { DecodesRow width height row blocks.now out.old result out.new }
 {
-    decode_row(width, height, row, blocks, out) as u32
+    number_of_answer(decode_row(width, height, row, blocks, out)) as u32
 }
 
 // One row of blocks of a whole sheet, of either form, as scanlines.
 pub fn rinchovek_sheet_show_row(sheet: &[u8], row: u32, out: &mut [u8]) -> u32
     ensures { ShowsRow sheet.now row out.old result out.new }
 {
-    decode_sheet_row(sheet, row, out) as u32
+    number_of_answer(decode_sheet_row(sheet, row, out)) as u32
 }
 
 // A block of a sheet of either form, by its number.
 pub fn rinchovek_sheet_block(sheet: &[u8], block: u32, bytes: &mut [u8; 16]) -> u32
     ensures { ReadsBlock sheet.now block bytes.old result bytes.new }
 {
-    let read = block_in_sheet(sheet, block);
-    if read.refusal != 0 {
-        return read.refusal as u32;
+    match block_in_sheet(sheet, block) {
+        Ok(stored) => {
+            *bytes = stored;
+            0
+        }
+        Err(refusal) => refusal.number() as u32,
     }
-    let stored = read.block;
-    *bytes = stored;
-    0
 }
 
 // A sheet of form 1 as one of form 2, and one of form 2 as one of form 1.
 pub fn rinchovek_sheet_to_tiles(sheet: &[u8], out: &mut [u8]) -> u32
     ensures { MovesToTiles sheet.now out.old result out.new }
 {
-    to_tiles(sheet, out) as u32
+    number_of_answer(to_tiles(sheet, out)) as u32
 }
 
 pub fn rinchovek_sheet_to_rows(sheet: &[u8], out: &mut [u8]) -> u32
     ensures { MovesToRows sheet.now out.old result out.new }
 {
-    to_rows(sheet, out) as u32
+    number_of_answer(to_rows(sheet, out)) as u32
 }
 
 // The colour space of a sheet of form 2, stated by its number: one byte of the head, and no other.
 pub fn rinchovek_sheet_state_colour(sheet: &mut [u8], colour_space: u32) -> u32
     ensures { StatesColour sheet.old colour_space result sheet.new }
 {
-    state_colour(sheet, colour_space) as u32
+    number_of_answer(state_colour(sheet, colour_space)) as u32
 }
 
 // A line of one block replaced in a sheet; no byte of another block changes.
@@ -317,59 +317,63 @@ pub fn rinchovek_sheet_replace_line(
 pub fn rinchovek_dds_import(dds: &[u8], sheet: &mut [u8]) -> u32
     ensures { ImportsDds dds.now sheet.old result sheet.new }
 {
-    let head = import_dds(dds, sheet);
-    head.refusal as u32
+    match import_dds(dds, sheet) {
+        Ok(_) => 0,
+        Err(refusal) => refusal.number() as u32,
+    }
 }
 
 // A DDS file as a sheet, and beside it the head with the colour space that the format says.
 pub fn rinchovek_dds_import_colour(dds: &[u8], sheet: &mut [u8], head: &mut [u32; 4]) -> u32
     ensures { ImportsColour dds.now (sheet.old, head.old) result (sheet.new, head.new) }
 {
-    let made = import_dds(dds, sheet);
-    if made.refusal != 0 {
-        return made.refusal as u32;
+    match import_dds(dds, sheet) {
+        Ok(made) => {
+            *head = [made.width, made.height, made.start, number_of(made.colour_space)];
+            0
+        }
+        Err(refusal) => refusal.number() as u32,
     }
-    let colour_space = made.colour_space;
-    *head = [made.width, made.height, made.start, number_of(colour_space)];
-    0
 }
 
 // A sheet as a DDS file that says nothing of sRGB.
 pub fn rinchovek_dds_export(sheet: &[u8], dds: &mut [u8]) -> u32
     ensures { ExportsDds sheet.now dds.old result dds.new }
 {
-    export_dds(sheet, ColourSpace::Unspecified, dds) as u32
+    number_of_answer(export_dds(sheet, ColourSpace::Unspecified, dds)) as u32
 }
 
 // A sheet as a DDS file, under the number of a colour space.
 pub fn rinchovek_dds_export_colour(sheet: &[u8], colour_space: u32, dds: &mut [u8]) -> u32
     ensures { ExportsColour sheet.now colour_space dds.old result dds.new }
 {
-    export_numbered(sheet, colour_space, dds) as u32
+    number_of_answer(export_numbered(sheet, colour_space, dds)) as u32
 }
 
 // The length of the sheet that a DDS file makes.
 pub fn rinchovek_dds_import_length(dds: &[u8], length: &mut u32) -> u32
     ensures { ImportNeeds dds.now length.old result length.new }
 {
-    let needed = import_length(dds);
-    if needed.refusal != 0 {
-        return needed.refusal as u32;
+    match import_length(dds) {
+        Ok(needed) => {
+            *length = needed;
+            0
+        }
+        Err(refusal) => refusal.number() as u32,
     }
-    *length = needed.length;
-    0
 }
 
 // The length of the DDS file that a sheet makes.
 pub fn rinchovek_dds_export_length(sheet: &[u8], length: &mut u32) -> u32
     ensures { ExportNeeds sheet.now length.old result length.new }
 {
-    let needed = export_length(sheet);
-    if needed.refusal != 0 {
-        return needed.refusal as u32;
+    match export_length(sheet) {
+        Ok(needed) => {
+            *length = needed;
+            0
+        }
+        Err(refusal) => refusal.number() as u32,
     }
-    *length = needed.length;
-    0
 }
 
 // Counts as C has them, in ten numbers: modes 0 to 8, and the opaque blocks.

@@ -11,7 +11,7 @@ use Rattle.refusals.specs.Answers.{Answer}
 use Rattle.line_rules.specs.Read.{replacement_of}
 use Rattle.sheet_rules.specs.Sheets.{replaced_in}
 use Rattle.count_rules.specs.declared.Counts.{Counts}
-use Rattle.count_rules.specs.declared.Counted.{Counted}
+use Rattle.count_rules.specs.Counts.{Counted}
 use Rattle.count_rules.specs.Keeping as keeping
 use Rattle.count_rules.specs.Keeping.{kept_answer, kept_counts, kept_refusal, kept_sheet}
 use Rattle.count_rules.proofs.Plain.{sheet_left}

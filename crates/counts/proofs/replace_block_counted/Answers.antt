@@ -1,19 +1,17 @@
 -- `replace_block_counted` meets its contract.
 -- Assumes nothing.
-use mathlib.Core.Path.{◌∙◌, ap, refl}
-use Prim.Native.Nat.{ℕ}
-use Rattle.count_rules.specs.Counts.{counted}
+use mathlib.Core.Path.{refl}
 use Rattle.refusals.proofs.Answers.{number_not_0}
+use Rattle.head_rules.proofs.Answers.{passed_up}
 use Rattle.counts.proofs.Naming.{block_put, not_named_as}
 use Rattle.counts.proofs.replace_block_counted.Goals as goal
 
-pub returns-in-Err : goal.returns-in-Err
-returns-in-Err c =
-    not_named_as _ _ _ _ c.in-Err.ensures (number_not_0 c.in-Err.refusal)
-    (c.answer.ensures ∙ ap (λ (n : ℕ). counted n c.args.counts) c.number.ensures)
+pub returns-in_err-named : goal.returns-in_err-named
+returns-in_err-named c =
+    rw (passed_up _ c.from_residual.ensures.1) (not_named_as _ _ _ _ c.in_err-named.ensures (number_not_0 _) refl)
 
 pub put-requires : goal.put-requires
-put-requires c = c.in-Ok.ensures.here _ refl
+put-requires c = c.in_ok-named.ensures.here _ refl
 
 pub returns : goal.returns
-returns c = block_put _ _ _ _ (c.in-Ok.ensures.here _ refl) refl c.put.ensures c.answer-2.ensures
+returns c = block_put _ _ _ _ (c.in_ok-named.ensures.here _ refl) refl c.put.ensures refl

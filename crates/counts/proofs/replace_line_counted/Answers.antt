@@ -1,25 +1,22 @@
 -- `replace_line_counted` meets its contract.
 -- Assumes nothing.
-use mathlib.Core.Path.{refl, ◌∙◌, ap}
-use Prim.Native.Nat.{ℕ}
-use Rattle.count_rules.specs.Counts.{counted}
+use mathlib.Core.Path.{refl}
 use Rattle.refusals.proofs.Answers.{number_not_0}
+use Rattle.head_rules.proofs.Answers.{passed_up}
 use Rattle.counts.proofs.Naming.{line_put_is, line_refused, not_named_as}
 use Rattle.counts.proofs.replace_line_counted.Goals as goal
 
-pub returns-in-Err : goal.returns-in-Err
-returns-in-Err c =
-    not_named_as _ _ _ _ c.in-Err.ensures (number_not_0 c.in-Err.refusal)
-    (c.answer.ensures ∙ ap (λ (n : ℕ). counted n c.args.counts) c.number.ensures)
+pub returns-in_err-named : goal.returns-in_err-named
+returns-in_err-named c =
+    rw (passed_up _ c.from_residual.ensures.1) (not_named_as _ _ _ _ c.in_err-named.ensures (number_not_0 _) refl)
 
-pub returns-in-Err-replace_line : goal.returns-in-Err-replace_line
-returns-in-Err-replace_line c =
-    line_refused _ _ _ _ _ (c.in-Ok.ensures.here _ refl) c.in-Err-replace_line.ensures (number_not_0 c.in-Err-replace_line.refusal)
-    (c.answer-in-Err-replace_line.ensures ∙ ap (λ (n : ℕ). counted n c.args.counts) c.number-in-Err-replace_line.ensures)
+pub returns-in_err-made : goal.returns-in_err-made
+returns-in_err-made c =
+    rw (passed_up _ c.from_residual-in_err-made.ensures.1)
+    (line_refused _ _ _ _ _ (c.in_ok-named.ensures.here _ refl) c.in_err-made.ensures (number_not_0 _) refl)
 
 pub put-requires : goal.put-requires
-put-requires c = c.in-Ok.ensures.here _ refl
+put-requires c = c.in_ok-named.ensures.here _ refl
 
-pub returns-in-Ok-replace_line : goal.returns-in-Ok-replace_line
-returns-in-Ok-replace_line c =
-    line_put_is _ _ _ _ _ (c.in-Ok.ensures.here _ refl) c.in-Ok-replace_line.ensures refl c.put.ensures c.answer-in-Ok-replace_line.ensures
+pub returns : goal.returns
+returns c = line_put_is _ _ _ _ _ (c.in_ok-named.ensures.here _ refl) c.in_ok-made.ensures refl c.put.ensures refl

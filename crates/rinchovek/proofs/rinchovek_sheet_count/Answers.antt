@@ -2,7 +2,7 @@
 -- Assumes nothing.
 use mathlib.Core.Path.{sym, ap, ◌∙◌}
 use borrow.Author.Tests.{eq-eqb, ne_eqb}
-use Rattle.count_rules.specs.declared.Counted.{Counted}
+use Rattle.count_rules.specs.Counts.{Counted}
 use Rattle.rinchovek.proofs.rinchovek_sheet_count.Goals as goal
 
 pub returns-then-counted-ne0 : goal.returns-then-counted-ne0
