@@ -21,7 +21,7 @@ use crate::painting::{paint_1, paint_2, words_of};
 use crate::palette::{palette_1, palette_2};
 use bc6h_modes::{fields_1, fields_2, width_1, width_2};
 use bits::stream::BitStream;
-use drawing::keys::keys_3;
+use drawing::keys::both_keys;
 use indexes::Indexes;
 use partitions::words::partition_word_2_3;
 
@@ -75,7 +75,11 @@ fn two_subsets(mode: u64, low: u64, high: u64, signed: bool, output: &mut [[u16;
     let set = partition_word_2_3(id.value as u8);
     let x = Indexes::new(3, id.stream, [(set >> 48) as u32]);
     let indexes = x.indexes;
-    paint_2(words_of(q), keys_3(indexes.uncompressed, 1, set), output);
+    paint_2(
+        words_of(q),
+        both_keys::<3>(indexes.uncompressed, 1, set),
+        output,
+    );
 }
 
 // A mode with one: the indexes stand from bit 65 on.

@@ -13,7 +13,7 @@ use bc7_drawing::colour::{Stored, opaque, opaque_p};
 use bc7_drawing::painting::paint;
 use bc7_drawing::palette::palette_of_three;
 use bits::stream::BitStream;
-use drawing::keys::{keys_2, keys_3};
+use drawing::keys::both_keys;
 use indexes::Indexes;
 use partitions::words::{partition_word_3_2, partition_word_3_3};
 
@@ -90,7 +90,7 @@ fn mode_0(stream: BitStream) -> [[u8; 4]; 16]
     let colours = palette_of_three::<3, 32>(opaque_p(first, second, 4), opaque_p(third, none, 4));
     let set = partition_word_3_3(id.value as u8);
     let x = indexes_3(3, p2.stream, set);
-    paint::<3, 2, 32>(colours, keys_3(x, 2, set))
+    paint::<3, 2, 32>(colours, both_keys::<3>(x, 2, set))
 }
 
 // All 64 partitions, no p bits.
@@ -139,5 +139,5 @@ fn mode_2(stream: BitStream) -> [[u8; 4]; 16]
     let colours = palette_of_three::<2, 16>(opaque(first, second, 5), opaque(third, none, 5));
     let set = partition_word_3_2(id.value as u8);
     let x = indexes_3(2, b2.stream, set);
-    paint::<2, 2, 16>(colours, keys_2(x, 2, set))
+    paint::<2, 2, 16>(colours, both_keys::<2>(x, 2, set))
 }

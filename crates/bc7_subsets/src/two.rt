@@ -12,7 +12,7 @@ use bc7_drawing::colour::{Stored, opaque_p, translucent_p};
 use bc7_drawing::painting::paint;
 use bc7_drawing::palette::palette_of_two;
 use bits::stream::BitStream;
-use drawing::keys::{keys_2, keys_3};
+use drawing::keys::both_keys;
 use indexes::Indexes;
 use partitions::words::{partition_word_2_2, partition_word_2_3};
 
@@ -70,7 +70,7 @@ fn mode_1(stream: BitStream) -> [[u8; 4]; 16]
     let colours = palette_of_two::<3, 16>(opaque_p(first, second, 6));
     let set = partition_word_2_3(id.value as u8);
     let x = indexes_2(3, p1.stream, set);
-    paint::<3, 1, 16>(colours, keys_3(x, 1, set))
+    paint::<3, 1, 16>(colours, both_keys::<3>(x, 1, set))
 }
 
 // A p bit for each endpoint.
@@ -104,7 +104,7 @@ fn mode_3(stream: BitStream) -> [[u8; 4]; 16]
     let colours = palette_of_two::<2, 8>(opaque_p(first, second, 7));
     let set = partition_word_2_2(id.value as u8);
     let x = indexes_2(2, p1.stream, set);
-    paint::<2, 1, 8>(colours, keys_2(x, 1, set))
+    paint::<2, 1, 8>(colours, both_keys::<2>(x, 1, set))
 }
 
 // The only one of the three that stores alpha.
@@ -140,5 +140,5 @@ fn mode_7(stream: BitStream) -> [[u8; 4]; 16]
     let colours = palette_of_two::<2, 8>(translucent_p(first, second, 5));
     let set = partition_word_2_2(id.value as u8);
     let x = indexes_2(2, p1.stream, set);
-    paint::<2, 1, 8>(colours, keys_2(x, 1, set))
+    paint::<2, 1, 8>(colours, both_keys::<2>(x, 1, set))
 }

@@ -22,7 +22,7 @@ use bc7_drawing::colour::{Ends, Stored, alone, alone_p, high_colour, low_colour}
 use bc7_drawing::painting::paint;
 use bc7_drawing::palette::{mix_16, two_shades};
 use bits::stream::BitStream;
-use drawing::keys::keys_2;
+use drawing::keys::both_keys;
 use indexes::Indexes;
 use std::array;
 use weights::weight_256;
@@ -221,7 +221,7 @@ pub fn mode_5(stream: BitStream) -> [[u8; 4]; 16]
     swap_channels(
         paint::<2, 2, 16>(
             palette_2_and_2(e),
-            keys_2(y.indexes.uncompressed, 2, x.indexes.uncompressed),
+            both_keys::<2>(y.indexes.uncompressed, 2, x.indexes.uncompressed),
         ),
         rotation.value as u8,
     )

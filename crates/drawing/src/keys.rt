@@ -29,11 +29,6 @@ impl Keys {
     }
 }
 
-// The lower two bits of every four, and the lower three of every six: the fields of the even pixels.
-const EVEN_2: u64 = 0x3333_3333;
-
-const EVEN_3: u64 = 0x0000_1C71_C71C_71C7;
-
 // Eight keys, those of the fields that the mask takes: indexes above subsets.
 fn eight_keys(x: u64, map: u64, mask: u64, shift: u32) -> u64
     requires { Moved mask shift }
@@ -42,25 +37,17 @@ fn eight_keys(x: u64, map: u64, mask: u64, shift: u32) -> u64
     ((x & mask) << shift) + (map & mask)
 }
 
-// Indexes and subsets of two bits a pixel.
-pub fn keys_2(x: u64, shift: u32, map: u64) -> Keys
-    requires { shift ≤ 2 }
-    ensures { result ≡ keys_of 2 shift x map }
+// Indexes and subsets of W bits a pixel. The mask has the lower W bits of every 2 W, those of the even pixels: eight digits 2^W - 1 to the base
+// 2^(2 W), of which 2^W + 1 times is all ones. With a literal W it is a literal.
+pub fn both_keys<const W: u32>(x: u64, shift: u32, map: u64) -> Keys
+    requires width { W ≤ 3 }
+    requires shift { shift ≤ 2 }
+    ensures { result ≡ keys_of W shift x map }
 {
+    let mask = ((1u64 << (16 * W)) - 1) / ((1 << W) + 1);
     Keys {
-        even: eight_keys(x, map, EVEN_2, shift),
-        odd: eight_keys(x >> 2, map >> 2, EVEN_2, shift),
-    }
-}
-
-// Of three bits a pixel.
-pub fn keys_3(x: u64, shift: u32, map: u64) -> Keys
-    requires { shift ≤ 2 }
-    ensures { result ≡ keys_of 3 shift x map }
-{
-    Keys {
-        even: eight_keys(x, map, EVEN_3, shift),
-        odd: eight_keys(x >> 3, map >> 3, EVEN_3, shift),
+        even: eight_keys(x, map, mask, shift),
+        odd: eight_keys(x >> W, map >> W, mask, shift),
     }
 }
 

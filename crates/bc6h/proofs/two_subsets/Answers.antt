@@ -70,4 +70,4 @@ returns c =
     ] in
     two_picture c.args.signed m n (two_row m c.requires) c.take-id.result.value set c.new-x.result.indexes.uncompressed
     (got at_77 5 c.take-id.ensures.same) c.take-id.ensures.small c.partition_word_2_3-set.ensures x_is
-    all_colours c.words_of.ensures c.keys_3.ensures c.paint_2.ensures
+    all_colours c.words_of.ensures c.both_keys.ensures c.paint_2.ensures

@@ -73,7 +73,7 @@ returns c =
     let second = got_indexes on-y 2 (0 ∷ []) 31 y.new-y.ensures in
     c.swap_channels.ensures
     ∙ ap₂ swapped (got on_rotation 2 rotation.take-rotation.ensures.same)
-    (c.paint.ensures ∙ ap₂ (λ (k : Keys) (p : List (List ℕ)). painted (key_at 2 2 k) p) keys.keys_2.ensures
+    (c.paint.ensures ∙ ap₂ (λ (k : Keys) (p : List (List ℕ)). painted (key_at 2 2 k) p) keys.both_keys.ensures
     palette.palette_2_and_2.ensures
     ∙ paired x.new-x.result.indexes.uncompressed y.new-y.result.indexes.uncompressed (between 2 (endpoint e 0 0) (endpoint e 0 1)))
     ∙ vector_either 5 n (field n 6 2) 0 small (split_5 n) (omega arith) _ _

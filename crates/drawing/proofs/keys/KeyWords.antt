@@ -11,7 +11,7 @@ use lib.Bits.{bit_and}
 use lib.Dec.{eqb}
 use lib.Pow.{mod-mod-pow, pow-add, pow_mono, pow_pos, shr-shr}
 use Rattle.laws.specs.Digits.{evenly}
-use Rattle.laws.specs.Tables.{pick}
+use Rattle.laws.specs.Tables.{pick, table, table_from}
 use Rattle.laws.proofs.Evenly.{evenly_linear, evenly_mask, evenly_part, evenly_same}
 use Rattle.bcn_format.specs.Block.{field}
 use Rattle.bcn_format.specs.Indexes.{part}
@@ -21,6 +21,23 @@ use Rattle.drawing.specs.Keys.{every_other, key_at, key_of, keys_of}
 -- ones in the lower half of each field of 2 * w bits
 abbrev pub evens : ℕ → ℕ
 evens w = evenly 8 (2 * w) (λ i. 2 ^ w - 1)
+
+-- that number as the code computes it, and that it is within 48 bits
+pub computed_evens : (w : ℕ) → w ≤ 3 → (1 * 2 ^ (16 * w) % 2 ^ 64 - 1) / (1 * 2 ^ w % 2 ^ 64 + 1) ≡ evens w
+unfolding evenly table table_from
+computed_evens zero h = refl
+computed_evens (suc zero) h = refl
+computed_evens (suc (suc zero)) h = refl
+computed_evens (suc (suc (suc zero))) h = refl
+computed_evens (suc (suc (suc (suc w)))) h = absurd (let z : ⊥ = omega arith in z)
+
+pub evens_lt : (w : ℕ) → w ≤ 3 → evens w < 2 ^ 48
+unfolding evenly table table_from
+evens_lt zero h = omega arith
+evens_lt (suc zero) h = omega arith
+evens_lt (suc (suc zero)) h = omega arith
+evens_lt (suc (suc (suc zero))) h = omega arith
+evens_lt (suc (suc (suc (suc w)))) h = absurd (let z : ⊥ = omega arith in z)
 
 -- they take every other field of w bits
 every_other_is : (w o x : ℕ) → bit_and (x / 2 ^ (o * w)) (evens w) ≡ evenly 8 (2 * w) (λ i. part x w (2 * i + o))

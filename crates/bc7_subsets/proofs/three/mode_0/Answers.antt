@@ -82,7 +82,7 @@ returns c =
     let p2 = at-p2.take-p2.ensures.same in
     let on-x = on_read on-p2 2 p2 in
     three_keys 0 n 3 (omega arith) refl (omega arith) (omega arith) (omega (arith, id.small)) on-x (ap Three (sym (got start 4 id.same)))
-    set.partition_word_3_3-set.ensures c.indexes_3-x.ensures c.keys_3.ensures
+    set.partition_word_3_3-set.ensures c.indexes_3-x.ensures c.both_keys.ensures
     (three_palette 0 n 3 (λ x. solid (with_p 4 x)) _ _ colours.opaque_p.ensures
     (opaque_p_shown 0 n {l = 0} refl
     (record { red = got on-r0 8 r0; green = got on-g0 8 g0; blue = got on-b0 8 b0 })

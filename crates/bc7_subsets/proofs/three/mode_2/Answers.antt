@@ -73,7 +73,7 @@ returns c =
     let b2 = at-b2.take-b2.ensures.same in
     let on-x = on_read on-b2 10 b2 in
     three_keys 2 n 2 (omega arith) refl (omega arith) (omega arith) (omega (arith, id.small)) on-x (ap Three (sym (got start 6 id.same)))
-    set.partition_word_3_2-set.ensures c.indexes_3-x.ensures c.keys_2.ensures
+    set.partition_word_3_2-set.ensures c.indexes_3-x.ensures c.both_keys.ensures
     (three_palette 2 n 2 (λ x. solid (plain 5 x)) _ _ colours.opaque.ensures
     (opaque_shown 2 n {l = 0} {a = 0} {p = 0} refl
     (record { red = got on-r0 10 r0; green = got on-g0 10 g0; blue = got on-b0 10 b0 })

@@ -71,7 +71,7 @@ returns c =
     let p1 = at-p1.take-p1.ensures.same in
     let on-x = on_read on-p1 1 p1 in
     two_keys 1 n 3 (omega arith) refl (omega arith) (omega arith) (omega (arith, id.small)) on-x (ap Two (sym (got start 6 id.same)))
-    set.partition_word_2_3-set.ensures c.indexes_2-x.ensures c.keys_3.ensures
+    set.partition_word_2_3-set.ensures c.indexes_2-x.ensures c.both_keys.ensures
     (two_palette 1 n 3 (λ x. solid (with_p 6 x)) _ _ colours.opaque_p.ensures
     (opaque_p_shown 1 n {l = 0} refl
     (record { red = got on-r0 12 r0; green = got on-g0 12 g0; blue = got on-b0 12 b0 })

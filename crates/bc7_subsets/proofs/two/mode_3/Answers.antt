@@ -70,7 +70,7 @@ returns c =
     let p1 = at-p1.take-p1.ensures.same in
     let on-x = on_read on-p1 2 p1 in
     two_keys 3 n 2 (omega arith) refl (omega arith) (omega arith) (omega (arith, id.small)) on-x (ap Two (sym (got start 6 id.same)))
-    set.partition_word_2_2-set.ensures c.indexes_2-x.ensures c.keys_2.ensures
+    set.partition_word_2_2-set.ensures c.indexes_2-x.ensures c.both_keys.ensures
     (two_palette 3 n 2 (λ x. solid (with_p 7 x)) _ _ colours.opaque_p.ensures
     (opaque_p_shown 3 n {l = 0} refl
     (record { red = got on-r0 14 r0; green = got on-g0 14 g0; blue = got on-b0 14 b0 })

@@ -75,7 +75,7 @@ returns c =
     let p1 = at-p1.take-p1.ensures.same in
     let on-x = on_read on-p1 2 p1 in
     two_keys 7 n 2 (omega arith) refl (omega arith) (omega arith) (omega (arith, id.small)) on-x (ap Two (sym (got start 6 id.same)))
-    set.partition_word_2_2-set.ensures c.indexes_2-x.ensures c.keys_2.ensures
+    set.partition_word_2_2-set.ensures c.indexes_2-x.ensures c.both_keys.ensures
     (two_palette 7 n 2 (with_p 5) _ _ colours.translucent_p.ensures
     (translucent_p_shown 7 n {l = 0} refl
     (record { red = got on-r0 10 r0; green = got on-g0 10 g0; blue = got on-b0 10 b0 })
