@@ -17,13 +17,6 @@ small_product k x h l =
     let p : k * x ≤ 9 * x = mul-le-mul_right x h in
     omega arith
 
--- what a wrapping difference gives
-pub is_rise : (k a b r : ℕ) → k ≤ 9 → a < 65536 → b < 65536 → r < 4294967296 → (r + k * a) % 4294967296 ≡ k * b → r ≡ rise k a b
-is_rise k a b r h la lb l e =
-    let p = small_product k a h la in
-    let q = small_product k b h lb in
-    omega (arith, p, q)
-
 -- 64 times a value of sixteen bits, and a half
 pub mixed_lt : (w a b : ℕ) → w ≤ 64 → a < 65536 → b < 65536 → mixed_at w a b < 4194304
 mixed_lt w a b h la lb =
@@ -140,8 +133,8 @@ level_same e g h t =
 abbrev pub sums : List ℕ → List ℕ → List ℕ
 sums v d = table 8 (λ i. (get_or v i 0 + get_or d i 0) % 2 ^ 32)
 
-pub all_dividing : (e : List ℕ) → Sixteen e → (g : ℕ → ℕ → ℕ) (vs : List (List ℕ)) → ((k : ℕ) → k < 8 → get_or vs k [] ≡ level e (g k))
-    → T (below 8 (λ k. below 8 (λ i. leb (g k i) 64))) → AllDividing vs
+pub all_dividing : (e : List ℕ) → Sixteen e → (g : ℕ → ℕ → ℕ) (vs : List (List ℕ))
+    → ((k : ℕ) → k < 8 → get_or vs k [] ≡ level e (g k)) → T (below 8 (λ k. below 8 (λ i. leb (g k i) 64))) → AllDividing vs
 all_dividing e small g vs ev t =
     record { each = λ k l. divides e small (g k) (at 8 (λ k. below 8 (λ i. leb (g k i) 64)) t k l) (ev k l) }
 

@@ -13,13 +13,11 @@ ghost use Rattle.bc6h.specs.Lanes.{AnyEndpoints, Doubled, Endpoints, colours, fi
 ghost use Rattle.bc6h.specs.Painting.{mode_pixels};
 ghost use Rattle.bc6h.specs.Promises.{DecodesHalves};
 
-use crate::lanes::{
-    finished_signed, finished_unsigned, widened_1_signed, widened_1_unsigned, widened_signed,
-    widened_unsigned,
-};
+use crate::lanes::{finished, widened, widened_1};
 use crate::painting::{paint_1, paint_2, words_of};
 use crate::palette::{palette_1, palette_2};
 use bc6h_modes::{fields_1, fields_2, width_1, width_2};
+use bc6h_values::{Sign, Signed, Unsigned};
 use bits::stream::BitStream;
 use drawing::keys::both_keys;
 use indexes::Indexes;
@@ -30,28 +28,18 @@ pub mod painting;
 pub mod palette;
 
 // All colours of a block: its endpoints widened, what is between them, finished.
-fn signed_2(v: [u16; 16], width: u32) -> [u16; 64]
+fn colours_2<S: Sign>(v: [u16; 16], width: u32) -> [u16; 64]
     requires { Endpoints width v }
-    ensures { result ≡ finished_lanes true (colours 3 8 (widened_lanes true width v)) }
+    ensures { result ≡ finished_lanes S.signed (colours 3 8 (widened_lanes S.signed width v)) }
 {
-    finished_signed(palette_2(widened_signed(v, width)))
+    finished::<S>(palette_2(widened::<S>(v, width)))
 }
 
-fn unsigned_2(v: [u16; 16], width: u32) -> [u16; 64]
-    requires { Endpoints width v }
-    ensures { result ≡ finished_lanes false (colours 3 8 (widened_lanes false width v)) }
-{
-    finished_unsigned(palette_2(widened_unsigned(v, width)))
-}
-
-fn colours_1(v: [u16; 16], width: u32, signed: bool) -> [u16; 64]
+fn colours_1<S: Sign>(v: [u16; 16], width: u32) -> [u16; 64]
     requires { (AnyEndpoints width v) × (Doubled v) }
-    ensures { result ≡ finished_lanes signed (colours 4 4 (widened_lanes signed width v)) }
+    ensures { result ≡ finished_lanes S.signed (colours 4 4 (widened_lanes S.signed width v)) }
 {
-    if signed {
-        return finished_signed(palette_1(widened_1_signed(v, width)));
-    }
-    finished_unsigned(palette_1(widened_1_unsigned(v, width)))
+    finished::<S>(palette_1(widened_1::<S>(v, width)))
 }
 
 // A mode with two subsets: its partition stands from bit 77 on, and the indexes behind it.
@@ -67,9 +55,9 @@ fn two_subsets(mode: u64, low: u64, high: u64, signed: bool, output: &mut [[u16;
     let v = fields_2(mode, low, high);
     let width = width_2(mode);
     let q = if signed {
-        signed_2(v, width)
+        colours_2::<Signed>(v, width)
     } else {
-        unsigned_2(v, width)
+        colours_2::<Unsigned>(v, width)
     };
     let id = s.skip(77).take(5);
     let set = partition_word_2_3(id.value as u8);
@@ -93,7 +81,12 @@ fn one_subset(mode: u64, low: u64, high: u64, signed: bool, output: &mut [[u16; 
         at: 0,
     };
     let v = fields_1(mode, low, high);
-    let q = colours_1(v, width_1(mode), signed);
+    let width = width_1(mode);
+    let q = if signed {
+        colours_1::<Signed>(v, width)
+    } else {
+        colours_1::<Unsigned>(v, width)
+    };
     let x = Indexes::new(4, s.skip(65), []);
     let indexes = x.indexes;
     paint_1(words_of(q), indexes.uncompressed, output);

@@ -24,14 +24,14 @@ by_parts : (b : Bool) {w x : ℕ} {v y : List ℕ} → w ≡ x → v ≡ y
     → finished_lanes b (colours 3 8 (widened_lanes b w v)) ≡ finished_lanes b (colours 3 8 (widened_lanes b x y))
 by_parts b = ap₂ (λ (w : ℕ) (v : List ℕ). finished_lanes b (colours 3 8 (widened_lanes b w v)))
 
-pub signed_2-q-requires : goal.signed_2-q-requires
-signed_2-q-requires c =
+pub colours_2-q-requires : goal.colours_2-q-requires
+colours_2-q-requires c =
     let row = two_row c.args.mode c.requires in
     rw (c.width_2-width.ensures, c.fields_2-v.ensures)
     (record { least = row.least; most = row.most; fit = λ i l. lanes_fit 1 c.args.mode _ (omega arith) i })
 
-pub unsigned_2-q-requires : goal.unsigned_2-q-requires
-unsigned_2-q-requires c =
+pub colours_2-q-requires-else-signed : goal.colours_2-q-requires-else-signed
+colours_2-q-requires-else-signed c =
     let row = two_row c.args.mode c.requires in
     rw (c.width_2-width.ensures, c.fields_2-v.ensures)
     (record { least = row.least; most = row.most; fit = λ i l. lanes_fit 1 c.args.mode _ (omega arith) i })
@@ -65,8 +65,8 @@ returns c =
     -- where the ways of both signs meet
     let all_colours : c.if-signed.q ≡ coloured c.args.signed m n =
     elim c.if-signed.branch [
-      | then-signed w ↦ rw w.if-signed.true (w.q-is ∙ (w.signed_2-q.ensures ∙ by_parts true c.width_2-width.ensures c.fields_2-v.ensures))
-      | else-signed w ↦ rw w.if-signed.false (w.q-is ∙ (w.unsigned_2-q.ensures ∙ by_parts false c.width_2-width.ensures c.fields_2-v.ensures))
+      | then-signed w ↦ rw w.if-signed.true (w.q-is ∙ (w.colours_2-q.ensures ∙ by_parts true c.width_2-width.ensures c.fields_2-v.ensures))
+      | else-signed w ↦ rw w.if-signed.false (w.q-is ∙ (w.colours_2-q-else-signed.ensures ∙ by_parts false c.width_2-width.ensures c.fields_2-v.ensures))
     ] in
     two_picture c.args.signed m n (two_row m c.requires) c.take-id.result.value set c.new-x.result.indexes.uncompressed
     (got at_77 5 c.take-id.ensures.same) c.take-id.ensures.small c.partition_word_2_3-set.ensures x_is

@@ -24,5 +24,5 @@ reduced w k base d h l = rw (one_shl w (omega arith)) (sum_32 w k base d h (omeg
 
 pub returns : goal.returns
 returns c =
-    rw (c.wrapping_add_u32.ensures.value, c.extend-wide.ensures)
+    rw c.extend-wide.ensures
     (reduced c.args.width c.args.bits c.args.base c.args.difference (omega arith) (omega arith))

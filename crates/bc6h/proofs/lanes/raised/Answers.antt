@@ -1,16 +1,10 @@
--- Sixteen bits are moved round by half of their room.
+-- Endpoints of sixteen bits.
 -- Assumes nothing.
-use Rattle.std.proofs.Common.{refl, arith}
-use Rattle.laws.proofs.Filled.{filled_all, filled_next, filled_none}
+use Rattle.std.proofs.Common.{refl, rules, get_or, ◌≡◌}
 use Rattle.bc6h_format.specs.Widening.{widened}
+use Rattle.bc6h.proofs.Calls.{made}
 use Rattle.bc6h.proofs.lanes.raised.Goals as goal
 
-pub loop-i-init : goal.loop-i-init
-loop-i-init c = (omega arith, filled_none refl)
-
-pub loop-i-preserved : goal.loop-i-preserved
-unfolding widened
-loop-i-preserved c = (omega arith, filled_next _ _ c.loop-i.invariant.1 c.loop-i-test.true c.raise.ensures)
-
 pub returns : goal.returns
-returns c = filled_all c.loop-i.invariant.1 (omega arith)
+returns g c =
+    made (λ p. p.0.now ≡ c.args.v) (λ i. widened g.S.Sign.signed 16 (get_or c.args.v i 0)) 0 (λ i y p q l s k. (search rules, cc)) refl c.from_fn.ensures.items

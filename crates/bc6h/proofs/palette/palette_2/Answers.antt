@@ -1,14 +1,11 @@
 -- All colours of two subsets.
 -- Assumes nothing.
-use Rattle.std.proofs.Common.{◌≡◌, ℕ, ◌+◌, ◌*◌, ◌<◌, ◌≤◌, List, [], ◌∷◌, get_or, refl, ◌∙◌, arith}
+use Rattle.std.proofs.Common.{◌≡◌, ℕ, ◌<◌, ◌≤◌, List, [], ◌∷◌, get_or, refl, ◌∙◌, arith}
 use Rattle.laws.proofs.Filled.{filled_all, filled_next, filled_none}
-use Rattle.bc6h.specs.Lanes.{level, mixed_at}
+use Rattle.bc6h.specs.Lanes.{level}
 use Rattle.bc6h.proofs.Steps.{all_dividing, coloured, two_levels, two_most, two_weights, weight2}
 use Rattle.bc6h.proofs.palette.palette_2.Goals as goal
 use Rattle.bc6h.proofs.palette.palette_2.Goals.{After-step-v7}
-
-first_lane : (a b x : ℕ) → x ≡ 64 * a + 32 → x ≡ mixed_at 0 a b
-first_lane a b x p = let y : x ≡ 64 * a + 0 * b + 32 = omega arith in y
 
 pub loop-i-init : goal.loop-i-init
 loop-i-init c = (omega arith, filled_none refl, filled_none refl, filled_none refl)
@@ -18,7 +15,7 @@ loop-i-preserved c =
     let inv = c.loop-i.invariant in
     let l = c.loop-i-test.true in (
       omega arith,
-      filled_next _ _ inv.1 l (first_lane _ _ _ (omega (arith, c.wide.ensures.0))),
+      filled_next _ _ inv.1 l c.mixed.ensures,
       filled_next _ _ inv.2 l c.times.ensures,
       filled_next _ _ inv.3 l c.times-in-loop-i.ensures,
     )

@@ -1,14 +1,8 @@
 -- Eight sums that wrap.
 -- Assumes nothing.
-use Rattle.std.proofs.Common.{refl, arith}
-use Rattle.laws.proofs.Filled.{filled_all, filled_next, filled_none}
+use Rattle.std.proofs.Common.{refl, rules, get_or, ◌≡◌, ◌+◌, ◌%◌, ◌^◌}
+use Rattle.bc6h.proofs.Calls.{made}
 use Rattle.bc6h.proofs.palette.step.Goals as goal
 
-pub loop-i-init : goal.loop-i-init
-loop-i-init c = (omega arith, filled_none refl)
-
-pub loop-i-preserved : goal.loop-i-preserved
-loop-i-preserved c = (omega arith, filled_next _ _ c.loop-i.invariant.1 c.loop-i-test.true c.wrapping_add_u32.ensures.value)
-
 pub returns : goal.returns
-returns c = filled_all c.loop-i.invariant.1 (omega arith)
+returns c = made (λ p. (p.0.now ≡ c.args.v) × (p.1.now ≡ c.args.d)) (λ k. (get_or c.args.v k 0 + get_or c.args.d k 0) % 2 ^ 32) 0 (λ i y p q l s k. (search rules, (cc, cc))) (refl, refl) c.from_fn.ensures.items

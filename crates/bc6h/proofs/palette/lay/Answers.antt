@@ -2,7 +2,7 @@
 -- Assumes nothing.
 use Rattle.std.proofs.Common.{refl, arith, rules}
 use Rattle.bc6h.proofs.Steps.{laying_next}
-use Rattle.bc6h.proofs.palette.laid.Goals as goal
+use Rattle.bc6h.proofs.palette.lay.Goals as goal
 
 pub loop-i-init : goal.loop-i-init
 loop-i-init c = record { within = omega arith; long = search rules; kept = λ k l. refl; new = λ j l. absurd (let z : ⊥ = omega arith in z) }

@@ -1,8 +1,9 @@
 -- A signed value of fewer bits as sixteen.
 -- Assumes nothing.
 use Rattle.std.proofs.Common.{◌-◌, ◌^◌, ◌≤◌, arith, pow_pos, pow_mono}
+use Rattle.bc6h_format.specs.Widening.{widened}
 use Rattle.bc6h_values.proofs.Widths.{half_there, halves, room, signed_law, whole, within}
-use Rattle.bc6h_values.proofs.widen_signed.Goals as goal
+use Rattle.bc6h_values.proofs.SignedSign.widen.Goals as goal
 
 pub from_lowest-x-requires : goal.from_lowest-x-requires
 from_lowest-x-requires c =
@@ -49,6 +50,7 @@ overflow_add-moved c =
     record { fits = omega (arith, r, q, p, c.lifted-moved.ensures, c.power-half.ensures) }
 
 pub returns : goal.returns
+unfolding widened
 returns c =
     let w = c.args.width in
     rw (

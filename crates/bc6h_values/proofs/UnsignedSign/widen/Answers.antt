@@ -1,8 +1,9 @@
 -- A value of fewer bits as sixteen.
 -- Assumes nothing.
 use Rattle.std.proofs.Common.{◌-◌, arith, pow_pos}
+use Rattle.bc6h_format.specs.Widening.{widened}
 use Rattle.bc6h_values.proofs.Widths.{halves, room, unsigned_law}
-use Rattle.bc6h_values.proofs.widen_unsigned.Goals as goal
+use Rattle.bc6h_values.proofs.UnsignedSign.widen.Goals as goal
 
 pub lifted-requires : goal.lifted-requires
 lifted-requires c =
@@ -19,6 +20,7 @@ overflow_add-moved c =
     record { fits = omega (arith, r, q, p, c.lifted.ensures, c.power-half.ensures) }
 
 pub returns : goal.returns
+unfolding widened
 returns c =
     rw (c.chosen-2.ensures, c.chosen.ensures, c.lifted.ensures, c.power-last.ensures, c.power-half.ensures)
     (unsigned_law c.args.v c.args.width c.requires)

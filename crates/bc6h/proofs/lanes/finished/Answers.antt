@@ -1,0 +1,10 @@
+-- Colours finished.
+-- Assumes nothing.
+use Rattle.std.proofs.Common.{refl, rules, get_or, ◌≡◌}
+use Rattle.bc6h_format.specs.Halves.{finished}
+use Rattle.bc6h.proofs.Calls.{made}
+use Rattle.bc6h.proofs.lanes.finished.Goals as goal
+
+pub returns : goal.returns
+returns g c =
+    made (λ p. p.0.now ≡ c.args.v) (λ i. finished g.S.Sign.signed (get_or c.args.v i 0)) 0 (λ i y p q l s k. (search rules, cc)) refl c.from_fn.ensures.items
