@@ -30,42 +30,34 @@ fn put_lead(lead: usize, at: usize, out: &mut [u8]) -> usize
     requires { OneOf 4 lead 10 at (length out.old) }
     ensures { Puts 10 out.old at (lead_name lead) out.new result }
 {
-    if lead == 0 {
-        return put_word(b"mode", at, out);
+    match lead {
+        0 => put_word(b"mode", at, out),
+        1 => put_word(b"partition", at, out),
+        2 => put_word(b"rotation", at, out),
+        _ => put_word(b"index-mode", at, out),
     }
-    if lead == 1 {
-        return put_word(b"partition", at, out);
-    }
-    if lead == 2 {
-        return put_word(b"rotation", at, out);
-    }
-    put_word(b"index-mode", at, out)
 }
 
 fn put_channel(channel: usize, at: usize, out: &mut [u8]) -> usize
     requires { OneOf 4 channel 6 at (length out.old) }
     ensures { Puts 6 out.old at (channel_name channel) out.new result }
 {
-    if channel == 0 {
-        return put_word(b"red-", at, out);
+    match channel {
+        0 => put_word(b"red-", at, out),
+        1 => put_word(b"green-", at, out),
+        2 => put_word(b"blue-", at, out),
+        _ => put_word(b"alpha-", at, out),
     }
-    if channel == 1 {
-        return put_word(b"green-", at, out);
-    }
-    if channel == 2 {
-        return put_word(b"blue-", at, out);
-    }
-    put_word(b"alpha-", at, out)
 }
 
 fn put_set(set: usize, at: usize, out: &mut [u8]) -> usize
     requires { OneOf 2 set 7 at (length out.old) }
     ensures { Puts 7 out.old at (set_name set) out.new result }
 {
-    if set == 0 {
-        return put_word(b"index-", at, out);
+    match set {
+        0 => put_word(b"index-", at, out),
+        _ => put_word(b"second-", at, out),
     }
-    put_word(b"second-", at, out)
 }
 
 // The name of a place.

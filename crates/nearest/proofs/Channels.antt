@@ -2,34 +2,23 @@
 -- Assumes nothing.
 use mathlib.Core.Path.{◌≡◌, ap}
 use mathlib.Core.Logic.{◌≢◌}
-use mathlib.Core.Bool.{true, false}
 use Prim.Native.Nat.{ℕ, ◌+◌, ◌*◌, ◌^◌}
 use native.Mathlib.Omega.{arith}
 use borrow.Author.Tests.{eq-eqb, ne_eqb}
 use lib.ListN.{get_or}
-use Rattle.nearest.specs.declared.Channel.{Channel}
+use Rattle.std.specs.Prelude.{Some, None}
 use Rattle.line_rules.specs.declared.Replacement.{Replacement}
-use Rattle.bcn_format.specs.Drawing.{drawn, promoted}
-use Rattle.nearest_rules.specs.Nearest.{squared}
+use Rattle.bcn_format.specs.Drawing.{promoted}
 use Rattle.nearest_rules.specs.Parts.{p_in, channel_width}
-use Rattle.nearest.specs.Trying.{channel_far, channel_tried, end_in, uncounted}
-
--- one that counts, and one that doesn't
-pub far_counts : (x : Channel) (w : ℕ) {v : ℕ} → x.counts ≡ true → v ≡ drawn x.first x.second w → squared v x.wanted ≡ channel_far x w
-unfolding channel_far
-far_counts x w e f = rw (e, f)
-
-pub far_not : (x : Channel) (w : ℕ) → x.counts ≡ false → 0 ≡ channel_far x w
-unfolding channel_far
-far_not x w e = rw e
+use Rattle.nearest.specs.Trying.{channel_tried, end_in}
 
 module _ (ln ws : Replacement) (d v : ℕ) where
-  pub no_width : channel_width ws d ≡ 0 → uncounted ≡ channel_tried ln ws d v
+  pub no_width : channel_width ws d ≡ 0 → None ≡ channel_tried ln ws d v
   unfolding channel_tried
   no_width e = rw (eq-eqb _ _ e)
 
   pub some_width : channel_width ws d ≢ 0 → {a b : ℕ} → a ≡ end_in ln ws 0 d → b ≡ end_in ln ws 1 d
-      → record { counts = true; first = a; second = b; wanted = v } ≡ channel_tried ln ws d v
+      → Some (record { first = a; second = b; wanted = v }) ≡ channel_tried ln ws d v
   unfolding channel_tried
   some_width ne ea eb = rw (ne_eqb _ _ ne, ea, eb)
 

@@ -9,6 +9,7 @@ use native.Mathlib.Omega.{arith}
 use borrow.Author.Tests.{eq-eqb, eqb-false, eqb-true, ne_eqb}
 use lib.Dec.{T, eqb, leb, leb→le, lit<}
 use lib.ListN.{get_or}
+use Rattle.std.specs.Prelude.{Option}
 use Rattle.nearest.specs.declared.Channel.{Channel}
 use Rattle.nearest.specs.declared.Nearest.{Nearest}
 use Rattle.line_rules.specs.declared.Replacement.{Replacement}
@@ -27,7 +28,7 @@ use Rattle.bc7_format.proofs.Meaning.{good_rotation, line_bits_is, rotated_lt}
 use Rattle.line_rules.specs.Read.{line_read, read_refusal}
 use Rattle.nearest_rules.specs.Nearest.{channel_distance, distance, drawn_with, index_count, nearest_index, nearest_refusal, squared, with_index}
 use Rattle.nearest_rules.specs.Parts.{p_in, channel_width}
-use Rattle.nearest.specs.Trying.{Readable, SearchedIn, Tries, Tryable, channel_far, distance_at, end_in, shown_in, tried_as}
+use Rattle.nearest.specs.Trying.{Readable, SearchedIn, Tries, Tryable, channel_far, channels_in, distance_at, end_in, shown_in, tried_as}
 use Rattle.nearest.proofs.Channels.{no_width, some_width}
 use Rattle.nearest_rules.proofs.Correcting.{in_line_holds, readable}
 use Rattle.nearest_rules.proofs.Standing.{p_fits_is, p_is, p_width_is, value_fits_is, value_is, well_formed, width_is}
@@ -151,7 +152,7 @@ module _ (bs : List ℕ) (sixteen : Fit eights bs) (l q : ℕ) (ok : nearest_ref
     drawn_is i ne = rw (end_is 0 d (lit< tt) below_four ne, end_is 1 d (lit< tt) below_four ne)
 
   module _ (wanted : List ℕ) where
-    abbrev shown : ℕ → Channel
+    abbrev shown : ℕ → Option Channel
     shown = shown_in ln ws (rotation s) wanted
 
     -- so a channel is as far as the format says
@@ -163,19 +164,19 @@ module _ (bs : List ℕ) (sixteen : Fit eights bs) (l q : ℕ) (ok : nearest_ref
             → channel_far (shown c) (weight_of (line_bits m s l) i) ≡ pick (not b) (squared (drawn_with bs l q i c) (get_or wanted c 0)) 0
         go true e =
             let z : channel_width ws (d c hc) ≡ 0 = eqb-true (channel_width ws (d c hc)) 0 e in
-            sym (ap (λ (x : Channel). channel_far x (weight_of (line_bits m s l) i)) (no_width ln ws (d c hc) (get_or wanted c 0) z))
+            sym (ap (λ (x : Option Channel). channel_far x (weight_of (line_bits m s l) i)) (no_width ln ws (d c hc) (get_or wanted c 0) z))
         go false e =
             let ne : channel_width ws (d c hc) ≢ 0 = eqb-false (channel_width ws (d c hc)) 0 e in
-            sym (ap (λ (x : Channel). channel_far x (weight_of (line_bits m s l) i)) (some_width ln ws (d c hc) (get_or wanted c 0) ne refl refl))
+            sym (ap (λ (x : Option Channel). channel_far x (weight_of (line_bits m s l) i)) (some_width ln ws (d c hc) (get_or wanted c 0) ne refl refl))
             ∙ ap (λ (x : ℕ). squared x (get_or wanted c 0)) (drawn_is c hc i ne)
 
     -- and so is an index
-    at_index : (i : ℕ) → distance_at (shown 0) (shown 1) (shown 2) (shown 3) (line_bits m s l) i ≡ distance bs l q wanted i
+    at_index : (i : ℕ) → distance_at (channels_in ln ws (rotation s) wanted) (line_bits m s l) i ≡ distance bs l q wanted i
     unfolding distance_at distance
     at_index i =
         ap₂ ◌+◌ (ap₂ ◌+◌ (ap₂ ◌+◌ (channel_far_is i 0 (lit< tt)) (channel_far_is i 1 (lit< tt))) (channel_far_is i 2 (lit< tt))) (channel_far_is i 3 (lit< tt))
 
-    distance_is : distance_at (shown 0) (shown 1) (shown 2) (shown 3) (line_bits m s l) ≡ distance bs l q wanted
+    distance_is : distance_at (channels_in ln ws (rotation s) wanted) (line_bits m s l) ≡ distance bs l q wanted
     distance_is = λ j i. at_index i j
 
   -- so what the search finds is the answer

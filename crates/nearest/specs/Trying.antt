@@ -1,7 +1,8 @@
 -- What the search goes by: four channels of a pixel, and how far they are at an index.
 -- Assumes nothing.
-use Rattle.std.specs.Prelude.{◌≡◌, ◌≢◌, true, false, List, ℕ, Result, Ok, Err, ◌+◌, ◌*◌, ◌^◌, ◌≤◌, ◌<◌, eqb, get_or}
+use Rattle.std.specs.Prelude.{◌≡◌, ◌≢◌, List, ℕ, ⊤, Option, Some, None, Result, Ok, Err, ◌+◌, ◌*◌, ◌^◌, ◌≤◌, ◌<◌, eqb, get_or}
 use Rattle.nearest.specs.declared.Channel.{Channel}
+use Rattle.nearest.specs.declared.Shown.{Shown}
 use Rattle.nearest.specs.declared.Nearest.{Nearest}
 use Rattle.refusals.specs.Answers.{number}
 use Rattle.refusals.specs.declared.Refusal.{Refusal}
@@ -16,6 +17,11 @@ pub record ChannelOfBytes (x : Channel) : Type 0 where
   pub first : x.first < 256
   pub second : x.second < 256
   pub wanted : x.wanted < 256
+
+-- of one that the line may draw
+abbrev pub DrawnOfBytes : Option Channel → Type 0
+DrawnOfBytes None = ⊤
+DrawnOfBytes (Some x) = ChannelOfBytes x
 
 -- What the functions ask, each clause by its name: a value that is promoted, two endpoints and a weight, an endpoint's value and p bit
 pub record ToPromote (v bits : ℕ) : Type 0 where
@@ -40,30 +46,32 @@ pub record IsBelow (most x r : ℕ) : Type 0 where
   pub low : r < most
 
 -- four channels, and indexes of so many bits
-pub record Searchable (r g b a : Channel) (bits : ℕ) : Type 0 where
-  pub red : ChannelOfBytes r
-  pub green : ChannelOfBytes g
-  pub blue : ChannelOfBytes b
-  pub alpha : ChannelOfBytes a
+pub record Searchable (x : Shown) (bits : ℕ) : Type 0 where
+  pub red : DrawnOfBytes x.red
+  pub green : DrawnOfBytes x.green
+  pub blue : DrawnOfBytes x.blue
+  pub alpha : DrawnOfBytes x.alpha
   pub least : 2 ≤ bits
   pub most : bits ≤ 4
 
-pub record Measurable (r g b a : Channel) (bits i : ℕ) : Type 0 where
-  pub channels : Searchable r g b a bits
+pub record Measurable (x : Shown) (bits i : ℕ) : Type 0 where
+  pub channels : Searchable x bits
   pub index : i < 2 ^ bits
 
-unfoldable pub channel_far : Channel → ℕ → ℕ
-channel_far x w = pick x.counts (squared (drawn x.first x.second w) x.wanted) 0
+-- how far a channel is at a weight: one that isn't drawn doesn't count
+unfoldable pub channel_far : Option Channel → ℕ → ℕ
+channel_far None w = 0
+channel_far (Some x) w = squared (drawn x.first x.second w) x.wanted
 
-unfoldable pub distance_at : Channel → Channel → Channel → Channel → ℕ → ℕ → ℕ
-distance_at r g b a bits i =
+unfoldable pub distance_at : Shown → ℕ → ℕ → ℕ
+distance_at x bits i =
     let w = weight_of bits i in
-    channel_far r w + channel_far g w + channel_far b w + channel_far a w
+    channel_far x.red w + channel_far x.green w + channel_far x.blue w + channel_far x.alpha w
 
 -- the lowest of the nearest indexes, and its distance
-pub record Searched (r g b a : Channel) (bits : ℕ) (x : Nearest) : Type 0 where
-  pub index : x.index ≡ least_at (2 ^ bits) (distance_at r g b a bits)
-  pub distance : x.distance ≡ distance_at r g b a bits x.index
+pub record Searched (x : Shown) (bits : ℕ) (n : Nearest) : Type 0 where
+  pub index : n.index ≡ least_at (2 ^ bits) (distance_at x bits)
+  pub distance : n.distance ≡ distance_at x bits n.index
 
 -- endpoint k as eight bits
 unfoldable pub end_in : Replacement → Replacement → ℕ → ℕ → ℕ
@@ -77,23 +85,28 @@ pub record Readable (ln ws : Replacement) (d : ℕ) : Type 0 where
   pub value : (k : ℕ) → k < 2 → value_in ln k d < 2 ^ channel_width ws d
   pub p : (k : ℕ) → k < 2 → p_in ln k < 2 ^ p_in ws 0
 
-abbrev pub uncounted : Channel
-uncounted = record { counts = false; first = 0; second = 0; wanted = 0 }
-
-unfoldable pub channel_tried : Replacement → Replacement → ℕ → ℕ → Channel
+unfoldable pub channel_tried : Replacement → Replacement → ℕ → ℕ → Option Channel
 channel_tried ln ws d wanted =
-    pick (eqb (channel_width ws d) 0) uncounted (record { counts = true; first = end_in ln ws 0 d; second = end_in ln ws 1 d; wanted = wanted })
+    pick (eqb (channel_width ws d) 0) None (Some (record { first = end_in ln ws 0 d; second = end_in ln ws 1 d; wanted = wanted }))
 
-pub record IsChannel (ln ws : Replacement) (d wanted : ℕ) (x : Channel) : Type 0 where
+pub record IsChannel (ln ws : Replacement) (d wanted : ℕ) (x : Option Channel) : Type 0 where
   pub is : x ≡ channel_tried ln ws d wanted
-  pub byte : ChannelOfBytes x
+  pub byte : DrawnOfBytes x
 
 -- the shown channel c under rotation r, and a search over the four
-abbrev pub shown_in : Replacement → Replacement → ℕ → List ℕ → ℕ → Channel
+abbrev pub shown_in : Replacement → Replacement → ℕ → List ℕ → ℕ → Option Channel
 shown_in ln ws r wanted c = channel_tried ln ws (rotated r c) (get_or wanted c 0)
 
+abbrev pub channels_in : Replacement → Replacement → ℕ → List ℕ → Shown
+channels_in ln ws r wanted = record {
+  red = shown_in ln ws r wanted 0;
+  green = shown_in ln ws r wanted 1;
+  blue = shown_in ln ws r wanted 2;
+  alpha = shown_in ln ws r wanted 3;
+}
+
 abbrev pub SearchedIn : Replacement → Replacement → ℕ → List ℕ → ℕ → Nearest → Type 0
-SearchedIn ln ws r wanted = Searched (shown_in ln ws r wanted 0) (shown_in ln ws r wanted 1) (shown_in ln ws r wanted 2) (shown_in ln ws r wanted 3)
+SearchedIn ln ws r wanted = Searched (channels_in ln ws r wanted)
 
 -- all four can be made, and the indexes be tried
 pub record Tryable (ln ws : Replacement) (r bits : ℕ) : Type 0 where

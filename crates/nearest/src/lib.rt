@@ -10,24 +10,31 @@ ghost use Rattle.bc7_format.specs.Modes.{mode_of};
 ghost use Rattle.bc7_format.specs.Splits.{rotation as rotation_in, split_of};
 ghost use Rattle.nearest_rules.specs.Nearest.{squared as squaredDifference};
 ghost use Rattle.nearest_rules.specs.Promises.{FindsExact, FindsNearest};
-ghost use Rattle.nearest.specs.Trying.{AtEndpoint, Between, ChannelOfBytes, IsBelow, IsChannel, Measurable, ToPromote, Readable, Searchable};
+ghost use Rattle.nearest.specs.Trying.{AtEndpoint, Between, DrawnOfBytes, IsBelow, IsChannel, Measurable, ToPromote, Readable, Searchable};
 ghost use Rattle.nearest.specs.Trying.{Searched, SearchedIn, Tries, Tryable, channel_far, distance_at, tried_of};
 
 use bc7_modes::{mode_of, mode_row};
 use bc7_places::splits::{read_lead, rotation_of};
 use line::read_line;
-use line_rules::Replacement;
+use line_rules::LineRead;
 use refusals::Refusal;
 use weights::weight_64;
 
-// A shown channel of a pixel: what the line's endpoints have there as eight bits, and what is wanted. A channel that the line doesn't
-// draw doesn't count.
+// A shown channel of a pixel: what the line's endpoints have there as eight bits, and what is wanted.
 #[derive(Clone, Copy)]
 pub struct Channel {
-    pub counts: bool,
     pub first: u32,
     pub second: u32,
     pub wanted: u32,
+}
+
+// The channels of a shown pixel. One that the line doesn't draw doesn't count.
+#[derive(Clone, Copy)]
+pub struct Shown {
+    pub red: Option<Channel>,
+    pub green: Option<Channel>,
+    pub blue: Option<Channel>,
+    pub alpha: Option<Channel>,
 }
 
 // The nearest index, and how far it is.
@@ -82,46 +89,39 @@ fn rotated(rotation: u8, channel: usize) -> usize
 }
 
 // How far a channel is at a weight.
-fn far(channel: Channel, weight: u32) -> u32
-    requires { ChannelOfBytes channel × (weight ≤ 64) }
+fn far(channel: Option<Channel>, weight: u32) -> u32
+    requires { DrawnOfBytes channel × (weight ≤ 64) }
     ensures { IsBelow 65536 (channel_far channel weight) result }
 {
-    if channel.counts {
-        return squared(
-            interpolate(channel.first, channel.second, weight),
-            channel.wanted,
-        );
+    match channel {
+        Some(x) => squared(interpolate(x.first, x.second, weight), x.wanted),
+        None => 0,
     }
-    0
 }
 
 // The distance of an index: the sum over the four channels.
-fn distance(
-    red: Channel,
-    green: Channel,
-    blue: Channel,
-    alpha: Channel,
-    bits: u32,
-    index: u32,
-) -> u32
-    requires { Measurable red green blue alpha bits index }
-    ensures { result ≡ distance_at red green blue alpha bits index }
+fn distance(channels: Shown, bits: u32, index: u32) -> u32
+    requires { Measurable channels bits index }
+    ensures { result ≡ distance_at channels bits index }
 {
     let at = weight_64(bits, index);
-    far(red, at) + far(green, at) + far(blue, at) + far(alpha, at)
+    far(channels.red, at)
+        + far(channels.green, at)
+        + far(channels.blue, at)
+        + far(channels.alpha, at)
 }
 
 // Every index is tried, the lowest first, so that of equal ones the lowest stays.
-fn search(red: Channel, green: Channel, blue: Channel, alpha: Channel, bits: u32) -> Nearest
-    requires { Searchable red green blue alpha bits }
-    ensures { Searched red green blue alpha bits result }
+fn search(channels: Shown, bits: u32) -> Nearest
+    requires { Searchable channels bits }
+    ensures { Searched channels bits result }
 {
     let mut nearest = Nearest {
         index: 0,
-        distance: distance(red, green, blue, alpha, bits, 0),
+        distance: distance(channels, bits, 0),
     };
     for i in 1..1u32 << bits {
-        let next = distance(red, green, blue, alpha, bits, i);
+        let next = distance(channels, bits, i);
         if next < nearest.distance {
             nearest = Nearest {
                 index: i as u8,
@@ -144,28 +144,25 @@ fn eight(value: u8, p: u8, width: u8, p_width: u8) -> u32
 }
 
 // A channel (before rotation) of a line that was read. One of no width isn't drawn by the line.
-fn channel_of(line: Replacement, widths: Replacement, channel: usize, wanted: u8) -> Channel
-    requires { Readable line widths channel }
-    ensures { IsChannel line widths channel wanted result }
+fn channel_of(read: LineRead, channel: usize, wanted: u8) -> Option<Channel>
+    requires { Readable read.line read.widths channel }
+    ensures { IsChannel read.line read.widths channel wanted result }
 {
-    let width = widths.endpoints[channel];
+    let width = read.widths.endpoints[channel];
     if width == 0 {
-        return Channel {
-            counts: false,
-            first: 0,
-            second: 0,
-            wanted: 0,
-        };
+        return None;
     }
-    let p_width = widths.p[0];
-    let first = eight(line.endpoints[channel], line.p[0], width, p_width);
-    let second = eight(line.endpoints[4 + channel], line.p[1], width, p_width);
-    Channel {
-        counts: true,
-        first: first,
-        second: second,
+    let p_width = read.widths.p[0];
+    Some(Channel {
+        first: eight(read.line.endpoints[channel], read.line.p[0], width, p_width),
+        second: eight(
+            read.line.endpoints[4 + channel],
+            read.line.p[1],
+            width,
+            p_width,
+        ),
         wanted: wanted as u32,
-    }
+    })
 }
 
 // The rotation of a block that isn't reserved: 0 where its mode has none.
@@ -179,30 +176,21 @@ fn rotation_in(block: [u8; 16]) -> u8
 }
 
 // The wanted channels are in the order of a shown pixel; the line's are before rotation.
-fn nearest_of(
-    line: Replacement,
-    widths: Replacement,
-    rotation: u8,
-    bits: u8,
-    wanted: [u8; 4],
-) -> Nearest
-    requires { Tryable line widths rotation bits }
-    ensures { SearchedIn line widths rotation wanted bits result }
+fn nearest_of(read: LineRead, rotation: u8, bits: u8, wanted: [u8; 4]) -> Nearest
+    requires { Tryable read.line read.widths rotation bits }
+    ensures { SearchedIn read.line read.widths rotation wanted bits result }
 {
-    let red = channel_of(line, widths, rotated(rotation, 0), wanted[0]);
-    let green = channel_of(line, widths, rotated(rotation, 1), wanted[1]);
-    let blue = channel_of(line, widths, rotated(rotation, 2), wanted[2]);
-    let alpha = channel_of(line, widths, rotated(rotation, 3), wanted[3]);
-    search(red, green, blue, alpha, bits as u32)
+    let channels = Shown {
+        red: channel_of(read, rotated(rotation, 0), wanted[0]),
+        green: channel_of(read, rotated(rotation, 1), wanted[1]),
+        blue: channel_of(read, rotated(rotation, 2), wanted[2]),
+        alpha: channel_of(read, rotated(rotation, 3), wanted[3]),
+    };
+    search(channels, bits as u32)
 }
 
 // The line's widths say whether it has the pixel, and which channels it draws.
-fn try_indexes(
-    block: [u8; 16],
-    line: u32,
-    pixel: u32,
-    wanted: [u8; 4],
-) -> Result<Nearest, Refusal>
+fn try_indexes(block: [u8; 16], line: u32, pixel: u32, wanted: [u8; 4]) -> Result<Nearest, Refusal>
     ensures { Tries block line pixel wanted (tried_of result) }
 {
     let read = read_line(block, line)?;
@@ -213,17 +201,12 @@ fn try_indexes(
     if bits == 0 {
         return Err(Refusal::PixelNotInLine);
     }
-    Ok(nearest_of(read.line, read.widths, rotation_in(block), bits, wanted))
+    Ok(nearest_of(read, rotation_in(block), bits, wanted))
 }
 
 // Of every index of the line's full width, the one that draws nearest to the wanted colour at the pixel, the lowest of several; or the
 // first refusal that applies: 1, 2, 13.
-pub fn nearest_index(
-    block: [u8; 16],
-    line: u32,
-    pixel: u32,
-    wanted: [u8; 4],
-) -> Result<u8, Refusal>
+pub fn nearest_index(block: [u8; 16], line: u32, pixel: u32, wanted: [u8; 4]) -> Result<u8, Refusal>
     ensures { FindsNearest block line pixel wanted result }
 {
     let nearest = try_indexes(block, line, pixel, wanted)?;
@@ -231,12 +214,7 @@ pub fn nearest_index(
 }
 
 // The index that draws the wanted colour, the lowest of several; or the first refusal that applies: 1, 2, 13, 14.
-pub fn exact_index(
-    block: [u8; 16],
-    line: u32,
-    pixel: u32,
-    wanted: [u8; 4],
-) -> Result<u8, Refusal>
+pub fn exact_index(block: [u8; 16], line: u32, pixel: u32, wanted: [u8; 4]) -> Result<u8, Refusal>
     ensures { FindsExact block line pixel wanted result }
 {
     let nearest = try_indexes(block, line, pixel, wanted)?;

@@ -6,20 +6,20 @@ use Rattle.laws.specs.Text.{ascii}
 use Rattle.text.proofs.Puts.{puts_within}
 use Rattle.chart.proofs.put_lead.Goals as goal
 
-pub returns-then-lead-eq0 : goal.returns-then-lead-eq0
+pub returns-in-0 : goal.returns-in-0
 unfolding ascii
-returns-then-lead-eq0 c = rw c.if-lead-eq0.true (puts_within c.put_word.ensures 10 (omega arith))
+returns-in-0 c = rw c.in-0.is (puts_within c.put_word.ensures 10 (omega arith))
 
-pub returns-then-lead-eq1 : goal.returns-then-lead-eq1
+pub returns-in-1 : goal.returns-in-1
 unfolding ascii
-returns-then-lead-eq1 c = rw c.if-lead-eq1.true (puts_within c.put_word-then-lead-eq1.ensures 10 (omega arith))
+returns-in-1 c = rw c.in-1.is (puts_within c.put_word-in-1.ensures 10 (omega arith))
 
-pub returns-then-lead-eq2 : goal.returns-then-lead-eq2
+pub returns-in-2 : goal.returns-in-2
 unfolding ascii
-returns-then-lead-eq2 c = rw c.if-lead-eq2.true (puts_within c.put_word-then-lead-eq2.ensures 10 (omega arith))
+returns-in-2 c = rw c.in-2.is (puts_within c.put_word-in-2.ensures 10 (omega arith))
 
-pub returns : goal.returns
+pub returns-in_default : goal.returns-in_default
 unfolding ascii
-returns c =
+returns-in_default c =
     let e : c.args.lead ≡ 3 = omega arith in
-    rw e (puts_within c.put_word-2.ensures 10 (omega arith))
+    rw e (puts_within c.put_word-in_default.ensures 10 (omega arith))

@@ -6,12 +6,12 @@ use Rattle.laws.specs.Text.{ascii}
 use Rattle.text.proofs.Puts.{puts_within}
 use Rattle.chart.proofs.put_set.Goals as goal
 
-pub returns-then-set-eq0 : goal.returns-then-set-eq0
+pub returns-in-0 : goal.returns-in-0
 unfolding ascii
-returns-then-set-eq0 c = rw c.if-set-eq0.true (puts_within c.put_word.ensures 7 (omega arith))
+returns-in-0 c = rw c.in-0.is (puts_within c.put_word.ensures 7 (omega arith))
 
-pub returns : goal.returns
+pub returns-in_default : goal.returns-in_default
 unfolding ascii
-returns c =
+returns-in_default c =
     let e : c.args.set ≡ 1 = omega arith in
-    rw e (puts_within c.put_word-2.ensures 7 (omega arith))
+    rw e (puts_within c.put_word-in_default.ensures 7 (omega arith))

@@ -8,13 +8,13 @@ use Rattle.nearest.proofs.Channels.{first_at, first_end, no_width, some_width}
 use Rattle.nearest.proofs.channel_of.Goals as goal
 
 pub returns-then-width-eq0 : goal.returns-then-width-eq0
-returns-then-width-eq0 c = record { is = no_width _ _ _ _ c.if-width-eq0.true; byte = record { first = lit< tt; second = lit< tt; wanted = lit< tt } }
+returns-then-width-eq0 c = record { is = no_width _ _ _ _ c.if-width-eq0.true; byte = tt }
 
-pub eight-first-requires : goal.eight-first-requires
-eight-first-requires c =
+pub eight-requires : goal.eight-requires
+eight-requires c =
     let e = c in
     let s = e in
-    let first = first_at s.args.line s.args.channel in
+    let first = first_at s.args.read.line s.args.channel in
     record {
       least = s.requires.least e.if-width-eq0.false;
       most = s.requires.most e.if-width-eq0.false;
@@ -22,8 +22,8 @@ eight-first-requires c =
       p = s.requires.p 0 (lit< tt);
     }
 
-pub eight-second-requires : goal.eight-second-requires
-eight-second-requires c =
+pub eight-requires-2 : goal.eight-requires-2
+eight-requires-2 c =
     let e = c in
     let s = e in
     record {
@@ -38,9 +38,9 @@ unfolding end_in
 returns c =
     let e = c in
     let a = e.args in
-    let first = c.eight-first.ensures in
-    let second = c.eight-second.ensures in
+    let first = c.eight.ensures in
+    let second = c.eight-2.ensures in
     record {
-      is = some_width a.line a.widths a.channel a.wanted e.if-width-eq0.false (first.is ∙ first_end a.line a.widths a.channel) second.is;
+      is = some_width a.read.line a.read.widths a.channel a.wanted e.if-width-eq0.false (first.is ∙ first_end a.read.line a.read.widths a.channel) second.is;
       byte = record { first = first.low; second = second.low; wanted = search rules };
     }

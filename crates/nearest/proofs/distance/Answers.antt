@@ -8,7 +8,4 @@ weight_64-at-requires c = record { least = c.requires.channels.least; most = c.r
 
 pub returns : goal.returns
 unfolding distance_at
-returns c =
-    let f = c in
-    let b = c in
-    rw (f.far.ensures.is, b.far-2.ensures.is, b.far-3.ensures.is, c.far-4.ensures.is, f.weight_64-at.ensures.is)
+returns c = rw (c.far.ensures.is, c.far-2.ensures.is, c.far-3.ensures.is, c.far-4.ensures.is, c.weight_64-at.ensures.is)

@@ -8,7 +8,7 @@ use Rattle.nearest.proofs.search.Given as goal
 
 abbrev pub invariant-loop-i : goal.invariant-loop-i
 invariant-loop-i l =
-    let d : ℕ → ℕ = distance_at l.red l.green l.blue l.alpha l.bits in
+    let d : ℕ → ℕ = distance_at l.channels l.bits in
     (l.i ≤ 2 ^ l.bits) × Least l.i d l.nearest.index × (l.nearest.distance ≡ d l.nearest.index)
 
 abbrev pub decreases-loop-i : goal.decreases-loop-i

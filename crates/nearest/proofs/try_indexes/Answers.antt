@@ -33,12 +33,12 @@ pub returns-then-bits-eq0 : goal.returns-then-bits-eq0
 returns-then-bits-eq0 c = other_line _ (sixteen c.before.before.before.before.before.before) _ _ _ c.in_ok-read.ensures refl c.if-pixel-ge16.false c.if-bits-eq0.true
 
 pub rotation_in-requires : goal.rotation_in-requires
-rotation_in-requires c = open_block _ (sixteen c.before.before.before.before.before.before.before.before) _ c.args.pixel c.args.wanted c.in_ok-read.ensures refl
+rotation_in-requires c = open_block _ (sixteen c.before.before.before.before.before.before) _ c.args.pixel c.args.wanted c.in_ok-read.ensures refl
 
 pub nearest_of-requires : goal.nearest_of-requires
 nearest_of-requires c =
-    can_try _ (sixteen c.before.before.before.before.before.before.before.before.before) _ _ c.args.wanted c.in_ok-read.ensures refl c.if-pixel-ge16.false c.if-bits-eq0.false c.rotation_in.ensures
+    can_try _ (sixteen c.before.before.before.before.before.before.before) _ _ c.args.wanted c.in_ok-read.ensures refl c.if-pixel-ge16.false c.if-bits-eq0.false c.rotation_in.ensures
 
 pub returns : goal.returns
 returns c =
-    answers _ (sixteen c.before.before.before.before.before.before.before.before.before.before) _ _ _ c.in_ok-read.ensures refl c.if-pixel-ge16.false c.if-bits-eq0.false c.rotation_in.ensures c.nearest_of.ensures
+    answers _ (sixteen c.before.before.before.before.before.before.before.before) _ _ _ c.in_ok-read.ensures refl c.if-pixel-ge16.false c.if-bits-eq0.false c.rotation_in.ensures c.nearest_of.ensures
