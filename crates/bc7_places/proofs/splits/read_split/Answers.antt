@@ -6,12 +6,6 @@ use lib.Pow.{pow_mono}
 use Rattle.bc7_modes.proofs.Bounds.{small}
 use Rattle.bc7_places.proofs.splits.read_split.Goals as goal
 
-pub overflow_add-row : goal.overflow_add-row
-overflow_add-row c = omega (arith, (small c.requires.of_mode_is).split)
-
-pub overflow_add-row-2 : goal.overflow_add-row-2
-overflow_add-row-2 c = omega (arith, (small c.requires.of_mode_is).split)
-
 pub take-bits-requires : goal.take-bits-requires
 take-bits-requires c =
     let s = c.before.before in
@@ -21,6 +15,3 @@ pub overflow_cast-value : goal.overflow_cast-value
 overflow_cast-value c =
     let narrow = (small c.requires.of_mode_is).split in
     record { fits = lt_of_lt_of_le c.take-bits.ensures.small (pow_mono {j = 8} (omega (arith, narrow))) }
-
-pub returns : goal.returns
-returns c = rw (c.split_of_kind.ensures, c.take-bits.ensures.same)

@@ -8,10 +8,6 @@ use Prim.Native.Nat.{◌≤◌}
 use Rattle.indexes.proofs.Anchoring.{all_inserted, insert_next, insertable}
 use Rattle.indexes.proofs.Indexes.from_compressed.Goals as goal
 
-pub decompress_single_index-uncompressed-requires : goal.decompress_single_index-uncompressed-requires
-decompress_single_index-uncompressed-requires g c =
-    insertable c.args.bits c.requires.anchors.width 0 c.args.fixups (omega arith) c.requires.anchors.rising c.requires.enough
-
 pub loop-fixup-init : goal.loop-fixup-init
 loop-fixup-init g c =
     let s = c in

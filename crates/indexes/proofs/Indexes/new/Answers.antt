@@ -1,10 +1,8 @@
 -- `Indexes::new` meets its contract.
 -- Assumes nothing.
-use mathlib.Core.Path.{◌≡◌, refl}
-use Prim.Native.Nat.{◌+◌, ◌-◌, ◌*◌, ◌<◌}
+use Prim.Native.Nat.{◌<◌}
 use native.Mathlib.Omega.{arith}
 use Rattle.indexes.proofs.Anchoring.{rising_fit}
-use Rattle.indexes.specs.Reading.{stored_size}
 use Rattle.indexes.proofs.Indexes.new.Given as given
 use Rattle.indexes.proofs.Indexes.new.Goals as goal
 
@@ -20,14 +18,3 @@ overflow_add-take g c = omega (arith, few g c)
 
 pub overflow_sub-bits : goal.overflow_sub-bits
 overflow_sub-bits g c = omega (arith, few g c, c.requires.anchors.width.least)
-
-pub from_compressed-requires : goal.from_compressed-requires
-from_compressed-requires g c =
-    let s = c.before in
-    let size : 16 * c.args.bits - (1 + g.row.N) ≡ stored_size c.args.bits c.args.fixups = omega arith in
-    (omega (arith, few g s), record { anchors = c.requires.anchors; enough = rw size at c.take-compressed.ensures.small })
-
-pub returns : goal.returns
-returns g c =
-    let size : 16 * c.args.bits - (1 + g.row.N) ≡ stored_size c.args.bits c.args.fixups = omega arith in
-    rw (c.from_compressed.ensures, c.take-compressed.ensures.same, size) refl

@@ -1,11 +1,10 @@
 -- `sets::parts_of` meets its contract.
 -- Assumes nothing.
-use mathlib.Core.Path.{◌≡◌, refl, ap, sym, ◌∙◌}
+use mathlib.Core.Path.{◌≡◌, ap, ◌∙◌}
 use Prim.Native.Nat.{ℕ, ◌+◌, ◌*◌, ◌/◌, ◌^◌}
-use native.Mathlib.Nat.{div-one, zero-mul}
 use native.Mathlib.Omega.{arith}
 use lib.Pow.{shr-shr}
-use Rattle.laws.proofs.Filled.{filled_all, filled_next, filled_none}
+use Rattle.laws.proofs.Filled.{filled_all, filled_next}
 use Rattle.bcn_format.specs.Block.{field}
 use Rattle.laws.proofs.Words.{one_shl}
 use Rattle.indexes.proofs.sets.parts_of.Goals as goal
@@ -13,9 +12,6 @@ use Rattle.indexes.proofs.sets.parts_of.Goals as goal
 -- what is left, one part on
 one_on : (x w i : ℕ) → x / 2 ^ (i * w) / 2 ^ w ≡ x / 2 ^ ((i + 1) * w)
 one_on x w i = shr-shr x (i * w) w ∙ ap (λ (n : ℕ). x / 2 ^ n) (let e : i * w + w ≡ (i + 1) * w = omega arith in e)
-
-pub loop-part-init : goal.loop-part-init
-loop-part-init c = (filled_none refl, rw (zero-mul) (sym (div-one _)))
 
 pub loop-part-preserved : goal.loop-part-preserved
 unfolding field

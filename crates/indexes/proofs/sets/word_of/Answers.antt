@@ -2,7 +2,7 @@
 -- Assumes nothing.
 use mathlib.Core.Path.{◌≡◌}
 use native.Mathlib.Omega.{arith}
-use Rattle.indexes.proofs.sets.Words.{Next, upper_all, upper_next, upper_none}
+use Rattle.indexes.proofs.sets.Words.{Next, upper_all, upper_next}
 use Rattle.indexes.proofs.sets.word_of.Goals as goal
 use Rattle.indexes.proofs.sets.word_of.Goals.{In-loop-i}
 
@@ -12,9 +12,6 @@ step c =
     let s = c.before in
     upper_next _ _ s.requires.fits s.requires.most c.loop-i.i c.loop-i.word (omega arith) c.loop-i.invariant.0
     c.loop-i.invariant.1
-
-pub loop-i-init : goal.loop-i-init
-loop-i-init c = (omega arith, upper_none _ _ c.requires.fits)
 
 pub overflow_add-word : goal.overflow_add-word
 overflow_add-word c = record { fits = (step c).0 }
