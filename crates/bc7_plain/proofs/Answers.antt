@@ -33,7 +33,6 @@ module _ (m n : ℕ) where
     module _ (q : ℕ) (hq : q < 16) {cs : List ℕ} (e : cs ≡ letters_of m n) where
       pub asked : PixelAsked m r i cs q
       asked = record {
-        mode = h;
         rotation = subst (λ (x : ℕ). x < 4) (sym g.rotation) (field_below n _ (rotation_bits m) 2 (few m h).rotation);
         index_mode = subst (λ (x : ℕ). x < 2) (sym g.index_mode) (field_below n _ (index_mode_bits m) 1 (few m h).index_mode);
         spelt = subst (Spelt m) (sym e) (block_spelt m n h);

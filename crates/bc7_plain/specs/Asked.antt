@@ -1,7 +1,7 @@
 -- What the reader's inner functions ask of what they are given, and answer.
 -- Assumes nothing.
-use Rattle.std.specs.Prelude.{◌≡◌, List, ℕ, Option, IfSome, unwrap_or, ◌+◌, ◌^◌, ◌≤◌, ◌<◌}
-use Rattle.bc7_format.specs.Modes.{endpoint_count, index_bits, mode_of}
+use Rattle.std.specs.Prelude.{◌≡◌, List, ℕ, ◌+◌, ◌^◌, ◌≤◌, ◌<◌}
+use Rattle.bc7_format.specs.Modes.{endpoint_count, index_bits}
 use Rattle.pixel_rules.specs.Columns.{column_of}
 use Rattle.pixel_rules.specs.Plain.{Spelt, index_mode_in, partition_in, rotation_in}
 use Rattle.pixel_rules.specs.Strings.{Sixteen}
@@ -11,20 +11,10 @@ pub record ShortField (start width : ℕ) : Type 0 where
   pub inside : start + width ≤ 128
   pub short : width ≤ 8
 
--- a row of the table of modes, and which column of it
-pub record InTable (m k : ℕ) : Type 0 where
-  pub mode : m < 8
-  pub column : k < 10
-
 -- a column of the table of modes, each of which is 8 at the most
 pub record Column (m k r : ℕ) : Type 0 where
   pub is : r ≡ column_of m k
   pub few : r ≤ 8
-
--- the mode that was found in a block, or none in a reserved one
-pub record ModeFound (bs : List ℕ) (r : Option ℕ) : Type 0 where
-  pub is : unwrap_or r 8 ≡ mode_of bs
-  pub low : IfSome r (λ m. m < 8)
 
 -- a number of bits, and of a block's at that
 pub record Bits (n r : ℕ) : Type 0 where
@@ -41,30 +31,8 @@ pub record Promoted (w v : ℕ) : Type 0 where
   pub most : w ≤ 8
   pub within : v < 2 ^ w
 
--- a channel in a mode; the first index set or the second; an endpoint of the six that a mode has at the most; an index mode; a pixel
-pub record ChannelOf (m c : ℕ) : Type 0 where
-  pub mode : m < 8
-  pub channel : c < 4
-
-pub record SetOf (m a : ℕ) : Type 0 where
-  pub mode : m < 8
-  pub set : a < 2
-
-pub record EndpointOf (m e : ℕ) : Type 0 where
-  pub mode : m < 8
-  pub endpoint : e < 6
-
-pub record IndexModeOf (m i : ℕ) : Type 0 where
-  pub mode : m < 8
-  pub index_mode : i < 2
-
-pub record PixelOf (m q : ℕ) : Type 0 where
-  pub mode : m < 8
-  pub pixel : q < 16
-
 -- a channel and an endpoint that the mode has
 pub record Has (m c e : ℕ) : Type 0 where
-  pub mode : m < 8
   pub channel : c < 4
   pub endpoint : e < endpoint_count m
 
@@ -79,13 +47,11 @@ pub record PixelsBefore (cs : List ℕ) (q : ℕ) : Type 0 where
 
 -- where a set of indexes starts
 pub record SetAsked (m : ℕ) (cs : List ℕ) (a : ℕ) : Type 0 where
-  pub mode : m < 8
   pub spelt : Spelt m cs
   pub set : a < 2
 
 -- an index of a set that the mode has
 pub record IndexAsked (m : ℕ) (cs : List ℕ) (a q : ℕ) : Type 0 where
-  pub mode : m < 8
   pub spelt : Spelt m cs
   pub set : a < 2
   pub some : 1 ≤ index_bits m a
@@ -99,14 +65,12 @@ pub record TwoBytes (x y w : ℕ) : Type 0 where
 
 -- a channel of a pixel, before rotation, and a pixel
 pub record ChannelAsked (m i : ℕ) (cs : List ℕ) (q d : ℕ) : Type 0 where
-  pub mode : m < 8
   pub index_mode : i < 2
   pub spelt : Spelt m cs
   pub pixel : q < 16
   pub channel : d < 4
 
 pub record PixelAsked (m r i : ℕ) (cs : List ℕ) (q : ℕ) : Type 0 where
-  pub mode : m < 8
   pub rotation : r < 4
   pub index_mode : i < 2
   pub spelt : Spelt m cs

@@ -5,17 +5,17 @@
 
 #![tactic(auto)]
 
-ghost use Rattle.std.specs.Prelude.{◌≡◌, ◌+◌, ◌*◌, ◌<◌};
+ghost use Rattle.std.specs.Prelude.{◌≡◌, ◌+◌, ◌*◌, ◌<◌, option_map, unwrap_or};
 ghost use Rattle.laws.specs.Tables.{table};
 ghost use Rattle.bcn_format.specs.Block.{field, number};
 ghost use Rattle.bcn_format.specs.Drawing.{Weighed, drawn, promoted, weight_of};
 ghost use Rattle.bc7_fields.specs.Fields.{end_byte, lead_end, p_start, value_start};
 ghost use Rattle.bc7_format.specs.Lines.{rotated};
-ghost use Rattle.bc7_format.specs.Modes.{alpha_bits, channel_bits, colour_bits, endpoint_count, index_bits};
+ghost use Rattle.bc7_format.specs.Modes.{alpha_bits, channel_bits, colour_bits, endpoint_count, index_bits, mode_of};
 ghost use Rattle.pixel_rules.specs.Plain.{channel_in, first_start, index_in, plain_channel, set_for, set_start};
 ghost use Rattle.pixel_rules.specs.Promises.{ReadsPixel};
-ghost use Rattle.bc7_plain.specs.Asked.{Bits, Byte, ChannelAsked, ChannelOf, Column, EndpointOf, Has, InTable, IndexAsked};
-ghost use Rattle.bc7_plain.specs.Asked.{IndexModeOf, ModeFound, TwoBytes, PixelAsked, PixelOf, Promoted, Rotatable, SetAsked, SetOf};
+ghost use Rattle.bc7_plain.specs.Asked.{Bits, Byte, ChannelAsked, Column, Has, IndexAsked};
+ghost use Rattle.bc7_plain.specs.Asked.{TwoBytes, PixelAsked, Promoted, Rotatable, SetAsked};
 ghost use Rattle.bc7_plain.specs.Asked.{ShortField, SplitRead};
 
 use refusals::Refusal;
@@ -43,13 +43,20 @@ fn bits(block: [u8; 16], start: usize, width: usize) -> usize
     sum
 }
 
+// A mode, which the table has a row for.
+#[derive(Clone, Copy)]
+struct Mode {
+    number: usize,
+    ghost in_table: { number < 8 },
+}
+
 // The mode: how many zero bits come before the first one. A block whose first eight are zero is reserved, and has none.
-fn mode_of(block: [u8; 16]) -> Option<usize>
-    ensures { ModeFound block result }
+fn mode_of(block: [u8; 16]) -> Option<Mode>
+    ensures { unwrap_or (option_map (λ (m : Mode). m.number) result) 8 ≡ mode_of block }
 {
-    for mode in 0..8 {
-        if bit(block, mode) == 1 {
-            return Some(mode);
+    for number in 0..8 {
+        if bit(block, number) == 1 {
+            return Some(Mode { number: number });
         }
     }
     None
@@ -87,11 +94,11 @@ const INDEX: usize = 8;
 
 const SECOND_INDEX: usize = 9;
 
-fn column(mode: usize, name: usize) -> usize
-    requires { InTable mode name }
-    ensures { Column mode name result }
+fn column(mode: Mode, name: usize) -> usize
+    requires { name < 10 }
+    ensures { Column mode.number name result }
 {
-    MODES[mode][name] as usize
+    MODES[mode.number][name] as usize
 }
 
 // The split: what stands behind the marker. What a mode hasn't got has no bits, and is 0.
@@ -102,15 +109,14 @@ struct SplitBits {
     index_mode: usize,
 }
 
-fn split_of(block: [u8; 16], mode: usize) -> SplitBits
-    requires { mode < 8 }
-    ensures { SplitRead mode (number block) result.partition result.rotation result.index_mode }
+fn split_of(block: [u8; 16], mode: Mode) -> SplitBits
+    ensures { SplitRead mode.number (number block) result.partition result.rotation result.index_mode }
 {
     let partition_bits = column(mode, PARTITION);
     let rotation_bits = column(mode, ROTATION);
-    let rotation_start = mode + 1 + partition_bits;
+    let rotation_start = mode.number + 1 + partition_bits;
     SplitBits {
-        partition: bits(block, mode + 1, partition_bits),
+        partition: bits(block, mode.number + 1, partition_bits),
         rotation: bits(block, rotation_start, rotation_bits),
         index_mode: bits(
             block,
@@ -121,9 +127,9 @@ fn split_of(block: [u8; 16], mode: usize) -> SplitBits
 }
 
 // How many bits a value of a channel has, and an index of the first set or the second.
-fn channel_bits(mode: usize, channel: usize) -> usize
-    requires { ChannelOf mode channel }
-    ensures { Bits (channel_bits mode channel) result }
+fn channel_bits(mode: Mode, channel: usize) -> usize
+    requires { channel < 4 }
+    ensures { Bits (channel_bits mode.number channel) result }
 {
     if channel == 3 {
         return column(mode, ALPHA);
@@ -131,9 +137,9 @@ fn channel_bits(mode: usize, channel: usize) -> usize
     column(mode, COLOUR)
 }
 
-fn index_bits(mode: usize, set: usize) -> usize
-    requires { SetOf mode set }
-    ensures { Bits (index_bits mode set) result }
+fn index_bits(mode: Mode, set: usize) -> usize
+    requires { set < 2 }
+    ensures { Bits (index_bits mode.number set) result }
 {
     if set == 0 {
         return column(mode, INDEX);
@@ -142,23 +148,21 @@ fn index_bits(mode: usize, set: usize) -> usize
 }
 
 // WHERE A FIELD STARTS. Behind the marker stand partition, rotation and index mode; then the values, channel by channel, endpoint by endpoint.
-fn lead_end(mode: usize) -> usize
-    requires { mode < 8 }
-    ensures { Bits (lead_end mode) result }
+fn lead_end(mode: Mode) -> usize
+    ensures { Bits (lead_end mode.number) result }
 {
-    mode + 1 + column(mode, PARTITION) + column(mode, ROTATION) + column(mode, INDEX_MODE)
+    mode.number + 1 + column(mode, PARTITION) + column(mode, ROTATION) + column(mode, INDEX_MODE)
 }
 
-fn endpoints(mode: usize) -> usize
-    requires { mode < 8 }
-    ensures { Bits (endpoint_count mode) result }
+fn endpoints(mode: Mode) -> usize
+    ensures { Bits (endpoint_count mode.number) result }
 {
     2 * column(mode, SUBSETS)
 }
 
-fn value_start(mode: usize, channel: usize, endpoint: usize) -> usize
-    requires { Has mode channel endpoint }
-    ensures { result ≡ value_start mode channel endpoint }
+fn value_start(mode: Mode, channel: usize, endpoint: usize) -> usize
+    requires { Has mode.number channel endpoint }
+    ensures { result ≡ value_start mode.number channel endpoint }
 {
     lead_end(mode)
         + endpoints(mode) * (column(mode, COLOUR) * channel)
@@ -166,16 +170,15 @@ fn value_start(mode: usize, channel: usize, endpoint: usize) -> usize
 }
 
 // Then the p bits, one for each endpoint, or one for both of a subset.
-fn values_end(mode: usize) -> usize
-    requires { mode < 8 }
-    ensures { Bits (lead_end mode + endpoint_count mode * (3 * colour_bits mode + alpha_bits mode)) result }
+fn values_end(mode: Mode) -> usize
+    ensures { Bits (lead_end mode.number + endpoint_count mode.number * (3 * colour_bits mode.number + alpha_bits mode.number)) result }
 {
     lead_end(mode) + endpoints(mode) * (3 * column(mode, COLOUR) + column(mode, ALPHA))
 }
 
-fn p_start(mode: usize, endpoint: usize) -> usize
-    requires { EndpointOf mode endpoint }
-    ensures { result ≡ p_start mode endpoint }
+fn p_start(mode: Mode, endpoint: usize) -> usize
+    requires { endpoint < 6 }
+    ensures { result ≡ p_start mode.number endpoint }
 {
     if column(mode, P_OF_SUBSET) == 1 {
         return values_end(mode) + endpoint / 2;
@@ -184,18 +187,17 @@ fn p_start(mode: usize, endpoint: usize) -> usize
 }
 
 // Then the first indexes, and behind all sixteen of them the second.
-fn first_start(mode: usize) -> usize
-    requires { mode < 8 }
-    ensures { Bits (first_start mode) result }
+fn first_start(mode: Mode) -> usize
+    ensures { Bits (first_start mode.number) result }
 {
     let ps = endpoints(mode) * column(mode, P_OF_ENDPOINT)
         + column(mode, SUBSETS) * column(mode, P_OF_SUBSET);
     values_end(mode) + ps
 }
 
-fn set_start(mode: usize, string: &[u8], set: usize) -> usize
-    requires { SetAsked mode string.now set }
-    ensures { Bits (set_start mode string.now set) result }
+fn set_start(mode: Mode, string: &[u8], set: usize) -> usize
+    requires { SetAsked mode.number string.now set }
+    ensures { Bits (set_start mode.number string.now set) result }
 {
     if set == 0 {
         return first_start(mode);
@@ -213,9 +215,9 @@ fn promotion(width: usize, value: usize) -> usize
 }
 
 // A channel of an endpoint: its value with the p bit below, where the mode has one. What a mode doesn't store is 255.
-fn endpoint_of(block: [u8; 16], mode: usize, endpoint: usize, channel: usize) -> usize
-    requires { Has mode channel endpoint }
-    ensures { Byte (end_byte mode (number block) endpoint channel) result }
+fn endpoint_of(block: [u8; 16], mode: Mode, endpoint: usize, channel: usize) -> usize
+    requires { Has mode.number channel endpoint }
+    ensures { Byte (end_byte mode.number (number block) endpoint channel) result }
 {
     let width = channel_bits(mode, channel);
     if width == 0 {
@@ -229,9 +231,9 @@ fn endpoint_of(block: [u8; 16], mode: usize, endpoint: usize, channel: usize) ->
 }
 
 // The index set that serves a channel: where there are two, alpha takes one and the colours the other, and the index mode says which.
-fn set_of(mode: usize, index_mode: usize, channel: usize) -> usize
-    requires { IndexModeOf mode index_mode }
-    ensures { result ≡ set_for mode index_mode channel }
+fn set_of(mode: Mode, index_mode: usize, channel: usize) -> usize
+    requires { index_mode < 2 }
+    ensures { result ≡ set_for mode.number index_mode channel }
 {
     if column(mode, ROTATION) == 0 {
         return 0;
@@ -243,9 +245,9 @@ fn set_of(mode: usize, index_mode: usize, channel: usize) -> usize
 }
 
 // The index of a pixel: behind those of the pixels before, of which an anchor's has a bit less.
-fn index_of(block: [u8; 16], mode: usize, string: &[u8], set: usize, pixel: usize) -> usize
-    requires { IndexAsked mode string.now set pixel }
-    ensures { result ≡ index_in mode string.now (number block) set pixel }
+fn index_of(block: [u8; 16], mode: Mode, string: &[u8], set: usize, pixel: usize) -> usize
+    requires { IndexAsked mode.number string.now set pixel }
+    ensures { result ≡ index_in mode.number string.now (number block) set pixel }
 {
     let width = index_bits(mode, set);
     let start = set_start(mode, string, set) + (pixel * width - anchors_before(string, pixel));
@@ -276,14 +278,14 @@ fn mixed(first: usize, second: usize, weight: usize) -> u8
 // A channel of a pixel, before rotation.
 fn channel_of(
     block: [u8; 16],
-    mode: usize,
+    mode: Mode,
     index_mode: usize,
     string: &[u8],
     pixel: usize,
     channel: usize,
 ) -> u8
-    requires { ChannelAsked mode index_mode string.now pixel channel }
-    ensures { result ≡ channel_in mode index_mode string.now (number block) pixel channel }
+    requires { ChannelAsked mode.number index_mode string.now pixel channel }
+    ensures { result ≡ channel_in mode.number index_mode string.now (number block) pixel channel }
 {
     let set = set_of(mode, index_mode, channel);
     let part = weight(
@@ -318,14 +320,14 @@ fn rotation_of(rotation: usize, channel: usize) -> usize
 // A pixel as it is shown.
 fn shown(
     block: [u8; 16],
-    mode: usize,
+    mode: Mode,
     rotation: usize,
     index_mode: usize,
     string: &[u8],
     pixel: usize,
 ) -> [u8; 4]
-    requires { PixelAsked mode rotation index_mode string.now pixel }
-    ensures { result ≡ table 4 (λ c. channel_in mode index_mode string.now (number block) pixel (rotated rotation c)) }
+    requires { PixelAsked mode.number rotation index_mode string.now pixel }
+    ensures { result ≡ table 4 (λ c. channel_in mode.number index_mode string.now (number block) pixel (rotated rotation c)) }
 {
     [
         channel_of(
@@ -364,9 +366,9 @@ fn shown(
 }
 
 // A pixel of a block that isn't reserved, by the string of its partition.
-fn read(block: [u8; 16], mode: usize, pixel: usize) -> [u8; 4]
-    requires { PixelOf mode pixel }
-    ensures { result ≡ table 4 (plain_channel mode (number block) pixel) }
+fn read(block: [u8; 16], mode: Mode, pixel: usize) -> [u8; 4]
+    requires { pixel < 16 }
+    ensures { result ≡ table 4 (plain_channel mode.number (number block) pixel) }
 {
     let split = split_of(block, mode);
     let string = string_of(column(mode, SUBSETS), split.partition);

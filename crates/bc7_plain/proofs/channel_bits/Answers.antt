@@ -8,7 +8,7 @@ use Rattle.bc7_plain.proofs.channel_bits.Goals as goal
 
 pub returns-then-channel-eq3 : goal.returns-then-channel-eq3
 returns-then-channel-eq3 c =
-    let e = row _ c.requires.mode in
+    let e = row _ c.args.mode.in_table in
     record {
       is =
           rw (eq-eqb c.args.channel 3 c.if-channel-eq3.true) (c.column.ensures.is ∙ e.alpha);
@@ -18,7 +18,7 @@ returns-then-channel-eq3 c =
 
 pub returns : goal.returns
 returns c =
-    let e = row _ c.requires.mode in
+    let e = row _ c.args.mode.in_table in
     record {
       is =
           rw (ne_eqb c.args.channel 3 c.if-channel-eq3.false) (c.column-2.ensures.is ∙ e.colour);

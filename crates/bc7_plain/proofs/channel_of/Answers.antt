@@ -18,8 +18,8 @@ use Rattle.bc7_plain.proofs.Rows.{Serves, fits, serves}
 use Rattle.bc7_plain.proofs.channel_of.Goals as goal
 
 -- the set that serves the channel
-served : {m i : ℕ} {cs : List ℕ} {q d : ℕ} → ChannelAsked m i cs q d → {a : ℕ} → a ≡ set_for m i d → Serves m a
-served {m = m} {i = i} {d = d} s e = subst (Serves m) (sym e) (serves m i d s.mode s.index_mode s.channel)
+served : {m i : ℕ} {cs : List ℕ} {q d : ℕ} → m < 8 → ChannelAsked m i cs q d → {a : ℕ} → a ≡ set_for m i d → Serves m a
+served {m = m} {i = i} {d = d} h s e = subst (Serves m) (sym e) (serves m i d h s.index_mode s.channel)
 
 -- its index, with a weight
 weighed : (m a n : ℕ) (cs : List ℕ) (q : ℕ) {w v : ℕ} → Serves m a → w ≡ index_bits m a → v ≡ index_in m cs n a q → Weighed w v
@@ -36,19 +36,17 @@ weighed m a _ cs q {v = v} g e f = record {
 pair : {m i : ℕ} {cs : List ℕ} {q d : ℕ} → ChannelAsked m i cs q d → 2 * subset_spelt cs q + 1 < endpoint_count m
 pair {q = q} s = s.spelt.inside q s.pixel
 
-few : {m i : ℕ} {cs : List ℕ} {q d : ℕ} → ChannelAsked m i cs q d → endpoint_count m ≤ 6
-few {m = m} s = (fits m s.mode).ends
+few : {m : ℕ} → m < 8 → endpoint_count m ≤ 6
+few {m = m} h = (fits m h).ends
 
 pub index_bits-requires : goal.index_bits-requires
-index_bits-requires c = record { mode = c.requires.mode; set = (served c.requires c.set_of-set.ensures).set }
+index_bits-requires c = (served c.args.mode.in_table c.requires c.set_of-set.ensures).set
 
 pub index_of-requires : goal.index_of-requires
 index_of-requires c =
     let s = c.requires in
-    let g = served s c.set_of-set.ensures in
+    let g = served c.args.mode.in_table s c.set_of-set.ensures in
     record {
-      mode =
-          s.mode;
       spelt = s.spelt;
       set = g.set;
       some = omega (arith, g.least);
@@ -56,27 +54,27 @@ index_of-requires c =
     }
 
 pub weight-part-requires : goal.weight-part-requires
-weight-part-requires c = weighed _ _ _ _ _ (served c.requires c.set_of-set.ensures) c.index_bits.ensures.is c.index_of.ensures
+weight-part-requires c = weighed _ _ _ _ _ (served c.args.mode.in_table c.requires c.set_of-set.ensures) c.index_bits.ensures.is c.index_of.ensures
 
 pub overflow_mul-pair : goal.overflow_mul-pair
-overflow_mul-pair c = omega (arith, c.subset-pair.ensures, pair c.requires, few c.requires)
+overflow_mul-pair c = omega (arith, c.subset-pair.ensures, pair c.requires, few c.args.mode.in_table)
 
 pub endpoint_of-requires : goal.endpoint_of-requires
 endpoint_of-requires c =
     let s = c.requires in
-    record { mode = s.mode; channel = s.channel; endpoint = omega (arith, c.subset-pair.ensures, pair s) }
+    record { channel = s.channel; endpoint = omega (arith, c.subset-pair.ensures, pair s) }
 
 pub overflow_add-pair : goal.overflow_add-pair
-overflow_add-pair c = omega (arith, c.subset-pair.ensures, pair c.requires, few c.requires)
+overflow_add-pair c = omega (arith, c.subset-pair.ensures, pair c.requires, few c.args.mode.in_table)
 
 pub endpoint_of-requires-2 : goal.endpoint_of-requires-2
 endpoint_of-requires-2 c =
     let s = c.requires in
-    record { mode = s.mode; channel = s.channel; endpoint = omega (arith, c.subset-pair.ensures, pair s) }
+    record { channel = s.channel; endpoint = omega (arith, c.subset-pair.ensures, pair s) }
 
 pub mixed-requires : goal.mixed-requires
 mixed-requires c =
-    let g = weighed _ _ _ _ _ (served c.requires c.set_of-set.ensures) c.index_bits.ensures.is c.index_of.ensures in
+    let g = weighed _ _ _ _ _ (served c.args.mode.in_table c.requires c.set_of-set.ensures) c.index_bits.ensures.is c.index_of.ensures in
     record {
       first = c.endpoint_of.ensures.small;
       second = c.endpoint_of-2.ensures.small;
@@ -86,7 +84,7 @@ mixed-requires c =
 pub returns : goal.returns
 unfolding channel_in
 returns c =
-    let m : ℕ = c.args.mode in
+    let m : ℕ = c.args.mode.number in
     let n : ℕ = number c.args.block in
     let d : ℕ = c.args.channel in
     let cs = c.args.string.now in

@@ -7,4 +7,4 @@ use Rattle.bc7_plain.proofs.endpoints.Goals as goal
 pub returns : goal.returns
 returns c =
     let s = c.before in
-    record { is = omega (arith, c.column.ensures.is, (row _ s.requires).ends); few = omega (arith, c.column.ensures.few) }
+    record { is = omega (arith, c.column.ensures.is, (row _ s.args.mode.in_table).ends); few = omega (arith, c.column.ensures.few) }

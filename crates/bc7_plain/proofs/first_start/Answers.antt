@@ -32,8 +32,8 @@ pub returns : goal.returns
 unfolding first_start
 returns c =
     let s = c.before.before.before.before.before in
-    let m : ℕ = s.args.mode in
-    let e = row m s.requires in
+    let m : ℕ = s.args.mode.number in
+    let e = row m s.args.mode.in_table in
     let ps : c.endpoints.result * c.column.result +
     c.column-2.result * c.column-3.result ≡ p_count m =
     ap₂ (λ (x y : ℕ). x + y)
@@ -41,4 +41,4 @@ returns c =
     (ap₂ (λ (x y : ℕ). x * y) c.column-2.ensures.is c.column-3.ensures.is)
     ∙ e.ps in
     let total = ap₂ (λ (x y : ℕ). x + y) c.values_end.ensures.is ps in
-    record { is = total; few = subst (λ (x : ℕ). x ≤ 128) (sym total) (omega (arith, (fits m s.requires).first)) }
+    record { is = total; few = subst (λ (x : ℕ). x ≤ 128) (sym total) (omega (arith, (fits m s.args.mode.in_table).first)) }

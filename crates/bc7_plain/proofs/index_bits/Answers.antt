@@ -8,7 +8,7 @@ use Rattle.bc7_plain.proofs.index_bits.Goals as goal
 
 pub returns-then-set-eq0 : goal.returns-then-set-eq0
 returns-then-set-eq0 c =
-    let e = row _ c.requires.mode in
+    let e = row _ c.args.mode.in_table in
     record {
       is =
           rw (eq-eqb c.args.set 0 c.if-set-eq0.true) (c.column.ensures.is ∙ e.first);
@@ -18,7 +18,7 @@ returns-then-set-eq0 c =
 
 pub returns : goal.returns
 returns c =
-    let e = row _ c.requires.mode in
+    let e = row _ c.args.mode.in_table in
     record {
       is =
           rw (ne_eqb c.args.set 0 c.if-set-eq0.false) (c.column-2.ensures.is ∙ e.second);

@@ -13,10 +13,10 @@ pub returns : goal.returns
 unfolding lead_end
 returns c =
     let s = c.before.before.before in
-    let m : ℕ = s.args.mode in
-    let e = row m s.requires in
-    let total : s.args.mode + 1 + c.column.result + c.column-2.result + c.column-3.result ≡ lead_end m =
+    let m : ℕ = s.args.mode.number in
+    let e = row m s.args.mode.in_table in
+    let total : s.args.mode.number + 1 + c.column.result + c.column-2.result + c.column-3.result ≡ lead_end m =
     ap₂ (λ (x y : ℕ). x + y) (ap₂ (λ (x y : ℕ). x + y) (ap₂ (λ (x y : ℕ). x + y) (add-one m)
     (c.column.ensures.is ∙ e.partition)) (c.column-2.ensures.is ∙ e.rotation))
     (c.column-3.ensures.is ∙ e.index_mode) in
-    record { is = total; few = subst (λ (x : ℕ). x ≤ 128) (sym total) (omega (arith, (fits m s.requires).lead)) }
+    record { is = total; few = subst (λ (x : ℕ). x ≤ 128) (sym total) (omega (arith, (fits m s.args.mode.in_table).lead)) }

@@ -27,19 +27,16 @@ sixteen s = sixteen_bytes _ (size s) (λ i l. (byte s i).fits)
 pub returns-then-bit-eq1 : goal.returns-then-bit-eq1
 unfolding mode_of
 returns-then-bit-eq1 c =
-    record {
-      is = mode_here _ (sixteen (goal.at.returns-then-bit-eq1 c).Start) c.loop-mode.mode c.loop-mode-test.true c.loop-mode.invariant
-          (sym c.bit.ensures ∙ c.if-bit-eq1.true);
-      low = c.loop-mode-test.true;
-    }
+    mode_here _ (sixteen (goal.at.returns-then-bit-eq1 c).Start) c.loop-number.number c.loop-number-test.true c.loop-number.invariant
+    (sym c.bit.ensures ∙ c.if-bit-eq1.true)
 
-pub loop-mode-preserved : goal.loop-mode-preserved
-loop-mode-preserved c =
-    mode_next _ (sixteen (goal.at.loop-mode-preserved c).Start) c.loop-mode.mode c.loop-mode-test.true c.loop-mode.invariant
+pub loop-number-preserved : goal.loop-number-preserved
+loop-number-preserved c =
+    mode_next _ (sixteen (goal.at.loop-number-preserved c).Start) c.loop-number.number c.loop-number-test.true c.loop-number.invariant
     (λ e. c.if-bit-eq1.false (c.bit.ensures ∙ e))
 
 pub returns : goal.returns
 unfolding mode_of trailing
 returns c =
-    let z : c.loop-mode.mode ≡ 8 = omega (arith, c.loop-mode.auto.mode-end) in
-    record { is = sym (rw z at c.loop-mode.invariant); low = tt }
+    let z : c.loop-number.number ≡ 8 = omega (arith, c.loop-number.auto.number-end) in
+    sym (rw z at c.loop-number.invariant)

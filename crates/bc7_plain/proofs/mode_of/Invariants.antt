@@ -6,5 +6,5 @@ use lib.ListN.{get_or}
 use Rattle.bcn_format.specs.Block.{trailing}
 use Rattle.bc7_plain.proofs.mode_of.Given as goal
 
-abbrev pub invariant-loop-mode : goal.invariant-loop-mode
-invariant-loop-mode l = trailing 8 (get_or l.block 0 0) ≡ l.mode + trailing (8 - l.mode) (get_or l.block 0 0 / 2 ^ l.mode)
+abbrev pub invariant-loop-number : goal.invariant-loop-number
+invariant-loop-number l = trailing 8 (get_or l.block 0 0) ≡ l.number + trailing (8 - l.number) (get_or l.block 0 0 / 2 ^ l.number)

@@ -10,26 +10,20 @@ use Rattle.bc7_fields.specs.Fields.{p_start}
 use Rattle.pixel_rules.proofs.Rows.{row, same_flag}
 use Rattle.bc7_plain.proofs.p_start.Goals as goal
 
-pub values_end-requires : goal.values_end-requires
-values_end-requires c = c.requires.mode
-
 pub returns-then-column-eq1 : goal.returns-then-column-eq1
 unfolding p_start
 returns-then-column-eq1 c =
     let s = c.before.before.before in
-    let m : ℕ = s.args.mode in
+    let m : ℕ = s.args.mode.number in
     let t : eqb m 1 ≡ true =
-    sym (same_flag _ _ (row m s.requires.mode).shared) ∙ eq-eqb _ 1 (sym c.column.ensures.is ∙ c.if-column-eq1.true) in
+    sym (same_flag _ _ (row m s.args.mode.in_table).shared) ∙ eq-eqb _ 1 (sym c.column.ensures.is ∙ c.if-column-eq1.true) in
     ap₂ (λ (x : ℕ) (b : Bool). x + pick b (s.args.endpoint / 2) s.args.endpoint) c.values_end.ensures.is (sym t)
-
-pub values_end-requires-2 : goal.values_end-requires-2
-values_end-requires-2 c = c.requires.mode
 
 pub returns : goal.returns
 unfolding p_start
 returns c =
     let s = c.before.before.before in
-    let m : ℕ = s.args.mode in
+    let m : ℕ = s.args.mode.number in
     let t : eqb m 1 ≡ false =
-    sym (same_flag _ _ (row m s.requires.mode).shared) ∙ ne_eqb _ 1 (λ e. c.if-column-eq1.false (c.column.ensures.is ∙ e)) in
+    sym (same_flag _ _ (row m s.args.mode.in_table).shared) ∙ ne_eqb _ 1 (λ e. c.if-column-eq1.false (c.column.ensures.is ∙ e)) in
     ap₂ (λ (x : ℕ) (b : Bool). x + pick b (s.args.endpoint / 2) s.args.endpoint) c.values_end-2.ensures.is (sym t)

@@ -29,10 +29,10 @@ returns-then-pixel-ge16 c = sym (pixel_refused _ _ c.if-pixel-ge16.true)
 
 pub returns-in-Some : goal.returns-in-Some
 returns-in-Some c =
-    answered _ (sixteen (goal.at.returns-in-Some c).Start) c.in-Some.mode c.args.pixel c.in-Some.ensures.is c.in-Some.ensures.low
+    answered _ (sixteen (goal.at.returns-in-Some c).Start) c.in-Some.mode.number c.args.pixel c.in-Some.ensures c.in-Some.mode.in_table
     c.if-pixel-ge16.false c.read.ensures
 
 pub returns-in-None : goal.returns-in-None
 returns-in-None c =
     sym (reserved_accepted _ _ c.if-pixel-ge16.false
-    (zero_byte _ (sixteen (goal.at.returns-in-None c).Start) (sym c.in-None.ensures.is)))
+    (zero_byte _ (sixteen (goal.at.returns-in-None c).Start) (sym c.in-None.ensures)))

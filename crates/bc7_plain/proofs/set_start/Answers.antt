@@ -20,21 +20,15 @@ short : {m : ℕ} {cs : List ℕ} {a : ℕ} → SetAsked m cs a → set_start m 
 unfolding index_start
 short {a = a} s = omega (arith, s.spelt.room a 0 s.set (omega arith))
 
-pub first_start-requires : goal.first_start-requires
-first_start-requires c = c.requires.mode
-
 pub returns-then-set-eq0 : goal.returns-then-set-eq0
 unfolding set_start
 returns-then-set-eq0 c =
     let cs = c.args.string.now in
-    let m : ℕ = c.args.mode in
+    let m : ℕ = c.args.mode.number in
     let e = c.first_start.ensures.is
     ∙ sym (ap (λ (b : Bool). first_start m + pick b 0 (16 * first_bits m - anchors_before cs 16)) (eq-eqb c.args.set 0 c.if-set-eq0.true)
     ∙ add-zero _) in
     record { is = e; few = c.first_start.ensures.few }
-
-pub first_start-requires-2 : goal.first_start-requires-2
-first_start-requires-2 c = c.requires.mode
 
 pub overflow_sub-result : goal.overflow_sub-result
 overflow_sub-result c =
@@ -43,14 +37,14 @@ overflow_sub-result c =
       c.anchors_before.ensures,
       c.requires.spelt.sixteen.fewer 16 (le_refl 16),
       c.index_bits.ensures.is,
-      (fits c.args.mode c.requires.mode).least,
+      (fits c.args.mode.number c.args.mode.in_table).least,
     )
 
 pub returns : goal.returns
 unfolding set_start
 returns c =
     let cs = c.args.string.now in
-    let m : ℕ = c.args.mode in
+    let m : ℕ = c.args.mode.number in
     let e = ap₂ (λ (x y : ℕ). x + y) c.first_start-2.ensures.is
     (ap₂ (λ (x y : ℕ). 16 * x - y) c.index_bits.ensures.is c.anchors_before.ensures)
     ∙ sym (ap (λ (b : Bool). first_start m + pick b 0 (16 * first_bits m - anchors_before cs 16))

@@ -16,7 +16,6 @@ use Rattle.bc7_plain.proofs.shown.Goals as goal
 asked : {m r i : ℕ} {cs : List ℕ} {q : ℕ} → PixelAsked m r i cs q → (c : ℕ) {d : ℕ} → d ≡ rotated r c → c < 4
     → ChannelAsked m i cs q d
 asked {r = r} s c e h = record {
-  mode = s.mode;
   index_mode = s.index_mode;
   spelt = s.spelt;
   pixel = s.pixel;
@@ -38,7 +37,7 @@ channel_of-requires-4 c = asked c.requires 3 c.rotation_of-4.ensures (omega arit
 pub returns : goal.returns
 unfolding table table_from
 returns c =
-    let f : ℕ → ℕ = λ d. channel_in c.args.mode c.args.index_mode c.args.string.now (number c.args.block) c.args.pixel d in
+    let f : ℕ → ℕ = λ d. channel_in c.args.mode.number c.args.index_mode c.args.string.now (number c.args.block) c.args.pixel d in
     let e0 = c.channel_of.ensures ∙ ap f c.rotation_of.ensures in
     let e1 = c.channel_of-2.ensures ∙ ap f c.rotation_of-2.ensures in
     let e2 = c.channel_of-3.ensures ∙ ap f c.rotation_of-3.ensures in

@@ -22,13 +22,7 @@ last : (c : After-channel_bits) → c.channel_bits.result * c.args.endpoint ≤ 
 last c =
     let s = c.before.before.before.before in
     product 128 6 c.channel_bits.ensures.few
-    (let h : s.args.endpoint < _ = s.requires.endpoint in omega (arith, (fits s.args.mode s.requires.mode).ends))
-
-pub lead_end-requires : goal.lead_end-requires
-lead_end-requires c = c.requires.mode
-
-pub endpoints-requires : goal.endpoints-requires
-endpoints-requires c = c.requires.mode
+    (let h : s.args.endpoint < _ = s.requires.endpoint in omega (arith, (fits s.args.mode.number s.args.mode.in_table).ends))
 
 pub overflow_mul-result : goal.overflow_mul-result
 overflow_mul-result c = omega (arith, colours c)
@@ -49,7 +43,7 @@ pub returns : goal.returns
 unfolding value_start
 returns c =
     let s = c.before.before.before.before in
-    let e = row s.args.mode s.requires.mode in
+    let e = row s.args.mode.number s.args.mode.in_table in
     ap₂ (λ (x y : ℕ). x + y)
     (ap₂ (λ (x y : ℕ). x + y) c.lead_end.ensures.is
     (ap₂ (λ (x y : ℕ). x * (y * s.args.channel)) c.endpoints.ensures.is (c.column.ensures.is ∙ e.colour)))

@@ -22,12 +22,12 @@ overflow_add-result-2 c = omega (arith, all c, c.lead_end.ensures.few)
 pub returns : goal.returns
 returns c =
     let s = c.before.before.before.before in
-    let m : ℕ = s.args.mode in
-    let e = row m s.requires in
+    let m : ℕ = s.args.mode.number in
+    let e = row m s.args.mode.in_table in
     let total : c.lead_end.result + c.endpoints.result *
     (3 * c.column.result + c.column-2.result)
     ≡ lead_end m + endpoint_count m * (3 * colour_bits m + alpha_bits m) =
     ap₂ (λ (x y : ℕ). x + y) c.lead_end.ensures.is
     (ap₂ (λ (x y : ℕ). x * y) c.endpoints.ensures.is
     (ap₂ (λ (x y : ℕ). 3 * x + y) (c.column.ensures.is ∙ e.colour) (c.column-2.ensures.is ∙ e.alpha))) in
-    record { is = total; few = subst (λ (x : ℕ). x ≤ 128) (sym total) (omega (arith, (fits m s.requires).values)) }
+    record { is = total; few = subst (λ (x : ℕ). x ≤ 128) (sym total) (omega (arith, (fits m s.args.mode.in_table).values)) }
