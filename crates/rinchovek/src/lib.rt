@@ -27,8 +27,8 @@ use moves::{state_colour, to_rows, to_tiles};
 use nearest::{exact_index, nearest_index};
 use opacity::is_opaque;
 use record::unpack;
-use refusals::number_of as number_of_answer;
 use record_bytes::{pack_bytes, record_bytes, replacement_bytes, replacement_of};
+use refusals::number_of as number_of_answer;
 use sheet::{block_in_sheet, decode_row, decode_sheet_row, replace_in_sheet};
 use sheet_head::colours::number_of;
 use sheet_head::geometry::{blocks_across, blocks_of};
@@ -184,23 +184,22 @@ pub fn rinchovek_bc7_pixel(block: &[u8; 16], pixel: u32, rgba: &mut [u8; 4]) -> 
 pub fn rinchovek_sheet_open(sheet: &[u8], numbers: &mut [u32; 8]) -> u32
     ensures { OpensSheet sheet.now numbers.old result numbers.new }
 {
-    let read = read_head(sheet);
-    if read.refusal != 0 {
-        return read.refusal as u32;
+    match read_head(sheet) {
+        Ok(read) => {
+            *numbers = [
+                read.width,
+                read.height,
+                read.start,
+                number_of(read.colour_space),
+                number_of_form(read.form),
+                blocks_across(read.width),
+                blocks_across(read.height),
+                blocks_of(read),
+            ];
+            0
+        }
+        Err(refusal) => refusal.number() as u32,
     }
-    let colour_space = read.colour_space;
-    let form = read.form;
-    *numbers = [
-        read.width,
-        read.height,
-        read.start,
-        number_of(colour_space),
-        number_of_form(form),
-        blocks_across(read.width),
-        blocks_across(read.height),
-        blocks_of(read),
-    ];
-    0
 }
 
 // Width, height and the place of the first block, from the bytes of a sheet of form 1. Three numbers don't say the form, so that who
@@ -208,25 +207,31 @@ pub fn rinchovek_sheet_open(sheet: &[u8], numbers: &mut [u32; 8]) -> u32
 pub fn rinchovek_sheet_read_head(sheet: &[u8], head: &mut [u32; 3]) -> u32
     ensures { ReadsHead sheet.now head.old result head.new }
 {
-    let read = read_of_form(Form::Rows, sheet);
-    if read.refusal != 0 {
-        return read.refusal as u32;
+    match read_of_form(Form::Rows, sheet) {
+        Ok(read) => {
+            *head = [read.width, read.height, read.start];
+            0
+        }
+        Err(refusal) => refusal.number() as u32,
     }
-    *head = [read.width, read.height, read.start];
-    0
 }
 
 // The same, and the number of the colour space, which is 0 for each: form 1 has no room for one.
 pub fn rinchovek_sheet_read_colour_head(sheet: &[u8], head: &mut [u32; 4]) -> u32
     ensures { ReadsColourHead sheet.now head.old result head.new }
 {
-    let read = read_of_form(Form::Rows, sheet);
-    if read.refusal != 0 {
-        return read.refusal as u32;
+    match read_of_form(Form::Rows, sheet) {
+        Ok(read) => {
+            *head = [
+                read.width,
+                read.height,
+                read.start,
+                number_of(read.colour_space),
+            ];
+            0
+        }
+        Err(refusal) => refusal.number() as u32,
     }
-    let colour_space = read.colour_space;
-    *head = [read.width, read.height, read.start, number_of(colour_space)];
-    0
 }
 
 // The bytes of a head, zeros behind, and how many of the seven they are.
@@ -238,14 +243,15 @@ pub fn rinchovek_sheet_write_head(
 ) -> u32
     ensures { WritesHead width height (head.old, count.old) result (head.new, count.new) }
 {
-    let written = write_head(width, height);
-    if written.refusal != 0 {
-        return written.refusal as u32;
+    match write_head(width, height) {
+        Ok(written) => {
+            let bytes = written.bytes;
+            *head = bytes;
+            *count = written.count as u32;
+            0
+        }
+        Err(refusal) => refusal.number() as u32,
     }
-    let bytes = written.bytes;
-    *head = bytes;
-    *count = written.count as u32;
-    0
 }
 
 // One row of blocks as scanlines, cut at the edges of the picture.
@@ -310,7 +316,7 @@ pub fn rinchovek_sheet_replace_line(
 ) -> u32
     ensures { ReplacesIn sheet.old block line replacement.now result sheet.new }
 {
-    replace_in_sheet(sheet, block, line, replacement_of(*replacement)) as u32
+    number_of_answer(replace_in_sheet(sheet, block, line, replacement_of(*replacement))) as u32
 }
 
 // A DDS file as a sheet.
@@ -329,7 +335,12 @@ pub fn rinchovek_dds_import_colour(dds: &[u8], sheet: &mut [u8], head: &mut [u32
 {
     match import_dds(dds, sheet) {
         Ok(made) => {
-            *head = [made.width, made.height, made.start, number_of(made.colour_space)];
+            *head = [
+                made.width,
+                made.height,
+                made.start,
+                number_of(made.colour_space),
+            ];
             0
         }
         Err(refusal) => refusal.number() as u32,
@@ -408,13 +419,13 @@ fn counts_of(c: [u32; 10]) -> Counts
 pub fn rinchovek_sheet_count(sheet: &[u8], counts: &mut [u32; 10]) -> u32
     ensures { CountsSheet sheet.now counts.old result counts.new }
 {
-    let counted = count_sheet(sheet);
-    if counted.refusal != 0 {
-        return counted.refusal as u32;
+    match count_sheet(sheet) {
+        Ok(found) => {
+            *counts = ten_of(found);
+            0
+        }
+        Err(refusal) => refusal.number() as u32,
     }
-    let found = counted.counts;
-    *counts = ten_of(found);
-    0
 }
 
 // A line of one block replaced in a sheet, and with it the counts beside the sheet.
@@ -430,13 +441,13 @@ pub fn rinchovek_sheet_replace_line_counted(
 {
     let came = counts_of(*counts);
     let new = replacement_of(*replacement);
-    let answer = replace_line_counted(sheet, came, block, line, new);
-    if answer.refusal != 0 {
-        return answer.refusal as u32;
+    match replace_line_counted(sheet, came, block, line, new) {
+        Ok(left) => {
+            *counts = ten_of(left);
+            0
+        }
+        Err(refusal) => refusal.number() as u32,
     }
-    let left = answer.counts;
-    *counts = ten_of(left);
-    0
 }
 
 // A whole block of a sheet replaced by any sixteen bytes, and with it the counts beside the sheet.
@@ -450,13 +461,13 @@ pub fn rinchovek_sheet_replace_block_counted(
         (sheet.new, counts.new) }
 {
     let came = counts_of(*counts);
-    let answer = replace_block_counted(sheet, came, block, *bytes);
-    if answer.refusal != 0 {
-        return answer.refusal as u32;
+    match replace_block_counted(sheet, came, block, *bytes) {
+        Ok(left) => {
+            *counts = ten_of(left);
+            0
+        }
+        Err(refusal) => refusal.number() as u32,
     }
-    let left = answer.counts;
-    *counts = ten_of(left);
-    0
 }
 
 // A pixel as four floats, red green blue alpha.

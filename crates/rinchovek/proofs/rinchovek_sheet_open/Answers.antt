@@ -1,30 +1,23 @@
 -- `rinchovek_sheet_open`: what `read_head` answers, in eight numbers.
 -- Assumes nothing.
+use mathlib.Core.Path.{refl}
+use Rattle.refusals.proofs.Answers.{number_not_0}
 use Rattle.rinchovek_rules.proofs.Opening.{not_opened, opened, sized}
 use Rattle.rinchovek.proofs.rinchovek_sheet_open.Goals as goal
 
-pub returns-then-read-ne0 : goal.returns-then-read-ne0
-returns-then-read-ne0 c = not_opened _ c.read_head-read.ensures _ c.if-read-ne0.true
+pub returns-in-Err : goal.returns-in-Err
+returns-in-Err c = rw c.number.ensures (not_opened _ c.in-Err.ensures _ (number_not_0 _))
 
 pub blocks_across-requires : goal.blocks_across-requires
-blocks_across-requires c =
-    let i = c in
-    (sized _ i.read_head-read.ensures i.if-read-ne0.false).within_wide
+blocks_across-requires c = (sized _ c.in-Ok.ensures refl).within_wide
 
-pub blocks_across-requires-2 : goal.blocks_across-requires-2
-blocks_across-requires-2 c =
-    let i = c in
-    (sized _ i.read_head-read.ensures i.if-read-ne0.false).within_high
+pub blocks_across-requires-in-Ok : goal.blocks_across-requires-in-Ok
+blocks_across-requires-in-Ok c = (sized _ c.in-Ok.ensures refl).within_high
 
 pub blocks_of-requires : goal.blocks_of-requires
-blocks_of-requires c =
-    let i = c in
-    sized _ i.read_head-read.ensures i.if-read-ne0.false
+blocks_of-requires c = sized _ c.in-Ok.ensures refl
 
-pub returns : goal.returns
-returns c =
-    let r = c in
-    let s = r in
-    let i = s in
-    opened _ i.read_head-read.ensures _ i.if-read-ne0.false s.number_of.ensures s.number_of_form.ensures
-    r.blocks_across.ensures r.blocks_across-2.ensures c.blocks_of.ensures.same
+pub returns-in-Ok : goal.returns-in-Ok
+returns-in-Ok c =
+    opened _ c.in-Ok.ensures _ refl c.number_of.ensures c.number_of_form.ensures c.blocks_across.ensures c.blocks_across-in-Ok.ensures
+    c.blocks_of.ensures.same
