@@ -20,6 +20,7 @@ use bc7_places::places::{PLACES, place_at, width_of};
 use bc7_places::splits::{anchors_of, read_lead};
 use block_bytes::load;
 use chart_rules::Chart;
+use refusal_numbers::number;
 use refusals::Refusal;
 use text::{put, put_few, put_spaced, put_word, refused_text};
 
@@ -117,7 +118,7 @@ fn refused(refusal: Refusal) -> Chart
     ensures { Answers (charted (number refusal) (refused_text (number refusal))) result }
 {
     let mut text = [0u8; ROOM];
-    let length = refused_text(refusal.number(), 0, &mut text);
+    let length = refused_text(number(refusal), 0, &mut text);
     Chart {
         refusal: Some(refusal),
         length,

@@ -25,7 +25,8 @@ use block_bytes::load;
 use head_rules::{Head, HeadReader};
 use listing_rules::{Machine, Phase};
 use opacity::is_opaque_in;
-use refusals::{Refusal, WRONG_BLOCK_BYTES};
+use refusal_numbers::number;
+use refusals::Refusal;
 use sheet_head::geometry::{blocks_across, blocks_of, number_at};
 use sheet_head::reader::{has_ended, take_byte};
 use text::refused_text;
@@ -215,7 +216,7 @@ fn refuse_unless(exact: bool, at: usize, out: &mut [u8]) -> usize
     if exact {
         return at;
     }
-    refused_text(WRONG_BLOCK_BYTES, at, out)
+    refused_text(number(Refusal::WrongBlockBytes), at, out)
 }
 
 // What is said of a head, once it has ended.
@@ -231,7 +232,7 @@ fn list_at_head(reader: HeadReader, came: &[u8], at: usize, out: &mut [u8]) -> u
             }
             at
         }
-        Err(refusal) => refused_text(refusal.number(), at, out),
+        Err(refusal) => refused_text(number(refusal), at, out),
     }
 }
 

@@ -28,7 +28,7 @@ use nearest::{exact_index, nearest_index};
 use opacity::is_opaque;
 use record::unpack;
 use record_bytes::{pack_bytes, record_bytes, replacement_bytes, replacement_of};
-use refusals::number_of as number_of_answer;
+use refusal_numbers::{number, number_or_0};
 use sheet::{block_in_sheet, decode_row, decode_sheet_row, replace_in_sheet};
 use sheet_head::colours::number_of;
 use sheet_head::geometry::{blocks_across, blocks_of};
@@ -68,7 +68,7 @@ pub fn rinchovek_bc7_unpack(block: &[u8; 16], bytes: &mut [u8; PLACES]) -> u32
             *bytes = record_bytes(record);
             0
         }
-        Err(refusal) => refusal.number() as u32,
+        Err(refusal) => number(refusal) as u32,
     }
 }
 
@@ -81,7 +81,7 @@ pub fn rinchovek_bc7_pack(bytes: &[u8; PLACES], block: &mut [u8; 16]) -> u32
             *block = packed;
             0
         }
-        Err(refusal) => refusal.number() as u32,
+        Err(refusal) => number(refusal) as u32,
     }
 }
 
@@ -101,7 +101,7 @@ pub fn rinchovek_bc7_read_line(
             *widths = replacement_bytes(read.widths);
             0
         }
-        Err(refusal) => refusal.number() as u32,
+        Err(refusal) => number(refusal) as u32,
     }
 }
 
@@ -114,7 +114,7 @@ pub fn rinchovek_bc7_replace_line(block: &mut [u8; 16], line: u32, replacement: 
             *block = after;
             0
         }
-        Err(refusal) => refusal.number() as u32,
+        Err(refusal) => number(refusal) as u32,
     }
 }
 
@@ -133,7 +133,7 @@ pub fn rinchovek_bc7_nearest_index(
             *index = nearest as u32;
             0
         }
-        Err(refusal) => refusal.number() as u32,
+        Err(refusal) => number(refusal) as u32,
     }
 }
 
@@ -152,7 +152,7 @@ pub fn rinchovek_bc7_exact_index(
             *index = hit as u32;
             0
         }
-        Err(refusal) => refusal.number() as u32,
+        Err(refusal) => number(refusal) as u32,
     }
 }
 
@@ -175,7 +175,7 @@ pub fn rinchovek_bc7_pixel(block: &[u8; 16], pixel: u32, rgba: &mut [u8; 4]) -> 
             *rgba = channels;
             0
         }
-        Err(refusal) => refusal.number() as u32,
+        Err(refusal) => number(refusal) as u32,
     }
 }
 
@@ -198,7 +198,7 @@ pub fn rinchovek_sheet_open(sheet: &[u8], numbers: &mut [u32; 8]) -> u32
             ];
             0
         }
-        Err(refusal) => refusal.number() as u32,
+        Err(refusal) => number(refusal) as u32,
     }
 }
 
@@ -212,7 +212,7 @@ pub fn rinchovek_sheet_read_head(sheet: &[u8], head: &mut [u32; 3]) -> u32
             *head = [read.width, read.height, read.start];
             0
         }
-        Err(refusal) => refusal.number() as u32,
+        Err(refusal) => number(refusal) as u32,
     }
 }
 
@@ -230,7 +230,7 @@ pub fn rinchovek_sheet_read_colour_head(sheet: &[u8], head: &mut [u32; 4]) -> u3
             ];
             0
         }
-        Err(refusal) => refusal.number() as u32,
+        Err(refusal) => number(refusal) as u32,
     }
 }
 
@@ -250,7 +250,7 @@ pub fn rinchovek_sheet_write_head(
             *count = written.count as u32;
             0
         }
-        Err(refusal) => refusal.number() as u32,
+        Err(refusal) => number(refusal) as u32,
     }
 }
 
@@ -264,14 +264,14 @@ pub fn rinchovek_sheet_decode_row(
 ) -> u32
     ensures { DecodesRow width height row blocks.now out.old result out.new }
 {
-    number_of_answer(decode_row(width, height, row, blocks, out)) as u32
+    number_or_0(decode_row(width, height, row, blocks, out)) as u32
 }
 
 // One row of blocks of a whole sheet, of either form, as scanlines.
 pub fn rinchovek_sheet_show_row(sheet: &[u8], row: u32, out: &mut [u8]) -> u32
     ensures { ShowsRow sheet.now row out.old result out.new }
 {
-    number_of_answer(decode_sheet_row(sheet, row, out)) as u32
+    number_or_0(decode_sheet_row(sheet, row, out)) as u32
 }
 
 // A block of a sheet of either form, by its number.
@@ -283,7 +283,7 @@ pub fn rinchovek_sheet_block(sheet: &[u8], block: u32, bytes: &mut [u8; 16]) -> 
             *bytes = stored;
             0
         }
-        Err(refusal) => refusal.number() as u32,
+        Err(refusal) => number(refusal) as u32,
     }
 }
 
@@ -291,20 +291,20 @@ pub fn rinchovek_sheet_block(sheet: &[u8], block: u32, bytes: &mut [u8; 16]) -> 
 pub fn rinchovek_sheet_to_tiles(sheet: &[u8], out: &mut [u8]) -> u32
     ensures { MovesToTiles sheet.now out.old result out.new }
 {
-    number_of_answer(to_tiles(sheet, out)) as u32
+    number_or_0(to_tiles(sheet, out)) as u32
 }
 
 pub fn rinchovek_sheet_to_rows(sheet: &[u8], out: &mut [u8]) -> u32
     ensures { MovesToRows sheet.now out.old result out.new }
 {
-    number_of_answer(to_rows(sheet, out)) as u32
+    number_or_0(to_rows(sheet, out)) as u32
 }
 
 // The colour space of a sheet of form 2, stated by its number: one byte of the head, and no other.
 pub fn rinchovek_sheet_state_colour(sheet: &mut [u8], colour_space: u32) -> u32
     ensures { StatesColour sheet.old colour_space result sheet.new }
 {
-    number_of_answer(state_colour(sheet, colour_space)) as u32
+    number_or_0(state_colour(sheet, colour_space)) as u32
 }
 
 // A line of one block replaced in a sheet; no byte of another block changes.
@@ -316,7 +316,7 @@ pub fn rinchovek_sheet_replace_line(
 ) -> u32
     ensures { ReplacesIn sheet.old block line replacement.now result sheet.new }
 {
-    number_of_answer(replace_in_sheet(sheet, block, line, replacement_of(*replacement))) as u32
+    number_or_0(replace_in_sheet(sheet, block, line, replacement_of(*replacement))) as u32
 }
 
 // A DDS file as a sheet.
@@ -325,7 +325,7 @@ pub fn rinchovek_dds_import(dds: &[u8], sheet: &mut [u8]) -> u32
 {
     match import_dds(dds, sheet) {
         Ok(_) => 0,
-        Err(refusal) => refusal.number() as u32,
+        Err(refusal) => number(refusal) as u32,
     }
 }
 
@@ -343,7 +343,7 @@ pub fn rinchovek_dds_import_colour(dds: &[u8], sheet: &mut [u8], head: &mut [u32
             ];
             0
         }
-        Err(refusal) => refusal.number() as u32,
+        Err(refusal) => number(refusal) as u32,
     }
 }
 
@@ -351,14 +351,14 @@ pub fn rinchovek_dds_import_colour(dds: &[u8], sheet: &mut [u8], head: &mut [u32
 pub fn rinchovek_dds_export(sheet: &[u8], dds: &mut [u8]) -> u32
     ensures { ExportsDds sheet.now dds.old result dds.new }
 {
-    number_of_answer(export_dds(sheet, ColourSpace::Unspecified, dds)) as u32
+    number_or_0(export_dds(sheet, ColourSpace::Unspecified, dds)) as u32
 }
 
 // A sheet as a DDS file, under the number of a colour space.
 pub fn rinchovek_dds_export_colour(sheet: &[u8], colour_space: u32, dds: &mut [u8]) -> u32
     ensures { ExportsColour sheet.now colour_space dds.old result dds.new }
 {
-    number_of_answer(export_numbered(sheet, colour_space, dds)) as u32
+    number_or_0(export_numbered(sheet, colour_space, dds)) as u32
 }
 
 // The length of the sheet that a DDS file makes.
@@ -370,7 +370,7 @@ pub fn rinchovek_dds_import_length(dds: &[u8], length: &mut u32) -> u32
             *length = needed;
             0
         }
-        Err(refusal) => refusal.number() as u32,
+        Err(refusal) => number(refusal) as u32,
     }
 }
 
@@ -383,7 +383,7 @@ pub fn rinchovek_dds_export_length(sheet: &[u8], length: &mut u32) -> u32
             *length = needed;
             0
         }
-        Err(refusal) => refusal.number() as u32,
+        Err(refusal) => number(refusal) as u32,
     }
 }
 
@@ -424,7 +424,7 @@ pub fn rinchovek_sheet_count(sheet: &[u8], counts: &mut [u32; 10]) -> u32
             *counts = ten_of(found);
             0
         }
-        Err(refusal) => refusal.number() as u32,
+        Err(refusal) => number(refusal) as u32,
     }
 }
 
@@ -446,7 +446,7 @@ pub fn rinchovek_sheet_replace_line_counted(
             *counts = ten_of(left);
             0
         }
-        Err(refusal) => refusal.number() as u32,
+        Err(refusal) => number(refusal) as u32,
     }
 }
 
@@ -466,7 +466,7 @@ pub fn rinchovek_sheet_replace_block_counted(
             *counts = ten_of(left);
             0
         }
-        Err(refusal) => refusal.number() as u32,
+        Err(refusal) => number(refusal) as u32,
     }
 }
 
@@ -487,7 +487,7 @@ pub fn rinchovek_float_channel(bits: u32, channel: &mut u32) -> u32
             *channel = found as u32;
             0
         }
-        Err(refusal) => refusal.number() as u32,
+        Err(refusal) => number(refusal) as u32,
     }
 }
 
@@ -495,5 +495,5 @@ pub fn rinchovek_float_channel(bits: u32, channel: &mut u32) -> u32
 pub fn rinchovek_row_floats(pixels: &[u8], floats: &mut [f32]) -> u32
     ensures { FloatsRow pixels.now floats.old result floats.new }
 {
-    number_of_answer(row_floats(pixels, floats)) as u32
+    number_or_0(row_floats(pixels, floats)) as u32
 }
