@@ -4,10 +4,8 @@ use mathlib.Core.Path.{◌≡◌, refl, sym, ap, ap₂, ◌∙◌, subst}
 use mathlib.Core.Logic.{◌≢◌}
 use mathlib.Core.List.{List, [], ◌∷◌}
 use Prim.Native.Nat.{ℕ, zero, suc, ◌+◌, ◌-◌, ◌*◌, ◌/◌, ◌%◌, ◌^◌, ◌<◌}
-use native.Mathlib.Nat.{mod-lt}
 use native.Mathlib.Omega.{arith}
-use lib.Arith.{digits_lt}
-use lib.Pow.{pow-add, pow_pos, shl_exact, shr_lt, shr-shr}
+use lib.Pow.{shl_exact, shr_lt, shr-shr}
 use Rattle.laws.specs.Digits.{Fit, inserted, join, removed, split, total}
 use Rattle.laws.proofs.Digits.{join_lt, join_split, split_join}
 use Rattle.laws.proofs.Masks.{removed_inserted}
@@ -26,12 +24,6 @@ remove_machine n p hp hn =
     ap₂ (λ (x y : ℕ). x + n % y)
     (ap (λ (x : ℕ). (x * 2 ^ p) % 2 ^ 64) (shr-shr n p 1) ∙ shl_exact (63 - p) p 64 (above_lt n p hp hn) (omega arith))
     (one_shl p hp)
-
-pub removed_lt : (n p : ℕ) → p < 64 → n < 2 ^ 64 → removed n p < 2 ^ 63
-unfolding removed
-removed_lt n p hp hn =
-    let e : 63 - p + p ≡ 63 = omega arith in
-    rw (← (pow-add 2 (63 - p) p), e) at (digits_lt (above_lt n p hp hn) (mod-lt n (pow_pos p)))
 
 -- the kinds that have pixel 0 alone
 pub no_fixups : (k p q : ℕ) → k ≢ 1 → k ≢ 2 → anchors_with k p q ≡ 0 ∷ []

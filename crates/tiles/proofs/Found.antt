@@ -7,17 +7,13 @@ use native.Mathlib.Omega.{arith}
 use Rattle.tile_rules.specs.Computed.{cell_at, column_in_tile, left, number_from, row_in_tile}
 use Rattle.tile_rules.specs.Tiles.{column_of_slot, most_across, number_in_tiles, row_of_slot, tile_blocks}
 use Rattle.tile_rules.proofs.Cells.{cut_in, cut_rest, number_is, whole_column, whole_row}
-use Rattle.tile_rules.proofs.InTile.{column_lt, row_lt}
 use Rattle.tiles.specs.Parts.{CellFound, Numbered, SpotFound}
 use Rattle.tile_rules.specs.declared.Cell.{Cell}
-use Rattle.tiles.proofs.Sizes.{columns_pos, few}
+use Rattle.tiles.proofs.Sizes.{columns_pos}
 
 module _ {s w h m : ℕ} (hs : 0 < s) (h8 : s ≤ 8) (i : Numbered w h m) where
   pub line_fits_is : s * w ≤ 8 * most_across
   line_fits_is = mul-le-mul {n₁ = s} {m₁ = w} {n₂ = 8} {m₂ = most_across} h8 i.wide
-
-  pub line_pos : 0 < s * w
-  line_pos = mul-pos hs (columns_pos i)
 
   pub y_in : s * (m / (s * w)) < h
   y_in = cut_in s h w m hs (columns_pos i) i.number
@@ -28,9 +24,6 @@ module _ {s w h m : ℕ} (hs : 0 < s) (h8 : s ≤ 8) (i : Numbered w h m) where
 
     pub column_pos : 0 < s * t
     column_pos = mul-pos hs t_pos
-
-    pub column_fits : s * t ≤ tile_blocks
-    column_fits = mul-le-mul {n₁ = s} {m₁ = t} {n₂ = 8} {m₂ = 8} h8 (omega arith)
 
     past : m % (s * w) < w * t
     past = subst (λ (n : ℕ). m % (s * w) < n) (ap (λ (n : ℕ). n * w) (sym e) ∙ mul_comm t w) (cut_rest s h w m hs (columns_pos i) i.number)
@@ -70,9 +63,6 @@ module _ {c r p : ℕ} {a : Cell} (i : Numbered c r p) (f : CellFound 8 c r p a)
   unfolding number_from
   number_sum ex ey = rw (ex, ey, f.is) (sym (number_is c r p (columns_pos i) i.number))
 
-  pub lines_fit : {y : ℕ} → y < 8 → (8 * a.y + y) * c ≤ most_across * most_across
-  lines_fit {y} l = few (8 * a.y + y) c (omega (arith, f.rows, i.high)) i.wide
-
   module _ (ew : a.w ≡ 8) (eh : a.h ≡ 8) where
     pub rest_small : a.rest < tile_blocks
     rest_small = subst (λ (n : ℕ). a.rest < n) (ap₂ (λ (x y : ℕ). x * y) eh ew) f.number
@@ -81,10 +71,3 @@ module _ {c r p : ℕ} {a : Cell} (i : Numbered c r p) (f : CellFound 8 c r p a)
     number_whole ex ey =
         number_sum (ex ∙ sym (whole_column a.rest rest_small) ∙ ap₂ (λ (u v : ℕ). column_in_tile u v a.rest) (sym ew) (sym eh))
         (ey ∙ sym (whole_row a.rest rest_small) ∙ ap₂ (λ (u v : ℕ). row_in_tile u v a.rest) (sym ew) (sym eh))
-
--- a row and a column of a tile are small
-pub row_small : (p : ℕ) {y : ℕ} → y ≡ row_of_slot p → y < 8
-row_small p e = omega (arith, row_lt p)
-
-pub column_small : (p : ℕ) {x : ℕ} → x ≡ column_of_slot p → x < 8
-column_small p e = omega (arith, column_lt p)

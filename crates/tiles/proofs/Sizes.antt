@@ -7,7 +7,6 @@ use native.Mathlib.Omega.{arith}
 use Rattle.tile_rules.specs.Computed.{ahead, left, order_at, order_in_tile}
 use Rattle.tile_rules.specs.Tiles.{most_across, slot_in, stored_in_tiles, tile_blocks}
 use Rattle.tile_rules.proofs.Cells.{ahead_lt, whole_interleaved}
-use Rattle.tile_rules.proofs.InTile.{slot_small}
 use Rattle.tile_rules.proofs.Theorems.{has_columns}
 use Rattle.tile_rules.proofs.Tiling.{order_within, stored_is}
 use Rattle.tiles.specs.Parts.{Below, InTile, Inside, Numbered}
@@ -18,9 +17,6 @@ few a b ha hb = mul-le-mul {n₁ = a} {m₁ = b} {n₂ = most_across} {m₂ = mo
 
 pub of_tile : {w h n : ℕ} → w ≤ 8 → h ≤ 8 → n < h * w → n < tile_blocks
 of_tile {w} {h} hw hh l = omega (arith, mul-le-mul {n₁ = h} {m₁ = w} {n₂ = 8} {m₂ = 8} hh hw)
-
-pub of_slot : (x y : ℕ) {n : ℕ} → n ≡ slot_in x y → n < tile_blocks
-of_slot x y e = rw e (slot_small x y)
 
 module _ (c r b : ℕ) (h : b < r * c) where
   pub in_column : b % c < c
@@ -46,9 +42,6 @@ module _ (s w h x y : ℕ) (i : Inside s w h x y) where
 last_four_is : (n y w x h : ℕ) → y < h → n + y * w + x ≡ n + (1 * y * w + 1 * x * left 1 h y)
 last_four_is n y w x h inside = let one : left 1 h y ≡ 1 = omega arith in rw one (omega arith)
 
-pub last_fits : (y w d n : ℕ) → n ≡ left 2 w d → y % 2 * n ≤ 2
-last_fits y w d n e = mul-le-mul {n₁ = y % 2} {m₁ = n} {n₂ = 1} {m₂ = 2} (omega arith) (omega arith)
-
 module _ (w h x y : ℕ) (i : InTile w h x y) {w4 h4 w2 p q : ℕ} where
   pub tile_sum : w4 ≡ left 4 w (x / 4 % 2) → h4 ≡ left 4 h (y / 4 % 2) → w2 ≡ left 2 w4 (x / 2 % 2) → p ≡ ahead 4 w h (x / 4 % 2) (y / 4 % 2)
       → q ≡ ahead 2 w4 h4 (x / 2 % 2) (y / 2 % 2) → Below tile_blocks (p + q + y % 2 * w2 + x % 2) (order_in_tile w h x y)
@@ -65,24 +58,6 @@ module _ (w h x y : ℕ) (i : InTile w h x y) {w4 h4 w2 p q : ℕ} where
 module _ {c r b : ℕ} (i : Numbered c r b) where
   pub columns_pos : 0 < c
   columns_pos = has_columns c r b i.number
-
-  pub block_inside : Inside 8 c r (b % c / 8) (b / c / 8)
-  block_inside = record {
-    side = omega arith;
-    columns = omega (arith, in_column c r b i.number);
-    rows = omega (arith, in_row c r b i.number);
-    wide = i.wide;
-    high = i.high;
-  }
-
-  pub of_sheet : {n : ℕ} → n < r * c → n < most_across * most_across
-  of_sheet l = omega (arith, few r c i.high i.wide)
-
-  pub column_inside : b % c % 8 < left 8 c (b % c / 8)
-  column_inside = omega (arith, in_column c r b i.number)
-
-  pub row_inside : b / c % 8 < left 8 r (b / c / 8)
-  row_inside = omega (arith, in_row c r b i.number)
 
   module _ {n u v : ℕ} (e : n ≡ ahead 8 c r (b % c / 8) (b / c / 8)) (eu : u ≡ left 8 c (b % c / 8)) (ev : v ≡ left 8 r (b / c / 8)) {z : ℕ} where
     pub stored_sum : z ≡ order_in_tile u v (b % c % 8) (b / c % 8) → n + z ≡ stored_in_tiles c r b

@@ -9,7 +9,7 @@ use native.Mathlib.Omega.{arith}
 use lib.Dec.{eqb, ltb}
 use lib.ListN.{get_or, replicate, get_or-append}
 use lib.Seq.{get_or-append-add}
-use lib.Pow.{high, low, pow_mono, pow_pos}
+use lib.Pow.{high, low}
 use lib.Bits.{bit_and}
 use Rattle.bits.specs.declared.stream.BitStream.{BitStream}
 use Rattle.laws.specs.Digits.{Fit, join, split}
@@ -23,10 +23,6 @@ use Rattle.laws.proofs.Scan.{below_add, scan_same}
 use Rattle.bcn_format.specs.Block.{eights, number}
 use Rattle.bits.specs.Stream.{held}
 use Rattle.laws.proofs.Words.{one_shl}
-
--- two endpoints of four bytes, of which red, green and blue have one width and alpha another
-pub byte_power : (w : ℕ) → w ≤ 8 → ((1 * 2 ^ w) % 2 ^ 64 ≤ 256) × (1 ≤ (1 * 2 ^ w) % 2 ^ 64)
-byte_power w h = rw (one_shl w (omega arith)) (pow_mono {i = w} {j = 8} h, pow_pos w)
 
 module _ (c a : ℕ) (hc : c ≤ 8) (ha : a ≤ 8) where
   abbrev of_pair : ℕ → ℕ
