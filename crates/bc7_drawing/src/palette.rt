@@ -93,6 +93,7 @@ fn weights_at(weights: u64, i: usize) -> u64
 
 // Sixteen pixels by indexes of four bits. There are as many weights as pixels, so a palette would spare nothing: each pixel is
 // mixed at its own weight, two at a time. Even pixel 2 * i is place i of its weights, and place i + 4 is pixel 2 * i + 8.
+// Tried `array::from_fn` over the pixels: 645 instructions for 228, since each pair is then mixed twice.
 pub fn mix_16(e: Ends, x: u64) -> [[u8; 4]; 16]
     requires { Alone e }
     ensures { result ≡ table 16 (λ q. between 4 (endpoint e 0 0) (endpoint e 0 1) (part x 4 q)) }
