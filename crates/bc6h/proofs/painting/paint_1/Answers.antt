@@ -1,13 +1,13 @@
 -- Sixteen pixels by their indexes.
 -- Assumes nothing.
-use Rattle.std.proofs.Common.{refl, ap, ◌∙◌, arith}
+use Rattle.std.proofs.Common.{ap, ◌∙◌, arith, rules}
 use Rattle.bcn_format.proofs.Making.{made_all, made_next, made_none}
 use Rattle.bcn_format.specs.Block.{field}
 use Rattle.bc6h.specs.Painting.{painted_by, pixel_at}
 use Rattle.bc6h.proofs.painting.paint_1.Goals as goal
 
 pub loop-i-init : goal.loop-i-init
-loop-i-init c = made_none refl
+loop-i-init c = made_none (search rules)
 
 pub key_of-a-requires : goal.key_of-a-requires
 key_of-a-requires c = record { place = omega arith; inside = omega arith; some = omega arith }
