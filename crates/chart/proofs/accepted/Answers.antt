@@ -11,10 +11,6 @@ use Rattle.std.specs.Prelude.{None}
 use Rattle.chart.proofs.Answers.{answered, of_mode_is}
 use Rattle.chart.proofs.accepted.Goals as goal
 
-pub read_lead-lead-requires : goal.read_lead-lead-requires
-read_lead-lead-requires c =
-    record { mode_is = c.requires.is; low = c.requires.low; mode_row_is = c.mode_row-row.ensures }
-
 pub put_places-length-requires : goal.put_places-length-requires
 put_places-length-requires c =
     let size : length c.args.block ≡ 16 = search rules in

@@ -12,9 +12,6 @@ anchors_of-anchors-requires c = few _ _ c.requires.of_mode_is
 pub loop-number-init : goal.loop-number-init
 loop-number-init c = λ t o e. walked_none _ t _
 
-pub width_of-width-requires : goal.width_of-width-requires
-width_of-width-requires c = c.requires.mode_row_holds
-
 pub put_field-at-requires : goal.put_field-at-requires
 put_field-at-requires c =
     let w = c.loop-number.invariant c.args.split c.requires.of_mode_is c.anchors_of-anchors.ensures in
@@ -38,19 +35,10 @@ overflow_add-bit c =
       next_low _ _ _ c.requires.of_mode_is (omega arith) w c.anchors_of-anchors.ensures c.place_at-place.ensures c.width_of-width.ensures,
     )
 
-pub overflow_step-number : goal.overflow_step-number
-overflow_step-number c = omega arith
-
-pub loop-number-smaller : goal.loop-number-smaller
-loop-number-smaller c = omega arith
-
 pub loop-number-preserved : goal.loop-number-preserved
 loop-number-preserved c =
     λ t o e. walked_more _ t _ o (omega arith) (c.loop-number.invariant t o e) e c.place_at-place.ensures c.width_of-width.ensures
     c.put_field-at.ensures
-
-pub shape_of-out : goal.shape_of-out
-shape_of-out c = written_long (c.loop-number.invariant c.args.split c.requires.of_mode_is c.anchors_of-anchors.ensures).text
 
 pub returns : goal.returns
 returns c =

@@ -9,7 +9,7 @@ use lib.ListN.{length, get_or}
 use Rattle.laws.specs.Digits.{Fit}
 use Rattle.bcn_format.specs.Block.{eights}
 use Rattle.bc7_format.proofs.Subsets.{sixteen_bytes}
-use Rattle.line.proofs.Opening.{asks, is_opened}
+use Rattle.line.proofs.Opening.{asks}
 use Rattle.line.proofs.open_line.Goals as goal
 use Rattle.line.proofs.open_line.Goals.{Start}
 
@@ -22,15 +22,7 @@ byte s i = search rules
 sixteen : (s : Start) → Fit eights s.args.block
 sixteen s = sixteen_bytes _ (size s) (λ i l. (byte s i).fits)
 
-pub read_lead-lead-requires : goal.read_lead-lead-requires
-read_lead-lead-requires c = c.requires.of_block
-
 pub line_part-requires : goal.line_part-requires
 line_part-requires c =
     let s = c.before.before in
     asks s.args.block s.requires c.read_lead-lead.ensures (sixteen s)
-
-pub returns : goal.returns
-returns c =
-    let lead = c in
-    is_opened lead.args.block lead.requires lead.read_lead-lead.ensures c.line_part.ensures

@@ -4,23 +4,11 @@ use mathlib.Core.Path.{◌∙◌}
 use borrow.Author.Rules.{rules}
 use lib.Dec.{lit<}
 use Rattle.nearest.specs.Trying.{end_in}
-use Rattle.nearest.proofs.Channels.{first_at, first_end, no_width, some_width}
+use Rattle.nearest.proofs.Channels.{first_end, no_width, some_width}
 use Rattle.nearest.proofs.channel_of.Goals as goal
 
 pub returns-then-width-eq0 : goal.returns-then-width-eq0
 returns-then-width-eq0 c = record { is = no_width _ _ _ _ c.if-width-eq0.true; byte = tt }
-
-pub eight-requires : goal.eight-requires
-eight-requires c =
-    let e = c in
-    let s = e in
-    let first = first_at s.args.read.line s.args.channel in
-    record {
-      least = s.requires.least e.if-width-eq0.false;
-      most = s.requires.most e.if-width-eq0.false;
-      value = rw first (s.requires.value 0 (lit< tt));
-      p = s.requires.p 0 (lit< tt);
-    }
 
 pub eight-requires-2 : goal.eight-requires-2
 eight-requires-2 c =

@@ -15,10 +15,6 @@ top c = shifted c.args.bits c.args.value (8 - c.args.bits) (omega arith) c.requi
 byte : (c : Start) → promoted c.args.bits c.args.value < 256
 byte c = promoted_lt c.args.bits c.args.value c.requires.most c.requires.value
 
-pub overflow_add-result : goal.overflow_add-result
-unfolding promoted
-overflow_add-result c = rw (top c) (let h = byte c in omega arith)
-
 pub returns : goal.returns
 unfolding promoted
 returns c = rw (top c) (record { is = refl; low = byte c })

@@ -6,9 +6,6 @@ use Rattle.bits.specs.Stream.{held}
 use Rattle.line.proofs.fields.Halves.{in_high, in_low, read_at}
 use Rattle.line.proofs.fields.put.Goals as goal
 
-pub take-old-requires : goal.take-old-requires
-take-old-requires c = record { narrow = c.requires.width; inside = rw c.standing_at.ensures c.requires.room }
-
 pub exchanged-requires : goal.exchanged-requires
 exchanged-requires c =
     let s = c in

@@ -3,7 +3,6 @@
 use mathlib.Core.Path.{◌≡◌, ap, ap₂, ◌∙◌}
 use mathlib.Core.List.{[]}
 use Prim.Native.Nat.{ℕ}
-use lib.Bits.{and_le_l}
 use Rattle.laws.specs.Digits.{join, replaced_at, split}
 use Rattle.bits.specs.Stream.{held}
 use Rattle.bcn_format.specs.Indexes.{index_widths}
@@ -20,18 +19,6 @@ before : (c : After-read_indexes-set)
 before c =
     let s = c in before_is s.args.s s.args.kind s.args.at s.args.part s.args.mask s.args.new
     c.standing_at.ensures c.read_indexes-set.ensures
-
-pub read_indexes-set-requires : goal.read_indexes-set-requires
-read_indexes-set-requires c =
-    let s = c in
-    record {
-      width = s.requires.width;
-      rising = s.requires.rising;
-      inside = rw c.standing_at.ensures s.requires.room;
-    }
-
-pub overflow_sub-after : goal.overflow_sub-after
-overflow_sub-after c = and_le_l _ _
 
 pub overflow_add-after : goal.overflow_add-after
 overflow_add-after c =

@@ -6,27 +6,6 @@ use Rattle.line.specs.Fields.{endpoints_put, line_put, values_put}
 use Rattle.line.proofs.fields.put_line.Goals as goal
 use Rattle.line.proofs.fields.put_line.Goals.{After-put_p-bits}
 
-pub put_two-red-requires : goal.put_two-red-requires
-put_two-red-requires c =
-    rw c.fields_of-fields.ensures c.requires.red
-
-pub put_two-green-requires : goal.put_two-green-requires
-put_two-green-requires c =
-    rw c.fields_of-fields.ensures c.requires.green
-
-pub put_two-blue-requires : goal.put_two-blue-requires
-put_two-blue-requires c =
-    rw c.fields_of-fields.ensures c.requires.blue
-
-pub put_two-alpha-requires : goal.put_two-alpha-requires
-put_two-alpha-requires c =
-    rw c.fields_of-fields.ensures c.requires.alpha
-
-pub put_p-bits-requires : goal.put_p-bits-requires
-put_p-bits-requires c =
-    let fields = c in
-    rw fields.fields_of-fields.ensures fields.requires.p
-
 -- what is put before the indexes
 values : (c : After-put_p-bits)
     → held c.put_p-bits.result

@@ -1,16 +1,8 @@
 -- `fields::put_two` meets its contract.
 -- Assumes nothing.
 use native.Mathlib.Omega.{arith}
-use Rattle.line.proofs.fields.Halves.{pair_fits, pair_is, pair_lt}
+use Rattle.line.proofs.fields.Halves.{pair_is, pair_lt}
 use Rattle.line.proofs.fields.put_two.Goals as goal
-
-pub overflow_add-wide : goal.overflow_add-wide
-overflow_add-wide c =
-    let s = c in
-    record {
-      fits = rw (pair_is s.args.width s.args.a s.args.b s.requires.width s.requires.second c.wide.ensures c.wide-2.ensures)
-          (pair_fits s.args.width s.args.a s.args.b s.requires.width s.requires.first s.requires.second);
-    }
 
 pub put-requires : goal.put-requires
 put-requires c =
@@ -23,10 +15,3 @@ put-requires c =
           rw (pair_is s.args.width s.args.a s.args.b s.requires.width s.requires.second c.wide.ensures c.wide-2.ensures)
           (pair_lt s.args.width s.args.a s.args.b s.requires.first s.requires.second);
     }
-
-pub returns : goal.returns
-returns c =
-    let s = c in
-    rw (pair_is s.args.width s.args.a s.args.b s.requires.width s.requires.second c.wide.ensures
-    c.wide-2.ensures) at
-    c.put.ensures

@@ -5,15 +5,6 @@ use Rattle.line.proofs.fields.Sets.{before_is}
 use Rattle.line.specs.Reading.{set_at}
 use Rattle.line.proofs.reading.set_at.Goals as goal
 
-pub read_indexes-set-requires : goal.read_indexes-set-requires
-read_indexes-set-requires c =
-    let s = c in
-    record {
-      width = s.requires.width;
-      rising = s.requires.rising;
-      inside = rw c.standing_at.ensures s.requires.room;
-    }
-
 pub returns : goal.returns
 unfolding set_at
 returns c =

@@ -2,24 +2,12 @@
 -- Assumes nothing.
 use mathlib.Core.Path.{◌≡◌}
 use Prim.Native.Nat.{◌+◌, ◌*◌}
-use native.Mathlib.Nat.{lt_of_lt_of_le, mod-lt}
+use native.Mathlib.Nat.{lt_of_lt_of_le}
 use native.Mathlib.Omega.{arith}
-use lib.Pow.{pow_mono, pow_pos, shr_lt}
+use lib.Pow.{pow_mono, shr_lt}
 use Rattle.laws.proofs.Words.{one_shl}
 use Rattle.line.proofs.fields.Halves.{first_of, second_of}
 use Rattle.line.proofs.reading.two_at.Goals as goal
-
-pub take-values-requires : goal.take-values-requires
-take-values-requires c = record { narrow = omega arith; inside = rw c.standing_at.ensures (omega arith) }
-
-pub nonzero_rem-result : goal.nonzero_rem-result
-nonzero_rem-result c = let w = c.args.width in rw (one_shl w (omega arith)) (pow_pos w)
-
-pub overflow_cast-result-2 : goal.overflow_cast-result-2
-overflow_cast-result-2 c =
-    let s = c in
-    let w = s.args.width in
-    record { fits = rw (one_shl w (omega arith)) (lt_of_lt_of_le (mod-lt _ (pow_pos w)) (pow_mono {j = 8} s.requires.width)) }
 
 pub overflow_cast-result-4 : goal.overflow_cast-result-4
 overflow_cast-result-4 c =
