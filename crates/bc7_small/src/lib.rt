@@ -3,36 +3,37 @@
 
 #![tactic(auto)]
 
+ghost use Rattle.refusals.specs.Answers.{number_of};
 ghost use Rattle.profile_rules.specs.Small.{DecodesSmall};
 
 use bc7_modes::mode_of;
 use bc7_unpartitioned::{mode_4, mode_5, mode_6};
 use bits::stream::BitStream;
-use refusals::PROFILE_BLOCK;
+use refusals::Refusal;
 
-// The sixteen pixels of a block that the profile admits, and 0; of any other sixteen times 0 0 0 0, and 20. They are written here and not
+// The sixteen pixels of a block that the profile admits; of any other sixteen times 0 0 0 0, and 20. They are written here and not
 // answered, for then a call takes fewer instructions than one of the main decoder.
-pub fn decode_small(block: [u8; 16], out: &mut [[u8; 4]; 16]) -> u8
-    ensures { DecodesSmall block result out.new }
+pub fn decode_small(block: [u8; 16], out: &mut [[u8; 4]; 16]) -> Result<(), Refusal>
+    ensures { DecodesSmall block (number_of result) out.new }
 {
     let stream = BitStream::new(block);
     let mode = mode_of(block);
     match mode {
         4 => {
             *out = mode_4(stream.skip(5));
-            return 0;
+            Ok(())
         }
         5 => {
             *out = mode_5(stream.skip(6));
-            return 0;
+            Ok(())
         }
         6 => {
             *out = mode_6(stream.skip(7));
-            return 0;
+            Ok(())
         }
         _ => {
             *out = [[0u8; 4]; 16];
-            return PROFILE_BLOCK;
+            Err(Refusal::ProfileBlock)
         }
     }
 }
