@@ -7,15 +7,15 @@
 ghost use Rattle.head_rules.specs.Answers.{known};
 ghost use Rattle.std.specs.Prelude.{◌≡◌, length};
 ghost use Rattle.refusals.specs.Answers.{number_of};
-ghost use Rattle.profile_rules.specs.Profile.{ChecksProfile, admits, first_breaking, sides_refusal};
+ghost use Rattle.profile_rules.specs.Profile.{BlockNamed, ChecksProfile, admits, check_answered, first_breaking, sides_refusal};
 ghost use Rattle.profile_rules.specs.Small.{row_admits};
 ghost use Rattle.profile.specs.Looking.{RowThere, SheetThere, StoredThere, lowest_with};
 
 use bc7_modes::mode_of;
 use block_bytes::load;
 use head_rules::Head;
-use profile_rules::Checked;
-use refusals::{PROFILE_BLOCK, Refusal, number_of};
+use profile_rules::Breach;
+use refusals::Refusal;
 use sheet_head::geometry::{blocks_across, blocks_of, number_at, place_of};
 use sheet_head::read_whole;
 
@@ -77,33 +77,22 @@ fn first_breaking(head: Head, sheet: &[u8]) -> u32
     lowest
 }
 
-// Does a sheet keep the profile? The head's refusals, 10, 17 for the size, then 20 with the number of the first block that breaks it.
-pub fn check_profile(sheet: &[u8]) -> Checked
-    ensures { ChecksProfile sheet.now result }
+// Does a sheet keep the profile? The head's refusals, 10, 17 for the size, then the first block that breaks it.
+pub fn check_profile(sheet: &[u8]) -> Result<(), Breach>
+    ensures answer { ChecksProfile sheet.now (check_answered result) }
+    ensures named { BlockNamed result }
 {
     let head = match read_whole(sheet) {
         Ok(head) => head,
-        Err(refusal) => return Checked {
-            refusal: refusal.number(),
-            block: 0,
-        },
+        Err(refusal) => return Err(Breach::Refused(refusal)),
     };
-    let sides = number_of(check_sides(head));
-    if sides != 0 {
-        return Checked {
-            refusal: sides,
-            block: 0,
-        };
+    match check_sides(head) {
+        Ok(()) => {}
+        Err(refusal) => return Err(Breach::Refused(refusal)),
     }
     let first = first_breaking(head, sheet);
     if first < blocks_of(head) {
-        return Checked {
-            refusal: PROFILE_BLOCK,
-            block: first,
-        };
+        return Err(Breach::Block(first));
     }
-    Checked {
-        refusal: 0,
-        block: 0,
-    }
+    Ok(())
 }

@@ -5,7 +5,7 @@ use mathlib.Core.Path.{◌≡◌, refl}
 use mathlib.Core.List.{List, [], ◌∷◌, ◌++◌, map}
 use Prim.Native.Nat.{ℕ}
 use lib.ListN.{length, replicate, take}
-use Rattle.profile_rules.specs.declared.Checked.{Checked}
+use Rattle.profile_rules.specs.Profile.{Checked}
 use Rattle.laws.specs.Counting.{count, kept}
 use Rattle.laws.specs.Refusals.{first}
 use Rattle.laws.specs.Tables.{table, table_from}

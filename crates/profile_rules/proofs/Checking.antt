@@ -11,7 +11,7 @@ use lib.Dec.{eqb, ltb}
 use lib.ListN.{length}
 use Rattle.laws.specs.Refusals.{first, handed, refuse}
 use Rattle.laws.specs.Tables.{both}
-use Rattle.profile_rules.specs.declared.Checked.{Checked}
+use Rattle.profile_rules.specs.Profile.{Checked}
 use Rattle.laws.proofs.Cases.{pick_lt}
 use Rattle.laws.proofs.First.{first_here, first_last, first_skip}
 use Rattle.laws.proofs.Refusals.{Answers, Decided, answers, by_answer, by_not, by_test, none, rule, rules}
@@ -52,7 +52,7 @@ colour_below : (f : Form) (s : List ℕ) (at : ℕ) → (colour_behind f s at).r
 colour_below Rows s at = omega arith
 colour_below Tiles s at = number_below s at
 
-given_below : (b : Bool) (n : ℕ) → n < 20 → refuse n b < 20
+pub given_below : (b : Bool) (n : ℕ) → n < 20 → refuse n b < 20
 given_below b n l = pick_lt b n 0 20 l (omega arith)
 
 head_below : (s : List ℕ) → (read_head s).refusal < 20

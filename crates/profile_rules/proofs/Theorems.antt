@@ -11,7 +11,13 @@ use native.Mathlib.Omega.{arith}
 use borrow.Author.Tests.{eq-eqb, ne_eqb}
 use lib.Arith.{digits_lt}
 use lib.ListN.{get_or, length, replicate}
-use Rattle.profile_rules.specs.declared.Checked.{Checked}
+use Rattle.std.specs.Prelude.{Result, Ok, Err, ⊤}
+use Rattle.refusals.specs.declared.Refusal.{Refusal}
+use Rattle.refusals.specs.declared.Refusal.TheVariants.{ProfileBlock}
+use Rattle.refusals.proofs.Answers.{number_injective, number_not_0}
+use Rattle.profile_rules.specs.declared.Breach.{Breach}
+use Rattle.profile_rules.specs.declared.Breach.TheVariants.{Refused, Block}
+use Rattle.profile_rules.specs.Profile.{BlockNamed, Checked, check_answered}
 use Rattle.laws.specs.Refusals.{Given, Rule, accepted, handed, here, then, unless}
 use Rattle.laws.proofs.Cases.{lt_or}
 use Rattle.laws.proofs.Refusals.{accepted_when, alone, answer_0, by_not, decided_is, decided_so, exactly}
@@ -234,6 +240,22 @@ module _ (s : List ℕ) (row : ℕ) (out : List ℕ) where
 -- any two answers that a promise of check and decoder admits coincide
 pub determined_check_profile : (sheet : List ℕ) (a b : Checked) → ChecksProfile sheet a → ChecksProfile sheet b → a ≡ b
 determined_check_profile sheet a b p q = p ∙ sym q
+
+-- and any two results, where 20 is answered for a block alone
+pub check_fixes : (a b : Result ⊤ Breach) → BlockNamed a → BlockNamed b → check_answered a ≡ check_answered b → a ≡ b
+check_fixes (Ok u) (Ok v) m n e = refl
+check_fixes (Ok u) (Err (Refused q)) m n e = absurd (number_not_0 q (sym (ap (λ (x : Checked). x.refusal) e)))
+check_fixes (Ok u) (Err (Block c)) m n e = absurd (let z : ⊥ = omega (arith, ap (λ (x : Checked). x.refusal) e) in z)
+check_fixes (Err (Refused r)) (Ok v) m n e = absurd (number_not_0 r (ap (λ (x : Checked). x.refusal) e))
+check_fixes (Err (Refused r)) (Err (Refused q)) m n e = ap (λ (x : Refusal). Err (Refused x)) (number_injective (ap (λ (x : Checked). x.refusal) e))
+check_fixes (Err (Refused r)) (Err (Block c)) m n e = absurd (m (number_injective {r = r} {q = ProfileBlock} (ap (λ (x : Checked). x.refusal) e)))
+check_fixes (Err (Block b)) (Ok v) m n e = absurd (let z : ⊥ = omega (arith, ap (λ (x : Checked). x.refusal) e) in z)
+check_fixes (Err (Block b)) (Err (Refused q)) m n e = absurd (n (number_injective {r = q} {q = ProfileBlock} (sym (ap (λ (x : Checked). x.refusal) e))))
+check_fixes (Err (Block b)) (Err (Block c)) m n e = ap (λ (x : Checked). Err (Block x.block)) e
+
+pub determined_check : (sheet : List ℕ) (a b : Result ⊤ Breach) → ChecksProfile sheet (check_answered a) → BlockNamed a
+    → ChecksProfile sheet (check_answered b) → BlockNamed b → a ≡ b
+determined_check sheet a b p m q n = check_fixes a b m n (p ∙ sym q)
 
 pub determined_decode_small : (block : List ℕ) (a b : ℕ) (x y : List (List ℕ)) → DecodesSmall block a x → DecodesSmall block b y
     → (a ≡ b) × (x ≡ y)

@@ -1,7 +1,10 @@
 -- THE PROFILE OF THE HAND-HELD UNIT: blocks of the modes 4, 5 and 6, in sheets whose width and height are multiples of 4.
 -- Assumes nothing.
-use Rattle.std.specs.Prelude.{ℕ, zero, suc, ◌<◌, ◌%◌, ◌≡◌, ◌⊎◌, Bool, not, List, [], ◌∷◌, ◌++◌, eqb, leb, ltb}
-use Rattle.profile_rules.specs.declared.Checked.{Checked}
+use Rattle.std.specs.Prelude.{ℕ, zero, suc, ◌<◌, ◌%◌, ◌≡◌, ◌⊎◌, ◌≢◌, Bool, not, List, [], ◌∷◌, ◌++◌, Result, Ok, Err, ⊤, eqb, leb, ltb}
+use Rattle.refusals.specs.declared.Refusal.TheVariants.{ProfileBlock}
+use Rattle.refusals.specs.Answers.{number}
+use Rattle.profile_rules.specs.declared.Breach.{Breach}
+use Rattle.profile_rules.specs.declared.Breach.TheVariants.{Refused, Block}
 use Rattle.laws.specs.Refusals.{Rule, first, refuse, unless}
 use Rattle.laws.specs.Tables.{both, pick}
 use Rattle.bc7_format.specs.Modes.{mode_of}
@@ -44,6 +47,12 @@ first_breaking h s = lowest (blocks_of h) (breaks h s)
 unfoldable pub check_refusal : Head → List ℕ → ℕ
 check_refusal h s = first (whole_refusal h s ∷ sides_refusal h ∷ refuse 20 (ltb (first_breaking h s) (blocks_of h)) ∷ [])
 
+-- what is answered, as document 01 has it: a refusal number, 0 for none, and beside 20 the number of the first block that breaks the profile, beside
+-- every other answer 0
+pub record Checked : Type 0 where
+  pub refusal : ℕ
+  pub block : ℕ
+
 -- and beside 20 the number of the block, beside every other answer 0
 unfoldable pub checked : Head → List ℕ → Checked
 checked h s = record { refusal = check_refusal h s; block = pick (eqb (check_refusal h s) 20) (first_breaking h s) 0 }
@@ -70,3 +79,14 @@ pub record FirstBreaking (s : List ℕ) (b : ℕ) : Type 0 where
 -- what `check_profile` promises: its answer, whole
 abbrev pub ChecksProfile : List ℕ → Checked → Type 0
 ChecksProfile sheet answer = answer ≡ checked (read_head sheet) sheet
+
+-- what a result answers; 20 is answered for a block alone
+abbrev pub check_answered : Result ⊤ Breach → Checked
+check_answered (Ok u) = record { refusal = 0; block = 0 }
+check_answered (Err (Refused r)) = record { refusal = number r; block = 0 }
+check_answered (Err (Block b)) = record { refusal = 20; block = b }
+
+abbrev pub BlockNamed : Result ⊤ Breach → Type 0
+BlockNamed (Ok u) = ⊤
+BlockNamed (Err (Refused r)) = r ≢ ProfileBlock
+BlockNamed (Err (Block b)) = ⊤

@@ -3,9 +3,11 @@
 
 #![tactic(auto)]
 
-// What checking a sheet answers: a refusal number, 0 for none, and beside 20 the number of the first block that breaks the profile; else 0.
-#[derive(Clone, Copy)]
-pub struct Checked {
-    pub refusal: u8,
-    pub block: u32,
+use refusals::Refusal;
+
+// Why a sheet doesn't keep the profile: a refusal, or the number of the first block that breaks it, which is refused with 20.
+#[derive(Clone, Copy, PartialEq, Eq)]
+pub enum Breach {
+    Refused(Refusal),
+    Block(u32),
 }

@@ -229,14 +229,15 @@ unfolding import_after_up_to
 refused_dds_import_leaves dds before = refused_leaves _ _ before
 
 pub refused_dds_export_leaves : (sheet before : List ℕ) → Leaves before (ExportsDds sheet before)
-refused_dds_export_leaves sheet before answer after p ne = refused_export_leaves sheet Unspecified before answer after (p.answers, p.leaves) ne
+unfolding export_after
+refused_dds_export_leaves sheet before = refused_leaves _ _ before
 
 pub refused_dds_import_colour_leaves : (dds : List ℕ) (before : List ℕ × List ℕ) → Leaves before (ImportsColour dds before)
 refused_dds_import_colour_leaves dds before = refused_leaves _ _ before
 
 pub refused_dds_export_colour_leaves : (sheet : List ℕ) (number : ℕ) (before : List ℕ) → Leaves before (ExportsColour sheet number before)
-refused_dds_export_colour_leaves sheet number before answer after p ne =
-    refused_numbered_leaves sheet number before answer after (p.answers, p.leaves) ne
+unfolding numbered_refusal numbered_after export_after
+refused_dds_export_colour_leaves sheet number before = refused_leaves _ _ before
 
 pub refused_dds_import_length_leaves : (dds : List ℕ) (before : ℕ) → Leaves before (ImportNeeds dds before)
 refused_dds_import_length_leaves dds before = refused_leaves _ _ before

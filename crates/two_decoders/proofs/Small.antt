@@ -6,7 +6,7 @@ use mathlib.Core.Logic.{◌↔◌}
 use mathlib.Core.List.{List}
 use Prim.Native.Nat.{ℕ, ◌<◌}
 use lib.ListN.{replicate}
-use Rattle.profile_rules.specs.declared.Checked.{Checked}
+use Rattle.profile_rules.specs.Profile.{Checked}
 use Rattle.head_rules.specs.Geometry.{blocks_of}
 use Rattle.head_rules.specs.Heads.{read_head}
 use Rattle.sheet_rules.specs.SheetRows.{DecodesSheetRow}
