@@ -1,5 +1,4 @@
 -- The laws that the proofs of the functions cite.
-pub mod Inside
 pub mod Walk
 pub mod Answers
 pub mod Reading

@@ -4,7 +4,7 @@ use mathlib.Core.Path.{◌≡◌, refl, sym, ap, ap₂, ◌∙◌}
 use mathlib.Core.Logic.{⊎_elim}
 use mathlib.Core.Bool.{Bool, true, false}
 use mathlib.Core.List.{List, [], ◌∷◌}
-use Prim.Native.Nat.{ℕ, ◌+◌, ◌-◌, ◌*◌, ◌/◌, ◌%◌, ◌^◌, ◌≤◌, ◌<◌}
+use Prim.Native.Nat.{ℕ, ◌+◌, ◌-◌, ◌/◌, ◌%◌, ◌^◌, ◌<◌}
 use native.Mathlib.Decide.{ℕ_discrete}
 use native.Mathlib.Omega.{arith}
 use borrow.Author.Tests.{eq-eqb, ne_eqb}
@@ -16,7 +16,6 @@ use Rattle.laws.specs.Tables.{below, both, pick, table}
 use Rattle.laws.proofs.Cases.{lt_or}
 use Rattle.laws.proofs.Digits.{split_join}
 use Rattle.laws.proofs.Rows.{fit_table}
-use Rattle.laws.proofs.Words.{one_shl}
 use Rattle.bcn_format.specs.Indexes.{index_width, index_widths}
 use Rattle.bc7_places.proofs.fits.Widths.{fit, unfit}
 use Rattle.bc7_places.specs.declared.lines.Pixels.{Pixels}
@@ -24,10 +23,6 @@ use Rattle.bc7_places.specs.declared.lines.LinePart.{LinePart}
 use Rattle.line_rules.specs.declared.Replacement.{Replacement}
 use Rattle.bc7_places.specs.Lines.{own_pixel}
 use Rattle.line.specs.Parts.{parts_fit}
-
--- all ones
-pub one_less : (w : ℕ) → w ≤ 4 → (1 ≤ (1 * 2 ^ w) % 2 ^ 64) × ((1 * 2 ^ w) % 2 ^ 64 - 1 ≡ 2 ^ w - 1)
-one_less w h = rw (one_shl w (omega arith)) (pow_pos w, refl)
 
 -- the parts of a mask fit
 pub mask_fits : (x : Pixels) (w : ℕ) → Fit (index_widths w []) (table 16 (λ q. pick (own_pixel x q) (2 ^ w - 1) 0))
