@@ -14,11 +14,10 @@ use Rattle.refusals.specs.Answers.{Answer}
 use Rattle.pixel_rules.specs.Pixels.{pixel_read}
 use Rattle.pixel_rules.proofs.Theorems.{pixel_accepted, pixel_of_the_sixteen}
 use Rattle.head_rules.specs.declared.ColourSpace.TheVariants.{Unspecified}
-use Rattle.dds_rules.specs.Files.{import_after_up_to}
+use Rattle.dds_rules.specs.Files.{export_after, import_after_up_to, numbered_after, numbered_refusal}
 use Rattle.move_rules.specs.Moving.{move_after}
 use Rattle.move_rules.specs.Stating.{state_after}
 use Rattle.sheet_rules.specs.SheetRows.{sheet_row_out}
-use Rattle.dds_rules.proofs.Theorems.{refused_export_leaves, refused_numbered_leaves}
 use Rattle.rinchovek_rules.specs.Promises.{DecodesBc6h}
 use Rattle.rinchovek_rules.specs.Promises.{Decodes, Determined, Gives, Packs, ReadsLine, Replaces, Unpacks, Versions, Writes, DecodesRow}
 use Rattle.rinchovek_rules.specs.Promises.{ReadsHead, ReadsPixel, FindsExact, FindsNearest, ReplacesIn, TellsOpaque, WritesHead}
