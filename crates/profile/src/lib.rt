@@ -7,7 +7,7 @@
 ghost use Rattle.head_rules.specs.Answers.{known};
 ghost use Rattle.std.specs.Prelude.{◌≡◌, length};
 ghost use Rattle.refusals.specs.Answers.{number_of};
-ghost use Rattle.profile_rules.specs.Profile.{BlockNamed, ChecksProfile, admits, check_answered, first_breaking, sides_refusal};
+ghost use Rattle.profile_rules.specs.Profile.{ChecksProfile, admits, first_breaking, sides_refusal};
 ghost use Rattle.profile_rules.specs.Small.{row_admits};
 ghost use Rattle.profile.specs.Looking.{RowThere, SheetThere, StoredThere, lowest_with};
 
@@ -79,8 +79,7 @@ fn first_breaking(head: Head, sheet: &[u8]) -> u32
 
 // Does a sheet keep the profile? The head's refusals, 10, 17 for the size, then the first block that breaks it.
 pub fn check_profile(sheet: &[u8]) -> Result<(), Breach>
-    ensures answer { ChecksProfile sheet.now (check_answered result) }
-    ensures named { BlockNamed result }
+    ensures { ChecksProfile sheet.now result }
 {
     let head = match read_whole(sheet) {
         Ok(head) => head,

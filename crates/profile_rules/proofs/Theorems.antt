@@ -237,11 +237,7 @@ module _ (s : List ℕ) (row : ℕ) (out : List ℕ) where
     unfolding small_row_out sheet_row_out
     kept_row_is_the_row = (same_answer, rw same_answer refl)
 
--- any two answers that a promise of check and decoder admits coincide
-pub determined_check_profile : (sheet : List ℕ) (a b : Checked) → ChecksProfile sheet a → ChecksProfile sheet b → a ≡ b
-determined_check_profile sheet a b p q = p ∙ sym q
-
--- and any two results, where 20 is answered for a block alone
+-- what a result answers fixes it, where 20 is answered for a block alone
 pub check_fixes : (a b : Result ⊤ Breach) → BlockNamed a → BlockNamed b → check_answered a ≡ check_answered b → a ≡ b
 check_fixes (Ok u) (Ok v) m n e = refl
 check_fixes (Ok u) (Err (Refused q)) m n e = absurd (number_not_0 q (sym (ap (λ (x : Checked). x.refusal) e)))
@@ -253,9 +249,9 @@ check_fixes (Err (Block b)) (Ok v) m n e = absurd (let z : ⊥ = omega (arith, a
 check_fixes (Err (Block b)) (Err (Refused q)) m n e = absurd (n (number_injective {r = q} {q = ProfileBlock} (sym (ap (λ (x : Checked). x.refusal) e))))
 check_fixes (Err (Block b)) (Err (Block c)) m n e = ap (λ (x : Checked). Err (Block x.block)) e
 
-pub determined_check : (sheet : List ℕ) (a b : Result ⊤ Breach) → ChecksProfile sheet (check_answered a) → BlockNamed a
-    → ChecksProfile sheet (check_answered b) → BlockNamed b → a ≡ b
-determined_check sheet a b p m q n = check_fixes a b m n (p ∙ sym q)
+-- any two answers that a promise of check and decoder admits coincide
+pub determined_check_profile : (sheet : List ℕ) (a b : Result ⊤ Breach) → ChecksProfile sheet a → ChecksProfile sheet b → a ≡ b
+determined_check_profile sheet a b p q = check_fixes a b p.1 q.1 (p.0 ∙ sym q.0)
 
 pub determined_decode_small : (block : List ℕ) (a b : ℕ) (x y : List (List ℕ)) → DecodesSmall block a x → DecodesSmall block b y
     → (a ≡ b) × (x ≡ y)

@@ -76,10 +76,6 @@ pub record FirstBreaking (s : List ℕ) (b : ℕ) : Type 0 where
   pub breaks_it : Admitted (block_in s b) → ⊥
   pub none_before : (k : ℕ) → k < b → Admitted (block_in s k)
 
--- what `check_profile` promises: its answer, whole
-abbrev pub ChecksProfile : List ℕ → Checked → Type 0
-ChecksProfile sheet answer = answer ≡ checked (read_head sheet) sheet
-
 -- what a result answers; 20 is answered for a block alone
 abbrev pub check_answered : Result ⊤ Breach → Checked
 check_answered (Ok u) = record { refusal = 0; block = 0 }
@@ -90,3 +86,7 @@ abbrev pub BlockNamed : Result ⊤ Breach → Type 0
 BlockNamed (Ok u) = ⊤
 BlockNamed (Err (Refused r)) = r ≢ ProfileBlock
 BlockNamed (Err (Block b)) = ⊤
+
+-- what `check_profile` promises: its answer, whole
+abbrev pub ChecksProfile : List ℕ → Result ⊤ Breach → Type 0
+ChecksProfile sheet answer = (check_answered answer ≡ checked (read_head sheet) sheet) × BlockNamed answer

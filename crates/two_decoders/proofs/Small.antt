@@ -6,7 +6,9 @@ use mathlib.Core.Logic.{◌↔◌}
 use mathlib.Core.List.{List}
 use Prim.Native.Nat.{ℕ, ◌<◌}
 use lib.ListN.{replicate}
-use Rattle.profile_rules.specs.Profile.{Checked}
+use Rattle.std.specs.Prelude.{Result, ⊤}
+use Rattle.profile_rules.specs.Profile.{Checked, check_answered}
+use Rattle.profile_rules.specs.declared.Breach.{Breach}
 use Rattle.head_rules.specs.Geometry.{blocks_of}
 use Rattle.head_rules.specs.Heads.{read_head}
 use Rattle.sheet_rules.specs.SheetRows.{DecodesSheetRow}
@@ -30,10 +32,10 @@ module _ (bs : List ℕ) {shown : List (List ℕ)} (main : DecodesBlock bs shown
   accepted_exactly = let w = small_admits_when bs in (λ e. w.0 (sym small.0 ∙ e), λ a. small.0 ∙ w.1 a)
 
 -- A SHEET THAT THE CHECK ACCEPTS: each of its blocks, and every byte of each of its rows, as the second row decoding draws it
-module _ (s : List ℕ) {answer : Checked} (told : ChecksProfile s answer) (taken : answer.refusal ≡ 0) where
+module _ (s : List ℕ) {answer : Result ⊤ Breach} (told : ChecksProfile s answer) (taken : (check_answered answer).refusal ≡ 0) where
   keeps : Keeps s
   unfolding checked
-  keeps = (check_accepts_when s).0 (ap (λ (c : Checked). c.refusal) (sym told) ∙ taken)
+  keeps = (check_accepts_when s).0 (ap (λ (c : Checked). c.refusal) (sym told.0) ∙ taken)
 
   pub checked_blocks_are_main : (b : ℕ) → b < blocks_of (read_head s) → {shown : List (List ℕ)} → DecodesBlock (block_in s b) shown
       → {r : ℕ} {px : List (List ℕ)} → DecodesSmall (block_in s b) r px → (r ≡ 0) × (px ≡ shown)
