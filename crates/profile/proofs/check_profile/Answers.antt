@@ -27,13 +27,13 @@ blocks_of-requires c = size_is _ c.in-Ok.ensures refl
 pub returns-then-first-blocks_of : goal.returns-then-first-blocks_of
 returns-then-first-blocks_of c = (
   answers_broken _ c.in-Ok.ensures refl (sym c.in-Ok-check_sides.ensures) c.first_breaking-first.ensures
-  (omega (arith, c.if-first-blocks_of.true, c.blocks_of.ensures.same)),
+      (omega (arith, c.if-first-blocks_of.true, c.blocks_of.ensures.same)),
   search rules,
 )
 
 pub returns : goal.returns
 returns c = (
   answers_kept _ c.in-Ok.ensures refl (sym c.in-Ok-check_sides.ensures) c.first_breaking-first.ensures
-  (omega (arith, c.if-first-blocks_of.false, c.blocks_of.ensures.same)),
+      (omega (arith, c.if-first-blocks_of.false, c.blocks_of.ensures.same)),
   search rules,
 )
