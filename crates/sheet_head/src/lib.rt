@@ -236,7 +236,7 @@ pub fn write_head(width: u32, height: u32) -> Result<HeadBytes, Refusal>
 }
 
 // The bytes of the head of a sheet that has a size.
-fn bytes_of(width: u32, height: u32) -> HeadBytes
+pub fn bytes_of(width: u32, height: u32) -> HeadBytes
     requires { Sized width height }
     ensures { bytes_known result ≡ seven_of (head_bytes width height) }
 {

@@ -32,7 +32,7 @@ module _ (bs : List ℕ) {shown : List (List ℕ)} (main : DecodesBlock bs shown
   accepted_exactly = let w = small_admits_when bs in (λ e. w.0 (sym small.0 ∙ e), λ a. small.0 ∙ w.1 a)
 
 -- A SHEET THAT THE CHECK ACCEPTS: each of its blocks, and every byte of each of its rows, as the second row decoding draws it
-module _ (s : List ℕ) {answer : Result ⊤ Breach} (told : ChecksProfile s answer) (taken : (check_answered answer).refusal ≡ 0) where
+module _ (s : List ℕ) (answer : Result ⊤ Breach) (told : ChecksProfile s answer) (taken : (check_answered answer).refusal ≡ 0) where
   keeps : Keeps s
   unfolding checked
   keeps = (check_accepts_when s).0 (ap (λ (c : Checked). c.refusal) (sym told.0) ∙ taken)
