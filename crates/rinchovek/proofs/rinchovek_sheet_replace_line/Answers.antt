@@ -8,4 +8,4 @@ pub returns : goal.returns
 returns c =
     let e = c.replace_in_sheet.ensures in
     let given = c.replacement_of.ensures in
-    record { answers = c.number_of.ensures ∙ e.0 ∙ ap (sheet_refusal _ _ _ _) given; leaves = e.1 ∙ ap (sheet_after _ _ _ _) given }
+    record { answers = c.number_or_0.ensures ∙ e.0 ∙ ap (sheet_refusal _ _ _ _) given; leaves = e.1 ∙ ap (sheet_after _ _ _ _) given }
