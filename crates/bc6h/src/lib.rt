@@ -9,6 +9,7 @@ ghost use Rattle.std.specs.Prelude.{◌≡◌, ◌+◌, ◌*◌, ◌^◌, true, 
 ghost use Rattle.bcn_format.specs.Partitions.{among};
 ghost use Rattle.bc6h_format.specs.Halves.{halves};
 ghost use Rattle.bc6h_modes.specs.Numbers.{one_subset, two_subsets};
+ghost use Rattle.bc6h_modes.specs.Words.{whole};
 ghost use Rattle.bc6h.specs.Lanes.{AnyEndpoints, Doubled, Endpoints, colours, finished_lanes, widened_lanes};
 ghost use Rattle.bc6h.specs.Painting.{mode_pixels};
 ghost use Rattle.bc6h.specs.Promises.{DecodesHalves};
@@ -16,9 +17,8 @@ ghost use Rattle.bc6h.specs.Promises.{DecodesHalves};
 use crate::lanes::{finished, widened, widened_1};
 use crate::painting::{paint_1, paint_2, words_of};
 use crate::palette::{palette_1, palette_2};
-use bc6h_modes::{fields_1, fields_2, width_1, width_2};
+use bc6h_modes::{Words, fields_1, fields_2, width_1, width_2};
 use bc6h_values::{Sign, Signed, Unsigned};
-use bits::stream::BitStream;
 use drawing::keys::both_keys;
 use indexes::Indexes;
 use partitions::words::partition_word_2_3;
@@ -43,16 +43,12 @@ fn colours_1<S: Sign>(v: [u16; 16], width: u32) -> [u16; 64]
 }
 
 // A mode with two subsets: its partition stands from bit 77 on, and the indexes behind it.
-fn two_subsets(mode: u64, low: u64, high: u64, signed: bool, output: &mut [[u16; 3]; 16])
+fn two_subsets(mode: u64, words: Words, signed: bool, output: &mut [[u16; 3]; 16])
     requires { T (among mode two_subsets) }
-    ensures { output.new ≡ mode_pixels signed mode (high * 2 ^ 64 + low) }
+    ensures { output.new ≡ mode_pixels signed mode (whole words) }
 {
-    let s = BitStream {
-        low: low,
-        high: high,
-        at: 0,
-    };
-    let v = fields_2(mode, low, high);
+    let s = words.stream();
+    let v = fields_2(mode, words);
     let width = width_2(mode);
     let q = if signed {
         colours_2::<Signed>(v, width)
@@ -71,16 +67,12 @@ fn two_subsets(mode: u64, low: u64, high: u64, signed: bool, output: &mut [[u16;
 }
 
 // A mode with one: the indexes stand from bit 65 on.
-fn one_subset(mode: u64, low: u64, high: u64, signed: bool, output: &mut [[u16; 3]; 16])
+fn one_subset(mode: u64, words: Words, signed: bool, output: &mut [[u16; 3]; 16])
     requires { T (among mode one_subset) }
-    ensures { output.new ≡ mode_pixels signed mode (high * 2 ^ 64 + low) }
+    ensures { output.new ≡ mode_pixels signed mode (whole words) }
 {
-    let s = BitStream {
-        low: low,
-        high: high,
-        at: 0,
-    };
-    let v = fields_1(mode, low, high);
+    let s = words.stream();
+    let v = fields_1(mode, words);
     let width = width_1(mode);
     let q = if signed {
         colours_1::<Signed>(v, width)
@@ -96,19 +88,19 @@ fn one_subset(mode: u64, low: u64, high: u64, signed: bool, output: &mut [[u16; 
 pub fn decode_into(block: &[u8; 16], signed: bool, output: &mut [[u16; 3]; 16])
     ensures { output.new ≡ halves signed block.now }
 {
-    let s = BitStream::new(*block);
-    let two = s.low % 4;
-    let five = s.low % 32;
+    let words = Words::new(*block);
+    let two = words.low % 4;
+    let five = words.low % 32;
     if two < 2 {
-        two_subsets(two, s.low, s.high, signed, output);
+        two_subsets(two, words, signed, output);
         return;
     }
     if two == 2 {
-        two_subsets(five, s.low, s.high, signed, output);
+        two_subsets(five, words, signed, output);
         return;
     }
     if five < 16 {
-        one_subset(five, s.low, s.high, signed, output);
+        one_subset(five, words, signed, output);
         return;
     }
     *output = [[0u16; 3]; 16];

@@ -2,7 +2,7 @@
 -- Assumes nothing.
 use Rattle.std.proofs.Common.{◌≡◌, ℕ, ◌+◌, ◌*◌, ◌%◌, ◌^◌, ◌<◌, sym, ap, ◌∙◌, arith}
 use Rattle.bcn_format.specs.Block.{number}
-use Rattle.bits.specs.Stream.{held}
+use Rattle.bc6h_modes.specs.Words.{whole}
 use Rattle.bc6h_format.specs.Modes.{mode_in, row_of}
 use Rattle.bc6h_format.proofs.Reserved.{reserved_gives_zeros}
 use Rattle.bc6h.proofs.Blocks.{halves_are, long_mode, long_one, long_two, not_reserved_1, not_reserved_2, one_row, two_row}
@@ -17,54 +17,54 @@ pub two_subsets-requires : goal.two_subsets-requires
 two_subsets-requires c = short_two _ c.if-two-lt2.true
 
 pub returns-then-two-lt2 : goal.returns-then-two-lt2
-unfolding held
+unfolding whole
 returns-then-two-lt2 c =
-    let s = c.new-s.result in
+    let s = c.new-words.result in
     let t = c.if-two-lt2.true in
     c.two_subsets.ensures
-    ∙ halves_are _ _ (s.low % 4) (s.high * 2 ^ 64 + s.low) (sym c.new-s.ensures.of) (short_mode s.low s.high t)
+    ∙ halves_are _ _ (s.low % 4) (s.high * 2 ^ 64 + s.low) (sym c.new-words.ensures) (short_mode s.low s.high t)
     (not_reserved_2 (two_row (s.low % 4) (short_two (s.low % 4) t)))
 
 pub two_subsets-requires-then-two-eq2 : goal.two_subsets-requires-then-two-eq2
 two_subsets-requires-then-two-eq2 c =
-    let low = c.new-s.result.low in
+    let low = c.new-words.result.low in
     long_two (low % 32) (omega arith) (low_of_five low ∙ c.if-two-eq2.true)
 
 pub returns-then-two-eq2 : goal.returns-then-two-eq2
-unfolding held
+unfolding whole
 returns-then-two-eq2 c =
-    let s = c.new-s.result in
+    let s = c.new-words.result in
     let t = c.if-two-eq2.true in
     c.two_subsets-then-two-eq2.ensures
-    ∙ halves_are _ _ (s.low % 32) (s.high * 2 ^ 64 + s.low) (sym c.new-s.ensures.of)
+    ∙ halves_are _ _ (s.low % 32) (s.high * 2 ^ 64 + s.low) (sym c.new-words.ensures)
     (long_mode s.low s.high c.if-two-lt2.false)
     (not_reserved_2 (two_row (s.low % 32) (long_two (s.low % 32) (let y : s.low % 32 < 32 = omega arith in y) (low_of_five s.low ∙ t))))
 
 pub one_subset-requires : goal.one_subset-requires
 one_subset-requires c =
-    let low = c.new-s.result.low in
+    let low = c.new-words.result.low in
     let three : low % 4 ≡ 3 = let p = c.if-two-lt2.false in let q = c.if-two-eq2.false in omega (arith, p, q) in
     long_one (low % 32) c.if-five-lt16.true (low_of_five low ∙ three)
 
 pub returns-then-five-lt16 : goal.returns-then-five-lt16
-unfolding held
+unfolding whole
 returns-then-five-lt16 c =
-    let s = c.new-s.result in
+    let s = c.new-words.result in
     let p = c.if-two-lt2.false in
     let q = c.if-two-eq2.false in
     let three : s.low % 4 ≡ 3 = omega (arith, p, q) in
     c.one_subset.ensures
-    ∙ halves_are _ _ (s.low % 32) (s.high * 2 ^ 64 + s.low) (sym c.new-s.ensures.of) (long_mode s.low s.high p)
+    ∙ halves_are _ _ (s.low % 32) (s.high * 2 ^ 64 + s.low) (sym c.new-words.ensures) (long_mode s.low s.high p)
     (not_reserved_1 (one_row (s.low % 32) (long_one (s.low % 32) c.if-five-lt16.true (low_of_five s.low ∙ three))))
 
 pub returns : goal.returns
-unfolding held
+unfolding whole
 returns c =
-    let s = c.new-s.result in
+    let s = c.new-words.result in
     let p = c.if-two-lt2.false in
     let q = c.if-two-eq2.false in
     let three : s.low % 4 ≡ 3 = omega (arith, p, q) in
     let none : (row_of (s.low % 32)).subsets ≡ 0 =
     reserved_mode (s.low % 32) (let y : s.low % 32 < 32 = omega arith in y) c.if-five-lt16.false (low_of_five s.low ∙ three) in
-    let mode : mode_in (number _) ≡ s.low % 32 = ap mode_in (sym c.new-s.ensures.of) ∙ long_mode s.low s.high p in
+    let mode : mode_in (number _) ≡ s.low % 32 = ap mode_in (sym c.new-words.ensures) ∙ long_mode s.low s.high p in
     sym (reserved_gives_zeros _ _ (ap (λ (m : ℕ). (row_of m).subsets) mode ∙ none))

@@ -1,11 +1,10 @@
 -- A mode with one subset.
 -- Assumes nothing.
-use Rattle.std.proofs.Common.{rules, ◌≡◌, ℕ, ◌+◌, ◌*◌, ◌^◌, Bool, true, false, List, [], ◌∷◌, refl, ap, ◌∙◌, ap₂, arith}
+use Rattle.std.proofs.Common.{rules, ◌≡◌, ℕ, ◌+◌, Bool, true, false, List, [], ◌∷◌, refl, ap, ◌∙◌, ap₂, arith}
 use Rattle.bcn_format.specs.Block.{field}
 use Rattle.bcn_format.specs.Indexes.{expanded}
 use Rattle.indexes.specs.declared.NewIndexes.{NewIndexes}
-use Rattle.bits.specs.declared.stream.BitStream.{BitStream}
-use Rattle.bits.specs.Stream.{held}
+use Rattle.bc6h_modes.specs.Words.{whole}
 use Rattle.bits.proofs.On.{On, got, held_skipped}
 use Rattle.bc6h_format.specs.Modes.{row_of}
 use Rattle.bc6h.specs.Lanes.{colours, finished_lanes, widened_lanes}
@@ -40,15 +39,13 @@ colours_1-q-requires-else-signed c =
 
 pub new-x-requires : goal.new-x-requires
 new-x-requires c =
-    (omega arith, record { anchors = search rules; inside = rw c.skip.ensures (omega arith) })
+    (omega arith, record { anchors = search rules; inside = rw c.skip.ensures (omega (arith, c.stream-s.ensures.stands)) })
 
 pub returns : goal.returns
-unfolding held
 returns c =
     let m = c.args.mode in
-    let n = c.args.high * 2 ^ 64 + c.args.low in
-    let stream : BitStream = record { low = c.args.low; high = c.args.high; at = 0 } in
-    let at_65 : On n 65 c.skip.result = record { of = held_skipped stream 65 c.skip.ensures; stands = rw c.skip.ensures refl } in
+    let n = whole c.args.words in
+    let at_65 : On n 65 c.skip.result = record { of = held_skipped _ 65 c.skip.ensures ∙ c.stream-s.ensures.of; stands = rw c.skip.ensures (ap (λ (y : ℕ). y + 65) c.stream-s.ensures.stands) } in
     let x_is : c.new-x.result.indexes.uncompressed ≡ expanded 4 (0 ∷ []) (field n 65 63) =
     ap (λ (r : NewIndexes). r.indexes.uncompressed) c.new-x.ensures ∙ ap (expanded 4 (0 ∷ [])) (got at_65 63 refl) in
     -- where the ways of both signs meet

@@ -1,11 +1,10 @@
 -- A mode with two subsets.
 -- Assumes nothing.
-use Rattle.std.proofs.Common.{rules, ◌≡◌, ℕ, ◌+◌, ◌*◌, ◌^◌, ◌<◌, Bool, true, false, List, [], ◌∷◌, refl, ap, ◌∙◌, ap₂, arith}
+use Rattle.std.proofs.Common.{rules, ◌≡◌, ℕ, ◌+◌, ◌<◌, Bool, true, false, List, [], ◌∷◌, refl, ap, ◌∙◌, ap₂, arith}
 use Rattle.bcn_format.specs.Block.{field}
 use Rattle.bcn_format.specs.Indexes.{expanded}
 use Rattle.indexes.specs.declared.NewIndexes.{NewIndexes}
-use Rattle.bits.specs.declared.stream.BitStream.{BitStream}
-use Rattle.bits.specs.Stream.{held}
+use Rattle.bc6h_modes.specs.Words.{whole}
 use Rattle.bits.proofs.On.{On, got, held_skipped, on_read}
 use Rattle.bc6h_modes.specs.Lanes.{lanes}
 use Rattle.bc6h_format.specs.Modes.{row_of}
@@ -37,7 +36,7 @@ colours_2-q-requires-else-signed c =
     (record { least = row.least; most = row.most; fit = λ i l. lanes_fit 1 c.args.mode _ (omega arith) i })
 
 pub take-id-requires : goal.take-id-requires
-take-id-requires c = record { narrow = omega arith; inside = rw c.skip.ensures (omega arith) }
+take-id-requires c = record { narrow = omega arith; inside = rw c.skip.ensures (omega (arith, c.stream-s.ensures.stands)) }
 
 pub new-x-requires : goal.new-x-requires
 new-x-requires c =
@@ -46,17 +45,15 @@ new-x-requires c =
       omega arith,
       record {
         anchors = record { width = search rules; rising = (f.fixup.above, f.fixup.pixel, tt) };
-        inside = rw (c.take-id.ensures.stands, c.skip.ensures) (omega arith);
+        inside = rw (c.take-id.ensures.stands, c.skip.ensures) (omega (arith, c.stream-s.ensures.stands));
       },
     )
 
 pub returns : goal.returns
-unfolding held
 returns c =
     let m = c.args.mode in
-    let n = c.args.high * 2 ^ 64 + c.args.low in
-    let stream : BitStream = record { low = c.args.low; high = c.args.high; at = 0 } in
-    let at_77 : On n 77 c.skip.result = record { of = held_skipped stream 77 c.skip.ensures; stands = rw c.skip.ensures refl } in
+    let n = whole c.args.words in
+    let at_77 : On n 77 c.skip.result = record { of = held_skipped _ 77 c.skip.ensures ∙ c.stream-s.ensures.of; stands = rw c.skip.ensures (ap (λ (y : ℕ). y + 77) c.stream-s.ensures.stands) } in
     let at_82 : On n 82 c.take-id.result.stream = on_read at_77 5 c.take-id.ensures.same in
     let set = c.partition_word_2_3-set.result in
     let anchors : List ℕ = 0 ∷ anchor_in2 set ∷ [] in

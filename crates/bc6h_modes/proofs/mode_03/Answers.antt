@@ -1,35 +1,16 @@
 -- Mode 03: its fields by their runs, and its endpoints.
 -- Assumes nothing.
 use mathlib.Core.Path.{refl}
-use Rattle.bits.specs.Stream.{held}
+use Rattle.bc6h_modes.specs.Words.{whole}
 use Rattle.bc6h_format.specs.Items.{is_of, items_from, items_of, long}
 use Rattle.bc6h_format.specs.Modes.{bits_at, row_of, rows}
-use Rattle.bc6h_modes.proofs.Asked.{readable}
 use Rattle.bc6h_modes.proofs.Rows.{first, known, other, sixteen}
 use Rattle.bc6h_modes.proofs.mode_03.Goals as goal
-
-pub bits-rw-requires : goal.bits-rw-requires
-bits-rw-requires c = readable c.requires tt
-
-pub bits-gw-requires : goal.bits-gw-requires
-bits-gw-requires c = readable c.requires tt
-
-pub bits-bw-requires : goal.bits-bw-requires
-bits-bw-requires c = readable c.requires tt
-
-pub bits-requires : goal.bits-requires
-bits-requires c = readable c.requires tt
-
-pub bits-requires-2 : goal.bits-requires-2
-bits-requires-2 c = readable c.requires tt
-
-pub bits-requires-3 : goal.bits-requires-3
-bits-requires-3 c = readable c.requires tt
 
 pub returns : goal.returns
 unfolding rows row_of items_of items_from is_of long bits_at
 returns c =
-    let n = held c.args.s in
+    let n = whole c.args.words in
     let r = row_of 3 in
     let red = known r n 0 0 c.bits-rw.ensures in
     let green = known r n 1 0 c.bits-gw.ensures in

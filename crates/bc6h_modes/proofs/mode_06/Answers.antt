@@ -1,63 +1,17 @@
 -- Mode 06: its fields by their runs, and its endpoints.
 -- Assumes nothing.
 use mathlib.Core.Path.{refl}
-use Rattle.bits.specs.Stream.{held}
+use Rattle.bc6h_modes.specs.Words.{whole}
 use Rattle.bc6h_format.specs.Items.{is_of, items_from, items_of, long}
 use Rattle.bc6h_format.specs.Modes.{bits_at, row_of, rows}
-use Rattle.bc6h_modes.proofs.Asked.{single_4, spread, standing, wrappable}
 use Rattle.bc6h_modes.proofs.Rows.{differing, first, known, sixteen}
 use Rattle.bc6h_modes.proofs.Runs.{in_one}
 use Rattle.bc6h_modes.proofs.mode_06.Goals as goal
 
-pub with_1-rw-requires : goal.with_1-rw-requires
-with_1-rw-requires c = spread c.requires tt
-
-pub with_1-gw-requires : goal.with_1-gw-requires
-with_1-gw-requires c = spread c.requires tt
-
-pub with_1-bw-requires : goal.with_1-bw-requires
-with_1-bw-requires c = spread c.requires tt
-
-pub apart-rx-requires : goal.apart-rx-requires
-apart-rx-requires c = standing c.requires tt
-
-pub apart-gx-requires : goal.apart-gx-requires
-apart-gx-requires c = standing c.requires tt
-
-pub apart-bx-requires : goal.apart-bx-requires
-apart-bx-requires c = standing c.requires tt
-
-pub apart-ry-requires : goal.apart-ry-requires
-apart-ry-requires c = standing c.requires tt
-
-pub with_1-requires : goal.with_1-requires
-with_1-requires c = spread c.requires tt
-
-pub wrap-gy-requires : goal.wrap-gy-requires
-wrap-gy-requires c = wrappable c.with_1.ensures.small tt
-
-pub apart-by-requires : goal.apart-by-requires
-apart-by-requires c = standing c.requires tt
-
-pub apart-rz-requires : goal.apart-rz-requires
-apart-rz-requires c = standing c.requires tt
-
-pub with_1-requires-2 : goal.with_1-requires-2
-with_1-requires-2 c = spread c.requires tt
-
-pub wrap-gz-requires : goal.wrap-gz-requires
-wrap-gz-requires c = wrappable c.with_1-2.ensures.small tt
-
-pub bits_4-requires : goal.bits_4-requires
-bits_4-requires c = single_4 c.requires tt
-
-pub wrap-bz-requires : goal.wrap-bz-requires
-wrap-bz-requires c = wrappable c.bits_4.ensures.small tt
-
 pub returns : goal.returns
 unfolding rows row_of items_of items_from is_of long bits_at
 returns c =
-    let n = held c.args.s in
+    let n = whole c.args.words in
     let r = row_of 6 in
     let red = known r n 0 0 c.with_1-rw.ensures in
     let green = known r n 1 0 c.with_1-gw.ensures in

@@ -1,36 +1,17 @@
 -- Mode 0f: its fields by their runs, and its endpoints.
 -- Assumes nothing.
 use mathlib.Core.Path.{refl}
-use Rattle.bits.specs.Stream.{held}
+use Rattle.bc6h_modes.specs.Words.{whole}
 use Rattle.bc6h_format.specs.Items.{is_of, items_from, items_of, long}
 use Rattle.bc6h_format.specs.Modes.{bits_at, row_of, rows}
-use Rattle.bc6h_modes.proofs.Asked.{standing, turning}
 use Rattle.bc6h_modes.proofs.Rows.{differing, first, known, sixteen}
 use Rattle.bc6h_modes.proofs.Runs.{in_one}
 use Rattle.bc6h_modes.proofs.mode_0f.Goals as goal
 
-pub with_6_turned-rw-requires : goal.with_6_turned-rw-requires
-with_6_turned-rw-requires c = turning c.requires tt
-
-pub with_6_turned-gw-requires : goal.with_6_turned-gw-requires
-with_6_turned-gw-requires c = turning c.requires tt
-
-pub with_6_turned-bw-requires : goal.with_6_turned-bw-requires
-with_6_turned-bw-requires c = turning c.requires tt
-
-pub apart-rx-requires : goal.apart-rx-requires
-apart-rx-requires c = standing c.requires tt
-
-pub apart-gx-requires : goal.apart-gx-requires
-apart-gx-requires c = standing c.requires tt
-
-pub apart-bx-requires : goal.apart-bx-requires
-apart-bx-requires c = standing c.requires tt
-
 pub returns : goal.returns
 unfolding rows row_of items_of items_from is_of long bits_at
 returns c =
-    let n = held c.args.s in
+    let n = whole c.args.words in
     let r = row_of 15 in
     let red = known r n 0 0 c.with_6_turned-rw.ensures in
     let green = known r n 1 0 c.with_6_turned-gw.ensures in

@@ -1,65 +1,17 @@
 -- Mode 1e: its fields by their runs, and its endpoints.
 -- Assumes nothing.
 use mathlib.Core.Path.{refl}
-use Rattle.bits.specs.Stream.{held}
+use Rattle.bc6h_modes.specs.Words.{whole}
 use Rattle.bc6h_format.specs.Items.{is_of, items_from, items_of, long}
 use Rattle.bc6h_format.specs.Modes.{bits_at, row_of, rows}
-use Rattle.bc6h_modes.proofs.Asked.{readable, single_4, spread_2, topping}
 use Rattle.bc6h_modes.proofs.Rows.{first, known, other, sixteen}
 use Rattle.bc6h_modes.proofs.Runs.{topped}
 use Rattle.bc6h_modes.proofs.mode_1e.Goals as goal
 
-pub bits-rw-requires : goal.bits-rw-requires
-bits-rw-requires c = readable c.requires tt
-
-pub bits-gw-requires : goal.bits-gw-requires
-bits-gw-requires c = readable c.requires tt
-
-pub bits-bw-requires : goal.bits-bw-requires
-bits-bw-requires c = readable c.requires tt
-
-pub bits-requires : goal.bits-requires
-bits-requires c = readable c.requires tt
-
-pub bits-requires-2 : goal.bits-requires-2
-bits-requires-2 c = readable c.requires tt
-
-pub bits-requires-3 : goal.bits-requires-3
-bits-requires-3 c = readable c.requires tt
-
-pub bits-requires-4 : goal.bits-requires-4
-bits-requires-4 c = readable c.requires tt
-
-pub with_2-requires : goal.with_2-requires
-with_2-requires c = spread_2 c.requires tt
-
-pub with_2-requires-2 : goal.with_2-requires-2
-with_2-requires-2 c = spread_2 c.requires tt
-
-pub bits-requires-5 : goal.bits-requires-5
-bits-requires-5 c =
-    readable c.requires tt
-
-pub with_2-requires-3 : goal.with_2-requires-3
-with_2-requires-3 c =
-    spread_2 c.requires tt
-
-pub bits_4-requires : goal.bits_4-requires
-bits_4-requires c =
-    single_4 c.requires tt
-
-pub above-requires : goal.above-requires
-above-requires c =
-    topping c.requires c.bits_4.ensures.small tt
-
-pub above-requires-2 : goal.above-requires-2
-above-requires-2 c =
-    topping c.requires c.above.ensures.1 tt
-
 pub returns : goal.returns
 unfolding rows row_of items_of items_from is_of long bits_at
 returns c =
-    let n = held c.args.s in
+    let n = whole c.args.words in
     let r = row_of 30 in
     let red = known r n 0 0 c.bits-rw.ensures in
     let green = known r n 1 0 c.bits-gw.ensures in

@@ -10,10 +10,10 @@ use Rattle.laws.proofs.Tests.{at}
 use Rattle.bcn_format.specs.Block.{field}
 use Rattle.bc6h_format.specs.Items.{reversed}
 use Rattle.bc6h_format.proofs.Bounds.{reversed_lt}
-use Rattle.bits.specs.Stream.{held}
+use Rattle.bc6h_modes.specs.Words.{whole}
 use Rattle.bc6h_modes.specs.Runs.{placed, run}
 use Rattle.bc6h_modes.proofs.Rows.{placed_turned}
-use Rattle.bc6h_modes.proofs.with_6_turned.Goals as goal
+use Rattle.bc6h_modes.proofs.Words.with_6_turned.Goals as goal
 
 -- the six bits as the code turns them
 abbrev code : ℕ → ℕ
@@ -35,7 +35,7 @@ above_ten_lt y b h l = omega arith
 
 pub returns : goal.returns
 returns c =
-    let n = held c.args.s in
+    let n = whole c.args.self in
     let x = c.bits-x.result in
     let t = c.args.tops in
     let six : x < 64 = c.bits-x.ensures.small in
