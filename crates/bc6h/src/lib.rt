@@ -15,11 +15,11 @@ ghost use Rattle.bc6h.specs.Painting.{mode_pixels};
 ghost use Rattle.bc6h.specs.Promises.{DecodesHalves};
 
 use crate::lanes::{finished, widened, widened_1};
-use crate::painting::{paint_1, paint_2, words_of};
+use crate::painting::{key_in, paint, words_of};
 use crate::palette::{palette_1, palette_2};
 use bc6h_modes::{Words, fields_1, fields_2, width_1, width_2};
 use bc6h_values::{Sign, Signed, Unsigned};
-use drawing::keys::both_keys;
+use drawing::keys::{both_keys, key_of};
 use indexes::Indexes;
 use partitions::words::partition_word_2_3;
 
@@ -59,11 +59,8 @@ fn two_subsets(mode: u64, words: Words, signed: bool, output: &mut [[u16; 3]; 16
     let set = partition_word_2_3(id.value as u8);
     let x = Indexes::new(3, id.stream, [(set >> 48) as u32]);
     let indexes = x.indexes;
-    paint_2(
-        words_of(q),
-        both_keys::<3>(indexes.uncompressed, 1, set),
-        output,
-    );
+    let keys = both_keys::<3>(indexes.uncompressed, 1, set);
+    paint(words_of(q), |p| key_in(keys, p), output);
 }
 
 // A mode with one: the indexes stand from bit 65 on.
@@ -81,7 +78,8 @@ fn one_subset(mode: u64, words: Words, signed: bool, output: &mut [[u16; 3]; 16]
     };
     let x = Indexes::new(4, s.skip(65), []);
     let indexes = x.indexes;
-    paint_1(words_of(q), indexes.uncompressed, output);
+    let stored = indexes.uncompressed;
+    paint(words_of(q), |p| key_of(stored, 4, p, 16), output);
 }
 
 // The sixteen pixels of a block, row by row: red, green, blue. Any sixteen bytes are a block; a reserved one gives zeros.

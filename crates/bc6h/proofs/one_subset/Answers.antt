@@ -2,7 +2,7 @@
 -- Assumes nothing.
 use Rattle.std.proofs.Common.{rules, ◌≡◌, ℕ, ◌+◌, Bool, true, false, List, [], ◌∷◌, refl, ap, ◌∙◌, ap₂, arith}
 use Rattle.bcn_format.specs.Block.{field}
-use Rattle.bcn_format.specs.Indexes.{expanded}
+use Rattle.bcn_format.specs.Indexes.{expanded, part}
 use Rattle.indexes.specs.declared.NewIndexes.{NewIndexes}
 use Rattle.bc6h_modes.specs.Words.{whole}
 use Rattle.bits.proofs.On.{On, got, held_skipped}
@@ -42,6 +42,7 @@ new-x-requires c =
     (omega arith, record { anchors = search rules; inside = rw c.skip.ensures (omega (arith, c.stream-s.ensures.stands)) })
 
 pub returns : goal.returns
+unfolding field
 returns c =
     let m = c.args.mode in
     let n = whole c.args.words in
@@ -54,4 +55,4 @@ returns c =
       | then-signed w ↦ rw w.if-signed.true (w.q-is ∙ (w.colours_1-q.ensures ∙ by_parts true c.width_1-width.ensures c.fields_1-v.ensures))
       | else-signed w ↦ rw w.if-signed.false (w.q-is ∙ (w.colours_1-q-else-signed.ensures ∙ by_parts false c.width_1-width.ensures c.fields_1-v.ensures))
     ] in
-    one_picture c.args.signed m n (one_row m c.requires) c.new-x.result.indexes.uncompressed x_is all_colours c.words_of.ensures c.paint_1.ensures
+    one_picture c.args.signed m n (one_row m c.requires) c.new-x.result.indexes.uncompressed x_is all_colours c.words_of.ensures (c.paint.ensures (part c.new-x.result.indexes.uncompressed 4) (λ p k l g. search rules))

@@ -3,6 +3,7 @@
 use Rattle.std.proofs.Common.{rules, ◌≡◌, ℕ, ◌+◌, ◌<◌, Bool, true, false, List, [], ◌∷◌, refl, ap, ◌∙◌, ap₂, arith}
 use Rattle.bcn_format.specs.Block.{field}
 use Rattle.bcn_format.specs.Indexes.{expanded}
+use Rattle.drawing.specs.Keys.{key_at}
 use Rattle.indexes.specs.declared.NewIndexes.{NewIndexes}
 use Rattle.bc6h_modes.specs.Words.{whole}
 use Rattle.bits.proofs.On.{On, got, held_skipped, on_read}
@@ -67,4 +68,5 @@ returns c =
     ] in
     two_picture c.args.signed m n (two_row m c.requires) c.take-id.result.value set c.new-x.result.indexes.uncompressed
     (got at_77 5 c.take-id.ensures.same) c.take-id.ensures.small c.partition_word_2_3-set.ensures x_is
-    all_colours c.words_of.ensures c.both_keys.ensures c.paint_2.ensures
+    all_colours c.words_of.ensures c.both_keys-keys.ensures
+    (c.paint.ensures (key_at 3 1 c.both_keys-keys.result) (λ p k l g. search rules))
