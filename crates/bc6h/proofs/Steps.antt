@@ -1,21 +1,12 @@
 -- From weight to weight by sums that wrap.
 -- Assumes nothing.
-use Rattle.std.proofs.Common.{◌≡◌, ℕ, zero, suc, ◌+◌, ◌-◌, ◌*◌, ◌/◌, ◌%◌, ◌^◌, ◌<◌, ◌≤◌, T, eqb, leb, List, [], ◌∷◌, length, get_or, set, sym, ap, ◌∙◌, ap₂, ⊎_elim, le_of_suc-le-suc, mul-le-mul_right, add-mul, mul-le-mul_left, arith, eqb→eq, leb→le, length-set, get_or-set_other, get_or-set_same}
-use native.Mathlib.Decide.{ℕ_discrete}
+use Rattle.std.proofs.Common.{◌≡◌, ℕ, zero, suc, ◌+◌, ◌-◌, ◌*◌, ◌/◌, ◌%◌, ◌^◌, ◌<◌, ◌≤◌, T, eqb, leb, List, [], ◌∷◌, length, get_or, ap, ◌∙◌, ap₂, le_of_suc-le-suc, mul-le-mul_right, add-mul, mul-le-mul_left, arith, eqb→eq, leb→le}
 use Rattle.laws.specs.Tables.{below, both, table}
-use Rattle.laws.proofs.Cases.{lt_or}
-use Rattle.laws.proofs.Filled.{Filled}
 use Rattle.laws.proofs.Joining.{table_same}
 use Rattle.laws.proofs.Part.{get_d_table}
 use Rattle.laws.proofs.Tests.{at, both_left, both_right}
 use Rattle.bcn_format.specs.Drawing.{drawn, weight_of, weights}
-use Rattle.bc6h.specs.Lanes.{AllDividing, Dividing, Laid, Sixteen, colours, level, mixed_at, rise, rises_of, rows_of}
-
--- k times a value of sixteen bits, k at most 9
-pub small_product : (k x : ℕ) → k ≤ 9 → x < 65536 → k * x < 1048576
-small_product k x h l =
-    let p : k * x ≤ 9 * x = mul-le-mul_right x h in
-    omega arith
+use Rattle.bc6h.specs.Lanes.{AllDividing, Dividing, Sixteen, colours, level, mixed_at, rise, rises_of, rows_of}
 
 -- 64 times a value of sixteen bits, and a half
 pub mixed_lt : (w a b : ℕ) → w ≤ 64 → a < 65536 → b < 65536 → mixed_at w a b < 4194304
@@ -65,40 +56,6 @@ pub record Laying (q : List ℕ) (at : ℕ) (v : List ℕ) (i : ℕ) (r : List �
   pub long : length r ≡ 64
   pub kept : (k : ℕ) → k < at → get_or r k 0 ≡ get_or q k 0
   pub new : (j : ℕ) → j < i → get_or r (at + j) 0 ≡ get_or v j 0 / 64
-
-pub laying_next : {q v r : List ℕ} {a i : ℕ} (x : ℕ) → Laying q a v i r → a ≤ 56 → i < 8 → x ≡ get_or v i 0 / 64
-    → Laying q a v (i + 1) (set r (a + i) x)
-laying_next {q} {v} {r} {a} {i} x h room l e = record {
-  within = omega arith;
-  long = length-set r (a + i) x ∙ h.long;
-  kept = λ k lk. get_or-set_other r (a + i) k x 0 (λ s. let z : ⊥ = omega arith in z) ∙ h.kept k lk;
-  new = λ j lj. go j lj (ℕ_discrete j i);
-}
-  where
-    go : (j : ℕ) → j < i + 1 → Dec (j ≡ i) → get_or (set r (a + i) x) (a + j) 0 ≡ get_or v j 0 / 64
-    go j lj (yes s) =
-        ap (λ (m : ℕ). get_or (set r (a + i) x) (a + m) 0) s
-        ∙ (get_or-set_same r (a + i) x 0 (rw h.long (let y : a + i < 64 = omega arith in y)) ∙ (e ∙ ap (λ (m : ℕ). get_or v m 0 / 64) (sym s)))
-    go j lj (no s) = get_or-set_other r (a + i) (a + j) x 0 (λ t. s (omega arith)) ∙ h.new j (omega arith)
-
--- eight rows of lanes one after the other
-pub row_laid : (vs : List (List ℕ)) (k : ℕ) {q r v : List ℕ} → k < 8 → get_or vs k [] ≡ v → Filled 64 0
-    (λ j. get_or (get_or vs (j / 8) []) (j % 8) 0 / 64) (8 * k) q
-    → Laid q (8 * k) v r → Filled 64 0 (λ j. get_or (get_or vs (j / 8) []) (j % 8) 0 / 64) (8 * (k + 1)) r
-row_laid vs k {q} {r} {v} hk ev f l = record {
-  long = l.long;
-  done = λ j hj p. ⊎_elim (λ (b : j < 8 * k). l.kept j b ∙ f.done j hj b) (λ (b : 8 * k ≤ j). here j p b) (lt_or j (8 * k));
-}
-  where
-    here : (j : ℕ) → j < 8 * (k + 1) → 8 * k ≤ j → get_or r j 0 ≡ get_or (get_or vs (j / 8) []) (j % 8) 0 / 64
-    here j p b =
-        let i : ℕ = j - 8 * k in
-        let e : 8 * k + (j - 8 * k) ≡ j = omega arith in
-        let d : j / 8 ≡ k = omega arith in
-        let m : j % 8 ≡ j - 8 * k = omega arith in
-        ap (λ (x : ℕ). get_or r x 0) (sym e)
-        ∙ (l.new (j - 8 * k) (omega arith)
-        ∙ sym (ap₂ (λ (x y : ℕ). get_or (get_or vs x []) y 0 / 64) d m ∙ ap (λ (x : List ℕ). get_or x (j - 8 * k) 0 / 64) ev))
 
 -- rows at their weights are the colours
 pub coloured : (b s : ℕ) (e : List ℕ) (g : ℕ → ℕ → ℕ) (vs : List (List ℕ)) → ((k : ℕ) → k < 8 → get_or vs k [] ≡ level e (g k))

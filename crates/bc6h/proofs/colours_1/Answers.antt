@@ -1,7 +1,5 @@
 -- All colours of one subset.
 -- Assumes nothing.
-use Rattle.std.proofs.Common.{ℕ, List, ap, ◌∙◌}
-use Rattle.bc6h.specs.Lanes.{colours, finished_lanes}
 use Rattle.bc6h.proofs.Pictures.{any_most, doubled_widened, sixteen_widened}
 use Rattle.bc6h.proofs.colours_1.Goals as goal
 
@@ -10,8 +8,3 @@ palette_1-requires g c = (
   sixteen_widened g.S.Sign.signed c.args.width c.args.v (any_most c.requires.0) c.requires.0.fit c.widened_1.ensures,
   doubled_widened g.S.Sign.signed c.args.width c.args.v c.requires.1 c.widened_1.ensures,
 )
-
-pub returns : goal.returns
-returns g c =
-    c.finished.ensures
-    ∙ ap (λ (l : List ℕ). finished_lanes g.S.Sign.signed l) (c.palette_1.ensures ∙ ap (colours 4 4) c.widened_1.ensures)

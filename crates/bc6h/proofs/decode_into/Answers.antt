@@ -13,9 +13,6 @@ use Rattle.bc6h.proofs.decode_into.Goals as goal
 low_of_five : (x : ℕ) → x % 32 % 4 ≡ x % 4
 low_of_five x = omega arith
 
-pub two_subsets-requires : goal.two_subsets-requires
-two_subsets-requires c = short_two _ c.if-two-lt2.true
-
 pub returns-then-two-lt2 : goal.returns-then-two-lt2
 unfolding whole
 returns-then-two-lt2 c =
@@ -24,11 +21,6 @@ returns-then-two-lt2 c =
     c.two_subsets.ensures
     ∙ halves_are _ _ (s.low % 4) (s.high * 2 ^ 64 + s.low) (sym c.new-words.ensures) (short_mode s.low s.high t)
     (not_reserved_2 (two_row (s.low % 4) (short_two (s.low % 4) t)))
-
-pub two_subsets-requires-then-two-eq2 : goal.two_subsets-requires-then-two-eq2
-two_subsets-requires-then-two-eq2 c =
-    let low = c.new-words.result.low in
-    long_two (low % 32) (omega arith) (low_of_five low ∙ c.if-two-eq2.true)
 
 pub returns-then-two-eq2 : goal.returns-then-two-eq2
 unfolding whole
@@ -39,12 +31,6 @@ returns-then-two-eq2 c =
     ∙ halves_are _ _ (s.low % 32) (s.high * 2 ^ 64 + s.low) (sym c.new-words.ensures)
     (long_mode s.low s.high c.if-two-lt2.false)
     (not_reserved_2 (two_row (s.low % 32) (long_two (s.low % 32) (let y : s.low % 32 < 32 = omega arith in y) (low_of_five s.low ∙ t))))
-
-pub one_subset-requires : goal.one_subset-requires
-one_subset-requires c =
-    let low = c.new-words.result.low in
-    let three : low % 4 ≡ 3 = let p = c.if-two-lt2.false in let q = c.if-two-eq2.false in omega (arith, p, q) in
-    long_one (low % 32) c.if-five-lt16.true (low_of_five low ∙ three)
 
 pub returns-then-five-lt16 : goal.returns-then-five-lt16
 unfolding whole

@@ -37,10 +37,6 @@ colours_1-q-requires-else-signed c =
       lanes_doubled (row_of c.args.mode) _,
     )
 
-pub new-x-requires : goal.new-x-requires
-new-x-requires c =
-    (omega arith, record { anchors = search rules; inside = rw c.skip.ensures (omega (arith, c.stream-s.ensures.stands)) })
-
 pub returns : goal.returns
 unfolding field
 returns c =

@@ -36,9 +36,6 @@ colours_2-q-requires-else-signed c =
     rw (c.width_2-width.ensures, c.fields_2-v.ensures)
     (record { least = row.least; most = row.most; fit = λ i l. lanes_fit 1 c.args.mode _ (omega arith) i })
 
-pub take-id-requires : goal.take-id-requires
-take-id-requires c = record { narrow = omega arith; inside = rw c.skip.ensures (omega (arith, c.stream-s.ensures.stands)) }
-
 pub new-x-requires : goal.new-x-requires
 new-x-requires c =
     let id : c.take-id.result.value < 64 = omega (arith, c.take-id.ensures.small) in

@@ -1,12 +1,9 @@
 -- Sixteen pixels by their keys, whatever function answers them.
 -- Assumes nothing.
-use Rattle.std.proofs.Common.{ap, ◌∙◌, arith, rules}
-use Rattle.bcn_format.proofs.Making.{made_all, made_next, made_none}
+use Rattle.std.proofs.Common.{ap, ◌∙◌, arith}
+use Rattle.bcn_format.proofs.Making.{made_all, made_next}
 use Rattle.bc6h.specs.Painting.{painted_by, pixel_at}
 use Rattle.bc6h.proofs.painting.paint.Goals as goal
-
-pub loop-i-init : goal.loop-i-init
-loop-i-init g c = λ key e. made_none (search rules)
 
 pub loop-i-preserved : goal.loop-i-preserved
 loop-i-preserved g c =

@@ -1,7 +1,7 @@
 -- Four lanes at the weight 0, and four at 4.
 -- Assumes nothing.
-use Rattle.std.proofs.Common.{◌≡◌, ℕ, ◌+◌, ◌/◌, ◌%◌, ◌<◌, List, get_or, refl, arith}
-use Rattle.laws.proofs.Part.{part_all, part_none, part_set}
+use Rattle.std.proofs.Common.{◌≡◌, ℕ, ◌+◌, ◌/◌, ◌%◌, ◌<◌, List, get_or, arith}
+use Rattle.laws.proofs.Part.{part_all, part_set}
 use Rattle.bcn_format.specs.Drawing.{weight_of, weights}
 use Rattle.bc6h.specs.Lanes.{Doubled, mixed_at}
 use Rattle.bc6h.proofs.palette.at_first_two.Goals as goal
@@ -17,9 +17,6 @@ upper e d i x l p =
     let z : (i + 4) / 4 ≡ 1 = omega arith in
     let t : i + 4 + 8 ≡ i + 12 = omega arith in
     rw (z, t, d.first i l, d.second i l) p
-
-pub loop-i-init : goal.loop-i-init
-loop-i-init c = (omega arith, part_none refl (λ k l. let z : ⊥ = omega arith in z))
 
 pub loop-i-preserved : goal.loop-i-preserved
 loop-i-preserved c =

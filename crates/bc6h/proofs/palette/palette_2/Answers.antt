@@ -1,24 +1,11 @@
 -- All colours of two subsets.
 -- Assumes nothing.
-use Rattle.std.proofs.Common.{◌≡◌, ℕ, ◌<◌, ◌≤◌, List, [], ◌∷◌, get_or, refl, ◌∙◌, arith}
-use Rattle.laws.proofs.Filled.{filled_all, filled_next, filled_none}
+use Rattle.std.proofs.Common.{◌≡◌, ℕ, ◌<◌, ◌≤◌, List, [], ◌∷◌, get_or, ◌∙◌, arith}
+use Rattle.laws.proofs.Filled.{filled_all}
 use Rattle.bc6h.specs.Lanes.{level}
 use Rattle.bc6h.proofs.Steps.{all_dividing, coloured, two_levels, two_most, two_weights, weight2}
 use Rattle.bc6h.proofs.palette.palette_2.Goals as goal
 use Rattle.bc6h.proofs.palette.palette_2.Goals.{After-step-v7}
-
-pub loop-i-init : goal.loop-i-init
-loop-i-init c = (omega arith, filled_none refl, filled_none refl, filled_none refl)
-
-pub loop-i-preserved : goal.loop-i-preserved
-loop-i-preserved c =
-    let inv = c.loop-i.invariant in
-    let l = c.loop-i-test.true in (
-      omega arith,
-      filled_next _ _ inv.1 l c.mixed.ensures,
-      filled_next _ _ inv.2 l c.times.ensures,
-      filled_next _ _ inv.3 l c.times-in-loop-i.ensures,
-    )
 
 -- the eight rows; each step stands behind the one before it, and two lead from row 3 to row 4
 abbrev rows_at : After-step-v7 → List (List ℕ)
