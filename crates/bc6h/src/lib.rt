@@ -47,7 +47,6 @@ fn two_subsets(mode: u64, words: Words, signed: bool, output: &mut [[u16; 3]; 16
     requires { T (among mode two_subsets) }
     ensures { output.new ≡ mode_pixels signed mode (whole words) }
 {
-    let s = words.stream();
     let v = fields_2(mode, words);
     let width = width_2(mode);
     let q = if signed {
@@ -55,7 +54,7 @@ fn two_subsets(mode: u64, words: Words, signed: bool, output: &mut [[u16; 3]; 16
     } else {
         colours_2::<Unsigned>(v, width)
     };
-    let id = s.skip(77).take(5);
+    let id = words.stream_at(77).take(5);
     let set = partition_word_2_3(id.value as u8);
     let x = Indexes::new(3, id.stream, [(set >> 48) as u32]);
     let indexes = x.indexes;
@@ -68,7 +67,6 @@ fn one_subset(mode: u64, words: Words, signed: bool, output: &mut [[u16; 3]; 16]
     requires { T (among mode one_subset) }
     ensures { output.new ≡ mode_pixels signed mode (whole words) }
 {
-    let s = words.stream();
     let v = fields_1(mode, words);
     let width = width_1(mode);
     let q = if signed {
@@ -76,7 +74,7 @@ fn one_subset(mode: u64, words: Words, signed: bool, output: &mut [[u16; 3]; 16]
     } else {
         colours_1::<Unsigned>(v, width)
     };
-    let x = Indexes::new(4, s.skip(65), []);
+    let x = Indexes::new(4, words.stream_at(65), []);
     let indexes = x.indexes;
     let stored = indexes.uncompressed;
     paint(words_of(q), |p| key_of(stored, 4, p, 16), output);

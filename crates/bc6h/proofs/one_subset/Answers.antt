@@ -1,11 +1,11 @@
 -- A mode with one subset.
 -- Assumes nothing.
-use Rattle.std.proofs.Common.{rules, ◌≡◌, ℕ, ◌+◌, Bool, true, false, List, [], ◌∷◌, refl, ap, ◌∙◌, ap₂, arith}
+use Rattle.std.proofs.Common.{rules, ◌≡◌, ℕ, Bool, true, false, List, [], ◌∷◌, refl, ap, ◌∙◌, ap₂, arith}
 use Rattle.bcn_format.specs.Block.{field}
 use Rattle.bcn_format.specs.Indexes.{expanded, part}
 use Rattle.indexes.specs.declared.NewIndexes.{NewIndexes}
 use Rattle.bc6h_modes.specs.Words.{whole}
-use Rattle.bits.proofs.On.{On, got, held_skipped}
+use Rattle.bits.proofs.On.{got}
 use Rattle.bc6h_format.specs.Modes.{row_of}
 use Rattle.bc6h.specs.Lanes.{colours, finished_lanes, widened_lanes}
 use Rattle.bc6h.proofs.Pictures.{lanes_doubled, lanes_fit}
@@ -42,9 +42,8 @@ unfolding field
 returns c =
     let m = c.args.mode in
     let n = whole c.args.words in
-    let at_65 : On n 65 c.skip.result = record { of = held_skipped _ 65 c.skip.ensures ∙ c.stream-s.ensures.of; stands = rw c.skip.ensures (ap (λ (y : ℕ). y + 65) c.stream-s.ensures.stands) } in
     let x_is : c.new-x.result.indexes.uncompressed ≡ expanded 4 (0 ∷ []) (field n 65 63) =
-    ap (λ (r : NewIndexes). r.indexes.uncompressed) c.new-x.ensures ∙ ap (expanded 4 (0 ∷ [])) (got at_65 63 refl) in
+    ap (λ (r : NewIndexes). r.indexes.uncompressed) c.new-x.ensures ∙ ap (expanded 4 (0 ∷ [])) (got c.stream_at.ensures 63 refl) in
     -- where the ways of both signs meet
     let all_colours : c.if-signed.q ≡ coloured c.args.signed m n =
     elim c.if-signed.branch [

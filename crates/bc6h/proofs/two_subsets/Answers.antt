@@ -1,12 +1,12 @@
 -- A mode with two subsets.
 -- Assumes nothing.
-use Rattle.std.proofs.Common.{rules, ◌≡◌, ℕ, ◌+◌, ◌<◌, Bool, true, false, List, [], ◌∷◌, refl, ap, ◌∙◌, ap₂, arith}
+use Rattle.std.proofs.Common.{rules, ◌≡◌, ℕ, ◌<◌, Bool, true, false, List, [], ◌∷◌, refl, ap, ◌∙◌, ap₂, arith}
 use Rattle.bcn_format.specs.Block.{field}
 use Rattle.bcn_format.specs.Indexes.{expanded}
 use Rattle.drawing.specs.Keys.{key_at}
 use Rattle.indexes.specs.declared.NewIndexes.{NewIndexes}
 use Rattle.bc6h_modes.specs.Words.{whole}
-use Rattle.bits.proofs.On.{On, got, held_skipped, on_read}
+use Rattle.bits.proofs.On.{On, got, on_read}
 use Rattle.bc6h_modes.specs.Lanes.{lanes}
 use Rattle.bc6h_format.specs.Modes.{row_of}
 use Rattle.bc6h.specs.Lanes.{colours, finished_lanes, widened_lanes}
@@ -43,7 +43,7 @@ new-x-requires c =
       omega arith,
       record {
         anchors = record { width = search rules; rising = (f.fixup.above, f.fixup.pixel, tt) };
-        inside = rw (c.take-id.ensures.stands, c.skip.ensures) (omega (arith, c.stream-s.ensures.stands));
+        inside = rw c.take-id.ensures.stands (omega (arith, c.stream_at.ensures.stands));
       },
     )
 
@@ -51,8 +51,7 @@ pub returns : goal.returns
 returns c =
     let m = c.args.mode in
     let n = whole c.args.words in
-    let at_77 : On n 77 c.skip.result = record { of = held_skipped _ 77 c.skip.ensures ∙ c.stream-s.ensures.of; stands = rw c.skip.ensures (ap (λ (y : ℕ). y + 77) c.stream-s.ensures.stands) } in
-    let at_82 : On n 82 c.take-id.result.stream = on_read at_77 5 c.take-id.ensures.same in
+    let at_82 : On n 82 c.take-id.result.stream = on_read c.stream_at.ensures 5 c.take-id.ensures.same in
     let set = c.partition_word_2_3-set.result in
     let anchors : List ℕ = 0 ∷ anchor_in2 set ∷ [] in
     let x_is : c.new-x.result.indexes.uncompressed ≡ expanded 3 anchors (field n 82 46) =
@@ -64,6 +63,6 @@ returns c =
       | else-signed w ↦ rw w.if-signed.false (w.q-is ∙ (w.colours_2-q-else-signed.ensures ∙ by_parts false c.width_2-width.ensures c.fields_2-v.ensures))
     ] in
     two_picture c.args.signed m n (two_row m c.requires) c.take-id.result.value set c.new-x.result.indexes.uncompressed
-    (got at_77 5 c.take-id.ensures.same) c.take-id.ensures.small c.partition_word_2_3-set.ensures x_is
+    (got c.stream_at.ensures 5 c.take-id.ensures.same) c.take-id.ensures.small c.partition_word_2_3-set.ensures x_is
     all_colours c.words_of.ensures c.both_keys-keys.ensures
     (c.paint.ensures (key_at 3 1 c.both_keys-keys.result) (λ p k l g. search rules))

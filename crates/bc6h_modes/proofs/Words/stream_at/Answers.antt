@@ -1,9 +1,9 @@
--- A reader at the start of a block.
+-- A reader of a block, from a bit on.
 -- Assumes nothing.
 use mathlib.Core.Path.{refl}
 use Rattle.bits.specs.Stream.{held}
 use Rattle.bc6h_modes.specs.Words.{whole}
-use Rattle.bc6h_modes.proofs.Words.stream.Goals as goal
+use Rattle.bc6h_modes.proofs.Words.stream_at.Goals as goal
 
 pub returns : goal.returns
 unfolding held whole
