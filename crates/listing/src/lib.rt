@@ -85,7 +85,7 @@ fn at_head(reader: HeadReader) -> Machine
 {
     Machine {
         phase: Phase::Head,
-        reader: reader,
+        reader,
         from: 0,
     }
 }
@@ -106,14 +106,14 @@ fn in_blocks(reader: HeadReader, from: u32) -> Machine
     if from == blocks_of(head) {
         return Machine {
             phase: Phase::End,
-            reader: reader,
-            from: from,
+            reader,
+            from,
         };
     }
     Machine {
         phase: Phase::Blocks,
-        reader: reader,
-        from: from,
+        reader,
+        from,
     }
 }
 
@@ -125,13 +125,13 @@ fn stopped(exact: bool) -> Machine
     if exact {
         return Machine {
             phase: Phase::Listed,
-            reader: reader,
+            reader,
             from: 0,
         };
     }
     Machine {
         phase: Phase::Refused,
-        reader: reader,
+        reader,
         from: 0,
     }
 }

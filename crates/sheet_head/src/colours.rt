@@ -41,7 +41,7 @@ pub fn under(colour_space: ColourSpace, head: Head) -> Head
     ensures { known result ≡ under colour_space (known head) }
 {
     Head {
-        colour_space: colour_space,
+        colour_space,
         ..head
     }
 }

@@ -205,7 +205,7 @@ fn push(h: HeadBytes, byte: u8) -> HeadBytes
     let at = h.count as usize;
     bytes[at] = byte;
     HeadBytes {
-        bytes: bytes,
+        bytes,
         count: h.count + 1,
     }
 }

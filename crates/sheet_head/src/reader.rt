@@ -19,10 +19,10 @@ fn at_stage(stage: Stage, head: Head) -> HeadReader
     ensures { reader_known result ≡ awaiting stage (known head) }
 {
     HeadReader {
-        stage: stage,
+        stage,
         low: 0,
         groups: 0,
-        head: head,
+        head,
     }
 }
 
@@ -31,10 +31,10 @@ fn sides_known(form: Form, width: u32, height: u32, start: u32) -> Head
     ensures { known result ≡ head_in form Unspecified 0 width height start }
 {
     Head {
-        form: form,
-        width: width,
-        height: height,
-        start: start,
+        form,
+        width,
+        height,
+        start,
         colour_space: ColourSpace::Unspecified,
     }
 }
@@ -93,7 +93,7 @@ fn take_colour(head: Head, n: u32, next: u32) -> Result<HeadReader, Refusal>
     let colour_space = colour_of(n)?;
     take_size(Head {
         start: next,
-        colour_space: colour_space,
+        colour_space,
         ..head
     })
 }
