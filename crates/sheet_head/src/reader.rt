@@ -50,8 +50,7 @@ pub fn start() -> HeadReader
 pub fn has_ended(reader: HeadReader) -> bool
     ensures { result ≡ has_ended (reader_known reader) }
 {
-    let stage = reader.stage;
-    match stage {
+    match reader.stage {
         Stage::Form | Stage::Width | Stage::Height | Stage::Colour => false,
         Stage::Ended => true,
     }
@@ -139,9 +138,8 @@ fn take_last(reader: HeadReader, byte: u8) -> Result<HeadReader, Refusal>
     if empty_above(byte, reader.groups) {
         return Err(Refusal::BadNumber);
     }
-    let head = reader.head;
     let n = reader.low + group(wide(byte), reader.groups);
-    take_number(reader, n, head.start + wide(reader.groups) + 1)
+    take_number(reader, n, reader.head.start + wide(reader.groups) + 1)
 }
 
 // Any other byte: a group of seven bits, and more are to come.
