@@ -81,8 +81,7 @@ fn check_counts(counts: Counts, blocks: u32, mode: u8, opaque: bool) -> Result<(
     if sum_of(counts) != u64::from(blocks) {
         return Err(Refusal::FalseCounts);
     }
-    let modes = counts.modes;
-    if modes[mode as usize] == 0 {
+    if counts.modes[mode as usize] == 0 {
         return Err(Refusal::FalseCounts);
     }
     if opaque && counts.opaque == 0 {
