@@ -52,6 +52,7 @@ fn count_blocks(head: Head, sheet: &[u8]) -> Counts
 {
     let mut counts = no_counts();
     let blocks = blocks_of(head);
+    // The number is a block's, by which its place and what is visible of it are computed; there is no list of blocks in this order.
     for b in 0..blocks {
         counts = count_block(head, sheet, b, counts);
     }
