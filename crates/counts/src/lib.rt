@@ -52,6 +52,7 @@ fn count_blocks(head: Head, sheet: &[u8]) -> Counts
 {
     let mut counts = no_counts();
     let blocks = blocks_of(head);
+    // The number is a block's, by which its place and what is visible of it are computed; there is no list of blocks in this order.
     for b in 0..blocks {
         counts = count_block(head, sheet, b, counts);
     }
@@ -81,8 +82,7 @@ fn check_counts(counts: Counts, blocks: u32, mode: u8, opaque: bool) -> Result<(
     if sum_of(counts) != u64::from(blocks) {
         return Err(Refusal::FalseCounts);
     }
-    let modes = counts.modes;
-    if modes[mode as usize] == 0 {
+    if counts.modes[mode as usize] == 0 {
         return Err(Refusal::FalseCounts);
     }
     if opaque && counts.opaque == 0 {

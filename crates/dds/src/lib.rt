@@ -113,8 +113,7 @@ fn format_of(colour_space: ColourSpace) -> u32
     ensures { result ≡ format_of colour_space }
 {
     match colour_space {
-        ColourSpace::Unspecified => BC7,
-        ColourSpace::Linear => BC7,
+        ColourSpace::Unspecified | ColourSpace::Linear => BC7,
         ColourSpace::Srgb => BC7_SRGB,
     }
 }
@@ -165,7 +164,6 @@ fn numbers_of(head: Head) -> [u32; NUMBERS]
     requires { Sized head.width head.height }
     ensures { result ≡ table 37 (header_number (known head)) }
 {
-    let colour_space = head.colour_space;
     [
         DDS, // magic
         124, // the header's size
@@ -199,7 +197,7 @@ fn numbers_of(head: Head) -> [u32; NUMBERS]
         0, // caps 3
         0, // caps 4
         0, // reserved
-        format_of(colour_space), // format
+        format_of(head.colour_space), // format
         TWO_DIMENSIONS, // dimension
         0, // misc
         1, // array size
@@ -237,8 +235,7 @@ pub fn import_dds(dds: &[u8], out: &mut [u8]) -> Result<Head, Refusal>
         return Err(Refusal::WrongOutputLength);
     }
     let written = sheet_head::bytes_of(head.width, head.height);
-    let bytes = written.bytes;
-    fill(&bytes, head.start as usize, dds, HEADER, out);
+    fill(&written.bytes, head.start as usize, dds, HEADER, out);
     Ok(head)
 }
 

@@ -74,6 +74,7 @@ fn list_blocks(head: Head, from: u32, blocks: &[u8], at: usize, out: &mut [u8]) 
 {
     let count = blocks.len() / 16;
     let mut next = at;
+    // What a round writes begins where the round before ended, so each takes the output from the one before.
     for k in 0..count {
         next = list_stored(head, from + k as u32, load(blocks, 16 * k), next, out);
     }
@@ -85,7 +86,7 @@ fn at_head(reader: HeadReader) -> Machine
 {
     Machine {
         phase: Phase::Head,
-        reader: reader,
+        reader,
         from: 0,
     }
 }
@@ -102,18 +103,17 @@ fn in_blocks(reader: HeadReader, from: u32) -> Machine
     requires { WithinBlocks (known reader.head) from }
     ensures { machine_known result ≡ in_blocks (reader_known reader) from }
 {
-    let head = reader.head;
-    if from == blocks_of(head) {
+    if from == blocks_of(reader.head) {
         return Machine {
             phase: Phase::End,
-            reader: reader,
-            from: from,
+            reader,
+            from,
         };
     }
     Machine {
         phase: Phase::Blocks,
-        reader: reader,
-        from: from,
+        reader,
+        from,
     }
 }
 
@@ -125,13 +125,13 @@ fn stopped(exact: bool) -> Machine
     if exact {
         return Machine {
             phase: Phase::Listed,
-            reader: reader,
+            reader,
             from: 0,
         };
     }
     Machine {
         phase: Phase::Refused,
-        reader: reader,
+        reader,
         from: 0,
     }
 }
@@ -169,8 +169,7 @@ fn next_in_blocks(reader: HeadReader, from: u32, got: usize) -> Machine
     requires { InBlocks (known reader.head) from }
     ensures { machine_known result ≡ next_in_blocks (reader_known reader) from got }
 {
-    let head = reader.head;
-    let run = run_of(head, from);
+    let run = run_of(reader.head, from);
     if got != 16 * run as usize {
         return stopped(false);
     }
@@ -182,8 +181,7 @@ pub fn next(machine: Machine, came: &[u8]) -> Machine
     requires { Ready (machine_known machine) }
     ensures { GoesOnReady (machine_known machine) came.now (machine_known result) }
 {
-    let phase = machine.phase;
-    match phase {
+    match machine.phase {
         Phase::Head => next_at_head(machine.reader, came),
         Phase::Blocks => next_in_blocks(machine.reader, machine.from, came.len()),
         Phase::End => stopped(came.len() == 0),
@@ -197,11 +195,9 @@ pub fn wanted(machine: Machine) -> usize
     requires { Ready (machine_known machine) }
     ensures { WantsFew (machine_known machine) result }
 {
-    let phase = machine.phase;
-    let head = machine.reader.head;
-    match phase {
+    match machine.phase {
         Phase::Head => 1,
-        Phase::Blocks => 16 * run_of(head, machine.from) as usize,
+        Phase::Blocks => 16 * run_of(machine.reader.head, machine.from) as usize,
         Phase::End => 1,
         Phase::Listed => 0,
         Phase::Refused => 0,
@@ -252,11 +248,9 @@ pub fn list(machine: Machine, came: &[u8], at: usize, out: &mut [u8]) -> usize
     ensures { Spares (spare_of (next_of (machine_known machine) came.now)) (40 * (length came.now / 16) + spare_of (machine_known machine)) at result
         (SaysNext (machine_known machine) came.now out.old at out.new result) }
 {
-    let phase = machine.phase;
-    let head = machine.reader.head;
-    match phase {
+    match machine.phase {
         Phase::Head => list_at_head(machine.reader, came, at, out),
-        Phase::Blocks => list_run(head, machine.from, came, at, out),
+        Phase::Blocks => list_run(machine.reader.head, machine.from, came, at, out),
         Phase::End => refuse_unless(came.len() == 0, at, out),
         Phase::Listed => at,
         Phase::Refused => at,
@@ -279,6 +273,7 @@ pub fn list_sheet(sheet: &[u8], out: &mut [u8]) -> usize
     let mut machine = start();
     let mut at: usize = 0;
     let mut said: usize = 0;
+    // How many rounds there are isn't known before: the machine says at each how much it wants, and ends it by wanting nothing.
     while 0 < wanted(machine) {
         let end = end_of(at, wanted(machine), sheet.len());
         said = list(machine, &sheet[at..end], said, out);

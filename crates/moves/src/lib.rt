@@ -42,6 +42,7 @@ fn move_blocks(form: Form, head: Head, sheet: &[u8], to: &mut [u8])
     let columns = blocks_across(head.width) as usize;
     let rows = blocks_across(head.height) as usize;
     let own = head.form;
+    // The number is a block's, by which both its places are computed; a sheet in tiles has no list of blocks in this order.
     for b in 0..rows * columns {
         let block = load(
             sheet,

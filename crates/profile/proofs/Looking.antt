@@ -2,15 +2,16 @@
 -- Assumes nothing.
 use mathlib.Core.Path.{◌≡◌, refl, ◌∙◌, ap, sym, subst}
 use mathlib.Core.Logic.{⊎_elim}
-use mathlib.Core.Bool.{Bool, true, false, not}
+use mathlib.Core.Bool.{◌&&◌, Bool, true, false, not}
 use mathlib.Core.List.{List}
-use Prim.Native.Nat.{ℕ, ◌+◌, ◌*◌, ◌<◌, ◌≤◌, min}
-use native.Mathlib.Nat.{eq-or-lt_of_le, mul-le-mul_right, not-suc-le-zero}
+use Prim.Native.Nat.{ℕ, zero, suc, ◌-◌, ◌+◌, ◌*◌, ◌<◌, ◌≤◌, min}
+use native.Mathlib.Nat.{eq-or-lt_of_le, not-suc-le-zero}
 use native.Mathlib.Omega.{arith}
 use lib.Arith.{digits_lt}
-use Rattle.laws.specs.Tables.{below, pick}
+use Rattle.std.specs.List.{fold, list_all, range_with_len}
+use Rattle.laws.specs.Tables.{below, both, pick}
 use Rattle.laws.proofs.Cases.{lt_or}
-use Rattle.laws.proofs.Scan.{scan_fails}
+use Rattle.laws.proofs.Scan.{below_add, scan_same}
 use Rattle.head_rules.specs.Answers.{Head}
 use Rattle.head_rules.specs.Geometry.{across, blocks_of, most_blocks, number_at, place_of, stored_at}
 use Rattle.head_rules.proofs.Blocks.{few_blocks}
@@ -88,6 +89,18 @@ module _ (h : Head) (s : List ℕ) where
   looked_all {p} {l} e k =
       sym (lowest_is (blocks_of h) (breaks h s) l k.most k.broken (none_below (subst (λ (n : ℕ). Looked h s n l) e k)))
 
+  -- a chain that looks at so many more, from a place on
+  abbrev pub look : ℕ → ℕ → ℕ
+  look lowest stored = lowest_with h s stored lowest
+
+  looked_on : (n p l : ℕ) → p + n ≡ blocks_of h → Looked h s p l → fold look l (range_with_len p n) ≡ first_breaking h s
+  looked_on zero p l e k = looked_all (let z : p ≡ blocks_of h = omega (arith, e) in z) k
+  looked_on (suc n) p l e k =
+      looked_on n (p + 1) (look l p) (omega (arith, e)) (looked_more (let z : p < blocks_of h = omega (arith, e) in z) k)
+
+  pub looked_at_all : {m : ℕ} → m ≡ blocks_of h → fold look m (range_with_len 0 (m - 0)) ≡ first_breaking h s
+  looked_at_all {m} e = looked_on (m - 0) 0 m (omega (arith, e)) (subst (Looked h s 0) (sym e) looked_none)
+
 -- THE WAYS OF A ROUND: an admitted block changes nothing, of any other the lower number is kept
 module _ (h : Head) (s : List ℕ) (p l : ℕ) where
   pub kept_as_it_was : admits (stored_block h s p) ≡ true → l ≡ lowest_with h s p l
@@ -101,12 +114,6 @@ module _ (h : Head) (s : List ℕ) (p l : ℕ) where
 -- where a block of a whole sheet stands
 module _ {h : Head} {many : ℕ} where
   module _ {n m : ℕ} (a : RowThere h n many) (em : m ≡ across h.width) where
-    pub row_first : n * m ≤ most_blocks
-    row_first =
-        let few = few_blocks a.sheet.sized in
-        let most = mul-le-mul_right {m = n} {n = across h.height} (across h.width) (omega (arith, a.inside)) in
-        rw em (omega (arith, few, most))
-
     module _ {c : ℕ} (l : c < m) where
       in_row : n * across h.width + c < blocks_of h
       unfolding blocks_of
@@ -126,16 +133,29 @@ module _ {h : Head} {many : ℕ} where
 abbrev pub row_test : Head → List ℕ → ℕ → ℕ → Bool
 row_test h s n c = admits (block_by h s (n * across h.width + c))
 
+-- a test of each of so many numbers, in the order that a chain takes them in
+and_both : (a b : Bool) → (a && b) ≡ both (both a true) b
+and_both true b = refl
+and_both false b = refl
+
+in_order : (n a : ℕ) (f : ℕ → Bool) → list_all f (range_with_len a n) ≡ below n (λ k. f (a + k))
+in_order zero a f = refl
+in_order (suc n) a f =
+    ap (λ (b : Bool). f a && b) (in_order n (a + 1) f ∙ scan_same n _ _ (λ k l. ap f (let e : a + 1 + k ≡ a + (1 + k) = omega arith in e)))
+    ∙ and_both (f a) _
+    ∙ ap (λ (i : ℕ). both (both (f i) true) (below n (λ k. f (a + (1 + k))))) (let e : a ≡ a + 0 = omega arith in e)
+    ∙ sym (below_add 1 n (λ k. f (a + k)))
+    ∙ ap (λ (m : ℕ). below m (λ k. f (a + k))) (let e : 1 + n ≡ suc n = omega arith in e)
+
 module _ (h : Head) (s : List ℕ) (n : ℕ) where
-  pub loaded_in_row : {m at : ℕ} {block : List ℕ} (c : ℕ) → m ≡ across h.width → at ≡ place_of h (n * m + c) → block ≡ block_at s at
-      → admits block ≡ row_test h s n c
+  pub told_in_row : {m : ℕ} → m ≡ across h.width → (c at : ℕ) (block : List ℕ) (b : Bool)
+      → at ≡ place_of h (n * m + c) → block ≡ block_at s at → b ≡ admits block → b ≡ row_test h s n c
   unfolding block_by
-  loaded_in_row c em ea eb = ap admits (eb ∙ ap (block_at s) (ea ∙ ap (λ (m : ℕ). place_of h (n * m + c)) em))
+  told_in_row em c at block b ea eb e = e ∙ ap admits (eb ∙ ap (block_at s) (ea ∙ ap (λ (m : ℕ). place_of h (n * m + c)) em))
 
-  pub row_breaks : {m c : ℕ} → m ≡ across h.width → c < m → row_test h s n c ≡ false → false ≡ row_admits h s n
+  pub row_all : {m : ℕ} → m ≡ across h.width → list_all (row_test h s n) (range_with_len 0 (m - 0)) ≡ row_admits h s n
   unfolding row_admits
-  row_breaks {m} {c} em l e = sym (scan_fails (across h.width) (row_test h s n) c (rw em at l) e)
-
-  pub row_keeps : {m c : ℕ} → m ≡ across h.width → c ≡ m → below c (row_test h s n) ≡ true → true ≡ row_admits h s n
-  unfolding row_admits
-  row_keeps em ec e = sym (ap (λ (k : ℕ). below k (row_test h s n)) (sym (ec ∙ em)) ∙ e)
+  row_all {m} em =
+      in_order (m - 0) 0 (row_test h s n)
+      ∙ scan_same (m - 0) _ _ (λ k l. ap (row_test h s n) (let e : 0 + k ≡ k = omega arith in e))
+      ∙ ap (λ (k : ℕ). below k (row_test h s n)) (let e : m - 0 ≡ across h.width = omega (arith, em) in e)

@@ -44,12 +44,7 @@ pub fn row_is_admitted(head: Head, row: u32, sheet: &[u8]) -> bool
 {
     let columns = blocks_across(head.width);
     let first = row * columns;
-    for c in 0..columns {
-        if !is_admitted(load(sheet, place_of(head, first + c))) {
-            return false;
-        }
-    }
-    true
+    (0..columns).all(|c| is_admitted(load(sheet, place_of(head, first + c))))
 }
 
 // The lowest number of a block that breaks the profile, of the blocks that were looked at and of the one that is stored next.
@@ -70,11 +65,10 @@ fn first_breaking(head: Head, sheet: &[u8]) -> u32
     ensures { result ≡ first_breaking (known head) sheet.now }
 {
     let blocks = blocks_of(head);
-    let mut lowest = blocks;
-    for stored in 0..blocks {
-        lowest = lowest_with(head, sheet, stored, lowest);
-    }
-    lowest
+    (0..blocks).fold(
+        blocks,
+        |lowest, stored| lowest_with(head, sheet, stored, lowest),
+    )
 }
 
 // Does a sheet keep the profile? The head's refusals, 10, 17 for the size, then the first block that breaks it.

@@ -18,6 +18,7 @@ fn put_scanline(px: [[u8; 4]; 16], y: usize, n: usize, at: usize, out: &mut [u8]
     requires { InScanline y n at (length out.old) }
     ensures { out.new ≡ over out.old at (4 * n) (scanline_byte px y) }
 {
+    // The number says both which pixel it is and where its bytes go.
     for k in 0..n {
         put_pixel(px[4 * y + k], at + 4 * k, out);
     }
@@ -29,6 +30,7 @@ fn put_scanlines(px: [[u8; 4]; 16], c: usize, w: usize, n: usize, scanlines: usi
     ensures { out.new ≡ with_column w px c out.old }
 {
     let scanline = 4 * w;
+    // The number says both which four pixels are meant and where in the output they go, a whole row of pixels apart.
     for y in 0..scanlines {
         put_scanline(px, y, n, y * scanline + 16 * c, out);
     }

@@ -43,6 +43,7 @@ pub fn put_row(w: usize, scanlines: usize, blocks: &[u8], out: &mut [u8])
     ensures { out.new ≡ row_bytes w scanlines blocks.now }
 {
     let columns = blocks.len() / 16;
+    // The number says both where the block stands and which column of the output is its own.
     for c in 0..columns {
         let px = bc7::decode_bc7_block(load(blocks, 16 * c));
         put_block(px, c, w, scanlines, out);
@@ -56,6 +57,7 @@ pub fn put_sheet_row(head: Head, row: u32, scanlines: usize, sheet: &[u8], out: 
 {
     let columns = blocks_across(head.width);
     let w = head.width as usize;
+    // The number is a block's too, by which its place is computed: in tiles the blocks of a row don't stand together.
     for c in 0..columns {
         let at = place_of(head, row * columns + c);
         let px = bc7::decode_bc7_block(load(sheet, at));

@@ -14,6 +14,7 @@ const LINEAR: u32 = 1;
 
 const SRGB: u32 = 2;
 
+// A function and no `From`, for the colour space is declared in head_rules, which holds no code.
 pub fn number_of(colour_space: ColourSpace) -> u32
     ensures { result ≡ colour_number colour_space }
 {
@@ -24,7 +25,7 @@ pub fn number_of(colour_space: ColourSpace) -> u32
     }
 }
 
-// The colour space of a number; 18, where it has none.
+// The colour space of a number; 18, where it has none. No `TryFrom`, for the same reason.
 pub fn colour_of(number: u32) -> Result<ColourSpace, Refusal>
     ensures { FindsColour number result }
 {
@@ -41,7 +42,7 @@ pub fn under(colour_space: ColourSpace, head: Head) -> Head
     ensures { known result ≡ under colour_space (known head) }
 {
     Head {
-        colour_space: colour_space,
+        colour_space,
         ..head
     }
 }

@@ -51,7 +51,7 @@ fn raise(byte: u8, above: Number) -> Result<Number, Refusal>
 }
 
 // The number at a place, in one group, in at most two, in at most three. Written out, for a function that calls itself is not
-// inlined.
+// inlined, and one with the count of groups as a const parameter would have to compute the next.
 fn one_group(s: &[u8], at: usize) -> Result<Number, Refusal>
     ensures { number_answered result ≡ read_groups 1 at (drop at s.now) }
 {
@@ -134,6 +134,7 @@ pub fn read_head(sheet: &[u8]) -> Result<Head, Refusal>
     Ok(reader.head)
 }
 
+// The number of a form: a function and no `From`, for the form is declared in head_rules, which holds no code.
 pub fn number_of_form(form: Form) -> u32
     ensures { result ≡ form_number form }
 {
@@ -205,7 +206,7 @@ fn push(h: HeadBytes, byte: u8) -> HeadBytes
     let at = h.count as usize;
     bytes[at] = byte;
     HeadBytes {
-        bytes: bytes,
+        bytes,
         count: h.count + 1,
     }
 }

@@ -19,10 +19,10 @@ fn at_stage(stage: Stage, head: Head) -> HeadReader
     ensures { reader_known result ≡ awaiting stage (known head) }
 {
     HeadReader {
-        stage: stage,
+        stage,
         low: 0,
         groups: 0,
-        head: head,
+        head,
     }
 }
 
@@ -31,10 +31,10 @@ fn sides_known(form: Form, width: u32, height: u32, start: u32) -> Head
     ensures { known result ≡ head_in form Unspecified 0 width height start }
 {
     Head {
-        form: form,
-        width: width,
-        height: height,
-        start: start,
+        form,
+        width,
+        height,
+        start,
         colour_space: ColourSpace::Unspecified,
     }
 }
@@ -50,8 +50,7 @@ pub fn start() -> HeadReader
 pub fn has_ended(reader: HeadReader) -> bool
     ensures { result ≡ has_ended (reader_known reader) }
 {
-    let stage = reader.stage;
-    match stage {
+    match reader.stage {
         Stage::Form | Stage::Width | Stage::Height | Stage::Colour => false,
         Stage::Ended => true,
     }
@@ -93,7 +92,7 @@ fn take_colour(head: Head, n: u32, next: u32) -> Result<HeadReader, Refusal>
     let colour_space = colour_of(n)?;
     take_size(Head {
         start: next,
-        colour_space: colour_space,
+        colour_space,
         ..head
     })
 }
@@ -139,9 +138,8 @@ fn take_last(reader: HeadReader, byte: u8) -> Result<HeadReader, Refusal>
     if empty_above(byte, reader.groups) {
         return Err(Refusal::BadNumber);
     }
-    let head = reader.head;
     let n = reader.low + group(wide(byte), reader.groups);
-    take_number(reader, n, head.start + wide(reader.groups) + 1)
+    take_number(reader, n, reader.head.start + wide(reader.groups) + 1)
 }
 
 // Any other byte: a group of seven bits, and more are to come.

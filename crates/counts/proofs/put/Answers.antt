@@ -1,6 +1,6 @@
 -- `put` meets its contract.
 -- Assumes nothing.
-use Rattle.counts.proofs.Recounting.{asked_there, put_there, recount_asked, room_there}
+use Rattle.counts.proofs.Recounting.{asked_there, recount_asked, room_there}
 use Rattle.counts.proofs.put.Goals as goal
 
 pub store-requires : goal.store-requires
@@ -11,11 +11,3 @@ is_opaque_at-is-requires c = asked_there _ _ _ c.requires
 
 pub recount-requires : goal.recount-requires
 recount-requires c = recount_asked _ _ _ c.requires _ c.mode_of.ensures
-
-pub returns : goal.returns
-returns c =
-    let m = c in
-    let o = m in
-    let st = o in
-    let s = st in
-    put_there _ _ _ s.requires _ m.mode_of.ensures o.is_opaque_at-is.ensures c.recount.ensures st.store.ensures

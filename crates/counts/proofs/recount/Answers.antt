@@ -3,7 +3,7 @@
 use mathlib.Core.Path.{◌≡◌}
 use native.Mathlib.Omega.{arith}
 use lib.ListN.{length}
-use Rattle.counts.proofs.Recounting.{both_changed, lowered_some, raised_few, room_left}
+use Rattle.counts.proofs.Recounting.{both_changed, room_left}
 use borrow.Author.Rules.{rules}
 use Rattle.counts.proofs.recount.Goals as goal
 use Rattle.counts.proofs.recount.Goals.{Start}
@@ -13,12 +13,6 @@ size s = search rules
 
 pub overflow_add-modes : goal.overflow_add-modes
 overflow_add-modes c = omega (arith, room_left c.requires (size c.before))
-
-pub overflow_sub-result : goal.overflow_sub-result
-overflow_sub-result c = omega (arith, lowered_some c.requires, c.from.ensures)
-
-pub overflow_add-result : goal.overflow_add-result
-overflow_add-result c = raised_few c.requires (search rules) c.from.ensures c.from-2.ensures
 
 pub returns : goal.returns
 returns c = both_changed c.requires (search rules) c.from.ensures c.from-2.ensures

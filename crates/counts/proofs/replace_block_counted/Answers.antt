@@ -10,8 +10,5 @@ pub returns-in_err-named : goal.returns-in_err-named
 returns-in_err-named c =
     rw (passed_up _ c.from_residual.ensures.1) (not_named_as _ _ _ _ c.in_err-named.ensures (number_not_0 _) refl)
 
-pub put-requires : goal.put-requires
-put-requires c = c.in_ok-named.ensures.here _ refl
-
 pub returns : goal.returns
 returns c = block_put _ _ _ _ (c.in_ok-named.ensures.here _ refl) refl c.put.ensures refl

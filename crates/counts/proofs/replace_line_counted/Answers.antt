@@ -15,8 +15,5 @@ returns-in_err-made c =
     rw (passed_up _ c.from_residual-in_err-made.ensures.1)
     (line_refused _ _ _ _ _ (c.in_ok-named.ensures.here _ refl) c.in_err-made.ensures (number_not_0 _) refl)
 
-pub put-requires : goal.put-requires
-put-requires c = c.in_ok-named.ensures.here _ refl
-
 pub returns : goal.returns
 returns c = line_put_is _ _ _ _ _ (c.in_ok-named.ensures.here _ refl) c.in_ok-made.ensures refl c.put.ensures refl

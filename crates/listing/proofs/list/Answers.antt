@@ -13,12 +13,6 @@ use Rattle.listing_rules.proofs.Room.{spare_ended, spare_next}
 use Rattle.listing_rules.proofs.Runs.{run_inside}
 use Rattle.listing.proofs.list.Goals as goal
 
-pub list_at_head-requires : goal.list_at_head-requires
-list_at_head-requires c =
-    let a = c in
-    let at = c.in-Head.is in
-    record { going = subst (λ (p : Phase). ReadyIn p (machine_known a.args.machine)) at a.requires.ready; fits = omega (arith, ap spare_in at) }
-
 pub list_run-requires : goal.list_run-requires
 list_run-requires c =
     let a = c in
@@ -27,15 +21,6 @@ list_run-requires c =
     let few = ap (λ (p : Phase). wanted_in p (machine_known a.args.machine)) at in
     let run = run_inside inside in
     record { inside = inside; blocks = record { sized = inside.sized; there = omega (arith, run, few); fits = omega (arith, ap spare_in at) } }
-
-pub refuse_unless-requires : goal.refuse_unless-requires
-refuse_unless-requires c = omega (arith, ap spare_in c.in-End.is)
-
-pub returns-in-Head : goal.returns-in-Head
-returns-in-Head c =
-    let told = c in
-    rw told.in-Head.is
-    (record { text = told.list_at_head.ensures.text; room = omega (arith, told.list_at_head.ensures) })
 
 pub returns-in-Blocks : goal.returns-in-Blocks
 returns-in-Blocks c =

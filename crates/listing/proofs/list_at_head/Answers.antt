@@ -6,7 +6,6 @@ use Rattle.refusals.specs.Answers.{number}
 use Rattle.refusals.proofs.Answers.{number_not_0}
 use Rattle.head_rules.specs.Reader.{refused_with}
 use Rattle.head_rules.specs.Answers.{reader_known}
-use Rattle.laws.proofs.Padding.{written_none}
 use Rattle.listing_rules.specs.Machine.{head_text}
 use Rattle.listing_rules.proofs.Room.{spare_begun}
 use Rattle.listing.proofs.list_at_head.Goals as goal
@@ -16,10 +15,6 @@ unfolding head_text
 returns-then-has_ended c =
     rw (← c.in-Ok.ensures.same, ← c.has_ended.ensures, c.if-has_ended.true)
     (record { text = c.sheet_text.ensures.text; room = omega (arith, c.sheet_text.ensures, spare_begun (reader_known c.in-Ok.taken)) })
-
-pub returns-else-has_ended : goal.returns-else-has_ended
-returns-else-has_ended c =
-    rw (← c.in-Ok.ensures.same, ← c.has_ended.ensures, c.if-has_ended.false) (record { text = written_none; room = omega arith })
 
 pub returns-in-Err : goal.returns-in-Err
 unfolding head_text

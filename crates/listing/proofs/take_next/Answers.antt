@@ -2,14 +2,8 @@
 -- Assumes nothing.
 use mathlib.Core.Path.{◌∙◌}
 use Rattle.head_rules.specs.Answers.{reader_known}
-use Rattle.listing_rules.proofs.Rounds.{head_sized, taken_none, taken_one}
+use Rattle.listing_rules.proofs.Rounds.{head_sized, taken_one}
 use Rattle.listing.proofs.take_next.Goals as goal
-
-pub returns-then-came-eq0 : goal.returns-then-came-eq0
-returns-then-came-eq0 c =
-    let a = c.args in
-    let taken = taken_none (reader_known a.reader) a.came.now c.if-came-eq0.true in
-    record { same = taken; sized = head_sized a.came.now c.requires taken }
 
 pub returns : goal.returns
 returns c =

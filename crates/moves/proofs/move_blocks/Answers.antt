@@ -1,74 +1,27 @@
 -- `move_blocks` meets its contract.
 -- Assumes nothing.
-use mathlib.Core.Path.{◌≡◌, ◌∙◌, sym, subst}
+use mathlib.Core.Path.{◌≡◌, ◌∙◌, subst}
 use Prim.Native.Nat.{ℕ, ◌*◌, ◌<◌}
 use native.Mathlib.Omega.{arith}
 use Rattle.head_rules.specs.Geometry.{across}
 use Rattle.head_rules.specs.Answers.{Head, known}
 use Rattle.moves.specs.Rooms.{MovesBlocks}
-use Rattle.moves.proofs.Steps.{Counted, Moved, all_moved, all_of, block_there, count_fits, moved_on, none_moved, numbered, stored_within}
+use Rattle.moves.proofs.Steps.{Counted, Moved, all_moved, all_of, block_there, moved_on, stored_within}
 use Rattle.moves.proofs.move_blocks.Goals as goal
 
 -- columns and rows are counted
 counted : {h : Head} {n m x y : ℕ} → MovesBlocks h n m → x ≡ across h.width → y ≡ across h.height → Counted h x y
 counted k x y = record { size = k.size; columns_are = x; rows_are = y }
 
-pub overflow_mul-b-end : goal.overflow_mul-b-end
-overflow_mul-b-end c =
-    let k = counted c.requires c.blocks_across-columns.ensures c.blocks_across-rows.ensures in
-    omega (arith, count_fits k)
-
-pub loop-b-init : goal.loop-b-init
-loop-b-init c =
-    (omega arith, none_moved c.args.form (known c.args.head) c.args.sheet.now c.requires.room)
-
-pub stored_by-requires : goal.stored_by-requires
-stored_by-requires c =
-    let k = counted c.requires c.blocks_across-columns.ensures c.blocks_across-rows.ensures in
-    let h : c.loop-b.b < c.blocks_across-rows.result * c.blocks_across-columns.result = omega arith in
-    numbered k h
-
-pub overflow_mul-stored_by : goal.overflow_mul-stored_by
-overflow_mul-stored_by c =
-    let k = counted c.requires c.blocks_across-columns.ensures c.blocks_across-rows.ensures in
-    omega (arith, c.stored_by.ensures.inside, count_fits k)
-
-pub overflow_add-head : goal.overflow_add-head
-overflow_add-head c =
-    let k = counted c.requires c.blocks_across-columns.ensures c.blocks_across-rows.ensures in
-    omega (arith, c.stored_by.ensures.inside, count_fits k)
-
 pub load-block-requires : goal.load-block-requires
 load-block-requires c =
     let k = counted c.requires c.blocks_across-columns.ensures c.blocks_across-rows.ensures in
     block_there k c.requires.whole c.stored_by.ensures.inside
 
-pub stored_by-requires-in-loop-b : goal.stored_by-requires-in-loop-b
-stored_by-requires-in-loop-b c =
-    let k = counted c.requires c.blocks_across-columns.ensures c.blocks_across-rows.ensures in
-    let h : c.loop-b.b < c.blocks_across-rows.result * c.blocks_across-columns.result = omega arith in
-    numbered k h
-
-pub overflow_mul-stored_by-in-loop-b : goal.overflow_mul-stored_by-in-loop-b
-overflow_mul-stored_by-in-loop-b c =
-    let k = counted c.requires c.blocks_across-columns.ensures c.blocks_across-rows.ensures in
-    omega (arith, c.stored_by-in-loop-b.ensures.inside, count_fits k)
-
 pub store-requires : goal.store-requires
 store-requires c =
     let k = counted c.requires c.blocks_across-columns.ensures c.blocks_across-rows.ensures in
     omega (arith, c.loop-b.invariant.1.long, stored_within k c.stored_by-in-loop-b.ensures.inside)
-
-pub overflow_step-b : goal.overflow_step-b
-overflow_step-b c =
-    let k = counted c.requires c.blocks_across-columns.ensures c.blocks_across-rows.ensures in
-    let h : c.loop-b.b < c.blocks_across-rows.result * c.blocks_across-columns.result = omega arith in
-    omega (arith, h, count_fits k)
-
-pub loop-b-smaller : goal.loop-b-smaller
-loop-b-smaller c =
-    let h : c.loop-b.b < c.blocks_across-rows.result * c.blocks_across-columns.result = omega arith in
-    omega (arith, h)
 
 pub loop-b-preserved : goal.loop-b-preserved
 loop-b-preserved c =
@@ -78,9 +31,6 @@ loop-b-preserved c =
       moved_on k c.args.sheet.now h c.stored_by.ensures c.args.form c.load-block.ensures
           c.stored_by-in-loop-b.ensures c.loop-b.invariant.1 c.store.ensures,
     )
-
-pub shape_of-to : goal.shape_of-to
-shape_of-to c = c.loop-b.invariant.1.long ∙ sym c.requires.room
 
 pub returns : goal.returns
 returns c =

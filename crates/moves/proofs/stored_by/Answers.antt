@@ -6,10 +6,6 @@ use Rattle.head_rules.specs.Geometry.{stored_by}
 use Rattle.moves.proofs.Steps.{stored_there}
 use Rattle.moves.proofs.stored_by.Goals as goal
 
-pub returns-in-Rows : goal.returns-in-Rows
-returns-in-Rows c =
-    stored_there c.requires _ (sym (ap (λ (f : Form). stored_by f c.args.columns c.args.rows c.args.block) c.in-Rows.is))
-
 pub returns-in-Tiles : goal.returns-in-Tiles
 returns-in-Tiles c =
     stored_there c.requires _ (c.stored_in_tiles.ensures

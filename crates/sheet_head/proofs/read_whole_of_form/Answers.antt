@@ -18,6 +18,3 @@ returns-in_err-read_of_form c =
 
 pub whole-requires : goal.whole-requires
 whole-requires c = of_form_sized _ _ c.in_ok-read_of_form.ensures refl
-
-pub returns : goal.returns
-returns c = c.whole.ensures ∙ ap (λ (h : Head). whole_head h c.args.sheet.now) c.in_ok-read_of_form.ensures

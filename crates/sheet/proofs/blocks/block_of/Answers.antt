@@ -8,9 +8,6 @@ use Rattle.bcn_format.specs.Block.{block_at}
 use Rattle.sheet_rules.specs.Sheets.{block_by}
 use Rattle.sheet.proofs.blocks.block_of.Goals as goal
 
-pub place_of-requires : goal.place_of-requires
-place_of-requires c = c.requires.asked
-
 pub load-requires : goal.load-requires
 load-requires c =
     let a = c in

@@ -1,21 +1,15 @@
 -- `rows::put_sheet_row` meets its contract.
 -- Assumes nothing.
-use mathlib.Core.Path.{◌∙◌, ap, sym}
+use mathlib.Core.Path.{◌∙◌, ap}
 use Prim.Native.Nat.{◌<◌}
 use native.Mathlib.Omega.{arith}
 use Rattle.bc7_format.specs.Lines.{pixels}
-use Rattle.sheet.proofs.rows.Columns.{columns_all, columns_more, columns_none}
+use Rattle.sheet.proofs.rows.Columns.{columns_all, columns_more}
 use Rattle.sheet.proofs.rows.SheetColumns.{asked_in, block_in_is, room_in, size_in, small_in}
 use Rattle.sheet.proofs.rows.put_sheet_row.Goals as goal
 
 pub blocks_across-columns-requires : goal.blocks_across-columns-requires
 blocks_across-columns-requires c = omega (arith, (size_in c.requires).within_wide)
-
-pub overflow_cast-w : goal.overflow_cast-w
-overflow_cast-w c = omega arith
-
-pub loop-c-init : goal.loop-c-init
-loop-c-init c = (omega arith, columns_none _ _ _ c.requires.whole)
 
 pub overflow_mul-row : goal.overflow_mul-row
 overflow_mul-row c =
@@ -45,9 +39,6 @@ load-requires c =
     let h : c.loop-c.c < n.result = omega arith in
     room_in a.requires n.ensures h c.place_of-at.ensures
 
-pub overflow_cast-c : goal.overflow_cast-c
-overflow_cast-c c = omega arith
-
 pub put_block-requires : goal.put_block-requires
 put_block-requires c =
     let n = c.blocks_across-columns in
@@ -60,12 +51,6 @@ put_block-requires c =
       whole = c.loop-c.invariant.1.long;
     }
 
-pub overflow_step-c : goal.overflow_step-c
-overflow_step-c c = omega arith
-
-pub loop-c-smaller : goal.loop-c-smaller
-loop-c-smaller c = omega arith
-
 pub loop-c-preserved : goal.loop-c-preserved
 loop-c-preserved c =
     let n = c.blocks_across-columns in
@@ -77,9 +62,6 @@ loop-c-preserved c =
           ∙ ap pixels (decoded.load.ensures ∙ block_in_is a.requires n.ensures h decoded.place_of-at.ensures))
           c.loop-c.invariant.1 c.put_block.ensures,
     )
-
-pub shape_of-out : goal.shape_of-out
-shape_of-out c = c.loop-c.invariant.1.long ∙ sym c.requires.whole
 
 pub returns : goal.returns
 returns c =

@@ -7,10 +7,6 @@ use Rattle.head_rules.specs.Geometry.{blocks_of}
 use Rattle.head_rules.proofs.Blocks.{few_blocks}
 use Rattle.sheet_head.proofs.geometry.blocks_of.Goals as goal
 
-pub overflow_mul-result : goal.overflow_mul-result
-overflow_mul-result c = let e = ap₂ (λ (x y : ℕ). x * y) c.blocks_across.ensures c.blocks_across-2.ensures in
-    omega (arith, e, few_blocks c.requires)
-
 pub returns : goal.returns
 unfolding blocks_of
 returns c = let e = ap₂ (λ (x y : ℕ). x * y) c.blocks_across.ensures c.blocks_across-2.ensures in

@@ -1,18 +1,13 @@
 -- `reader::take_group` meets its contract.
 -- Assumes nothing.
 use mathlib.Core.Path.{sym}
-use native.Mathlib.Omega.{arith}
 use borrow.Author.Tests.{eq-eqb, ne_eqb}
 use Rattle.head_rules.specs.Reader.{group_taken}
-use Rattle.head_rules.proofs.Bytewise.{low_small}
 use Rattle.sheet_head.proofs.reader.take_group.Goals as goal
 
 pub returns-then-reader-eq2 : goal.returns-then-reader-eq2
 unfolding group_taken
 returns-then-reader-eq2 c = sym (rw (eq-eqb _ 2 c.if-reader-eq2.true))
-
-pub overflow_add-result : goal.overflow_add-result
-overflow_add-result c = omega (arith, c.group.ensures.small, low_small c.requires)
 
 pub returns : goal.returns
 unfolding group_taken
