@@ -71,8 +71,13 @@ impl Packing {
         requires { ChannelNext self.«record» channel width writer }
         ensures { result ≡ upto self.«record» (values_from + 6 * channel + 6) }
     {
-        let endpoints = self.record.endpoints;
-        let word = joined(&endpoints, channel, 4, self.row.endpoints, width);
+        let word = joined(
+            &self.record.endpoints,
+            channel,
+            4,
+            self.row.endpoints,
+            width,
+        );
         writer.push(word, self.row.endpoints as u32 * width)
     }
 
@@ -90,8 +95,10 @@ impl Packing {
         requires { writer ≡ upto self.«record» ps_from }
         ensures { result ≡ upto self.«record» first_from }
     {
-        let p = self.record.p;
-        writer.push(joined(&p, 0, 1, self.row.p, 1), self.row.p as u32)
+        writer.push(
+            joined(&self.record.p, 0, 1, self.row.p, 1),
+            self.row.p as u32,
+        )
     }
 
     // Both sets, where the mode has two.
@@ -100,13 +107,11 @@ impl Packing {
         ensures { result ≡ upto self.«record» place_count }
     {
         let row = self.row;
-        let first = self.record.first;
-        let one = push_set(writer, row.kind, self.anchors, row.first, first);
+        let one = push_set(writer, row.kind, self.anchors, row.first, self.record.first);
         if row.kind != 3 {
             return one;
         }
-        let second = self.record.second;
-        push_set(one, row.kind, self.anchors, row.second, second)
+        push_set(one, row.kind, self.anchors, row.second, self.record.second)
     }
 
     // The block of the record.
