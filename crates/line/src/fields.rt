@@ -16,11 +16,7 @@ use indexes::storing::{compressed, stored_bits};
 pub fn standing_at(s: BitStream, at: u32) -> BitStream
     ensures { result ≡ standing s at }
 {
-    BitStream {
-        low: s.low,
-        high: s.high,
-        at,
-    }
+    BitStream { at, ..s }
 }
 
 // A word in which `new` stands in the place of `old`.
@@ -41,13 +37,13 @@ pub fn put(s: BitStream, at: u32, count: u32, value: u64) -> BitStream
         return BitStream {
             low: exchanged(s.low, old << at, value << at),
             high: exchanged(s.high, (old >> 1) >> (63 - at), (value >> 1) >> (63 - at)),
-            at: at,
+            at,
         };
     }
     BitStream {
-        low: s.low,
         high: exchanged(s.high, old << (at - 64), value << (at - 64)),
-        at: at,
+        at,
+        ..s
     }
 }
 
