@@ -82,6 +82,7 @@ fn put_places(mode: u8, row: ModeRow, split: Split, out: &mut [u8]) -> usize
     let anchors = anchors_of(split);
     let mut at: usize = 0;
     let mut bit: u32 = 0;
+    // The number of a place is what it is made of.
     for number in 0..PLACES {
         let place = place_at(number);
         let width = width_of(mode, row, anchors, place);

@@ -26,6 +26,7 @@ fn endpoints_of(row: ModeRow, red: u64, green: u64, blue: u64, alpha: u64) -> [u
     ensures { result ≡ endpoints_of row red green blue alpha }
 {
     let mut endpoints = [0u8; 24];
+    // The number of an endpoint says where its values stand in the words and in the array.
     for e in 0..row.endpoints {
         endpoints[4 * e] = part_of(red, row.colour, e);
         endpoints[4 * e + 1] = part_of(green, row.colour, e);

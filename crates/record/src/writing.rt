@@ -22,6 +22,7 @@ fn joined(values: &[u8], from: usize, step: usize, count: usize, width: u32) -> 
     ensures { result ≡ evenly count width (λ k. get_or values.now (step * k + from) 0) }
 {
     let mut word = 0u64;
+    // The number of a value says where it stands.
     for k in (0..count).rev() {
         word = (word << width) + values[step * k + from] as u64;
     }

@@ -20,11 +20,11 @@ returns-in-Value c =
           let w = rw v.1 at c.word_of.ensures in
           rw (v.1, ← w.is) (puts_within (puts_then c.put_word-named.ensures c.put_few.ensures) 11 (omega (arith, w.short)))
       | inr r ↦ elim r [
-          | inl p ↦
-          let w = rw p at c.word_of.ensures in
-          rw (p, ← w.is) (puts_within (puts_then c.put_word-named.ensures c.put_few.ensures) 11 (omega (arith, w.short)))
-          | inr i ↦
-          let w = rw i.1 at c.word_of.ensures in
-          rw (i.1, ← w.is) (puts_within (puts_then c.put_word-named.ensures c.put_few.ensures) 11 (omega (arith, w.short)))
-        ]
+        | inl p ↦
+            let w = rw p at c.word_of.ensures in
+            rw (p, ← w.is) (puts_within (puts_then c.put_word-named.ensures c.put_few.ensures) 11 (omega (arith, w.short)))
+        | inr i ↦
+            let w = rw i.1 at c.word_of.ensures in
+            rw (i.1, ← w.is) (puts_within (puts_then c.put_word-named.ensures c.put_few.ensures) 11 (omega (arith, w.short)))
+      ]
     ]
