@@ -37,6 +37,7 @@ fn bits(block: [u8; 16], start: usize, width: usize) -> usize
     ensures { result ≡ field (number block) start width }
 {
     let mut sum = 0;
+    // A bit is found by its number.
     for next in (0..width).rev() {
         sum = 2 * sum + bit(block, start + next);
     }
@@ -54,9 +55,10 @@ struct Mode {
 fn mode_of(block: [u8; 16]) -> Option<Mode>
     ensures { unwrap_or (option_map (λ (m : Mode). m.number) result) 8 ≡ mode_of block }
 {
+    // The number is what is looked for.
     for number in 0..8 {
         if bit(block, number) == 1 {
-            return Some(Mode { number: number });
+            return Some(Mode { number });
         }
     }
     None

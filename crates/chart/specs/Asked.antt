@@ -1,7 +1,10 @@
 -- What the functions of the chart ask.
 -- Assumes nothing.
-use Rattle.std.specs.Prelude.{ℕ, ◌+◌, ◌^◌, ◌<◌, ◌≤◌, ◌≡◌, List, T}
+use Rattle.std.specs.Prelude.{ℕ, ◌+◌, ◌^◌, ◌<◌, ◌≤◌, ◌≡◌, List, T, length}
 use Rattle.bc7_format.specs.declared.Place.{Place}
+use Rattle.bc7_format.specs.declared.Place.TheVariants.{Lead, Value, PBit, Index}
+use Rattle.laws.specs.Text.{ascii}
+use Rattle.chart_rules.specs.Names.{channel_name, lead_name, set_name}
 use Rattle.bc7_format.specs.declared.Split.{Split}
 use Rattle.bc7_modes.specs.declared.ModeRow.{ModeRow}
 use Rattle.bc7_format.specs.Modes.{kind_of_mode, mode_of, partition_bits}
@@ -10,10 +13,22 @@ use Rattle.bc7_format.specs.Splits.{kind_of, partition}
 use Rattle.bc7_modes.specs.Modes.{IsRow}
 use Rattle.chart_rules.specs.Charts.{text_room}
 
--- of a word: that it is one of so many, and that the output has room for the longest
-pub record OneOf (many k most at room : ℕ) : Type 0 where
-  pub there : k < many
-  pub fits : at + most ≤ room
+-- the word of a place's name: a short one where a number stands behind it
+abbrev pub word_in : Place → List ℕ
+word_in (Lead k) = lead_name k
+word_in (Value c e) = channel_name c
+word_in (PBit k) = ascii "p-"
+word_in (Index a q) = set_name a
+
+abbrev pub longest : Place → ℕ
+longest (Lead k) = 10
+longest (Value c e) = 7
+longest (PBit k) = 7
+longest (Index a q) = 7
+
+pub record WordOf (place : Place) (word : List ℕ) : Type 0 where
+  pub is : word ≡ word_in place
+  pub short : length word ≤ longest place
 
 -- of a place's name
 pub record NameAsked (place : Place) (at room : ℕ) : Type 0 where

@@ -3,16 +3,16 @@
 
 #![tactic(auto)]
 
-ghost use Rattle.std.specs.Prelude.{◌≡◌, length};
+ghost use Rattle.std.specs.Prelude.{◌≡◌, T, length};
 ghost use Rattle.laws.specs.Padding.{Written};
-ghost use Rattle.bc7_format.specs.Places.{place_count};
+ghost use Rattle.bc7_format.specs.Places.{inside, place_count};
 ghost use Rattle.bc7_format.specs.Splits.{split_of};
 ghost use Rattle.laws.specs.Text.{refused_text};
 ghost use Rattle.refusals.specs.Answers.{number};
 ghost use Rattle.text.specs.Puts.{Puts};
-ghost use Rattle.chart_rules.specs.Names.{channel_name, lead_name, name_of, set_name};
+ghost use Rattle.chart_rules.specs.Names.{name_of};
 ghost use Rattle.chart_rules.specs.Charts.{Answers, ChartsWithin, charted, field_text, places_text, text_room, wanted_bytes};
-ghost use Rattle.chart.specs.Asked.{BlockMode, FieldAsked, NameAsked, OneOf, PlacesAsked};
+ghost use Rattle.chart.specs.Asked.{BlockMode, FieldAsked, NameAsked, PlacesAsked, WordOf};
 
 use bc7_format::{Place, Split};
 use bc7_modes::{ModeRow, mode_of, mode_row};
@@ -27,59 +27,36 @@ use text::{put, put_few, put_spaced, put_word, refused_text};
 // Room for the longest chart, and for a field's text behind it.
 const ROOM: usize = 609;
 
-fn put_lead(lead: usize, at: usize, out: &mut [u8]) -> usize
-    requires { OneOf 4 lead 10 at (length out.old) }
-    ensures { Puts 10 out.old at (lead_name lead) out.new result }
+// The word of a place's name.
+fn word_of(place: Place) -> &'static [u8]
+    requires { T (inside place) }
+    ensures { WordOf place result.now }
 {
-    match lead {
-        0 => put_word(b"mode", at, out),
-        1 => put_word(b"partition", at, out),
-        2 => put_word(b"rotation", at, out),
-        _ => put_word(b"index-mode", at, out),
+    match place {
+        Place::Lead(0) => b"mode",
+        Place::Lead(1) => b"partition",
+        Place::Lead(2) => b"rotation",
+        Place::Lead(_) => b"index-mode",
+        Place::Value { channel: 0, .. } => b"red-",
+        Place::Value { channel: 1, .. } => b"green-",
+        Place::Value { channel: 2, .. } => b"blue-",
+        Place::Value { .. } => b"alpha-",
+        Place::PBit(_) => b"p-",
+        Place::Index { set: 0, .. } => b"index-",
+        Place::Index { .. } => b"second-",
     }
 }
 
-fn put_channel(channel: usize, at: usize, out: &mut [u8]) -> usize
-    requires { OneOf 4 channel 6 at (length out.old) }
-    ensures { Puts 6 out.old at (channel_name channel) out.new result }
-{
-    match channel {
-        0 => put_word(b"red-", at, out),
-        1 => put_word(b"green-", at, out),
-        2 => put_word(b"blue-", at, out),
-        _ => put_word(b"alpha-", at, out),
-    }
-}
-
-fn put_set(set: usize, at: usize, out: &mut [u8]) -> usize
-    requires { OneOf 2 set 7 at (length out.old) }
-    ensures { Puts 7 out.old at (set_name set) out.new result }
-{
-    match set {
-        0 => put_word(b"index-", at, out),
-        _ => put_word(b"second-", at, out),
-    }
-}
-
-// The name of a place.
+// The name of a place: a word, and behind it the number of the endpoint, the p bit or the pixel.
 fn put_name(place: Place, at: usize, out: &mut [u8]) -> usize
     requires { NameAsked place at (length out.old) }
     ensures { Puts 11 out.old at (name_of place) out.new result }
 {
+    let named = put_word(word_of(place), at, out);
     match place {
-        Place::Lead(lead) => put_lead(lead, at, out),
-        Place::Value { channel, endpoint } => {
-            let named = put_channel(channel, at, out);
-            put_few(endpoint as u32, named, out)
-        }
-        Place::PBit(p) => {
-            let named = put_word(b"p-", at, out);
-            put_few(p as u32, named, out)
-        }
-        Place::Index { set, pixel } => {
-            let named = put_set(set, at, out);
-            put_few(pixel as u32, named, out)
-        }
+        Place::Lead(_) => named,
+        Place::Value { endpoint: n, .. } | Place::PBit(n) | Place::Index { pixel: n, .. } =>
+            put_few(n as u32, named, out),
     }
 }
 
@@ -105,6 +82,7 @@ fn put_places(mode: u8, row: ModeRow, split: Split, out: &mut [u8]) -> usize
     let anchors = anchors_of(split);
     let mut at: usize = 0;
     let mut bit: u32 = 0;
+    // The number of a place is what it is made of.
     for number in 0..PLACES {
         let place = place_at(number);
         let width = width_of(mode, row, anchors, place);

@@ -11,9 +11,8 @@ ghost use Rattle.bits.specs.Stream.{held};
 ghost use Rattle.line.specs.Opened.{IsOpened, LineOfBlock};
 ghost use Rattle.line_rules.specs.Promises.{ReadsLine, Replaces};
 
-use crate::fields::put_line;
 use crate::parts::{mask_of, only_own, oriented, parts_fit};
-use crate::reading::{line_held, widths_of};
+use crate::reading::widths_of;
 use bc7_modes::{ModeRow, mode_of, mode_row};
 use bc7_places::lines::{LinePart, line_part};
 use bc7_places::splits::read_lead;
@@ -27,11 +26,15 @@ pub mod fields;
 pub mod parts;
 pub mod reading;
 
-// A block's number, with the stream where its values start, and the parts of a line of it.
+// A line of a block: the block's mode and that mode's row, the line's number and its parts, and the block's number, with the stream where
+// its values start.
 #[derive(Clone, Copy)]
 pub struct Opened {
-    pub stream: BitStream,
+    pub mode: u8,
+    pub row: ModeRow,
+    pub line: u32,
     pub part: LinePart,
+    pub stream: BitStream,
 }
 
 // The mode is the block's and not the reserved one.
@@ -41,8 +44,11 @@ fn open_line(block: [u8; 16], mode: u8, row: ModeRow, line: u32) -> Opened
 {
     let lead = read_lead(block, mode, row);
     Opened {
-        stream: lead.stream,
+        mode,
+        row,
+        line,
         part: line_part(row, lead.split, line),
+        stream: lead.stream,
     }
 }
 
@@ -91,8 +97,7 @@ pub fn replace_line(block: [u8; 16], line: u32, new: Replacement) -> Result<[u8;
         return Err(Refusal::PBitsDiffer);
     }
     let stored = oriented(part, new, indexes, mask);
-    let after = put_line(opened.stream, mode, row, line, part, mask, stored);
-    Ok(bytes_of(after))
+    Ok(bytes_of(opened.put_line(mask, stored)))
 }
 
 // The line as it stands and the widths of its parts, or the first refusal that applies: 1, 2.
@@ -108,9 +113,8 @@ pub fn read_line(block: [u8; 16], line: u32) -> Result<LineRead, Refusal>
         return Err(Refusal::NoSuchLine);
     }
     let opened = open_line(block, mode, row, line);
-    let part = opened.part;
     Ok(LineRead {
-        line: line_held(opened.stream, mode, row, line, part),
-        widths: widths_of(part),
+        line: opened.line_held(),
+        widths: widths_of(opened.part),
     })
 }

@@ -31,6 +31,7 @@ pub fn mask_of(pixels: Pixels, width: u32) -> u64
 {
     let ones = (1u64 << width) - 1;
     let mut mask: u64 = 0;
+    // The number of a pixel is what its subset is looked up by.
     for i in (0..16usize).rev() {
         mask = (mask << width) + at_own(pixels, i, ones);
     }

@@ -111,7 +111,7 @@ fn distance(channels: Shown, bits: u32, index: u32) -> u32
         + far(channels.alpha, at)
 }
 
-// Every index is tried, the lowest first, so that of equal ones the lowest stays.
+// Every index is tried, the lowest first, so that of equal ones the lowest stays. The index is what is looked for.
 fn search(channels: Shown, bits: u32) -> Nearest
     requires { Searchable channels bits }
     ensures { Searched channels bits result }

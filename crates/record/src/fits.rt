@@ -92,24 +92,19 @@ pub fn record_fits(record: Record, row: ModeRow) -> bool
     requires { IsRow «record».mode row }
     ensures { result ≡ fits «record».mode [] (says «record») }
 {
-    let split = record.split;
-    if !split_fits(split, row) {
+    if !split_fits(record.split, row) {
         return false;
     }
-    let endpoints = record.endpoints;
-    if !endpoints_fit(endpoints, row) {
+    if !endpoints_fit(record.endpoints, row) {
         return false;
     }
-    let p = record.p;
-    if !p_fits(p, row) {
+    if !p_fits(record.p, row) {
         return false;
     }
-    let first = record.first;
-    if !indexes_fit(first, row.first) {
+    if !indexes_fit(record.first, row.first) {
         return false;
     }
-    let second = record.second;
-    indexes_fit(second, row.second)
+    indexes_fit(record.second, row.second)
 }
 
 // Do the anchors' indexes of a set do without their top bits?
@@ -117,16 +112,13 @@ fn tops_zero(indexes: [u8; 16], anchors: Anchors, width: u32) -> bool
     requires { SetAt anchors width }
     ensures { result ≡ tops_zero indexes anchors (width - 1) }
 {
-    let a = anchors.a;
-    if !value_fits(indexes[a], width - 1) {
+    if !value_fits(indexes[anchors.a], width - 1) {
         return false;
     }
-    let b = anchors.b;
-    if !value_fits(indexes[b], width - 1) {
+    if !value_fits(indexes[anchors.b], width - 1) {
         return false;
     }
-    let c = anchors.c;
-    value_fits(indexes[c], width - 1)
+    value_fits(indexes[anchors.c], width - 1)
 }
 
 // Refusal 6, where everything fits its full width: do the anchors' indexes fit as they are stored? A mode whose kind is a vector
@@ -135,13 +127,11 @@ pub fn anchors_fit(record: Record, row: ModeRow, anchors: Anchors) -> bool
     requires { FullWith «record» row anchors }
     ensures { result ≡ stored_fit «record» }
 {
-    let first = record.first;
-    if !tops_zero(first, anchors, row.first) {
+    if !tops_zero(record.first, anchors, row.first) {
         return false;
     }
     if row.kind != 3 {
         return true;
     }
-    let second = record.second;
-    tops_zero(second, anchors, row.second)
+    tops_zero(record.second, anchors, row.second)
 }

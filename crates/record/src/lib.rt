@@ -48,9 +48,9 @@ pub fn pack(record: Record) -> Result<[u8; 16], Refusal>
         return Err(Refusal::AnchorBitSet);
     }
     let packing = Packing {
-        record: record,
-        row: row,
-        anchors: anchors,
+        record,
+        row,
+        anchors,
     };
     Ok(packing.block())
 }

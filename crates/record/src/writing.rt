@@ -22,6 +22,7 @@ fn joined(values: &[u8], from: usize, step: usize, count: usize, width: u32) -> 
     ensures { result ≡ evenly count width (λ k. get_or values.now (step * k + from) 0) }
 {
     let mut word = 0u64;
+    // The number of a value says where it stands.
     for k in (0..count).rev() {
         word = (word << width) + values[step * k + from] as u64;
     }
@@ -71,8 +72,13 @@ impl Packing {
         requires { ChannelNext self.«record» channel width writer }
         ensures { result ≡ upto self.«record» (values_from + 6 * channel + 6) }
     {
-        let endpoints = self.record.endpoints;
-        let word = joined(&endpoints, channel, 4, self.row.endpoints, width);
+        let word = joined(
+            &self.record.endpoints,
+            channel,
+            4,
+            self.row.endpoints,
+            width,
+        );
         writer.push(word, self.row.endpoints as u32 * width)
     }
 
@@ -90,8 +96,10 @@ impl Packing {
         requires { writer ≡ upto self.«record» ps_from }
         ensures { result ≡ upto self.«record» first_from }
     {
-        let p = self.record.p;
-        writer.push(joined(&p, 0, 1, self.row.p, 1), self.row.p as u32)
+        writer.push(
+            joined(&self.record.p, 0, 1, self.row.p, 1),
+            self.row.p as u32,
+        )
     }
 
     // Both sets, where the mode has two.
@@ -100,13 +108,11 @@ impl Packing {
         ensures { result ≡ upto self.«record» place_count }
     {
         let row = self.row;
-        let first = self.record.first;
-        let one = push_set(writer, row.kind, self.anchors, row.first, first);
+        let one = push_set(writer, row.kind, self.anchors, row.first, self.record.first);
         if row.kind != 3 {
             return one;
         }
-        let second = self.record.second;
-        push_set(one, row.kind, self.anchors, row.second, second)
+        push_set(one, row.kind, self.anchors, row.second, self.record.second)
     }
 
     // The block of the record.

@@ -4,8 +4,8 @@
 
 #![tactic(auto)]
 
-ghost use Rattle.std.specs.Prelude.{◌≡◌, ◌+◌, ◌≤◌, eqb, get_or, length};
-ghost use Rattle.laws.specs.Tables.{both, over};
+ghost use Rattle.std.specs.Prelude.{◌≡◌, ◌+◌, ◌≤◌, None, Some, eqb, get_or, length, ltb};
+ghost use Rattle.laws.specs.Tables.{both, over, pick};
 ghost use Rattle.bc7_format.specs.Splits.{index_mode};
 ghost use Rattle.record_rules.specs.Wire.{bytes_from, record_of_bytes, split_byte};
 ghost use Rattle.record_rules.specs.Promises.{PacksBytes, WritesRecord};
@@ -13,7 +13,7 @@ ghost use Rattle.line_rules.specs.Promises.{ReadsReplacement, WritesReplacement}
 
 use bc7_format::Split;
 use bc7_places::places::{FIRST, P_BITS, PLACES, SECOND, VALUES};
-use bc7_places::splits::{index_mode_of, kind_of, partition_of, rotation_of, split_of_kind};
+use bc7_places::splits::{index_mode_of, kind_of, split_of_kind};
 use line_rules::Replacement;
 use record::pack;
 use record_rules::Record;
@@ -23,10 +23,11 @@ use refusals::Refusal;
 fn split_byte(split: Split) -> u8
     ensures { result ≡ split_byte split }
 {
-    if kind_of(split) == 3 {
-        return rotation_of(split);
+    match split {
+        Split::Whole => 0,
+        Split::Two(partition) | Split::Three(partition) => partition,
+        Split::Vector { rotation, .. } => rotation,
     }
-    partition_of(split)
 }
 
 // Bytes laid over others from a place on.
@@ -48,14 +49,10 @@ pub fn record_bytes(from: Record) -> [u8; PLACES]
     bytes[1] = kind_of(split);
     bytes[2] = split_byte(split);
     bytes[3] = index_mode_of(split);
-    let endpoints = from.endpoints;
-    lay(&endpoints, VALUES, &mut bytes);
-    let p = from.p;
-    lay(&p, P_BITS, &mut bytes);
-    let first = from.first;
-    lay(&first, FIRST, &mut bytes);
-    let second = from.second;
-    lay(&second, SECOND, &mut bytes);
+    lay(&from.endpoints, VALUES, &mut bytes);
+    lay(&from.p, P_BITS, &mut bytes);
+    lay(&from.first, FIRST, &mut bytes);
+    lay(&from.second, SECOND, &mut bytes);
     bytes
 }
 
@@ -69,28 +66,28 @@ fn part<const N: usize>(from: &[u8], at: usize) -> [u8; N]
     values
 }
 
-// The record of 66 bytes. A kind above 3 is read as 3: `pack_bytes` refuses it before.
-fn record_of_bytes(bytes: [u8; PLACES]) -> Record
-    ensures { result ≡ record_of_bytes bytes }
+// The record of 66 bytes: none where a byte names no kind.
+fn record_of_bytes(bytes: [u8; PLACES]) -> Option<Record>
+    ensures { result ≡ pick (ltb 3 (get_or bytes 1 0)) None (Some (record_of_bytes bytes)) }
 {
-    Record {
+    if 3 < bytes[1] {
+        return None;
+    }
+    Some(Record {
         mode: bytes[0],
         split: split_of_kind(bytes[1], bytes[2], bytes[2], bytes[3]),
         endpoints: part(&bytes, VALUES),
         p: part(&bytes, P_BITS),
         first: part(&bytes, FIRST),
         second: part(&bytes, SECOND),
-    }
+    })
 }
 
 // Do the third and the fourth byte say no more than the split has?
 fn spells(split: Split, third: u8, fourth: u8) -> bool
     ensures { result ≡ both (eqb third (split_byte split)) (eqb fourth (index_mode split)) }
 {
-    if third != split_byte(split) {
-        return false;
-    }
-    fourth == index_mode_of(split)
+    third == split_byte(split) && fourth == index_mode_of(split)
 }
 
 // Packing a record that is given in bytes. A byte that names no kind is a split of another kind than the mode's; one that says what
@@ -98,17 +95,9 @@ fn spells(split: Split, third: u8, fourth: u8) -> bool
 pub fn pack_bytes(bytes: [u8; PLACES]) -> Result<[u8; 16], Refusal>
     ensures { PacksBytes bytes result }
 {
-    if 3 < bytes[1] {
-        return Err(Refusal::WrongKind);
-    }
-    let record = record_of_bytes(bytes);
+    let record = record_of_bytes(bytes).ok_or(Refusal::WrongKind)?;
     let packed = pack(record);
-    if let Err(refusal) = packed {
-        if refusal == Refusal::WrongKind {
-            return packed;
-        }
-    }
-    if spells(record.split, bytes[2], bytes[3]) {
+    if packed == Err(Refusal::WrongKind) || spells(record.split, bytes[2], bytes[3]) {
         return packed;
     }
     Err(Refusal::ValueTooWide)
@@ -130,11 +119,8 @@ pub fn replacement_bytes(from: Replacement) -> [u8; 26]
     ensures { WritesReplacement from result }
 {
     let mut bytes = [0u8; 26];
-    let endpoints = from.endpoints;
-    lay(&endpoints, 0, &mut bytes);
-    let p = from.p;
-    lay(&p, 8, &mut bytes);
-    let indexes = from.indexes;
-    lay(&indexes, 10, &mut bytes);
+    lay(&from.endpoints, 0, &mut bytes);
+    lay(&from.p, 8, &mut bytes);
+    lay(&from.indexes, 10, &mut bytes);
     bytes
 }
