@@ -3,11 +3,10 @@
 use mathlib.Core.Path.{◌≡◌, ◌∙◌, ap, ap₂, sym, subst}
 use mathlib.Core.List.{List}
 use Prim.Native.Nat.{ℕ, ◌+◌, ◌*◌, ◌/◌, ◌%◌, ◌<◌, ◌≤◌}
-use native.Mathlib.Nat.{not-suc-le-zero}
 use native.Mathlib.Omega.{arith}
-use lib.ListN.{length, get_or}
+use lib.ListN.{get_or}
 use Rattle.laws.proofs.Over.{part_over}
-use Rattle.laws.proofs.Part.{Part, part_all, part_none}
+use Rattle.laws.proofs.Part.{Part, part_all}
 use Rattle.tile_rules.proofs.Theorems.{has_columns}
 use Rattle.head_rules.specs.declared.Form.{Form}
 use Rattle.head_rules.specs.Answers.{Head}
@@ -32,9 +31,6 @@ module _ (f : Form) (h : Head) (s : List ℕ) where
   -- the blocks below b stand where form f stores them
   abbrev pub Moved : ℕ → List ℕ → Type 0
   Moved b out = Part (16 * blocks_of h) 0 (byte_as f h s) (λ k. number_by f columns rows (k / 16) < b) out
-
-  pub none_moved : {out : List ℕ} → length out ≡ 16 * blocks_of h → Moved 0 out
-  none_moved e = part_none e (λ k l. not-suc-le-zero l)
 
   pub all_moved : {out : List ℕ} → Moved (blocks_of h) out → out ≡ blocks_as f h s
   unfolding blocks_as
@@ -84,9 +80,6 @@ module _ {h : Head} {c r : ℕ} (k : Counted h c r) where
   few : blocks_of h ≤ most_blocks
   unfolding blocks_of
   few = few_blocks k.size
-
-  pub count_fits : r * c ≤ most_blocks
-  count_fits = omega (arith, all_of, few)
 
   pub numbered : {b : ℕ} → b < r * c → Numbered c r b
   numbered l = record {
