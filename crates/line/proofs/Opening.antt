@@ -50,15 +50,8 @@ module _ (bs : List ℕ) {mode l : ℕ} {row : ModeRow} (of : LineOfBlock bs mod
   pub asks : Fit eights bs → OfLine row r.split l
   asks sixteen = rw lead.split (of_line (good bs sixteen (rw mode_is at of.of_block.low)) l (rw mode_is at of.there) row_is)
 
-  pub is_opened : {x : LinePart} → x ≡ part_of row r.split l → IsOpened bs l (record { mode = mode; row = row; line = l; part = x; stream = r.stream })
-  is_opened ex = record {
-    holds = lead.stands.of;
-    stands = lead.stands.stands;
-    part = ex ∙ rw (row_is, lead.split);
-    mode = mode_is;
-    row = row_is;
-    line = refl;
-  }
+  pub is_opened : {x : LinePart} → x ≡ part_of row r.split l → IsOpened bs l (record { stream = r.stream; part = x })
+  is_opened ex = record { holds = lead.stands.of; stands = lead.stands.stands; part = ex ∙ rw (row_is, lead.split) }
 
 -- READING: refused with 1 and 2, and the line as it stands
 pub read_1 : (bs : List ℕ) (l : ℕ) → mode_of bs ≡ 8 → read_as 1 no_line no_line ≡ line_read bs l
@@ -84,20 +77,19 @@ module _ (bs : List ℕ) (sixteen : Fit eights bs) (low : mode_of bs < 8) (l : �
   pub ready_part : PartSmall o.part
   ready_part = part_small (good bs sixteen low) l hl is
 
-  pub ready_read : ReadReady o.stream o.row o.line o.part
-  unfolding opened
-  ready_read = rw i.line (read_ready (good bs sixteen low) l hl is (number bs) (λ y h. refl) o.stream i.holds i.stands i.row)
+  module _ {row : ModeRow} (er : row ≡ mode_row_of (mode_of bs)) where
+    pub ready_read : ReadReady o.stream row l o.part
+    unfolding opened
+    ready_read = read_ready (good bs sixteen low) l hl is (number bs) (λ y h. refl) o.stream i.holds i.stands er
 
-  pub read_0 : {r v : Replacement} → r ≡ line_held o.stream o.mode o.row o.line o.part → v ≡ widths_in o.part
-      → record { refusal = 0; value = record { line = r; widths = v } } ≡ line_read bs l
-  unfolding opened
-  read_0 e f =
-      rw (
-        e,
-        f,
-        i.mode,
-        i.line,
-        stands_as_read (good bs sixteen low) l hl is (number bs) (λ y h. refl) o.stream i.holds i.stands i.row,
-        widths_are (good bs sixteen low) l hl is,
-      )
-      (sym (read_is bs l (no_refusal bs l low hl)))
+    pub read_0 : {r v : Replacement} → r ≡ line_held o.stream (mode_of bs) row l o.part → v ≡ widths_in o.part
+        → record { refusal = 0; value = record { line = r; widths = v } } ≡ line_read bs l
+    unfolding opened
+    read_0 e f =
+        rw (
+          e,
+          f,
+          stands_as_read (good bs sixteen low) l hl is (number bs) (λ y h. refl) o.stream i.holds i.stands er,
+          widths_are (good bs sixteen low) l hl is,
+        )
+        (sym (read_is bs l (no_refusal bs l low hl)))

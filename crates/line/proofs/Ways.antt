@@ -15,6 +15,7 @@ use Rattle.bits.specs.declared.stream.BitStream.{BitStream}
 use Rattle.bc7_places.specs.declared.lines.LinePart.{LinePart}
 use Rattle.line.specs.declared.parts.StoredLine.{StoredLine}
 use Rattle.line_rules.specs.declared.Replacement.{Replacement}
+use Rattle.bc7_modes.specs.declared.ModeRow.{ModeRow}
 use Rattle.bc7_format.specs.declared.Split.{Split}
 use Rattle.laws.specs.Digits.{Fit, join}
 use Rattle.laws.specs.Refusals.{Given, here, then}
@@ -29,6 +30,7 @@ use Rattle.bc7_format.specs.Splits.{split_of}
 use Rattle.bc7_format.proofs.Reserved.{reserved_mode, zero_byte}
 use Rattle.bits.specs.Stream.{held}
 use Rattle.bcn_format.specs.Indexes.{index_widths}
+use Rattle.bc7_modes.specs.Modes.{mode_row_of}
 use Rattle.line_rules.specs.Acceptable.{WithinLine, call_rules}
 use Rattle.line_rules.specs.Replace.{after, call_of, line_given, refusal, refusal_in, replaced, replaced_as}
 use Rattle.line_rules.proofs.Accepting.{on_block_is, second}
@@ -130,19 +132,18 @@ module _ (bs : List ℕ) (sixteen : Fit eights bs) (l : ℕ) (g : Replacement) (
               unfolding refusal
               in_mode = accepted
 
-              pub ready : LineReady o.stream o.mode o.row o.line x mask st
+              pub ready : {row : ModeRow} → row ≡ mode_row_of m → LineReady o.stream m row l x mask st
               unfolding opened
-              ready =
-                  rw (i.mode, i.line)
-                  (line_ready (good bs sixteen low) l (line_given g) in_mode is (is_stored is g small kept (rw (word_is, em) at es)) (number bs)
-                  (λ y h. refl) em o.stream i.holds i.stands i.row)
+              ready er =
+                  line_ready (good bs sixteen low) l (line_given g) in_mode is (is_stored is g small kept (rw (word_is, em) at es)) (number bs)
+                  (λ y h. refl) em o.stream i.holds i.stands er
 
-              pub way_0 : (r : BitStream) → r.low < 2 ^ 64 → r.high < 2 ^ 64
-                  → held r ≡ line_put o.stream o.mode o.row o.line x mask st
+              pub way_0 : {row : ModeRow} → row ≡ mode_row_of m → (r : BitStream) → r.low < 2 ^ 64 → r.high < 2 ^ 64
+                  → held r ≡ line_put o.stream m row l x mask st
                   → replaced_as 0 (bytes_of (held r)) ≡ replaced bs l g
               unfolding opened replaced after
-              way_0 r hlo hhi e =
+              way_0 er r hlo hhi e =
                   rw accepted
                   (ap (replaced_as 0)
                   (line_block (good bs sixteen low) l (line_given g) in_mode is (is_stored is g small kept (rw (word_is, em) at es)) (number bs)
-                  (λ y h. refl) em o.stream i.holds i.stands i.row r hlo hhi (rw (i.mode, i.line) at e)))
+                  (λ y h. refl) em o.stream i.holds i.stands er r hlo hhi e))

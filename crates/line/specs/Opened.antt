@@ -16,11 +16,8 @@ pub record LineOfBlock (bs : List ℕ) (mode : ℕ) (row : ModeRow) (l : ℕ) : 
   pub of_block : OfBlock bs mode row
   pub there : l < lines mode
 
--- the stream holds the block and stands where its values start, the part is that of line l, and mode and row are the block's
+-- the stream holds the block and stands where its values start, and the part is that of line l
 pub record IsOpened (bs : List ℕ) (l : ℕ) (o : Opened) : Type 0 where
   pub holds : held o.stream ≡ number bs
   pub stands : o.stream.at ≡ lead_end (mode_of bs)
   pub part : o.part ≡ part_of (mode_row_of (mode_of bs)) (split_of bs) l
-  pub mode : o.mode ≡ mode_of bs
-  pub row : o.row ≡ mode_row_of (mode_of bs)
-  pub line : o.line ≡ l

@@ -4,8 +4,8 @@ ghost use Rattle.laws.specs.Digits.{replaced_at};
 ghost use Rattle.bits.specs.Stream.{held};
 ghost use Rattle.line.specs.Fields.{FieldReady, LineReady, PBitsReady, PairReady, SetReady, Step, line_put, ps_put, set_put, standing, two_put};
 
-use crate::Opened;
 use crate::parts::StoredLine;
+use bc7_modes::ModeRow;
 use bc7_places::lines::LinePart;
 use bc7_places::places::fields_of;
 use bits::stream::BitStream;
@@ -86,20 +86,25 @@ fn put_indexes(s: BitStream, kind: u8, at: u32, part: LinePart, mask: u64, new: 
     put(s, at, stored_bits(kind, width), stored)
 }
 
-impl Opened {
-    // The whole line put in.
-    pub fn put_line(self, mask: u64, new: StoredLine) -> BitStream
-        requires { LineReady self.stream self.mode self.row self.line self.part mask new }
-        ensures { held result ≡ line_put self.stream self.mode self.row self.line self.part mask new }
-    {
-        let part = self.part;
-        let fields = fields_of(self.row, self.stream.at, self.line, part.set);
-        let e = new.endpoints;
-        let red = put_two(self.stream, fields.red, part.colour, e[0], e[4]);
-        let green = put_two(red, fields.green, part.colour, e[1], e[5]);
-        let blue = put_two(green, fields.blue, part.colour, e[2], e[6]);
-        let alpha = put_two(blue, fields.alpha, part.alpha, e[3], e[7]);
-        let bits = put_p(alpha, self.mode, fields.p, self.line, part.p, new.p);
-        put_indexes(bits, self.row.kind, fields.indexes, part, mask, new.indexes)
-    }
+// The whole line. The stream stands where the values start.
+pub fn put_line(
+    s: BitStream,
+    mode: u8,
+    row: ModeRow,
+    line: u32,
+    part: LinePart,
+    mask: u64,
+    new: StoredLine,
+) -> BitStream
+    requires { LineReady s mode row line part mask new }
+    ensures { held result ≡ line_put s mode row line part mask new }
+{
+    let fields = fields_of(row, s.at, line, part.set);
+    let e = new.endpoints;
+    let red = put_two(s, fields.red, part.colour, e[0], e[4]);
+    let green = put_two(red, fields.green, part.colour, e[1], e[5]);
+    let blue = put_two(green, fields.blue, part.colour, e[2], e[6]);
+    let alpha = put_two(blue, fields.alpha, part.alpha, e[3], e[7]);
+    let bits = put_p(alpha, mode, fields.p, line, part.p, new.p);
+    put_indexes(bits, row.kind, fields.indexes, part, mask, new.indexes)
 }

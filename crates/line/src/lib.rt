@@ -11,8 +11,9 @@ ghost use Rattle.bits.specs.Stream.{held};
 ghost use Rattle.line.specs.Opened.{IsOpened, LineOfBlock};
 ghost use Rattle.line_rules.specs.Promises.{ReadsLine, Replaces};
 
+use crate::fields::put_line;
 use crate::parts::{mask_of, only_own, oriented, parts_fit};
-use crate::reading::widths_of;
+use crate::reading::{line_held, widths_of};
 use bc7_modes::{ModeRow, mode_of, mode_row};
 use bc7_places::lines::{LinePart, line_part};
 use bc7_places::splits::read_lead;
@@ -26,15 +27,11 @@ pub mod fields;
 pub mod parts;
 pub mod reading;
 
-// A line of a block: the block's mode and that mode's row, the line's number and its parts, and the block's number, with the stream where
-// its values start.
+// A block's number, with the stream where its values start, and the parts of a line of it.
 #[derive(Clone, Copy)]
 pub struct Opened {
-    pub mode: u8,
-    pub row: ModeRow,
-    pub line: u32,
-    pub part: LinePart,
     pub stream: BitStream,
+    pub part: LinePart,
 }
 
 // The mode is the block's and not the reserved one.
@@ -44,11 +41,8 @@ fn open_line(block: [u8; 16], mode: u8, row: ModeRow, line: u32) -> Opened
 {
     let lead = read_lead(block, mode, row);
     Opened {
-        mode,
-        row,
-        line,
-        part: line_part(row, lead.split, line),
         stream: lead.stream,
+        part: line_part(row, lead.split, line),
     }
 }
 
@@ -97,7 +91,8 @@ pub fn replace_line(block: [u8; 16], line: u32, new: Replacement) -> Result<[u8;
         return Err(Refusal::PBitsDiffer);
     }
     let stored = oriented(part, new, indexes, mask);
-    Ok(bytes_of(opened.put_line(mask, stored)))
+    let after = put_line(opened.stream, mode, row, line, part, mask, stored);
+    Ok(bytes_of(after))
 }
 
 // The line as it stands and the widths of its parts, or the first refusal that applies: 1, 2.
@@ -113,8 +108,9 @@ pub fn read_line(block: [u8; 16], line: u32) -> Result<LineRead, Refusal>
         return Err(Refusal::NoSuchLine);
     }
     let opened = open_line(block, mode, row, line);
+    let part = opened.part;
     Ok(LineRead {
-        line: opened.line_held(),
-        widths: widths_of(opened.part),
+        line: line_held(opened.stream, mode, row, line, part),
+        widths: widths_of(part),
     })
 }

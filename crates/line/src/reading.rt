@@ -6,9 +6,9 @@ ghost use Rattle.bc7_places.specs.Lines.{own_pixel};
 ghost use Rattle.line.specs.Parts.{Masked};
 ghost use Rattle.line.specs.Reading.{PBitsThere, PairThere, PartSmall, ReadReady, SetThere, line_held, ps_at, set_at, two_at, widths_in};
 
-use crate::Opened;
 use crate::fields::standing_at;
 use crate::parts::{at_own, mask_of};
+use bc7_modes::ModeRow;
 use bc7_places::lines::{LinePart, Pixels};
 use bc7_places::places::fields_of;
 use bits::stream::BitStream;
@@ -66,34 +66,30 @@ fn set_at(s: BitStream, kind: u8, at: u32, part: LinePart) -> [u8; 16]
     parts_of(set.indexes.uncompressed & mask, width)
 }
 
-impl Opened {
-    // The line as it stands.
-    pub fn line_held(self) -> Replacement
-        requires { ReadReady self.stream self.row self.line self.part }
-        ensures { result ≡ line_held self.stream self.mode self.row self.line self.part }
-    {
-        let s = self.stream;
-        let part = self.part;
-        let fields = fields_of(self.row, s.at, self.line, part.set);
-        let red = two_at(s, fields.red, part.colour);
-        let green = two_at(s, fields.green, part.colour);
-        let blue = two_at(s, fields.blue, part.colour);
-        let alpha = two_at(s, fields.alpha, part.alpha);
-        let p = p_at(s, self.mode, fields.p, self.line, part.p);
-        Replacement {
-            endpoints: [
-                red.first,
-                green.first,
-                blue.first,
-                alpha.first,
-                red.second,
-                green.second,
-                blue.second,
-                alpha.second,
-            ],
-            p: [p.first, p.second],
-            indexes: set_at(s, self.row.kind, fields.indexes, part),
-        }
+// The stream stands where the values start.
+pub fn line_held(s: BitStream, mode: u8, row: ModeRow, line: u32, part: LinePart) -> Replacement
+    requires { ReadReady s row line part }
+    ensures { result ≡ line_held s mode row line part }
+{
+    let fields = fields_of(row, s.at, line, part.set);
+    let red = two_at(s, fields.red, part.colour);
+    let green = two_at(s, fields.green, part.colour);
+    let blue = two_at(s, fields.blue, part.colour);
+    let alpha = two_at(s, fields.alpha, part.alpha);
+    let p = p_at(s, mode, fields.p, line, part.p);
+    Replacement {
+        endpoints: [
+            red.first,
+            green.first,
+            blue.first,
+            alpha.first,
+            red.second,
+            green.second,
+            blue.second,
+            alpha.second,
+        ],
+        p: [p.first, p.second],
+        indexes: set_at(s, row.kind, fields.indexes, part),
     }
 }
 

@@ -4,8 +4,8 @@
 
 #![tactic(auto)]
 
-ghost use Rattle.std.specs.Prelude.{◌≡◌, ◌+◌, ◌≤◌, None, Some, eqb, get_or, length, ltb};
-ghost use Rattle.laws.specs.Tables.{both, over, pick};
+ghost use Rattle.std.specs.Prelude.{◌≡◌, ◌+◌, ◌≤◌, eqb, get_or, length};
+ghost use Rattle.laws.specs.Tables.{both, over};
 ghost use Rattle.bc7_format.specs.Splits.{index_mode};
 ghost use Rattle.record_rules.specs.Wire.{bytes_from, record_of_bytes, split_byte};
 ghost use Rattle.record_rules.specs.Promises.{PacksBytes, WritesRecord};
@@ -66,21 +66,18 @@ fn part<const N: usize>(from: &[u8], at: usize) -> [u8; N]
     values
 }
 
-// The record of 66 bytes: none where a byte names no kind.
-fn record_of_bytes(bytes: [u8; PLACES]) -> Option<Record>
-    ensures { result ≡ pick (ltb 3 (get_or bytes 1 0)) None (Some (record_of_bytes bytes)) }
+// The record of 66 bytes. A kind above 3 is read as 3: `pack_bytes` refuses it before.
+fn record_of_bytes(bytes: [u8; PLACES]) -> Record
+    ensures { result ≡ record_of_bytes bytes }
 {
-    if 3 < bytes[1] {
-        return None;
-    }
-    Some(Record {
+    Record {
         mode: bytes[0],
         split: split_of_kind(bytes[1], bytes[2], bytes[2], bytes[3]),
         endpoints: part(&bytes, VALUES),
         p: part(&bytes, P_BITS),
         first: part(&bytes, FIRST),
         second: part(&bytes, SECOND),
-    })
+    }
 }
 
 // Do the third and the fourth byte say no more than the split has?
@@ -95,9 +92,17 @@ fn spells(split: Split, third: u8, fourth: u8) -> bool
 pub fn pack_bytes(bytes: [u8; PLACES]) -> Result<[u8; 16], Refusal>
     ensures { PacksBytes bytes result }
 {
-    let record = record_of_bytes(bytes).ok_or(Refusal::WrongKind)?;
+    if 3 < bytes[1] {
+        return Err(Refusal::WrongKind);
+    }
+    let record = record_of_bytes(bytes);
     let packed = pack(record);
-    if packed == Err(Refusal::WrongKind) || spells(record.split, bytes[2], bytes[3]) {
+    if let Err(refusal) = packed {
+        if refusal == Refusal::WrongKind {
+            return packed;
+        }
+    }
+    if spells(record.split, bytes[2], bytes[3]) {
         return packed;
     }
     Err(Refusal::ValueTooWide)

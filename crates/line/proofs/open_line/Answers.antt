@@ -24,5 +24,5 @@ sixteen s = sixteen_bytes _ (size s) (λ i l. (byte s i).fits)
 
 pub line_part-requires : goal.line_part-requires
 line_part-requires c =
-    let s = c.before in
+    let s = c.before.before in
     asks s.args.block s.requires c.read_lead-lead.ensures (sixteen s)

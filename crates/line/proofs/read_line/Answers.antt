@@ -69,21 +69,18 @@ open_line-opened-requires c =
 pub line_held-requires : goal.line_held-requires
 line_held-requires c =
     let o = c in
-    let u = (goal.at.line_held-requires c).Else-line-row in
-    let d = unreserved u in
-    ready_read _ (sixteen (call d)) (low d) _ (counted u) o.open_line-opened.ensures
+    let d = unreserved c.before.before.before in
+    ready_read _ (sixteen (call d)) (low d) _ (counted c.before.before.before) o.open_line-opened.ensures (mode_row_is c.before.before.before)
 
 pub widths_of-requires : goal.widths_of-requires
 widths_of-requires c =
     let o = c in
-    let u = (goal.at.widths_of-requires c).Else-line-row in
-    let d = unreserved u in
-    ready_part _ (sixteen (call d)) (low d) _ (counted u) o.open_line-opened.ensures
+    let d = unreserved c.before.before.before.before in
+    ready_part _ (sixteen (call d)) (low d) _ (counted c.before.before.before.before) o.open_line-opened.ensures
 
 pub returns : goal.returns
 returns c =
     let o = c in
-    let u = (goal.at.returns c).Else-line-row in
-    let d = unreserved u in
-    read_0 _ (sixteen (call d)) (low d) _ (counted u) o.open_line-opened.ensures
-    c.line_held.ensures c.widths_of.ensures
+    let d = unreserved c.before.before.before.before.before in
+    read_0 _ (sixteen (call d)) (low d) _ (counted c.before.before.before.before.before) o.open_line-opened.ensures (mode_row_is c.before.before.before.before.before)
+    (rw (mode_is d) at c.line_held.ensures) c.widths_of.ensures

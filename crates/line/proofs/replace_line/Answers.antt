@@ -23,7 +23,7 @@ use Rattle.line.specs.Parts.{parts_fit}
 use Rattle.line.proofs.parts.Parts.{IsPart}
 use Rattle.line.proofs.Ways.{below_mask, indexes_fit, is, ready, way_0, way_1, way_2, way_3, way_3_others, way_4}
 use Rattle.line.proofs.replace_line.Goals as goal
-use Rattle.line.proofs.replace_line.Goals.{After-mask_of-mask, After-open_line-opened, After-put_line, Else-line-row, Else-mode-eq8, Else-not-only_own, Else-not-parts_fit, Else-p_bits_differ, Start}
+use Rattle.line.proofs.replace_line.Goals.{After-mask_of-mask, After-open_line-opened, After-put_line-after, Else-line-row, Else-mode-eq8, Else-not-only_own, Else-not-parts_fit, Else-p_bits_differ, Start}
 
 size : (s : Start) → length s.args.block ≡ 16
 size s = search rules
@@ -89,7 +89,7 @@ same : (c : Else-p_bits_differ)
     (get_or (call (unreserved (opening (fit c.before.before)).before)).args.new.p 1 0))) ≡ false
 same c = rw (mode_is (unreserved (opening (fit c.before.before)).before)) at (sym c.p_bits_differ.ensures ∙ c.if-p_bits_differ.false)
 
-halves : (c : After-put_line) → (c.put_line.result.low < 2 ^ 64) × (c.put_line.result.high < 2 ^ 64)
+halves : (c : After-put_line-after) → (c.put_line-after.result.low < 2 ^ 64) × (c.put_line-after.result.high < 2 ^ 64)
 halves c = search rules
 
 pub returns-then-mode-eq8 : goal.returns-then-mode-eq8
@@ -170,28 +170,25 @@ oriented-stored-requires c =
           (masking c.before.before).before.before.word_of-indexes.ensures (masking c.before.before).mask_of-mask.ensures (alone c.before.before);
     }
 
-pub put_line-requires : goal.put_line-requires
-put_line-requires c =
-    let at = goal.at.put_line-requires c in
-    let w = at.Else-not-only_own in
-    let v = at.Else-p_bits_differ in
-    let o = opening (fit w) in
+pub put_line-after-requires : goal.put_line-after-requires
+put_line-after-requires c =
+    let k = c in
+    let o = opening (fit c.before.before.before.before) in
     let d = unreserved o.before in
-    ready _ (sixteen (call d)) _ _ (long (call d)) (low d) (counted o.before) o.open_line-opened.ensures (fitting (fit w))
-    (masking w).before.before.word_of-indexes.ensures (masking w).mask_of-mask.ensures (alone w)
-    (same v) c.oriented-stored.ensures
+    rw (mode_is d)
+    (ready _ (sixteen (call d)) _ _ (long (call d)) (low d) (counted o.before) o.open_line-opened.ensures (fitting (fit c.before.before.before.before))
+    (masking c.before.before.before.before).before.before.word_of-indexes.ensures (masking c.before.before.before.before).mask_of-mask.ensures (alone c.before.before.before.before)
+    (same c.before.before) c.oriented-stored.ensures (mode_row_is o.before))
 
 pub returns : goal.returns
 returns c =
-    let at = goal.at.returns c in
-    let w = at.Else-not-only_own in
-    let v = at.Else-p_bits_differ in
-    let o = opening (fit w) in
+    let k = c in
+    let o = opening (fit c.before.before.before.before.before.before) in
     let d = unreserved o.before in
-    let r = c.put_line.result in
+    let r = c.put_line-after.result in
     ap (replaced_as 0) c.bytes_of.ensures
-    ∙ way_0 _ (sixteen (call d)) _ _ (long (call d)) (low d) (counted o.before) o.open_line-opened.ensures (fitting (fit w))
-    (masking w).before.before.word_of-indexes.ensures (masking w).mask_of-mask.ensures (alone w)
-    (same v) c.oriented-stored.ensures r (halves at.After-put_line).0
-    (halves at.After-put_line).1
-    c.put_line.ensures
+    ∙ way_0 _ (sixteen (call d)) _ _ (long (call d)) (low d) (counted o.before) o.open_line-opened.ensures (fitting (fit c.before.before.before.before.before.before))
+    (masking c.before.before.before.before.before.before).before.before.word_of-indexes.ensures (masking c.before.before.before.before.before.before).mask_of-mask.ensures (alone c.before.before.before.before.before.before)
+    (same c.before.before.before.before) c.oriented-stored.ensures (mode_row_is o.before) r (halves c.before).0
+    (halves c.before).1
+    (rw (mode_is d) at c.put_line-after.ensures)

@@ -1,15 +1,20 @@
--- `Opened::put_line` meets its contract.
+-- `fields::put_line` meets its contract.
 -- Assumes nothing.
 use mathlib.Core.Path.{◌≡◌, ◌∙◌}
 use Rattle.bits.specs.Stream.{held}
 use Rattle.line.specs.Fields.{endpoints_put, line_put, values_put}
-use Rattle.line.proofs.Opened.put_line.Goals as goal
-use Rattle.line.proofs.Opened.put_line.Goals.{After-put_p-bits}
+use Rattle.line.proofs.fields.put_line.Goals as goal
+use Rattle.line.proofs.fields.put_line.Goals.{After-put_p-bits}
 
 -- what is put before the indexes
 values : (c : After-put_p-bits)
     → held c.put_p-bits.result
-    ≡ values_put c.args.self.stream c.args.self.mode c.args.self.row c.args.self.line c.args.self.part c.args.new
+    ≡ values_put c.args.s
+    c.args.mode
+    c.args.row
+    c.args.line
+    c.args.part
+    c.args.new
 unfolding endpoints_put
 values c =
     rw (

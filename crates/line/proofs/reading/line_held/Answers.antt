@@ -1,7 +1,7 @@
--- `Opened::line_held` meets its contract.
+-- `reading::line_held` meets its contract.
 -- Assumes nothing.
 use Rattle.line.specs.Reading.{line_held}
-use Rattle.line.proofs.Opened.line_held.Goals as goal
+use Rattle.line.proofs.reading.line_held.Goals as goal
 
 pub returns : goal.returns
 unfolding line_held
