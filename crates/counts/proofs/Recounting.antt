@@ -1,6 +1,6 @@
 -- One count lowered and one raised, and a block put in the place of the named one.
 -- Assumes nothing.
-use mathlib.Core.Path.{◌≡◌, refl, sym, ap, ap₂, ◌∙◌}
+use mathlib.Core.Path.{◌≡◌, sym, ap₂, ◌∙◌}
 use mathlib.Core.Logic.{◌≢◌, ⊎_elim}
 use mathlib.Core.Bool.{Bool, true, false}
 use mathlib.Core.List.{List}
@@ -10,29 +10,25 @@ use native.Mathlib.Nat.{eq-zero-or-pos}
 use native.Mathlib.Omega.{arith}
 use lib.ListN.{get_or, length, set}
 use lib.Seq.{get_or-set_other, get_or-set_same}
-use mir.Syntax.{w32}
-use mir.Val.{Fits, bool_byte}
+use mir.Val.{bool_byte}
 use Rattle.bc7_format.specs.Modes.{mode_of}
 use Rattle.bc7_format.proofs.Modes.{mode_le_8}
-use Rattle.head_rules.specs.Answers.{Head, known}
+use Rattle.head_rules.specs.Answers.{known}
 use Rattle.head_rules.specs.Geometry.{blocks_of, most_blocks}
 use Rattle.head_rules.specs.Heads.{Sized, read_head}
 use Rattle.head_rules.proofs.Blocks.{few_blocks}
 use Rattle.head_rules.proofs.Theorems.{head_sized}
-use Rattle.opacity_rules.specs.Opacity.{opaque_in}
 use Rattle.sheet_head.specs.Asked.{BlockAsked}
-use Rattle.bcn_format.specs.Block.{put_block}
 use Rattle.sheet_rules.specs.Sheets.{block_in}
 use Rattle.sheet_rules.proofs.Finding.{inside, room}
 use Rattle.count_rules.specs.declared.Counts.{Counts}
-use Rattle.count_rules.specs.Counts.{is_opaque}
 use Rattle.count_rules.specs.Keeping.{recounted_as}
 use Rattle.count_rules.proofs.Fitting.{of_all_has}
 use Rattle.count_rules.proofs.Refusing.{falsehood}
 use Rattle.count_rules.proofs.Ways.{recounted_by_two}
 use Rattle.counts.specs.declared.NamedBlock.{NamedBlock}
 use Rattle.counts.proofs.Counting.{one_is}
-use Rattle.counts.specs.Blocks.{Here, PutThere, RecountAsked}
+use Rattle.counts.specs.Blocks.{Here, RecountAsked}
 
 pub not_none : {count : ℕ} → count ≢ 0 → 1 ≤ count
 not_none {count} ne = ⊎_elim (λ z. absurd (ne z)) (λ p. p) (eq-zero-or-pos count)
@@ -58,18 +54,12 @@ module _ {n : Counts} {had has : ℕ} {was is : Bool} (k : RecountAsked n had wa
   some_lowered true e = not_none (k.some_opaque e)
   some_lowered false e = omega arith
 
-  pub lowered_some : bool_byte was ≤ n.opaque
-  lowered_some = some_lowered was refl
-
   -- and what is raised has room
   few_raised : (w : Bool) → was ≡ w → (i : Bool) → n.opaque < 4294967296 → n.opaque - bool_byte w + bool_byte i < 4294967296
   few_raised true e true l = omega (arith, l, not_none (k.some_opaque e))
   few_raised true e false l = omega (arith, l)
   few_raised false e true l = omega (arith, k.room e)
   few_raised false e false l = omega (arith, l)
-
-  pub raised_few : n.opaque < 4294967296 → {low up : ℕ} → low ≡ bool_byte was → up ≡ bool_byte is → Fits w32 (n.opaque - low + up)
-  raised_few l el eu = record { fits = rw (el, eu) (few_raised was refl is l) }
 
   pub both_changed : length n.modes ≡ 9 → {low up : ℕ} → low ≡ bool_byte was → up ≡ bool_byte is
       → record {
@@ -107,13 +97,3 @@ module _ (s : List ℕ) (n : Counts) (b : ℕ) {r : NamedBlock} (k : Here s n b 
         some_opaque = λ e. opaque (sym k.opaque ∙ e);
         room = λ e. omega (arith, rest (sym k.opaque ∙ e), few_here);
       }
-
-  pub put_there : (new : List ℕ) {has : ℕ} {is : Bool} {c : Counts} {t : List ℕ} → has ≡ mode_of new
-      → is ≡ opaque_in r.head.width r.head.height b new → c ≡ recounted_as r.mode r.opaque has is n → t ≡ put_block s r.at new
-      → PutThere s n b new c t
-  put_there new {has} {is} eh ei ec et = record {
-    counts = ec ∙ ap₂ (λ (m : ℕ) (o : Bool). recounted_as m o has is n) k.mode k.opaque
-        ∙ ap₂ (λ (m : ℕ) (o : Bool). recounted_as (mode_of (block_in s b)) (is_opaque (read_head s) s b) m o n) eh
-        (ei ∙ ap (λ (h : Head). opaque_in h.width h.height b new) k.head);
-    sheet = et ∙ ap (λ (at : ℕ). put_block s at new) k.at;
-  }

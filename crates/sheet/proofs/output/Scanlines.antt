@@ -4,9 +4,9 @@ use mathlib.Core.Path.{◌≡◌, ◌∙◌, ap, ap₂, sym}
 use mathlib.Core.List.{List, []}
 use Prim.Native.Nat.{ℕ, ◌+◌, ◌*◌}
 use native.Mathlib.Omega.{arith}
-use lib.ListN.{length, get_or}
+use lib.ListN.{get_or}
 use Rattle.laws.specs.Tables.{over}
-use Rattle.laws.proofs.Over.{length_over, over_add, over_none}
+use Rattle.laws.proofs.Over.{over_add, over_none}
 use Rattle.sheet_rules.specs.Rows.{channel}
 use Rattle.sheet.specs.Columns.{scanline_byte}
 
@@ -18,9 +18,6 @@ module _ (px : List (List ℕ)) (y o : ℕ) (out₀ : List ℕ) where
   pub scanline_none : Scanline 0 out₀
   scanline_none = sym (over_none out₀ o (scanline_byte px y))
 
-  pub scanline_long : (k : ℕ) (out : List ℕ) → Scanline k out → length out ≡ length out₀
-  scanline_long k out e = ap length e ∙ length_over out₀ o (4 * k) (scanline_byte px y)
-
   pub scanline_more : (k : ℕ) (out next : List ℕ) → Scanline k out → next ≡ over out (o + 4 * k) 4 (λ j. get_or (get_or px (4 * y + k) []) j 0)
       → Scanline (k + 1) next
   unfolding channel
@@ -28,6 +25,3 @@ module _ (px : List (List ℕ)) (y o : ℕ) (out₀ : List ℕ) where
       n ∙ ap (λ (l : List ℕ). over l (o + 4 * k) 4 (λ j. get_or (get_or px (4 * y + k) []) j 0)) e
       ∙ over_add out₀ o (4 * k) 4 (scanline_byte px y) _ (λ j h. ap₂ (λ (q i : ℕ). get_or (get_or px q []) i 0) (omega arith) (omega arith))
       ∙ ap (λ (m : ℕ). over out₀ o m (scanline_byte px y)) (omega arith)
-
-  pub scanline_all : {k : ℕ} (n : ℕ) {out : List ℕ} → Scanline k out → k ≡ n → out ≡ over out₀ o (4 * n) (scanline_byte px y)
-  scanline_all n h e = h ∙ ap (λ (m : ℕ). over out₀ o (4 * m) (scanline_byte px y)) e

@@ -3,12 +3,11 @@
 use mathlib.Core.Path.{◌≡◌, ◌∙◌, ap, sym, subst}
 use mathlib.Core.List.{List}
 use Prim.Native.Nat.{ℕ, ◌+◌, ◌*◌, ◌/◌, ◌%◌, ◌<◌, ◌≤◌}
-use native.Mathlib.Nat.{not-suc-le-zero, div-add-mod', mod-lt, mul_left_comm}
+use native.Mathlib.Nat.{div-add-mod', mod-lt, mul_left_comm}
 use native.Mathlib.Decide.{ℕ_discrete}
 use native.Mathlib.Omega.{arith}
-use lib.ListN.{length}
 use Rattle.laws.specs.Tables.{table}
-use Rattle.laws.proofs.Part.{Part, part_all, part_none, part_table}
+use Rattle.laws.proofs.Part.{Part, part_all, part_table}
 use Rattle.bc7_format.specs.Lines.{pixels}
 use Rattle.head_rules.specs.Geometry.{across}
 use Rattle.bcn_format.specs.Block.{block_at}
@@ -20,9 +19,6 @@ use Rattle.sheet.proofs.output.Columns.{byte_in, byte_out}
 module _ (w scanlines : ℕ) (blocks : List ℕ) where
   abbrev pub Columns : ℕ → List ℕ → Type 0
   Columns c out = Part (scanlines * (4 * w)) 0 (row_byte w blocks) (λ k. k % (4 * w) / 16 < c) out
-
-  pub columns_none : {out : List ℕ} → length out ≡ scanlines * (4 * w) → Columns 0 out
-  columns_none e = part_none e (λ k h. not-suc-le-zero h)
 
   low : (k : ℕ) → k % (4 * w) % 16 % 4 ≡ k % 4
   low k = omega (arith, div-add-mod' k (4 * w), mul_left_comm (k / (4 * w)) 4 w)
