@@ -92,19 +92,24 @@ pub fn record_fits(record: Record, row: ModeRow) -> bool
     requires { IsRow «record».mode row }
     ensures { result ≡ fits «record».mode [] (says «record») }
 {
-    if !split_fits(record.split, row) {
+    let split = record.split;
+    if !split_fits(split, row) {
         return false;
     }
-    if !endpoints_fit(record.endpoints, row) {
+    let endpoints = record.endpoints;
+    if !endpoints_fit(endpoints, row) {
         return false;
     }
-    if !p_fits(record.p, row) {
+    let p = record.p;
+    if !p_fits(p, row) {
         return false;
     }
-    if !indexes_fit(record.first, row.first) {
+    let first = record.first;
+    if !indexes_fit(first, row.first) {
         return false;
     }
-    indexes_fit(record.second, row.second)
+    let second = record.second;
+    indexes_fit(second, row.second)
 }
 
 // Do the anchors' indexes of a set do without their top bits?
@@ -112,13 +117,16 @@ fn tops_zero(indexes: [u8; 16], anchors: Anchors, width: u32) -> bool
     requires { SetAt anchors width }
     ensures { result ≡ tops_zero indexes anchors (width - 1) }
 {
-    if !value_fits(indexes[anchors.a], width - 1) {
+    let a = anchors.a;
+    if !value_fits(indexes[a], width - 1) {
         return false;
     }
-    if !value_fits(indexes[anchors.b], width - 1) {
+    let b = anchors.b;
+    if !value_fits(indexes[b], width - 1) {
         return false;
     }
-    value_fits(indexes[anchors.c], width - 1)
+    let c = anchors.c;
+    value_fits(indexes[c], width - 1)
 }
 
 // Refusal 6, where everything fits its full width: do the anchors' indexes fit as they are stored? A mode whose kind is a vector
@@ -127,11 +135,13 @@ pub fn anchors_fit(record: Record, row: ModeRow, anchors: Anchors) -> bool
     requires { FullWith «record» row anchors }
     ensures { result ≡ stored_fit «record» }
 {
-    if !tops_zero(record.first, anchors, row.first) {
+    let first = record.first;
+    if !tops_zero(first, anchors, row.first) {
         return false;
     }
     if row.kind != 3 {
         return true;
     }
-    tops_zero(record.second, anchors, row.second)
+    let second = record.second;
+    tops_zero(second, anchors, row.second)
 }

@@ -48,9 +48,9 @@ pub fn pack(record: Record) -> Result<[u8; 16], Refusal>
         return Err(Refusal::AnchorBitSet);
     }
     let packing = Packing {
-        record,
-        row,
-        anchors,
+        record: record,
+        row: row,
+        anchors: anchors,
     };
     Ok(packing.block())
 }

@@ -26,7 +26,6 @@ fn endpoints_of(row: ModeRow, red: u64, green: u64, blue: u64, alpha: u64) -> [u
     ensures { result ≡ endpoints_of row red green blue alpha }
 {
     let mut endpoints = [0u8; 24];
-    // The number of an endpoint says where its values stand in the words and in the array.
     for e in 0..row.endpoints {
         endpoints[4 * e] = part_of(red, row.colour, e);
         endpoints[4 * e + 1] = part_of(green, row.colour, e);
@@ -43,9 +42,12 @@ pub fn read_endpoints(row: ModeRow, stream: BitStream) -> ([u8; 24], BitStream)
 {
     let count = row.endpoints as u32;
     let red = stream.take(count * row.colour);
-    let green = red.stream.take(count * row.colour);
-    let blue = green.stream.take(count * row.colour);
-    let alpha = blue.stream.take(count * row.alpha);
+    let s1 = red.stream;
+    let green = s1.take(count * row.colour);
+    let s2 = green.stream;
+    let blue = s2.take(count * row.colour);
+    let s3 = blue.stream;
+    let alpha = s3.take(count * row.alpha);
     let endpoints = endpoints_of(row, red.value, green.value, blue.value, alpha.value);
     (endpoints, alpha.stream)
 }
@@ -77,7 +79,8 @@ pub fn read_second(row: ModeRow, anchors: Anchors, stream: BitStream) -> [u8; 16
         return [0u8; 16];
     }
     let set = read_indexes(row.kind, row.second, stream, anchors.b, anchors.c);
-    parts_of(set.indexes.uncompressed, row.second)
+    let indexes = set.indexes;
+    parts_of(indexes.uncompressed, row.second)
 }
 
 // The record of a block that is not reserved, by its mode and the row of that mode.
@@ -91,14 +94,15 @@ pub fn read_record(block: [u8; 16], mode: u8, row: ModeRow) -> Record
     let (p, rest) = read_p(row, behind);
     let anchors = anchors_of(split);
     let set = read_indexes(row.kind, row.first, rest, anchors.b, anchors.c);
-    let first = parts_of(set.indexes.uncompressed, row.first);
+    let indexes = set.indexes;
+    let first = parts_of(indexes.uncompressed, row.first);
     let second = read_second(row, anchors, set.stream);
     Record {
-        mode,
-        split,
-        endpoints,
-        p,
-        first,
+        mode: mode,
+        split: split,
+        endpoints: endpoints,
+        p: p,
+        first: first,
         second: second,
     }
 }
