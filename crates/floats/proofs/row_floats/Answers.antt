@@ -9,15 +9,15 @@ use Rattle.float_rules.specs.Floats.{floats_of, floats_refusal}
 use Rattle.float_rules.proofs.Theorems.{row_accepted, row_left, row_refused_when}
 use Rattle.floats.proofs.row_floats.Goals as goal
 
-pub returns-then-pixels-floats : goal.returns-then-pixels-floats
-returns-then-pixels-floats c =
+pub returns-then-count-floats : goal.returns-then-count-floats
+returns-then-count-floats c =
     let s = c in
     let other : floats_refusal (length s.args.pixels.now) (length s.args.floats.now) ≡ 11
-    = (row_refused_when _ _ 11).1 (here (λ e. c.if-pixels-floats.true (sym e))) in
+    = (row_refused_when _ _ 11).1 (here (λ e. c.if-count-floats.true (sym e))) in
     (sym other, sym (row_left s.args.pixels.now s.args.floats.now (λ z. let never : ⊥ = omega arith in never)))
 
 pub loop-i-init : goal.loop-i-init
-loop-i-init c = (omega arith, filled_none (sym c.if-pixels-floats.false))
+loop-i-init c = (omega arith, filled_none (sym c.if-count-floats.false))
 
 pub bounds-pixels-i : goal.bounds-pixels-i
 bounds-pixels-i c = omega arith
@@ -46,7 +46,7 @@ pub returns : goal.returns
 unfolding floats_of
 returns c =
     let s = c in
-    let same : length s.args.floats.now ≡ length s.args.pixels.now = sym c.if-pixels-floats.false in (
+    let same : length s.args.floats.now ≡ length s.args.pixels.now = sym c.if-count-floats.false in (
       sym ((row_refused_when _ _ 0).1 (then same accepted)),
       filled_all c.loop-i.invariant.1 (omega arith) ∙ sym (row_accepted s.args.pixels.now s.args.floats.now same),
     )
