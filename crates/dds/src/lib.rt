@@ -16,7 +16,7 @@ ghost use Rattle.dds.specs.Filling.{Fills};
 
 use head_rules::{ColourSpace, Form, Head};
 use refusals::Refusal;
-use sheet_head::colours::{colour_of, under};
+use sheet_head::colours::{colour_numbered, under};
 use sheet_head::geometry::{blocks_of, whole_length};
 use sheet_head::{read_of_form_with, read_whole_of_form, write_head};
 
@@ -256,7 +256,7 @@ pub fn export_dds(sheet: &[u8], colour_space: ColourSpace, out: &mut [u8]) -> Re
 pub fn export_numbered(sheet: &[u8], number: u32, out: &mut [u8]) -> Result<(), Refusal>
     ensures { ExportsNumbered sheet.now number out.old result out.new }
 {
-    match colour_of(number) {
+    match colour_numbered(number) {
         Ok(colour_space) => export_dds(sheet, colour_space, out),
         Err(refusal) => read_of_form_with(Form::Rows, Err(refusal), sheet).and(Ok(())),
     }

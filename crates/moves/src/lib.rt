@@ -18,7 +18,7 @@ ghost use Rattle.moves.specs.Rooms.{Lays, MovesBlocks, Stores};
 use block_bytes::{load, store};
 use head_rules::{Form, Head};
 use refusals::Refusal;
-use sheet_head::colours::colour_of;
+use sheet_head::colours::colour_numbered;
 use sheet_head::geometry::{blocks_across, blocks_of};
 use sheet_head::{colours, read_whole_of_form, write_form};
 
@@ -115,7 +115,7 @@ pub fn state_colour(sheet: &mut [u8], number: u32) -> Result<(), Refusal>
     ensures { StatesColour sheet.old number result sheet.new }
 {
     let head = read_whole_of_form(Form::Tiles, sheet)?;
-    colour_of(number)?;
+    colour_numbered(number)?;
     let at = head.start as usize - 1;
     sheet[at] = number as u8;
     Ok(())

@@ -33,10 +33,12 @@ fn passes(alpha: u8, q: usize, columns: usize, rows: usize) -> bool
 fn all_pass(drawn: [[u8; 4]; 16], columns: usize, rows: usize) -> bool
     ensures { result ≡ opaque_drawn columns rows drawn }
 {
-    drawn
-        .iter()
-        .enumerate()
-        .all(|(q, pixel)| passes(pixel[3], q, columns, rows))
+    for (q, pixel) in drawn.iter().enumerate() {
+        if !passes(pixel[3], q, columns, rows) {
+            return false;
+        }
+    }
+    true
 }
 
 // Modes 0 to 3 draw alpha 255 everywhere.

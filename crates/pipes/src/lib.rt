@@ -36,7 +36,7 @@ fn read_some<R: Read>(from: &mut R, buffer: &mut [u8]) -> io::Result<usize>
     Err(io::Error::from(ErrorKind::Interrupted))
 }
 
-// The next bytes of the input into the buffer, as many as it has room for, in as many reads as it takes; fewer where the input ends.
+// The next n bytes of the input to the start of the buffer, in as many reads as it takes; fewer where the input ends.
 pub fn read_wanted<R: Read>(from: &mut R, n: usize, buffer: &mut [u8]) -> io::Result<usize>
     requires { n ≤ length buffer.old }
     ensures wanted { ReadsWanted n buffer.old buffer.new result }

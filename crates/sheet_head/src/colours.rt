@@ -1,6 +1,6 @@
 // Colour spaces by number, and a head under one.
 ghost use Rattle.std.specs.Prelude.{◌≡◌};
-ghost use Rattle.head_rules.specs.Colours.{FindsColour, colour_number};
+ghost use Rattle.head_rules.specs.Colours.{FindsColour, colour_number, colour_of};
 ghost use Rattle.head_rules.specs.Answers.{known};
 ghost use Rattle.head_rules.specs.Heads.{under};
 
@@ -25,16 +25,27 @@ pub fn number_of(colour_space: ColourSpace) -> u32
     }
 }
 
-// The colour space of a number; 18, where it has none. No `TryFrom`, for the same reason.
-pub fn colour_of(number: u32) -> Result<ColourSpace, Refusal>
+// The colour space of a number, which is unspecified where there is none.
+pub fn colour_of(number: u32) -> ColourSpace
+    ensures { result ≡ colour_of number }
+{
+    if number == SRGB {
+        return ColourSpace::Srgb;
+    }
+    if number == LINEAR {
+        return ColourSpace::Linear;
+    }
+    ColourSpace::Unspecified
+}
+
+// The same, or 18 where there is none. No `TryFrom`, for the same reason.
+pub fn colour_numbered(number: u32) -> Result<ColourSpace, Refusal>
     ensures { FindsColour number result }
 {
-    match number {
-        UNSPECIFIED => Ok(ColourSpace::Unspecified),
-        LINEAR => Ok(ColourSpace::Linear),
-        SRGB => Ok(ColourSpace::Srgb),
-        _ => Err(Refusal::BadColourSpace),
+    if number > SRGB {
+        return Err(Refusal::BadColourSpace);
     }
+    Ok(colour_of(number))
 }
 
 // A head with all that it says, but for the colour space.

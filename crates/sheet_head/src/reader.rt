@@ -9,7 +9,7 @@ ghost use Rattle.head_rules.specs.Reader.{height_taken, last_taken, number_in, s
 ghost use Rattle.sheet_head.specs.Asked.{LastAsked};
 ghost use Rattle.sheet_head.specs.Promised.{CountsGroup};
 
-use crate::colours::colour_of;
+use crate::colours::colour_numbered;
 use crate::{ROWS, TILES, check_size, wide};
 use head_rules::{ColourSpace, Form, Head, HeadReader, Stage};
 use refusals::Refusal;
@@ -89,7 +89,7 @@ fn take_height(form: Form, width: u32, n: u32, next: u32) -> Result<HeadReader, 
 fn take_colour(head: Head, n: u32, next: u32) -> Result<HeadReader, Refusal>
     ensures { reader_answered result ≡ colour_taken (known head) n next }
 {
-    let colour_space = colour_of(n)?;
+    let colour_space = colour_numbered(n)?;
     take_size(Head {
         start: next,
         colour_space,

@@ -29,3 +29,10 @@ unfolding opaque_in
 returns-then-stores_no_alpha c =
     let mode = c in
     sym (from_the_mode _ _ _ (sixteen c.before.before) (ltb-true _ 4 (sym mode.stores_no_alpha.ensures ∙ c.if-stores_no_alpha.true)))
+
+pub is_opaque_in-requires : goal.is_opaque_in-requires
+is_opaque_in-requires c =
+    let s = c in record { sized = s.requires.size; there = s.requires.number; draws = c.decode_bc7_block.ensures }
+
+pub returns : goal.returns
+returns c = c.is_opaque_in.ensures

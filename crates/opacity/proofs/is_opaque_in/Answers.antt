@@ -35,6 +35,9 @@ returns-then-stores_no_alpha c =
     let mode = c in
     sym (from_the_mode _ _ _ (sixteen c.before.before) (ltb-true _ 4 (sym mode.stores_no_alpha.ensures ∙ c.if-stores_no_alpha.true)))
 
+pub shown_in-columns-requires : goal.shown_in-columns-requires
+shown_in-columns-requires c = let b = c in rw b.blocks_across-across.ensures (placed c.before.before.before.before).column
+
 pub shown_in-rows-requires : goal.shown_in-rows-requires
 shown_in-rows-requires c = let b = c in rw b.blocks_across-across.ensures (placed c.before.before.before.before.before.before).row
 
