@@ -199,9 +199,15 @@ pub fn anchors_before(string: &[u8], pixel: usize) -> usize
     if pixel == 0 {
         return 0;
     }
+    // Counted by a loop: as a chain of filter() and count() it is compiled wrong for wasm32 (docs/DECISIONS.md).
     let end = place(string, pixel - 1);
-    1 + string[..end]
-        .iter()
-        .filter(|&&letter| letter == b'-')
-        .count()
+    let mut found: usize = 1;
+    let mut k: usize = 0;
+    while k < end {
+        if string[k] == b'-' {
+            found += 1;
+        }
+        k += 1;
+    }
+    found
 }
