@@ -1,12 +1,9 @@
 -- The ways of `false_refusal`, each by the ground that it looked at.
 -- Assumes nothing.
-use mathlib.Core.Path.{◌≡◌, sym, ap, ◌∙◌}
+use mathlib.Core.Path.{◌≡◌, sym, ◌∙◌}
 use mathlib.Core.Logic.{◌≢◌, ◌⊎◌, ⊎_elim}
 use mathlib.Core.Bool.{Bool, true, false}
-use mathlib.Core.List.{List, [], ◌∷◌}
-use Prim.Native.Nat.{ℕ, zero, suc, ◌+◌, ◌<◌, ◌≤◌}
-use lib.ListN.{get_or, length}
-use Rattle.std.specs.List as list
+use Prim.Native.Nat.{ℕ, ◌+◌, ◌<◌, ◌≤◌}
 use native.Mathlib.Omega.{arith}
 use Rattle.laws.specs.Counting.{sum}
 use Rattle.laws.specs.Refusals.{here, then}
@@ -16,26 +13,11 @@ use Rattle.count_rules.specs.declared.Counts.{Counts}
 use Rattle.count_rules.specs.Keeping.{false_of, of_all_modes, of_mode}
 use Rattle.count_rules.proofs.Refusing.{falsehood_of}
 
--- a sum over numbers from below, and the sum of a list
-shifted : (n : ℕ) (f : ℕ → ℕ) → sum (suc n) f ≡ f 0 + sum n (λ k. f (suc k))
-unfolding sum
-shifted zero f = omega arith
-shifted (suc n) f = let e = shifted n f in omega (arith, e)
-
-summed_on : (a : ℕ) (xs : List ℕ) → list.fold ◌+◌ a xs ≡ a + sum (length xs) (λ m. get_or xs m 0)
-unfolding sum
-summed_on a [] = omega arith
-summed_on a (x ∷ xs) =
-    let e = summed_on (a + x) xs in
-    let f = shifted (length xs) (λ m. get_or (x ∷ xs) m 0) in
-    e ∙ omega (arith, f)
-
-summed : (xs : List ℕ) → list.sum xs ≡ sum (length xs) (λ m. get_or xs m 0)
-summed xs = summed_on 0 xs ∙ omega arith
-
-pub nine_are : (n : Counts) {t : ℕ} → length n.modes ≡ 9 → t ≡ list.sum n.modes → t ≡ of_all_modes n
-unfolding of_all_modes
-nine_are n long e = e ∙ summed n.modes ∙ ap (λ (k : ℕ). sum k (of_mode n)) long
+-- nine in three times three
+pub nine_are : (n : Counts) {a b c : ℕ} → a ≡ of_mode n 0 + of_mode n 1 + of_mode n 2 → b ≡ of_mode n 3 + of_mode n 4 + of_mode n 5
+    → c ≡ of_mode n 6 + of_mode n 7 + of_mode n 8 → a + b + c ≡ of_all_modes n
+unfolding of_all_modes sum
+nine_are n ea eb ec = omega (arith, ea, eb, ec)
 
 module _ (n : Counts) (blocks mode : ℕ) (opaque : Bool) {t : ℕ} (et : t ≡ of_all_modes n) where
   pub sum_false : t ≢ blocks → 19 ≡ false_of blocks mode opaque n

@@ -1,6 +1,6 @@
 -- What the functions on counts ask and promise.
 -- Assumes nothing.
-use Rattle.std.specs.Prelude.{ℕ, Result, Ok, ◌<◌, ◌≤◌, ◌≡◌, ◌≢◌, Bool, true, false, List, [], ◌∷◌, length}
+use Rattle.std.specs.Prelude.{ℕ, ◌+◌, Result, Ok, ◌<◌, ◌≤◌, ◌≡◌, ◌≢◌, Bool, true, false, List, [], ◌∷◌, length}
 use Rattle.laws.specs.Refusals.{first}
 use Rattle.bc7_format.specs.Modes.{mode_of}
 use Rattle.refusals.specs.Answers.{number_of}
@@ -45,6 +45,11 @@ pub record Here (s : List ℕ) (n : Counts) (b : ℕ) (r : NamedBlock) : Type 0 
 pub record Names (s : List ℕ) (n : Counts) (b : ℕ) (r : Result NamedBlock Refusal) : Type 0 where
   pub refusal : number_of r ≡ first (find_refusal (read_head s) s b ∷ false_refusal (read_head s) s b n ∷ [])
   pub here : (k : NamedBlock) → r ≡ Ok k → Here s n b k
+
+-- three numbers of 32 bits, far below 2 ^ 64
+pub record SumsThree (a b c r : ℕ) : Type 0 where
+  pub same : r ≡ a + b + c
+  pub small : r < 17179869184
 
 -- counts that are changed: no count falls below 0, and none outgrows its place
 pub record RecountAsked (n : Counts) (had : ℕ) (was : Bool) (has : ℕ) (is : Bool) : Type 0 where

@@ -8,7 +8,7 @@ ghost use Rattle.refusals.specs.Answers.{number_of};
 ghost use Rattle.head_rules.specs.Answers.{known};
 ghost use Rattle.count_rules.specs.Counts.{CountsSheet, counts_answered, counts_below, counts_of, no_counts};
 ghost use Rattle.count_rules.specs.Keeping.{ReplacesBlockCounted, ReplacesLineCounted, false_of, of_all_modes, recounted_as};
-ghost use Rattle.counts.specs.Blocks.{CountedBelow, Here, Names, PutThere, RecountAsked, WholeBlocks};
+ghost use Rattle.counts.specs.Blocks.{CountedBelow, Here, Names, PutThere, RecountAsked, WholeBlocks, SumsThree};
 
 use bc7_modes::mode_of;
 use block_bytes::{load, store};
@@ -67,11 +67,20 @@ pub fn count_sheet(sheet: &[u8]) -> Result<Counts, Refusal>
     Ok(count_blocks(head, sheet))
 }
 
+// Three counts together.
+fn three(a: u32, b: u32, c: u32) -> u64
+    ensures { SumsThree a b c result }
+{
+    a as u64 + b as u64 + c as u64
+}
+
 // The nine mode counts together. Nine numbers of 32 bits don't come round in 64.
 fn sum_of(counts: Counts) -> u64
     ensures { result ≡ of_all_modes counts }
 {
-    counts.modes.iter().map(|&count| u64::from(count)).sum()
+    // As a chain of map() and sum() it is compiled wrong for wasm32 (docs/DECISIONS.md).
+    let m = counts.modes;
+    three(m[0], m[1], m[2]) + three(m[3], m[4], m[5]) + three(m[6], m[7], m[8])
 }
 
 // 19, where the counts are false of a block with this mode that is opaque or not, in a sheet of so many blocks.
