@@ -47,7 +47,7 @@ short_read s = record { refusal = short_number; value = 0; first = s.at; remaini
 -- and of a result, by the stream that was asked
 abbrev pub answer_of : BitStream → Result Read ShortRead → Answer
 answer_of s (Ok r) = accepted r
-answer_of s (Err short) = short_read s
+answer_of s (Err short) = record { refusal = short_number; value = 0; first = short.first; remaining = short.remaining; stream = s }
 
 -- the w bits of the number that come next
 abbrev pub taken : BitStream → ℕ → Read

@@ -1,9 +1,9 @@
 // The reader: both halves of a block stand still, and a position moves over them. A read takes the stream by value, and hands it back in
 // its answer.
-ghost use Rattle.std.specs.Prelude.{◌≡◌, [], ◌∷◌, ◌+◌, ◌*◌, ◌/◌, ◌%◌, ◌^◌, ◌≤◌, ◌<◌, replicate};
+ghost use Rattle.std.specs.Prelude.{◌≡◌, [], ◌∷◌, Err, ◌+◌, ◌*◌, ◌/◌, ◌%◌, ◌^◌, ◌≤◌, ◌<◌, replicate};
 ghost use Rattle.laws.specs.Digits.{join};
 ghost use Rattle.bcn_format.specs.Block.{number};
-ghost use Rattle.bits.specs.Stream.{answered, On, Reads, Room, short_number, skipped, Taken};
+ghost use Rattle.bits.specs.Stream.{answer_of, answered, On, Reads, Room, short_number, short_read, skipped, Taken};
 
 // Bits count from the lowest of `low`, which is byte 0's, to the highest of `high`.
 #[derive(Clone, Copy)]
@@ -22,9 +22,13 @@ pub struct Read {
     pub stream: BitStream,
 }
 
-// A read wants more bits than remain. The stream that it was asked of stands where it stood.
+// A read wants more bits than remain: where it would have started, and how many remain, as before it. The stream that it was asked of stands
+// where it stood.
 #[derive(Clone, Copy, PartialEq, Eq)]
-pub struct ShortRead;
+pub struct ShortRead {
+    pub first: u32,
+    pub remaining: u32,
+}
 
 impl ShortRead {
     // Its number among the refusals.
@@ -108,7 +112,7 @@ impl BitStream {
         ensures { Reads self count result }
     {
         if self.at as u64 + count as u64 > 128 {
-            return Err(ShortRead);
+            return Err(self.short());
         }
         Ok(self.take(count))
     }
@@ -134,7 +138,7 @@ impl BitStream {
             return self.consume(count);
         }
         if self.at > 64 {
-            return Err(ShortRead);
+            return Err(self.short());
         }
         Ok(self.accepted(64, window(self.low, self.high, self.at)))
     }
@@ -149,6 +153,17 @@ impl BitStream {
             first: self.at,
             remaining: 128 - (self.at + count),
             stream: self.skip(count),
+        }
+    }
+
+    // And one that doesn't.
+    fn short(self) -> ShortRead
+        ensures { answer_of self (Err result) ≡ short_read self }
+    {
+        let first = self.at;
+        ShortRead {
+            first,
+            remaining: 128u32.saturating_sub(first),
         }
     }
 }

@@ -61,6 +61,18 @@ fn number(from: &mut impl io::Read) -> Result<u32, Ended> {
     Ok(u32::from_le_bytes(bytes(from)?))
 }
 
+// Numbers that stand side by side, by one read.
+fn numbers<const N: usize>(from: &mut impl io::Read) -> Result<[u32; N], Ended>
+    requires { N ≤ 10 }
+{
+    let mut taken = [0u8; 40];
+    fill(from, &mut taken[..4 * N])?;
+    Ok(from_fn(|i| {
+        let at = 4 * i;
+        u32::from_le_bytes([taken[at], taken[at + 1], taken[at + 2], taken[at + 3]])
+    }))
+}
+
 fn write_u32(to: &mut impl io::Write, n: u32) -> io::Result<()> {
     to.write_all(&n.to_le_bytes())
 }
@@ -150,8 +162,7 @@ fn index_call<F: FnOnce(&[u8; 16], u32, u32, &[u8; 4], &mut u32) -> u32>(
     requires { F.IsAlwaysCallable find }
 {
     let block = bytes(from)?;
-    let line = number(from)?;
-    let pixel = number(from)?;
+    let [line, pixel]: [u32; 2] = numbers(from)?;
     let wanted = bytes(from)?;
     let mut index: u32 = 0;
     write_small(to, find(&block, line, pixel, &wanted, &mut index))?;
@@ -161,8 +172,7 @@ fn index_call<F: FnOnce(&[u8; 16], u32, u32, &[u8; 4], &mut u32) -> u32>(
 
 fn opacity_call(from: &mut impl io::Read, to: &mut impl io::Write) -> Result<(), Ended> {
     let block = bytes(from)?;
-    let columns = number(from)?;
-    let rows = number(from)?;
+    let [columns, rows]: [u32; 2] = numbers(from)?;
     write_small(to, rinchovek_bc7_is_opaque(&block, columns, rows))?;
     Ok(())
 }
@@ -177,8 +187,7 @@ fn pixel_call(from: &mut impl io::Read, to: &mut impl io::Write) -> Result<(), E
 }
 
 fn write_head_call(from: &mut impl io::Read, to: &mut impl io::Write) -> Result<(), Ended> {
-    let width = number(from)?;
-    let height = number(from)?;
+    let [width, height]: [u32; 2] = numbers(from)?;
     let mut head = [0u8; 7];
     let mut count: u32 = 0;
     write_small(
@@ -271,20 +280,11 @@ fn replace_in(
     to: &mut impl io::Write,
     sheet: &mut [u8],
 ) -> Result<(), Ended> {
-    let block = number(from)?;
-    let line = number(from)?;
+    let [block, line]: [u32; 2] = numbers(from)?;
     let given = bytes(from)?;
     write_small(to, rinchovek_sheet_replace_line(sheet, block, line, &given))?;
     to.write_all(sheet)?;
     Ok(())
-}
-
-fn counts(from: &mut impl io::Read) -> Result<[u32; 10], Ended> {
-    let mut counts = [0u32; 10];
-    for count in counts.iter_mut() {
-        *count = number(from)?;
-    }
-    Ok(counts)
 }
 
 fn count_of(to: &mut impl io::Write, sheet: &[u8]) -> Result<(), Ended> {
@@ -299,9 +299,8 @@ fn replace_line_in(
     to: &mut impl io::Write,
     sheet: &mut [u8],
 ) -> Result<(), Ended> {
-    let mut counts = counts(from)?;
-    let block = number(from)?;
-    let line = number(from)?;
+    let mut counts: [u32; 10] = numbers(from)?;
+    let [block, line]: [u32; 2] = numbers(from)?;
     let given = bytes(from)?;
     write_small(
         to,
@@ -317,7 +316,7 @@ fn replace_block_in(
     to: &mut impl io::Write,
     sheet: &mut [u8],
 ) -> Result<(), Ended> {
-    let mut counts = counts(from)?;
+    let mut counts: [u32; 10] = numbers(from)?;
     let block = number(from)?;
     let given = bytes(from)?;
     write_small(
@@ -369,8 +368,9 @@ fn out_call<R: io::Read, W: io::Write, F: FnOnce(&mut W, &[u8], &mut [u8]) -> Re
 ) -> Result<(), Ended>
     requires { F.IsAlwaysCallable call }
 {
-    let n = length(from)?;
-    let m = length(from)?;
+    let [n, m]: [u32; 2] = numbers(from)?;
+    let n = length(n)?;
+    let m = length(m)?;
     let mut given = [0u8; MOST];
     let mut room = [0u8; MOST];
     let out = &mut room[..m];
@@ -382,10 +382,10 @@ fn out_call<R: io::Read, W: io::Write, F: FnOnce(&mut W, &[u8], &mut [u8]) -> Re
 }
 
 // A length that there is room for.
-fn length(from: &mut impl io::Read) -> Result<usize, Ended>
+fn length(n: u32) -> Result<usize, Ended>
     ensures { IfOk result (λ n. n ≤ 65536) }
 {
-    let n = number(from)? as usize;
+    let n = n as usize;
     if MOST < n {
         return Err(Ended::Input);
     }
@@ -393,9 +393,7 @@ fn length(from: &mut impl io::Read) -> Result<usize, Ended>
 }
 
 fn decode_row_call(from: &mut impl io::Read, to: &mut impl io::Write) -> Result<(), Ended> {
-    let width = number(from)?;
-    let height = number(from)?;
-    let row = number(from)?;
+    let [width, height, row]: [u32; 3] = numbers(from)?;
     out_call(from, to, |to, blocks, out| {
         write_small(
             to,
@@ -461,8 +459,8 @@ fn written(
             short.number(),
             Read {
                 value: 0,
-                first: stream.at,
-                remaining: 128u32.saturating_sub(stream.at),
+                first: short.first,
+                remaining: short.remaining,
                 stream,
             },
         ),
@@ -578,8 +576,9 @@ fn row_floats_of(
 
 // How long the row is comes first, and for how many floats there is room.
 fn row_floats_call(from: &mut impl io::Read, to: &mut impl io::Write) -> Result<(), Ended> {
-    let n = length(from)?;
-    let m = length(from)?;
+    let [n, m]: [u32; 2] = numbers(from)?;
+    let n = length(n)?;
+    let m = length(m)?;
     let mut row = [0u8; MOST];
     let mut bytes = [0u8; 4 * MOST];
     let mut floats = [0.0f32; MOST];

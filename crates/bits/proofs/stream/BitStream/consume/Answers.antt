@@ -9,7 +9,7 @@ use Rattle.bits.proofs.stream.BitStream.consume.Goals as goal
 pub returns-then-self-count-gt128 : goal.returns-then-self-count-gt128
 returns-then-self-count-gt128 c =
     let s = c in
-    reads s.args.self s.args.count (sym (read_short s.args.self s.args.count (omega arith)))
+    reads s.args.self s.args.count (c.short.ensures ∙ sym (read_short s.args.self s.args.count (omega arith)))
 
 pub returns : goal.returns
 returns c =

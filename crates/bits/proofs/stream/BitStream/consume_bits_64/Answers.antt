@@ -10,7 +10,7 @@ use Rattle.bits.proofs.stream.BitStream.consume_bits_64.Goals as goal
 pub returns-then-self-gt64 : goal.returns-then-self-gt64
 returns-then-self-gt64 c =
     let s = c in
-    reads s.args.self s.args.count (sym (read_short s.args.self s.args.count (omega arith)))
+    reads s.args.self s.args.count (c.short.ensures ∙ sym (read_short s.args.self s.args.count (omega arith)))
 
 pub returns : goal.returns
 unfolding held field
