@@ -3,9 +3,9 @@
 
 #![tactic(auto)]
 
-ghost use Rattle.std.specs.Prelude.{◌≡◌, ◌≤◌, ◌<◌, drop};
+ghost use Rattle.std.specs.Prelude.{◌≡◌, ◌≤◌, ◌<◌, drop, IfErr, IfOk};
 ghost use Rattle.refusals.specs.Answers.{number_of};
-ghost use Rattle.head_rules.specs.Answers.{bytes_known, head_answered, known, number_answered, number_known};
+ghost use Rattle.head_rules.specs.Answers.{bytes_known, head_answered, known, no_head, number_answered, number_known};
 ghost use Rattle.head_rules.specs.Numbers.{number_bytes, numbers_end, raised, read_groups, read_number};
 ghost use Rattle.head_rules.specs.Heads.{ReadsHead, Sized, WritesHead, form_number, head_bytes, read_head, read_of_form, seven_of};
 ghost use Rattle.head_rules.specs.Heads.{read_of_form_with, size_refusal, with_bytes, write_form};
@@ -15,6 +15,7 @@ ghost use Rattle.sheet_head.specs.Promised.{Pushes, TakesNumber};
 use crate::geometry::whole_length;
 use crate::reader::{has_ended, start, take_number};
 use head_rules::{Form, FormBytes, Head, HeadBytes, HeadReader, Number};
+use refusal_numbers::number;
 use refusals::Refusal;
 
 pub mod colours;
@@ -172,15 +173,40 @@ pub fn read_of_form_with(
     }
 }
 
-// A head that was read of a sheet, where the sheet is there whole, with every block that its head says and no byte more; 10, where it isn't.
-pub fn whole(head: Head, sheet: &[u8]) -> Result<Head, Refusal>
-    requires { Sized head.width head.height }
-    ensures { head_answered result ≡ whole_head (known head) sheet.now }
+// The same where that test answers a number, 0 for none, which need be no refusal's.
+pub fn read_of_form_numbered(form: Form, own: u8, sheet: &[u8]) -> Result<Head, u8>
+    ensures head { IfOk result (λ head. known head ≡ read_of_form_with own form sheet.now) }
+    ensures number { IfErr result (λ given. no_head given ≡ read_of_form_with own form sheet.now) }
 {
-    if sheet.len() != whole_length(head) {
-        return Err(Refusal::WrongBlockBytes);
+    match read_of_form(form, sheet) {
+        Ok(head) => { if own == 0 { Ok(head) } else { Err(own) } }
+        Err(refusal) => {
+            if own == 0 {
+                return Err(number(refusal));
+            }
+            match refusal {
+                Refusal::BadSide => Err(own),
+                _ => Err(number(refusal)),
+            }
+        }
     }
-    Ok(head)
+}
+
+// The head of a sheet that is there whole, with every block that its head says and no byte more; or the first refusal that applies: the
+// head's, 10. `head` is what was read of that sheet.
+pub fn whole(head: Result<Head, Refusal>, sheet: &[u8]) -> Result<Head, Refusal>
+    requires { (head_answered head).refusal ≡ 0 → Sized (head_answered head).width (head_answered head).height }
+    ensures { head_answered result ≡ whole_head (head_answered head) sheet.now }
+{
+    match head {
+        Ok(read) => {
+            if sheet.len() != whole_length(read) {
+                return Err(Refusal::WrongBlockBytes);
+            }
+            Ok(read)
+        }
+        Err(refusal) => Err(refusal),
+    }
 }
 
 // The head of a sheet that is there whole, or the first refusal that applies: the head's, 10; and the same for a call that takes one form
@@ -188,13 +214,13 @@ pub fn whole(head: Head, sheet: &[u8]) -> Result<Head, Refusal>
 pub fn read_whole(sheet: &[u8]) -> Result<Head, Refusal>
     ensures { head_answered result ≡ whole_head (read_head sheet.now) sheet.now }
 {
-    whole(read_head(sheet)?, sheet)
+    whole(read_head(sheet), sheet)
 }
 
 pub fn read_whole_of_form(form: Form, sheet: &[u8]) -> Result<Head, Refusal>
     ensures { head_answered result ≡ whole_head (read_of_form form sheet.now) sheet.now }
 {
-    whole(read_of_form(form, sheet)?, sheet)
+    whole(read_of_form(form, sheet), sheet)
 }
 
 // One byte more.

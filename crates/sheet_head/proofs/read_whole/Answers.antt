@@ -1,20 +1,13 @@
 -- `read_whole` meets its contract.
 -- Assumes nothing.
-use mathlib.Core.Path.{◌∙◌, ap, refl}
-use Rattle.laws.specs.Refusals.{here}
-use Rattle.refusals.proofs.Answers.{number_not_0}
-use Rattle.head_rules.specs.Answers.{Head, head_answered}
+use mathlib.Core.Path.{◌∙◌, ap}
+use Rattle.head_rules.specs.Answers.{Head}
 use Rattle.head_rules.specs.Whole.{whole_head}
-use Rattle.head_rules.proofs.Answers.{passed_up}
-use Rattle.head_rules.proofs.Whole.{not_whole, read_sized}
+use Rattle.head_rules.proofs.Whole.{read_sized}
 use Rattle.sheet_head.proofs.read_whole.Goals as goal
 
-pub returns-in_err-read_head : goal.returns-in_err-read_head
-returns-in_err-read_head c =
-    let e = c.in_err-read_head.ensures in
-    let ne = number_not_0 c.in_err-read_head.field-0.0 in
-    ap head_answered (passed_up _ c.from_residual.ensures.1) ∙ not_whole _ c.args.sheet.now _ (here ne) ne
-    ∙ ap (λ (h : Head). whole_head h c.args.sheet.now) e
-
 pub whole-requires : goal.whole-requires
-whole-requires c = read_sized _ c.in_ok-read_head.ensures refl
+whole-requires c = read_sized _ c.read_head.ensures
+
+pub returns : goal.returns
+returns c = c.whole.ensures ∙ ap (λ (h : Head). whole_head h c.args.sheet.now) c.read_head.ensures
