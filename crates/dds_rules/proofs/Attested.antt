@@ -10,6 +10,7 @@ use Rattle.head_rules.specs.declared.ColourSpace.{ColourSpace}
 use Rattle.head_rules.specs.declared.ColourSpace.TheVariants.{Unspecified, Linear, Srgb}
 use Rattle.head_rules.specs.declared.Form.TheVariants.{Rows}
 use Rattle.head_rules.specs.Answers.{Head}
+use Rattle.head_rules.specs.declared.Head as heads
 use Rattle.head_rules.specs.Colours.{colour_number, colour_of, colour_refusal}
 use Rattle.head_rules.specs.Geometry.{blocks_of}
 use Rattle.head_rules.specs.Heads.{colour_in, form_in, form_of, head_bytes, head_refusal_up_to, height_in, of_form_refusal_up_to, old_head, read_head_up_to}
@@ -21,7 +22,8 @@ use Rattle.laws.specs.Refusals.{first}
 use Rattle.head_rules.specs.Whole.{whole_head, whole_refusal}
 use Rattle.laws.specs.Tables.{table, table_from}
 use Rattle.laws.proofs.Tests.{eqb_of}
-use Rattle.std.specs.Prelude.{Ok, Err}
+use Rattle.std.specs.Prelude.{Result, Ok, Err}
+use Rattle.refusals.specs.declared.Refusal.{Refusal}
 use Rattle.refusals.specs.declared.Refusal.TheVariants.{BadNumber, WrongBlockBytes, WrongOutputLength, BadColourSpace}
 use Rattle.dds_rules.specs.Lengths.{Length}
 use Rattle.dds_rules.specs.Header.{alpha_mask, array_size, bit_count, blue_mask, canonical_header, caps, caps2, caps3, caps4, depth}
@@ -32,7 +34,7 @@ use Rattle.dds_rules.specs.Files.{export_after, export_length, export_refusal, f
 use Rattle.dds_rules.specs.Files.{file_refusal_up_to, head_made, import_after, import_after_up_to}
 use Rattle.dds_rules.specs.Files.{import_answer, import_head, import_length, import_refusal, import_refusal_up_to, numbered_after, numbered_refusal}
 use Rattle.dds_rules.specs.Files.{said, sheet_made}
-use Rattle.dds_rules.specs.Promises.{ExportNeeds, Exports, ExportsNumbered, ImportNeeds, Imported}
+use Rattle.dds_rules.specs.Promises.{ExportNeeds, Exports, ExportsNumbered, ImportNeeds, Imported, Imports}
 
 abbrev zeros : ℕ → List ℕ
 zeros n = replicate n 0
@@ -306,18 +308,21 @@ files_hold = record {
 
 -- THE PROMISES: of each call an accepted answer, a refused one, and answers and bytes that it does not admit: the sides exchanged, another
 -- colour space, another refusal, a head or a length beside one, another last byte, an output that a refused call touched
+abbrev told : ColourSpace → ℕ → ℕ → ℕ → Result heads.Head Refusal
+told c w h start = Ok (record { form = Rows; width = w; height = h; start = start; colour_space = c })
+
 abbrev needs : ℕ → ℕ → Length
 needs r n = record { refusal = r; length = n }
 
 pub record Promised : Type 0 where
-  pub imports_file : Imported file53 (nines 35) (head Linear 5 3 3) sheet53
-  pub imports_file_not : Imported file53 (nines 34) (no_head 11) (nines 34)
-  pub no_other_side : Imported file53 (nines 35) (head Linear 3 5 3) sheet53 → ⊥
-  pub no_other_colours : Imported file53 (nines 35) (head Srgb 5 3 3) sheet53 → ⊥
-  pub no_other_block : Imported file53 (nines 35) (head Linear 5 3 3) (set sheet53 34 9) → ⊥
-  pub no_head_refused : Imported file53 (nines 34) (head Linear 5 3 3) (nines 34) → ⊥
+  pub imports_file : Imports file53 (nines 35) (told Linear 5 3 3) sheet53
+  pub imports_file_not : Imports file53 (nines 34) (Err WrongOutputLength) (nines 34)
+  pub no_other_side : Imports file53 (nines 35) (told Linear 3 5 3) sheet53 → ⊥
+  pub no_other_colours : Imports file53 (nines 35) (told Srgb 5 3 3) sheet53 → ⊥
+  pub no_other_block : Imports file53 (nines 35) (told Linear 5 3 3) (set sheet53 34 9) → ⊥
+  pub no_head_refused : Imports file53 (nines 34) (told Linear 5 3 3) (nines 34) → ⊥
   pub no_sides_refused : Imported file53 (nines 34) (refused_beside 11 3) (nines 34) → ⊥
-  pub no_sheet_refused : Imported file53 (nines 34) (no_head 11) (set (nines 34) 33 32) → ⊥
+  pub no_sheet_refused : Imports file53 (nines 34) (Err WrongOutputLength) (set (nines 34) 33 32) → ⊥
   pub exports_sheet : Exports sheet53 Srgb (nines 180) (Ok tt) (but 128 99)
   pub exports_sheet_not : Exports sheet53 Srgb (nines 181) (Err WrongOutputLength) (nines 181)
   pub no_other_format : Exports sheet53 Srgb (nines 180) (Ok tt) file53 → ⊥
