@@ -6,7 +6,7 @@
 ghost use Rattle.std.specs.Prelude.{◌≤◌, length};
 ghost use Rattle.chart_rules.specs.Charts.{wanted_bytes};
 
-use pipes::{Failure, Verdict, read_wanted};
+use pipes::{Failure, Verdict, read_wanted, write_whole};
 use std::io::{Read, Write};
 use std::process::ExitCode;
 
@@ -19,8 +19,7 @@ fn chart_with<R: Read, W: Write>(
 {
     let count = read_wanted(from, chart::wanted(), buffer).map_err(Failure::of_reading)?;
     let chart = chart::chart(&buffer[..count]);
-    to.write_all(&chart.text[..chart.length])
-        .map_err(Failure::of_writing)?;
+    write_whole(to, chart.length, &chart.text).map_err(Failure::of_writing)?;
     if chart.refusal.is_some() {
         return Ok(Verdict::Refused);
     }

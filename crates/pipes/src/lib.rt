@@ -1,19 +1,19 @@
-// What the programs that read standard input and write standard output share: an input read whole, in as many reads as it takes, also where a
-// signal interrupts one; and how a run ends. What the system reads is what it says; how many bytes, and that every loop ends, is proved. Where
-// the bytes of an input are known, as in memory, it is proved too which are read.
+// What the programs that read standard input and write standard output share: an input and an output read and written whole, in as many reads and
+// writes as it takes, also where a signal interrupts one; and how a run ends. What the system reads and writes is what it says; how many bytes, and
+// that every loop ends, is proved. Where the bytes of an input or an output are known, as in memory, it is proved too which are read and written.
 
 #![tactic(auto)]
 
-ghost use Rattle.std.specs.Prelude.{◌≡◌, ◌<◌, ◌≤◌, length, take, IfOk, OnErr};
-ghost use Rattle.std.specs.Io.KnownBytes.{Consumes, IsAtEnd, Keeps};
+ghost use Rattle.std.specs.Prelude.{◌≡◌, ◌<◌, ◌≤◌, length, take, IfOk, OnErr, OnOk};
+ghost use Rattle.std.specs.Io.KnownBytes.{Appends, Consumes, IsAtEnd, Keeps};
 ghost use Rattle.pipes.specs.Moving.{ReadsWanted};
 
 use std::env::{Env, FillError};
 use std::io;
-use std::io::{Eprint, ErrorKind, Read};
+use std::io::{Eprint, ErrorKind, Read, Write};
 use std::process::ExitCode;
 
-// How often a read is tried again that a signal interrupts: a loop has to end.
+// How often a read or a write is tried again that a signal interrupts: a loop has to end.
 const TRIES: u32 = 4294967295;
 
 // How many bytes one read moved: none, where the input has ended.
@@ -52,6 +52,41 @@ pub fn read_wanted<R: Read>(from: &mut R, n: usize, buffer: &mut [u8]) -> io::Re
         done += count;
     }
     Ok(done)
+}
+
+// How many bytes one write moved.
+fn write_some<W: Write>(to: &mut W, text: &[u8]) -> io::Result<usize>
+    ensures few { IfOk result (λ put. put ≤ length text.now) }
+    ensures ok { IfOk result (λ put. Appends (W.contents to.old) (W.contents to.new) (take put text.now)) }
+    ensures err { OnErr result (Keeps (W.contents to.old) (W.contents to.new)) }
+{
+    for _ in 0..TRIES {
+        match to.write(text) {
+            Ok(put) => return Ok(put),
+            Err(e) => {
+                if e.kind() != ErrorKind::Interrupted {
+                    return Err(e);
+                }
+            }
+        }
+    }
+    Err(io::Error::from(ErrorKind::Interrupted))
+}
+
+// The first n bytes of a text, in as many writes as it takes. Whether they took them.
+pub fn write_whole<W: Write>(to: &mut W, n: usize, text: &[u8]) -> io::Result<()>
+    requires { n ≤ length text.now }
+    ensures { OnOk result (Appends (W.contents to.old) (W.contents to.new) (take n text.now)) }
+{
+    let mut done: usize = 0;
+    while done < n {
+        let put = write_some(to, &text[done..n])?;
+        if put == 0 {
+            return Err(io::Error::from(ErrorKind::WriteZero));
+        }
+        done += put;
+    }
+    Ok(())
 }
 
 // Why a run ends before its answer is out.

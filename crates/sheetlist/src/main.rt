@@ -7,7 +7,7 @@ ghost use Rattle.std.specs.Prelude.{length};
 ghost use Rattle.sheetlist.specs.Asked.{RoomAsked};
 
 use listing_rules::Phase;
-use pipes::{Failure, Verdict, read_wanted};
+use pipes::{Failure, Verdict, read_wanted, write_whole};
 use std::io::{Read, Write};
 use std::process::ExitCode;
 
@@ -25,7 +25,7 @@ fn list_with<R: Read, W: Write>(
             Failure::of_reading,
         )?;
         let said = listing::list(machine, &buffer[..count], 0, text);
-        to.write_all(&text[..said]).map_err(Failure::of_writing)?;
+        write_whole(to, said, text).map_err(Failure::of_writing)?;
         machine = listing::next(machine, &buffer[..count]);
     }
     match machine.phase {
