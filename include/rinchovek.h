@@ -72,7 +72,7 @@
 #define RINCHOVEK_LARGEST_SIDE 16384 /* pixels, of a sheet; 4,096 before version 1.4.0 */
 #define RINCHOVEK_DDS_HEADER_BYTES 148
 #define RINCHOVEK_PIXEL_FLOATS 4 /* float */
-#define RINCHOVEK_STACK_BYTES 4096 /* found: 2,080 in rinchovek_bc7_pixel; below 2,048 in every other call, and in all before 1.5.0 */
+#define RINCHOVEK_STACK_BYTES 4096 /* found on x86-64: 984 in rinchovek_sheet_replace_line_counted, the most; below 2,048 before 1.5.0 */
 
 /* A channel in a pixel and in an endpoint. */
 enum rinchovek_channel { RINCHOVEK_RED = 0, RINCHOVEK_GREEN = 1, RINCHOVEK_BLUE = 2, RINCHOVEK_ALPHA = 3 };

@@ -124,12 +124,16 @@ fn next_number(sheet: &[u8], reader: HeadReader) -> Result<HeadReader, Refusal>
 }
 
 // The head that the bytes of a sheet start with: three numbers, and one more in form 2. They are read in a loop, for then the compiler lays
-// its rounds out, each for its stage: a head is read in a third of what four calls take.
+// its rounds out, each for its stage: a head is read in a third of what four calls take. A reader that has ended answers at once: handed on
+// through another round as a `Result`, it makes a head take a quarter more.
 pub fn read_head(sheet: &[u8]) -> Result<Head, Refusal>
     ensures { ReadsHead sheet.now result }
 {
     let mut reader = start();
     for i in 0..4usize {
+        if has_ended(reader) {
+            return Ok(reader.head);
+        }
         reader = next_number(sheet, reader)?;
     }
     Ok(reader.head)

@@ -14,6 +14,17 @@ pub loop-i-init : goal.loop-i-init
 unfolding behind
 loop-i-init c = (omega arith, omega (arith, ap (λ (r : HeadReader). r.head.start) c.start-reader.ensures), c.start-reader.ensures)
 
+-- ended before the last round
+pub returns-then-has_ended : goal.returns-then-has_ended
+unfolding behind
+returns-then-has_ended c =
+    let s = c.args.sheet.now in
+    let i = c.loop-i.i in
+    let e = c.loop-i.invariant.2 in
+    ap (λ (r : HeadReader). r.head)
+    (e ∙ sym (behind_ended s (4 - i) i 4 (omega (arith, c.loop-i.invariant.1)) (sym (sym c.if-has_ended.true ∙ c.has_ended.ensures ∙ ap has_ended e))))
+    ∙ all_numbers s
+
 -- refused: no number behind is looked at
 pub returns-in_err-reader : goal.returns-in_err-reader
 unfolding behind
